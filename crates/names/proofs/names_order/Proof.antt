@@ -1,0 +1,35 @@
+-- Rests on the invariant `OrderFrom`, that the bytes left from `i` on decide, and on one law of it for each way through the loop.
+use borrow.Author.Needs.{needs}
+use native.Mathlib.Omega.{arith}
+use Prim.Native.Nat.{_-_}
+use lib.ListN.{length}
+use Rattle.names.specs.Name.{foldByte}
+use Rattle.names.proofs.Laws.{OrderFrom, order-start, order-next, order-less, order-greater, order-shorter, order-longer, order-end}
+use Rattle.names.proofs.names_order.Statement.{statement}
+use Rattle.names.proofs.names_order.Tie as tie
+
+abbrev Inv-loop : tie.InvT-loop
+Inv-loop a b i₀ i = OrderFrom foldByte a b i
+
+abbrev μ-loop : tie.MeasureT-loop
+μ-loop a b i₀ i = length a - i
+
+pub names-order-spec : {M : Type 1} → statement M
+names-order-spec =
+    tie.close
+    (tie.spec
+    Inv-loop
+    μ-loop
+    (λ c. order-start foldByte (c .before .before .args .a .now) (c .before .before .args .b .now))
+    (λ c. order-longer (c .before .before .loop .inv) (c .before .loop-test .taken) (c .if1 .taken))
+    (λ c. omega arith)
+    (λ c κs. search needs)
+    (λ c. omega arith)
+    (λ c κs. search needs)
+    (λ c. order-less (c .before .before .before .before .before .before .before .loop .inv) (omega arith) (omega arith) (search needs) (search needs) (c .if2 .taken))
+    (λ c. order-greater (c .before .before .before .before .before .before .before .before .loop .inv) (omega arith) (omega arith) (search needs) (search needs) (c .if3 .taken))
+    (λ c. omega arith)
+    (λ c. omega arith)
+    (λ c. order-next (c .before .before .before .before .before .before .before .before .loop .inv) (omega arith) (omega arith) (search needs) (search needs) (c .before .if2 .left) (c .if3 .left))
+    (λ c. order-shorter (c .before .before .loop .inv) (c .before .loop-test .left) (c .if4 .taken))
+    (λ c. order-end (c .before .before .loop .inv) (c .before .loop-test .left) (c .if4 .left)))

@@ -1,0 +1,30 @@
+-- Rests on the invariant `SameFrom` with bytes that are not folded, and on one law of it for each way through the loop.
+use native.Mathlib.Omega.{arith}
+use mathlib.Core.Path.{refl, _∙_}
+use Prim.Native.Nat.{_-_}
+use lib.ListN.{length}
+use Rattle.names.proofs.Laws.{SameFrom, same-longer, same-start, same-next, same-differ, same-end, same-plain}
+use Rattle.names.proofs.numbers_equal.Statement.{statement}
+use Rattle.names.proofs.numbers_equal.Tie as tie
+
+abbrev Inv-loop : tie.InvT-loop
+Inv-loop a b i₀ i = SameFrom (λ x. x) a b i
+
+abbrev μ-loop : tie.MeasureT-loop
+μ-loop a b i₀ i = length a - i
+
+pub numbers-equal-spec : {M : Type 1} → statement M
+numbers-equal-spec =
+    tie.close
+    (tie.spec
+    Inv-loop
+    μ-loop
+    (λ c. same-longer (λ x. x) (c .before .args .a .now) (c .before .args .b .now) (c .if1 .taken) ∙ same-plain (c .before .args .a .now) (c .before .args .b .now))
+    (λ c. same-start (λ x. x) (c .before .args .a .now) (c .before .args .b .now) (c .if1 .left))
+    (λ c. omega arith)
+    (λ c. omega arith)
+    (λ c. same-differ (c .before .before .before .before .loop .inv) (omega arith) refl refl (c .if2 .taken) ∙ same-plain (c .before .before .before .before .before .before .args .a .now) (c .before .before .before .before .before .before .args .b .now))
+    (λ c. omega arith)
+    (λ c. omega arith)
+    (λ c. same-next (c .before .before .before .before .loop .inv) (omega arith) refl refl (c .if2 .left))
+    (λ c. same-end (c .before .loop .inv) (c .loop-test .left) ∙ same-plain (c .before .before .before .args .a .now) (c .before .before .before .args .b .now)))
