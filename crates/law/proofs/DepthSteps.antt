@@ -1,0 +1,241 @@
+-- Whether a run, sentences and conditions stay within a depth, a record, a sentence and a condition at a time.
+use Prim.Native.Nat.{ℕ, zero, suc, _+_, _-_, _≤_, _<_, max}
+use mathlib.Core.List.{List}
+use mathlib.Core.Bool.{Bool, true, false, _&&_}
+use mathlib.Core.Path.{_≡_, refl, sym, ap, _∙_}
+use native.Mathlib.Omega.{arith}
+use native.Mathlib.Numerals.{add-one}
+use native.Mathlib.Decide.{decLe}
+use lib.ListN.{length, take, drop, length-take}
+use lib.Dec.{leb}
+use borrow.Author.Tests.{le-leb, lt-leb}
+use Rattle.file.specs.Word.{wordAt}
+use Rattle.file.specs.Forest.{contents, rest}
+use Rattle.file.specs.Head.{termAt}
+use Rattle.file.specs.Sections.{File}
+use Rattle.file.specs.declared.Term.{Term}
+use Rattle.file.specs.declared.Term.the-variants.{Symbolic, SVariable, TVariable, EVariable, Bracket, Call, Block}
+use Rattle.law.specs.Tree.{Mark, Run, empty, Sentences, noSentence, sentence, Conditions, noCondition, condition, keep}
+use Rattle.law.specs.Places.{blockFirst, sentencesOf, firstSentence, conditionsOf, firstCondition, patternAt, resultAt, patternPart, resultPart, askedAt, askedSize, askedPart, wantedPart}
+use Rattle.law.specs.Runs.{endOf}
+use Rattle.law.specs.Reading.{markAt, termRun, runOf, own, sentencesAt, sentencesIn, conditionsFrom, treeOf}
+use Rattle.law.specs.Depth.{deepest, deepestSentences, deepestConditions, depthOf}
+use Rattle.law.specs.Index.{Readable, PartAt}
+use Rattle.law.proofs.RunLaws.{run-empty, run-node}
+use Rattle.law.proofs.Terms.{InsideAllowed}
+use Rattle.law.proofs.Functions.{functionsAt, functionAt, tree-functions, function-reads, functions-end, kept-reads}
+use Rattle.law.proofs.PartLaws.{part-inside}
+
+-- two numbers are within a bound exactly when the larger is
+pub max-within : (a b bound : ℕ) → leb (max a b) bound ≡ (leb a bound && leb b bound)
+max-within a b bound = go (decLe a bound) (decLe b bound)
+  where
+    go : Dec (a ≤ bound) → Dec (b ≤ bound) → leb (max a b) bound ≡ (leb a bound && leb b bound)
+    go (yes p) (yes q) = rw (le-leb a bound p, le-leb b bound q, le-leb (max a b) bound (omega arith))
+    go (yes p) (no q) = rw (le-leb a bound p, lt-leb b bound (omega arith), lt-leb (max a b) bound (omega arith))
+    go (no p) (yes q) = rw (lt-leb a bound (omega arith), lt-leb (max a b) bound (omega arith))
+    go (no p) (no q) = rw (lt-leb a bound (omega arith), lt-leb (max a b) bound (omega arith))
+
+and-assoc : (a b c : Bool) → (a && (b && c)) ≡ (a && b && c)
+and-assoc true b c = refl
+and-assoc false b c = refl
+
+-- three numbers
+three-within : (a b c bound : ℕ) → leb (max a (max b c)) bound ≡ (leb a bound && leb b bound && leb c bound)
+three-within a b c bound = rw (max-within a (max b c) bound, max-within b c bound) (and-assoc (leb a bound) (leb b bound) (leb c bound))
+
+-- the last of four
+last-within : (a b c e bound : ℕ) → leb (max a (max b (max c e))) bound ≡ (leb (max a (max b (max c 0))) bound && leb e bound)
+last-within a b c e bound =
+    rw (
+      max-within a (max b (max c e)) bound,
+      max-within b (max c e) bound,
+      max-within c e bound,
+      max-within a (max b (max c 0)) bound,
+      max-within b (max c 0) bound,
+      max-within c 0 bound,
+      le-leb 0 bound (omega arith),
+    )
+    (go (leb a bound) (leb b bound) (leb c bound) (leb e bound))
+  where
+    go : (w x y z : Bool) → (w && (x && (y && z))) ≡ ((w && (x && (y && true))) && z)
+    go true true true z = refl
+    go true true false z = refl
+    go true false y z = refl
+    go false x y z = refl
+
+-- what a term's three parts say together, where the term itself is within the bound: those inside it, a block's sentences, those after it
+abbrev pub three : Run → Sentences → Run → ℕ → ℕ → Bool
+three inside ss after d bound = leb (deepest inside (suc d)) bound && leb (deepestSentences ss (suc d)) bound && leb (deepest after d) bound
+
+term-leaf : (after : Run) (d bound : ℕ) → d ≤ bound → leb (max d (deepest after d)) bound ≡ three empty noSentence after d bound
+unfolding deepest
+term-leaf after d bound h = rw (max-within d (deepest after d) bound, le-leb d bound h, le-leb 0 bound (omega arith))
+
+term-holds : (inside after : Run) (d bound : ℕ) → d ≤ bound
+    → leb (max d (max (deepest inside (suc d)) (deepest after d))) bound ≡ three inside noSentence after d bound
+unfolding deepest
+term-holds inside after d bound h =
+    let same : max (deepest inside (suc d)) (deepest after d) ≡ max (deepest inside (suc d)) (max 0 (deepest after d)) = omega arith in
+    rw (same, max-within d _ bound, three-within (deepest inside (suc d)) 0 (deepest after d) bound, le-leb d bound h)
+
+term-block : (inside after : Run) (ss : Sentences) (d bound : ℕ) → d ≤ bound
+    → leb (max d (max (deepest inside (suc d)) (max (deepestSentences ss (suc d)) (deepest after d)))) bound ≡ three inside ss after d bound
+term-block inside after ss d bound h =
+    rw (max-within d _ bound, three-within (deepest inside (suc d)) (deepestSentences ss (suc d)) (deepest after d) bound, le-leb d bound h)
+
+-- a term of any kind: nothing is inside a symbol or a variable, and only a block has sentences
+term-within : (text : List ℕ) (give : ℕ → ℕ → Sentences) (at : ℕ) (mark : Mark) (x : Term) (n : ℕ) (inside after : Run) (d bound : ℕ) → d ≤ bound
+    → InsideAllowed x n → (n ≡ 0 → inside ≡ empty) → give at 0 ≡ noSentence
+    → leb (deepest (termRun text give at mark x inside after) d) bound ≡ three inside (give at (sentencesIn x)) after d bound
+unfolding deepest
+term-within text give at mark (Symbolic x) n inside after d bound h a e o = rw (e a, o) (term-leaf after d bound h)
+term-within text give at mark (SVariable x y) n inside after d bound h a e o = rw (e a, o) (term-leaf after d bound h)
+term-within text give at mark (TVariable x y) n inside after d bound h a e o = rw (e a, o) (term-leaf after d bound h)
+term-within text give at mark (EVariable x y) n inside after d bound h a e o = rw (e a, o) (term-leaf after d bound h)
+term-within text give at mark Bracket n inside after d bound h a e o = rw o (term-holds inside after d bound h)
+term-within text give at mark (Call x y) n inside after d bound h a e o = rw o (term-holds inside after d bound h)
+term-within text give at mark (Block m) n inside after d bound h a e o = term-block inside after (give at m) d bound h
+
+-- a term is as deep as the run that it stands in
+term-deep : (text : List ℕ) (give : ℕ → ℕ → Sentences) (at : ℕ) (mark : Mark) (x : Term) (inside after : Run) (d : ℕ)
+    → d ≤ deepest (termRun text give at mark x inside after) d
+unfolding deepest
+term-deep text give at mark (Symbolic x) inside after d = omega arith
+term-deep text give at mark (SVariable x y) inside after d = omega arith
+term-deep text give at mark (TVariable x y) inside after d = omega arith
+term-deep text give at mark (EVariable x y) inside after d = omega arith
+term-deep text give at mark Bracket inside after d = omega arith
+term-deep text give at mark (Call x y) inside after d = omega arith
+term-deep text give at mark (Block m) inside after d = omega arith
+
+module _ (file : File) where
+  -- a part of the term records, of which d brackets, calls and blocks are around
+  abbrev pub runWithin : ℕ → List ℕ → ℕ → Bool
+  runWithin at p d = leb (deepest (runOf file (own file) at p) d) 32
+
+  -- n sentences from s on
+  abbrev pub sentencesWithin : ℕ → ℕ → ℕ → Bool
+  sentencesWithin n s d = leb (deepestSentences (keep n (sentencesAt file s)) d) 32
+
+  -- n conditions of a sentence s, from the condition c on
+  abbrev pub conditionsWithin : ℕ → ℕ → ℕ → ℕ → Bool
+  conditionsWithin s n c d = leb (deepestConditions (conditionsFrom file (own file) s n c) d) 32
+
+  -- no records
+  pub run-none : (at d : ℕ) (p : List ℕ) → length p < 24 → runWithin at p d ≡ true
+  unfolding deepest
+  run-none at d p h = rw (run-empty file (own file) at p h)
+
+  -- some records that are too deep themselves
+  pub run-over : (at d : ℕ) (p : List ℕ) → 24 ≤ length p → 32 < d → runWithin at p d ≡ false
+  run-over at d p h o =
+      let inside : Run = runOf file (own file) (at + 1) (contents 24 endOf p) in
+      let after : Run = runOf file (own file) (at + 1 + wordAt p 12) (rest 24 endOf p) in
+      let low = term-deep (file .text .records) (own file) at (markAt at p 16) (termAt p 0) inside after d in
+      rw (run-node file (own file) at p h) (lt-leb (deepest (termRun (file .text .records) (own file) at (markAt at p 16) (termAt p 0) inside after) d) 32 (omega arith))
+
+  own-none : (t : ℕ) → own file t 0 ≡ noSentence
+  unfolding own keep
+  own-none t = refl
+
+  contents-none : (at : ℕ) (p : List ℕ) → wordAt p 12 ≡ 0 → runOf file (own file) at (contents 24 endOf p) ≡ empty
+  unfolding endOf
+  contents-none at p z = run-empty file (own file) at (contents 24 endOf p) (omega (arith, length-take (endOf p - 24) (drop 24 p), z))
+
+  module _ (readable : Readable file) where
+    -- the first record of a part: what is inside it, its sentences, and what is after it; e is where its contents end
+    pub run-step : (at d e : ℕ) (p : List ℕ) → PartAt file at p → 24 ≤ length p → e ≡ endOf p → d ≤ 32
+        → runWithin at p d
+        ≡ (runWithin (at + 1) (take (e - 24) (drop 24 p)) (d + 1)
+        && sentencesWithin (sentencesIn (termAt p 0)) (blockFirst file at) (d + 1)
+        && runWithin (at + 1 + wordAt p 12) (take (length p - e) (drop e p)) d)
+    unfolding own
+    run-step at d e p part some end h =
+        rw (end, add-one d, run-node file (own file) at p some)
+        (term-within (file .text .records) (own file) at _ (termAt p 0) (wordAt p 12) _ _ d 32 h
+        (part-inside file readable at p part some)
+        (contents-none (at + 1) p)
+        (own-none at))
+
+    -- one sentence, and the sentences after it
+    pub sentences-step : (n s d : ℕ) → s < file .sentences .count → sentencesWithin (suc n) s d ≡ (sentencesWithin 1 s d && sentencesWithin n (suc s) d)
+    unfolding deepest keep
+    sentences-step n s d h =
+        rw (kept-reads file readable n s h, kept-reads file readable 0 s h)
+        (last-within (deepest (runOf file (own file) (patternAt file s) (patternPart file s)) d) (deepestConditions (conditionsFrom file (own file) s (conditionsOf file s) (firstCondition file s)) d) (deepest (runOf file (own file) (resultAt file s) (resultPart file s)) d) _ 32)
+
+    -- its pattern, its conditions and its result
+    pub sentence-step : (s d : ℕ) → s < file .sentences .count
+        → sentencesWithin 1 s d
+        ≡ (runWithin (patternAt file s) (patternPart file s) d
+        && conditionsWithin s (conditionsOf file s) (firstCondition file s) d
+        && runWithin (resultAt file s) (resultPart file s) d)
+    unfolding deepest keep
+    sentence-step s d h = rw (kept-reads file readable 0 s h) (
+        let pattern : ℕ = deepest (runOf file (own file) (patternAt file s) (patternPart file s)) d in
+        let conditions : ℕ = deepestConditions (conditionsFrom file (own file) s (conditionsOf file s) (firstCondition file s)) d in
+        let result : ℕ = deepest (runOf file (own file) (resultAt file s) (resultPart file s)) d in
+        let same : max pattern (max conditions (max result 0)) ≡ max pattern (max conditions result) = omega arith in
+        rw (same, three-within pattern conditions result 32))
+
+  -- one condition, and the conditions after it
+  pub conditions-step : (s n c d : ℕ)
+      → conditionsWithin s (suc n) c d
+      ≡ (runWithin (askedAt file s c) (askedPart file s c) d
+      && runWithin (askedAt file s c + askedSize file c) (wantedPart file s c) d
+      && conditionsWithin s n (suc c) d)
+  unfolding deepest conditionsFrom
+  conditions-step s n c d = three-within (deepest (runOf file (own file) (askedAt file s c) (askedPart file s c)) d) (deepest (runOf file (own file) (askedAt file s c + askedSize file c) (wantedPart file s c)) d) _ 32
+
+  pub sentences-none : (s d : ℕ) → sentencesWithin 0 s d ≡ true
+  unfolding deepest keep
+  sentences-none s d = refl
+
+  pub conditions-none : (s c d : ℕ) → conditionsWithin s 0 c d ≡ true
+  unfolding deepest conditionsFrom
+  conditions-none s c d = refl
+
+  -- the conditions that a loop has left, after i of them
+  pub conditions-next : (s count first i d : ℕ) → i < count
+      → conditionsWithin s (count - i) (first + i) d
+      ≡ (runWithin (askedAt file s (first + i)) (askedPart file s (first + i)) d
+      && runWithin (askedAt file s (first + i) + askedSize file (first + i)) (wantedPart file s (first + i)) d
+      && conditionsWithin s (count - (i + 1)) (first + (i + 1)) d)
+  conditions-next s count first i d h =
+      let left : count - i ≡ suc (count - (i + 1)) = omega arith in
+      let next : first + (i + 1) ≡ suc (first + i) = omega arith in
+      rw (left, next) (conditions-step s (count - (i + 1)) (first + i) d)
+
+  -- the sentences that a loop has left
+  pub sentences-next : Readable file → (count first i d : ℕ) → i < count → first + count ≤ file .sentences .count
+      → sentencesWithin (count - i) (first + i) d ≡ (sentencesWithin 1 (first + i) d && sentencesWithin (count - (i + 1)) (first + (i + 1)) d)
+  sentences-next readable count first i d h l =
+      let left : count - i ≡ suc (count - (i + 1)) = omega arith in
+      let next : first + (i + 1) ≡ suc (first + i) = omega arith in
+      rw (left, next) (sentences-step readable (count - (i + 1)) (first + i) d (omega arith))
+
+  -- the same work, written with numbers that are the same
+  pub conditions-same : (s m n b c d : ℕ) → m ≡ n → b ≡ c → conditionsWithin s m b d ≡ conditionsWithin s n c d
+  conditions-same s m n b c d p q = rw (p, q)
+
+  pub sentences-same : (m n b c d : ℕ) → m ≡ n → b ≡ c → sentencesWithin m b d ≡ sentencesWithin n c d
+  sentences-same m n b c d p q = rw (p, q)
+
+  -- the functions that a loop has left, after f of them
+  abbrev pub functionsWithin : ℕ → Bool
+  functionsWithin f = leb (depthOf (functionsAt file f)) 32
+
+  pub functions-start : leb (depthOf (treeOf file)) 32 ≡ functionsWithin 0
+  functions-start = rw (tree-functions file)
+
+  pub functions-next : (f : ℕ) → f < file .functions .count
+      → functionsWithin f ≡ (sentencesWithin (sentencesOf file f) (firstSentence file f) 0 && functionsWithin (f + 1))
+  unfolding depthOf
+  functions-next f h =
+      rw (add-one f, function-reads file f h)
+      (max-within (deepestSentences (keep (sentencesOf file f) (sentencesAt file (firstSentence file f))) 0) (depthOf (functionsAt file (suc f))) 32)
+
+  pub functions-none : (f : ℕ) → file .functions .count ≤ f → functionsWithin f ≡ true
+  unfolding depthOf
+  functions-none f h = rw (functions-end file f h)

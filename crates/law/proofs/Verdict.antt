@@ -1,0 +1,92 @@
+-- What the check of a file answers (`verdictOf`, specs/Law.antt), a refusal at a time.
+use Prim.Native.Nat.{ℕ, _+_, _*_, _-_, _≤_}
+use mathlib.Core.List.{List}
+use mathlib.Core.Bool.{Bool, true, false, not, _&&_}
+use mathlib.Core.Path.{_≡_, refl, sym}
+use lib.ListN.{length, take, drop, replicate}
+use lib.Dec.{ltb, leb}
+use borrow.Author.Tests.{le-ltb, lt-ltb, leb-true, leb-false}
+use Rattle.file.specs.Answer.{Answer, refused, given, mapAnswer}
+use Rattle.file.specs.Below.{every}
+use Rattle.file.specs.Sections.{sectionsOf, fileOf, countsOf, numberOf}
+use Rattle.file.specs.declared.Refusal.{Refusal}
+use Rattle.file.specs.declared.Sections.{Sections}
+use Rattle.file.proofs.SectionLaws.{part-slice}
+use Rattle.file.specs.Fields.{fieldsAllowed, functionsAllowed, termsAllowed}
+use Rattle.law.specs.Runs.{usedUp, sentenceFits, runsAllowed, blocksAllowed}
+use Rattle.law.specs.Reading.{treeOf}
+use Rattle.law.specs.Depth.{depthOf}
+use Rattle.law.specs.Variables.{patternsAllowed}
+use Rattle.law.specs.Law.{lawOf, verdictOf, checkAnswer, IndexAfter}
+use Rattle.law.specs.Index.{Indexed}
+use Rattle.law.specs.declared.Check.{Check}
+use Rattle.law.specs.declared.Check.the-variants.{Accepted, Refused}
+use Rattle.law.proofs.Tables.{functionsPart, termsPart}
+
+-- a file that the sections refuse
+pub sections-refused : (bytes : List ℕ) (n : ℕ) → sectionsOf bytes ≡ refused n → verdictOf bytes ≡ refused n
+unfolding lawOf
+sections-refused bytes n h = rw h
+
+module _ (bytes : List ℕ) (sections : sectionsOf bytes ≡ given (fileOf bytes)) where
+  pub fields-refused : fieldsAllowed (fileOf bytes) ≡ false → verdictOf bytes ≡ refused 5
+  unfolding lawOf
+  fields-refused f = rw (sections, f)
+
+  module _ (fields : fieldsAllowed (fileOf bytes) ≡ true) where
+    -- row 6 in two steps, as the code takes it
+    pub used-refused : usedUp (fileOf bytes) ≡ false → verdictOf bytes ≡ refused 6
+    unfolding lawOf runsAllowed
+    used-refused u = rw (sections, fields, u)
+
+    pub runs-all : usedUp (fileOf bytes) ≡ true → every (fileOf bytes .sentences .count) (sentenceFits (fileOf bytes)) ≡ true → runsAllowed (fileOf bytes) ≡ true
+    unfolding runsAllowed
+    runs-all u r = rw (u, r)
+
+    pub runs-refused : usedUp (fileOf bytes) ≡ true → every (fileOf bytes .sentences .count) (sentenceFits (fileOf bytes)) ≡ false → verdictOf bytes ≡ refused 6
+    unfolding lawOf runsAllowed
+    runs-refused u r = rw (sections, fields, u, r)
+
+    module _ (runs : runsAllowed (fileOf bytes) ≡ true) where
+      pub blocks-refused : blocksAllowed (fileOf bytes) ≡ false → verdictOf bytes ≡ refused 7
+      unfolding lawOf
+      blocks-refused b = rw (sections, fields, runs, b)
+
+      module _ (blocks : blocksAllowed (fileOf bytes) ≡ true) where
+        pub depth-refused : leb (depthOf (treeOf (fileOf bytes))) 32 ≡ false → verdictOf bytes ≡ refused 8
+        unfolding lawOf
+        depth-refused d = rw (sections, fields, runs, blocks, lt-ltb 32 (depthOf (treeOf (fileOf bytes))) (leb-false _ 32 d))
+
+        module _ (depth : leb (depthOf (treeOf (fileOf bytes))) 32 ≡ true) where
+          pub patterns-refused : patternsAllowed (fileOf bytes) ≡ false → verdictOf bytes ≡ refused 9
+          unfolding lawOf
+          patterns-refused p = rw (sections, fields, runs, blocks, le-ltb 32 (depthOf (treeOf (fileOf bytes))) (leb-true _ 32 depth), p)
+
+          pub accepted : patternsAllowed (fileOf bytes) ≡ true → verdictOf bytes ≡ given tt
+          unfolding lawOf
+          accepted p = rw (sections, fields, runs, blocks, le-ltb 32 (depthOf (treeOf (fileOf bytes))) (leb-true _ 32 depth), p)
+
+-- the fields of a file, over the parts of its bytes as the code takes them
+abbrev pub textPart : List ℕ → Sections → List ℕ
+textPart bytes s = take (4 + s .text - 4) (drop 4 bytes)
+
+pub fields-parts : (bytes : List ℕ) (s : Sections) → countsOf (fileOf bytes) ≡ s
+    → fieldsAllowed (fileOf bytes)
+    ≡ (functionsAllowed (textPart bytes s) (functionsPart bytes s) (s .functions) && termsAllowed (textPart bytes s) (termsPart bytes s) (s .terms))
+unfolding fieldsAllowed fileOf
+fields-parts bytes s h =
+    rw (← h)
+    (rw (
+      part-slice 4 (fileOf bytes .text .count) bytes,
+      part-slice (8 + fileOf bytes .text .count) (20 * fileOf bytes .functions .count) bytes,
+      part-slice (20 + fileOf bytes .text .count + 20 * fileOf bytes .functions .count + 20 * fileOf bytes .sentences .count + 16 * fileOf bytes .conditions .count) (24 * fileOf bytes .terms .count) bytes,
+    ))
+
+-- what the check answers and leaves, where it refuses and where it accepts
+pub refused-checked : (bytes : List ℕ) (why : Refusal) (check : Check) (index : List ℕ) → check ≡ Refused why → index ≡ replicate 972 0
+    → verdictOf bytes ≡ refused (numberOf why) → (checkAnswer check ≡ verdictOf bytes) × IndexAfter check bytes index
+refused-checked bytes why check index p q v = rw p (sym v, q)
+
+pub accepted-checked : (bytes : List ℕ) (check : Check) (index : List ℕ) → check ≡ Accepted → Indexed bytes index
+    → checkAnswer check ≡ verdictOf bytes → (checkAnswer check ≡ verdictOf bytes) × IndexAfter check bytes index
+accepted-checked bytes check index p q v = (v, rw p q)

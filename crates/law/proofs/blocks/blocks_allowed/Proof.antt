@@ -1,0 +1,35 @@
+-- The invariant: every sentence that was passed holds. The index has the number of sentences.
+use Prim.Native.Nat.{_≤_, _-_}
+use mathlib.Core.Bool.{true}
+use mathlib.Core.Path.{_≡_, sym, _∙_}
+use native.Mathlib.Omega.{arith}
+use borrow.Author.Tests.{not-true, not-false}
+use Rattle.file.specs.Below.{every}
+use Rattle.file.specs.Sections.{fileOf}
+use Rattle.file.proofs.Below.{every-none, every-next}
+use Rattle.law.specs.Runs.{sentenceBlocks, blocksAllowed}
+use Rattle.law.proofs.BlockLaws.{sentences-fail, sentences-hold}
+use Rattle.law.proofs.blocks.blocks_allowed.Statement.{statement}
+use Rattle.law.proofs.blocks.blocks_allowed.Tie as tie
+
+abbrev Inv-loop : tie.InvT-loop
+Inv-loop law index count s₀ s = (s ≤ count) × (every s (sentenceBlocks (fileOf law)) ≡ true)
+
+abbrev μ-loop : tie.MeasureT-loop
+μ-loop law index count s₀ s = count - s
+
+pub blocks-allowed-spec : {M : Type 1} → statement M
+unfolding blocksAllowed
+blocks-allowed-spec =
+    tie.close
+    (tie.spec
+    Inv-loop
+    μ-loop
+    (λ c κs. tt)
+    (λ c. (omega arith, every-none _))
+    (λ c κs. let p = c .before .before .before .before .pre in (p, omega (arith, p .words .sentences, c .before .before .sentences .ensures)))
+    (λ c. sentences-fail _ _ (c .before .before .before .before .before .before .pre) (sentenceBlocks (fileOf (c .before .before .before .before .before .before .args .law .now))) _ _ _ (c .before .before .before .before .sentences .ensures) (c .before .before .loop-test .taken) (c .before .sentence-blocks .ensures) (not-true _ (c .if1 .taken)))
+    (λ c. omega arith)
+    (λ c. omega arith)
+    (λ c. (omega arith, every-next (c .before .before .before .loop .s) _ (c .before .before .before .loop .inv .1) (sym (c .before .sentence-blocks .ensures) ∙ not-false _ (c .if1 .left))))
+    (λ c. sentences-hold _ _ (c .before .before .before .before .pre) _ _ _ (c .before .before .sentences .ensures) (c .before .loop .inv .0) (c .loop-test .left) (c .before .loop .inv .1)))

@@ -1,0 +1,454 @@
+use Prim.Native.Nat.{ℕ, _+_, _*_, _-_, _≤_, _<_}
+use native.Mathlib.Omega.{arith}
+use native.Mathlib.Nat.{le-of-lt}
+use mathlib.Core.Path.{_≡_, refl, sym, ap, _∙_}
+use borrow.Author.Needs.{needs}
+use borrow.Author.Tests.{not-true, not-false}
+use lib.ListN.{length}
+use Rattle.file.specs.Sections.{fileOf}
+use Rattle.law.specs.Places.{conditionsOf, firstCondition}
+use Rattle.law.proofs.IndexLaws as laws
+use Rattle.law.proofs.PartLaws as parts
+use Rattle.law.proofs.Forests.{inside-falls, after-falls}
+use Rattle.law.proofs.DepthSteps as steps
+use borrow.Fn.Kinds.{In}
+use borrow.Fn.PlainCycle.{Measures, is, falls, and}
+use Rattle.law.proofs.depth.conditions_depth.Reads as conditions-depth
+use Rattle.law.proofs.depth.conditions_depth.Kinds as conditions-depth-kinds
+use Rattle.law.proofs.depth.+conditions_depth+run_depth+sentence_depth+sentences_depth.Lts-conditions_depth as conditions-depth-lts
+use Rattle.law.proofs.depth.run_depth.Reads as run-depth
+use Rattle.law.proofs.depth.run_depth.Kinds as run-depth-kinds
+use Rattle.law.proofs.depth.+conditions_depth+run_depth+sentence_depth+sentences_depth.Lts-run_depth as run-depth-lts
+use Rattle.law.proofs.depth.sentence_depth.Reads as sentence-depth
+use Rattle.law.proofs.depth.sentence_depth.Kinds as sentence-depth-kinds
+use Rattle.law.proofs.depth.+conditions_depth+run_depth+sentence_depth+sentences_depth.Lts-sentence_depth as sentence-depth-lts
+use Rattle.law.proofs.depth.sentences_depth.Reads as sentences-depth
+use Rattle.law.proofs.depth.sentences_depth.Kinds as sentences-depth-kinds
+use Rattle.law.proofs.depth.+conditions_depth+run_depth+sentence_depth+sentences_depth.Lts-sentences_depth as sentences-depth-lts
+use Rattle.file.proofs.term_at.Reads as term-at-reads
+use Rattle.file.proofs.word_at.Reads as word-at-reads
+use Rattle.law.proofs.depth.sentences_in.Reads as sentences-in-reads
+use Rattle.law.proofs.places.asked.Reads as asked-reads
+use Rattle.law.proofs.places.asked_at.Reads as asked-at-reads
+use Rattle.law.proofs.places.asked_size.Reads as asked-size-reads
+use Rattle.law.proofs.places.block_first.Reads as block-first-reads
+use Rattle.law.proofs.places.first_condition.Reads as first-condition-reads
+use Rattle.law.proofs.places.pattern.Reads as pattern-reads
+use Rattle.law.proofs.places.pattern_at.Reads as pattern-at-reads
+use Rattle.law.proofs.places.result.Reads as result-reads
+use Rattle.law.proofs.places.result_at.Reads as result-at-reads
+use Rattle.law.proofs.places.wanted.Reads as wanted-reads
+use Rattle.law.proofs.runs.end_of.Reads as end-of-reads
+use Rattle.law.proofs.depth.+conditions_depth+run_depth+sentence_depth+sentences_depth.{
+  statement,
+}
+use Rattle.law.proofs.depth.+conditions_depth+run_depth+sentence_depth+sentences_depth.Tie.{
+  close,
+}
+
+abbrev μ-conditions-depth : Measures 2 conditions-depth-kinds.ps ℕ
+μ-conditions-depth κs a = (33 - a .1 .1 .1 .0) * 40000 + 15000
+
+abbrev μ-run-depth : Measures 3 run-depth-kinds.ps ℕ
+μ-run-depth κs a = (33 - a .1 .1 .1 .1 .0) * 40000 + length (a .1 .1 .0 .now)
+
+abbrev μ-sentence-depth : Measures 2 sentence-depth-kinds.ps ℕ
+μ-sentence-depth κs a = (33 - a .1 .1 .1 .0) * 40000 + 20000
+
+abbrev μ-sentences-depth : Measures 2 sentences-depth-kinds.ps ℕ
+μ-sentences-depth κs a = (33 - a .1 .1 .1 .1 .0) * 40000 + 30000
+
+abbrev conditions-depth-at : ℕ → In 2 conditions-depth-kinds.ps
+conditions-depth-at t =
+    and
+    2
+    conditions-depth-kinds.ps
+    (is 2 conditions-depth-kinds.ps μ-conditions-depth t)
+    conditions-depth.Pre
+
+abbrev conditions-depth-below : ℕ → In 2 conditions-depth-kinds.ps
+conditions-depth-below t =
+    and
+    2
+    conditions-depth-kinds.ps
+    (falls 2 conditions-depth-kinds.ps _<_ μ-conditions-depth t)
+    conditions-depth.Pre
+
+abbrev run-depth-at : ℕ → In 3 run-depth-kinds.ps
+run-depth-at t = and 3 run-depth-kinds.ps (is 3 run-depth-kinds.ps μ-run-depth t) run-depth.Pre
+
+abbrev run-depth-below : ℕ → In 3 run-depth-kinds.ps
+run-depth-below t =
+    and 3 run-depth-kinds.ps (falls 3 run-depth-kinds.ps _<_ μ-run-depth t) run-depth.Pre
+
+abbrev sentence-depth-at : ℕ → In 2 sentence-depth-kinds.ps
+sentence-depth-at t =
+    and
+    2
+    sentence-depth-kinds.ps
+    (is 2 sentence-depth-kinds.ps μ-sentence-depth t)
+    sentence-depth.Pre
+
+abbrev sentence-depth-below : ℕ → In 2 sentence-depth-kinds.ps
+sentence-depth-below t =
+    and
+    2
+    sentence-depth-kinds.ps
+    (falls 2 sentence-depth-kinds.ps _<_ μ-sentence-depth t)
+    sentence-depth.Pre
+
+abbrev sentences-depth-at : ℕ → In 2 sentences-depth-kinds.ps
+sentences-depth-at t =
+    and
+    2
+    sentences-depth-kinds.ps
+    (is 2 sentences-depth-kinds.ps μ-sentences-depth t)
+    sentences-depth.Pre
+
+abbrev sentences-depth-below : ℕ → In 2 sentences-depth-kinds.ps
+sentences-depth-below t =
+    and
+    2
+    sentences-depth-kinds.ps
+    (falls 2 sentences-depth-kinds.ps _<_ μ-sentences-depth t)
+    sentences-depth.Pre
+
+abbrev conditions-depth-Inv-loop : conditions-depth-lts.InvT-loop
+conditions-depth-Inv-loop law index s depth first count i₀ i =
+    (first ≡ firstCondition (fileOf law) s)
+    × (count ≡ conditionsOf (fileOf law) s)
+    × (i ≤ count)
+    × (steps.conditionsWithin (fileOf law) s (conditionsOf (fileOf law) s) (firstCondition (fileOf law) s) depth
+    ≡ steps.conditionsWithin (fileOf law) s (count - i) (first + i) depth)
+
+abbrev conditions-depth-μ-loop : conditions-depth-lts.MeasureT-loop
+conditions-depth-μ-loop law index s depth first count i₀ i = count - i
+
+abbrev sentences-depth-Inv-loop : sentences-depth-lts.InvT-loop
+sentences-depth-Inv-loop law index first count depth i₀ i =
+    (i ≤ count)
+    × (steps.sentencesWithin (fileOf law) count first depth ≡ steps.sentencesWithin (fileOf law) (count - i) (first + i) depth)
+
+abbrev sentences-depth-μ-loop : sentences-depth-lts.MeasureT-loop
+sentences-depth-μ-loop law index first count depth i₀ i = count - i
+
+pub +conditions-depth+run-depth+sentence-depth+sentences-depth-spec : {M : Type 1} → statement M
++conditions-depth+run-depth+sentence-depth+sentences-depth-spec =
+    close
+    μ-conditions-depth
+    μ-run-depth
+    μ-sentence-depth
+    μ-sentences-depth
+    (λ t. conditions-depth-lts.spec (
+      first-condition-reads.Asked,
+      first-condition-reads.Learnt,
+      asked-at-reads.Asked,
+      asked-at-reads.Learnt,
+      asked-reads.Asked,
+      asked-reads.Learnt,
+      run-depth-below t,
+      run-depth.Post,
+      asked-size-reads.Asked,
+      asked-size-reads.Learnt,
+      wanted-reads.Asked,
+      wanted-reads.Learnt,
+    )
+    (conditions-depth-at t)
+    conditions-depth.Post
+    conditions-depth-Inv-loop
+    conditions-depth-μ-loop
+    (λ c κs.
+    let start = c .before in
+    omega (arith, laws.sentences-limit (start .args .law .now) (start .args .index .now) (start .pre .1 .0), start .pre .1 .2))
+    (λ c.
+    let start = c .before .before in
+    omega (arith, laws.sentences-limit (start .args .law .now) (start .args .index .now) (start .pre .1 .0), start .pre .1 .2))
+    (λ c κs.
+    let start = c .before .before in
+    omega (arith, laws.sentences-limit (start .args .law .now) (start .args .index .now) (start .pre .1 .0), start .pre .1 .2))
+    (λ c.
+    let start = c .before .before .before in
+    omega (arith, laws.conditions-before (start .args .law .now) (start .args .index .now) (start .pre .1 .0) (start .args .s) (start .pre .1 .2), start .pre .1 .0 .words .firstConditions (start .args .s) (le-of-lt (start .pre .1 .2)), c .before .first-condition .ensures, c .first-condition2 .ensures))
+    (λ c.
+    let start = c .before .before .before in
+    (c .before .first-condition .ensures ∙ start .pre .1 .0 .words .firstConditions (start .args .s) (le-of-lt (start .pre .1 .2)), omega (arith, laws.conditions-before (start .args .law .now) (start .args .index .now) (start .pre .1 .0) (start .args .s) (start .pre .1 .2), start .pre .1 .0 .words .firstConditions (start .args .s) (le-of-lt (start .pre .1 .2)), c .before .first-condition .ensures, c .first-condition2 .ensures), omega arith, steps.conditions-same (fileOf (start .args .law .now)) (start .args .s) _ _ _ _ (start .args .depth) (omega (arith, laws.conditions-before (start .args .law .now) (start .args .index .now) (start .pre .1 .0) (start .args .s) (start .pre .1 .2), start .pre .1 .0 .words .firstConditions (start .args .s) (le-of-lt (start .pre .1 .2)), c .before .first-condition .ensures, c .first-condition2 .ensures)) (omega (arith, start .pre .1 .0 .words .firstConditions (start .args .s) (le-of-lt (start .pre .1 .2)), c .before .first-condition .ensures))))
+    (λ c.
+    let start = c .before .before .before .before .before in
+    let loop = c .before .loop in
+    omega (arith, laws.owned (start .args .law .now) (start .args .index .now) (start .pre .1 .0) _ _ (laws.owns (start .args .law .now) (start .args .index .now) (start .pre .1 .0) (start .args .s) (loop .i) (start .pre .1 .2) (omega (arith, loop .inv .1))), laws.conditions-limit (start .args .law .now) (start .args .index .now) (start .pre .1 .0), loop .inv .0))
+    (λ c κs.
+    let start = c .before .before .before .before .before in
+    let loop = c .before .loop in
+    (start .pre .1 .0, start .pre .1 .2, laws.owned (start .args .law .now) (start .args .index .now) (start .pre .1 .0) _ _ (rw (sym (loop .inv .0)) at (laws.owns (start .args .law .now) (start .args .index .now) (start .pre .1 .0) (start .args .s) (loop .i) (start .pre .1 .2) (omega (arith, loop .inv .1))))))
+    (λ c.
+    let start = c .before .before .before .before .before .before in
+    let loop = c .before .before .loop in
+    omega (arith, laws.owned (start .args .law .now) (start .args .index .now) (start .pre .1 .0) _ _ (laws.owns (start .args .law .now) (start .args .index .now) (start .pre .1 .0) (start .args .s) (loop .i) (start .pre .1 .2) (omega (arith, loop .inv .1))), laws.conditions-limit (start .args .law .now) (start .args .index .now) (start .pre .1 .0), loop .inv .0))
+    (λ c κs.
+    let start = c .before .before .before .before .before .before in
+    let loop = c .before .before .loop in
+    (start .pre .1 .0, (rw (sym (loop .inv .0)) at (laws.owns (start .args .law .now) (start .args .index .now) (start .pre .1 .0) (start .args .s) (loop .i) (start .pre .1 .2) (omega (arith, loop .inv .1))))))
+    (λ c κs.
+    let start = c .before .before .before .before .before .before .before in
+    let loop = c .before .before .before .loop in
+    let the-first-condition = c .before .before .before .before .before .first-condition in
+    (omega (arith, parts.part-small (start .args .law .now) (start .args .index .now) (start .pre .1 .0) (start .pre .1 .1) (c .before .asked-at .result) (c .asked .result .now) (rw (c .before .asked-at .ensures, c .asked .ensures) (parts.asked-part (fileOf (start .args .law .now)) (start .pre .1 .1) (start .args .s) (the-first-condition .result + loop .i) (rw (sym (loop .inv .0)) at (laws.owns (start .args .law .now) (start .args .index .now) (start .pre .1 .0) (start .args .s) (loop .i) (start .pre .1 .2) (omega (arith, loop .inv .1)))))), start .pre .0), (start .pre .1 .0, start .pre .1 .1, rw (c .before .asked-at .ensures, c .asked .ensures) (parts.asked-part (fileOf (start .args .law .now)) (start .pre .1 .1) (start .args .s) (the-first-condition .result + loop .i) (rw (sym (loop .inv .0)) at (laws.owns (start .args .law .now) (start .args .index .now) (start .pre .1 .0) (start .args .s) (loop .i) (start .pre .1 .2) (omega (arith, loop .inv .1))))), start .pre .1 .3)))
+    (λ c.
+    let start = c .before .before .before .before .before .before .before .before .before in
+    let loop = c .before .before .before .before .before .loop in
+    let the-asked-at = c .before .before .before .asked-at in
+    let the-asked = c .before .before .asked in
+    let the-first-condition2 = c .before .before .before .before .before .before .first-condition2 in
+    let the-first-condition = c .before .before .before .before .before .before .before .first-condition in
+    let the-loop-test = c .before .before .before .before .loop-test in
+    sym (rw (sym (rw (the-asked-at .ensures, the-asked .ensures) at (c .before .run-depth .ensures)) ∙ not-true _ (c .if1 .taken)) at (loop .inv .3 ∙ steps.conditions-next (fileOf (start .args .law .now)) (start .args .s) (the-first-condition2 .result - the-first-condition .result) (the-first-condition .result) (loop .i) (start .args .depth) (the-loop-test .taken))))
+    (λ c.
+    let start = c .before .before .before .before .before .before .before .before .before in
+    let loop = c .before .before .before .before .before .loop in
+    omega (arith, laws.owned (start .args .law .now) (start .args .index .now) (start .pre .1 .0) _ _ (laws.owns (start .args .law .now) (start .args .index .now) (start .pre .1 .0) (start .args .s) (loop .i) (start .pre .1 .2) (omega (arith, loop .inv .1))), laws.conditions-limit (start .args .law .now) (start .args .index .now) (start .pre .1 .0), loop .inv .0))
+    (λ c κs.
+    let start = c .before .before .before .before .before .before .before .before .before in
+    let loop = c .before .before .before .before .before .loop in
+    (start .pre .1 .0, laws.owned (start .args .law .now) (start .args .index .now) (start .pre .1 .0) _ _ (rw (sym (loop .inv .0)) at (laws.owns (start .args .law .now) (start .args .index .now) (start .pre .1 .0) (start .args .s) (loop .i) (start .pre .1 .2) (omega (arith, loop .inv .1))))))
+    (λ c.
+    let start = c .before .before .before .before .before .before .before .before .before .before in
+    let loop = c .before .before .before .before .before .before .loop in
+    let the-asked-at = c .before .before .before .before .asked-at in
+    omega (arith, laws.asked-fits (start .args .law .now) (start .args .index .now) (start .pre .1 .0) _ _ (rw (sym (loop .inv .0)) at (laws.owns (start .args .law .now) (start .args .index .now) (start .pre .1 .0) (start .args .s) (loop .i) (start .pre .1 .2) (omega (arith, loop .inv .1)))), laws.terms-limit (start .args .law .now) (start .args .index .now) (start .pre .1 .0), the-asked-at .ensures, c .asked-size .ensures))
+    (λ c.
+    let start = c .before .before .before .before .before .before .before .before .before .before in
+    let loop = c .before .before .before .before .before .before .loop in
+    omega (arith, laws.owned (start .args .law .now) (start .args .index .now) (start .pre .1 .0) _ _ (laws.owns (start .args .law .now) (start .args .index .now) (start .pre .1 .0) (start .args .s) (loop .i) (start .pre .1 .2) (omega (arith, loop .inv .1))), laws.conditions-limit (start .args .law .now) (start .args .index .now) (start .pre .1 .0), loop .inv .0))
+    (λ c κs.
+    let start = c .before .before .before .before .before .before .before .before .before .before in
+    let loop = c .before .before .before .before .before .before .loop in
+    (start .pre .1 .0, (rw (sym (loop .inv .0)) at (laws.owns (start .args .law .now) (start .args .index .now) (start .pre .1 .0) (start .args .s) (loop .i) (start .pre .1 .2) (omega (arith, loop .inv .1))))))
+    (λ c κs.
+    let start = c .before .before .before .before .before .before .before .before .before .before .before in
+    let loop = c .before .before .before .before .before .before .before .loop in
+    let the-asked-at = c .before .before .before .before .before .asked-at in
+    let the-first-condition = c .before .before .before .before .before .before .before .before .before .first-condition in
+    (omega (arith, parts.part-small (start .args .law .now) (start .args .index .now) (start .pre .1 .0) (start .pre .1 .1) (the-asked-at .result + c .before .asked-size .result) (c .wanted .result .now) (rw (the-asked-at .ensures, c .before .asked-size .ensures, c .wanted .ensures) (parts.wanted-part (fileOf (start .args .law .now)) (start .pre .1 .1) (start .args .s) (the-first-condition .result + loop .i) (rw (sym (loop .inv .0)) at (laws.owns (start .args .law .now) (start .args .index .now) (start .pre .1 .0) (start .args .s) (loop .i) (start .pre .1 .2) (omega (arith, loop .inv .1)))))), start .pre .0), (start .pre .1 .0, start .pre .1 .1, rw (the-asked-at .ensures, c .before .asked-size .ensures, c .wanted .ensures) (parts.wanted-part (fileOf (start .args .law .now)) (start .pre .1 .1) (start .args .s) (the-first-condition .result + loop .i) (rw (sym (loop .inv .0)) at (laws.owns (start .args .law .now) (start .args .index .now) (start .pre .1 .0) (start .args .s) (loop .i) (start .pre .1 .2) (omega (arith, loop .inv .1))))), start .pre .1 .3)))
+    (λ c.
+    let start = c .before .before .before .before .before .before .before .before .before .before .before .before .before in
+    let loop = c .before .before .before .before .before .before .before .before .before .loop in
+    let the-asked-at = c .before .before .before .before .before .before .before .asked-at in
+    let the-asked = c .before .before .before .before .before .before .asked in
+    let the-run-depth = c .before .before .before .before .before .run-depth in
+    let the-if1 = c .before .before .before .before .if1 in
+    let the-asked-size = c .before .before .before .asked-size in
+    let the-wanted = c .before .before .wanted in
+    let the-first-condition2 = c .before .before .before .before .before .before .before .before .before .before .first-condition2 in
+    let the-first-condition = c .before .before .before .before .before .before .before .before .before .before .before .first-condition in
+    let the-loop-test = c .before .before .before .before .before .before .before .before .loop-test in
+    sym (rw (sym (rw (the-asked-at .ensures, the-asked .ensures) at (the-run-depth .ensures)) ∙ not-false _ (the-if1 .left), sym (rw (the-asked-at .ensures, the-asked-size .ensures, the-wanted .ensures) at (c .before .run-depth2 .ensures)) ∙ not-true _ (c .if2 .taken)) at (loop .inv .3 ∙ steps.conditions-next (fileOf (start .args .law .now)) (start .args .s) (the-first-condition2 .result - the-first-condition .result) (the-first-condition .result) (loop .i) (start .args .depth) (the-loop-test .taken))))
+    (λ c. omega arith)
+    (λ c. omega arith)
+    (λ c.
+    let start = c .before .before .before .before .before .before .before .before .before .before .before .before .before in
+    let loop = c .before .before .before .before .before .before .before .before .before .loop in
+    let the-asked-at = c .before .before .before .before .before .before .before .asked-at in
+    let the-asked = c .before .before .before .before .before .before .asked in
+    let the-run-depth = c .before .before .before .before .before .run-depth in
+    let the-if1 = c .before .before .before .before .if1 in
+    let the-asked-size = c .before .before .before .asked-size in
+    let the-wanted = c .before .before .wanted in
+    let the-first-condition2 = c .before .before .before .before .before .before .before .before .before .before .first-condition2 in
+    let the-first-condition = c .before .before .before .before .before .before .before .before .before .before .before .first-condition in
+    let the-loop-test = c .before .before .before .before .before .before .before .before .loop-test in
+    (loop .inv .0, loop .inv .1, omega arith, rw (sym (rw (the-asked-at .ensures, the-asked .ensures) at (the-run-depth .ensures)) ∙ not-false _ (the-if1 .left), sym (rw (the-asked-at .ensures, the-asked-size .ensures, the-wanted .ensures) at (c .before .run-depth2 .ensures)) ∙ not-false _ (c .if2 .left)) at (loop .inv .3 ∙ steps.conditions-next (fileOf (start .args .law .now)) (start .args .s) (the-first-condition2 .result - the-first-condition .result) (the-first-condition .result) (loop .i) (start .args .depth) (the-loop-test .taken))))
+    (λ c.
+    let start = c .before .before .before .before .before in
+    let loop = c .before .loop in
+    let the-first-condition = c .before .before .before .first-condition in
+    sym (loop .inv .3 ∙ steps.conditions-same (fileOf (start .args .law .now)) (start .args .s) _ 0 _ (the-first-condition .result + loop .i) (start .args .depth) (omega (arith, c .loop-test .left)) refl ∙ steps.conditions-none (fileOf (start .args .law .now)) (start .args .s) _ (start .args .depth))))
+    (λ t. run-depth-lts.spec (
+      end-of-reads.Asked,
+      end-of-reads.Learnt,
+      run-depth-below t,
+      run-depth.Post,
+      term-at-reads.Asked,
+      term-at-reads.Learnt,
+      sentences-in-reads.Asked,
+      sentences-in-reads.Learnt,
+      block-first-reads.Asked,
+      block-first-reads.Learnt,
+      sentences-depth-below t,
+      sentences-depth.Post,
+      word-at-reads.Asked,
+      word-at-reads.Learnt,
+    )
+    (run-depth-at t)
+    run-depth.Post
+    (λ c.
+    let start = c .before .before .before in
+    sym (steps.run-none (fileOf (start .args .law .now)) (start .args .at) (start .args .depth) (start .args .part .now) (c .if1 .taken)))
+    (λ c.
+    let start = c .before .before .before .before in
+    sym (steps.run-over (fileOf (start .args .law .now)) (start .args .at) (start .args .depth) (start .args .part .now) (c .before .if1 .left) (c .if2 .taken)))
+    (λ c κs. omega arith)
+    (λ c. omega arith)
+    (λ c. omega arith)
+    (λ c. omega arith)
+    (λ c.
+    let start = c .before .before .before .before .before .before in
+    let the-if1 = c .before .before .before .if1 in
+    omega (arith, parts.part-at (fileOf (start .args .law .now)) (start .pre .1 .1) (start .args .at) (start .args .part .now) (start .pre .1 .2) (the-if1 .left), laws.terms-limit (start .args .law .now) (start .args .index .now) (start .pre .1 .0)))
+    (λ c. omega arith)
+    (λ c κs.
+    let start = c .before .before .before .before .before .before in
+    let the-if1 = c .before .before .before .if1 in
+    let the-if2 = c .before .before .if2 in
+    (omega (arith, inside-falls (start .args .part .now) (c .before .end-of .result) (length (start .args .part .now)) (the-if1 .left) (c .before .end-of .ensures .0) refl, the-if2 .left, start .pre .0), (start .pre .1 .0, start .pre .1 .1, rw (c .before .end-of .ensures .0) (parts.contents-part (fileOf (start .args .law .now)) (start .pre .1 .1) (start .args .at) (start .args .part .now) (start .pre .1 .2) (the-if1 .left)), omega (arith, the-if2 .left))))
+    (λ c.
+    let start = c .before .before .before .before .before .before .before .before in
+    let the-end-of = c .before .before .before .end-of in
+    let the-if1 = c .before .before .before .before .before .if1 in
+    let the-if2 = c .before .before .before .before .if2 in
+    sym (rw ((sym (c .before .run-depth .ensures)) ∙ not-true _ (c .if3 .taken)) at (steps.run-step (fileOf (start .args .law .now)) (start .pre .1 .1) (start .args .at) (start .args .depth) (the-end-of .result) (start .args .part .now) (start .pre .1 .2) (the-if1 .left) (the-end-of .ensures .0) (the-if2 .left))))
+    (λ c κs. omega (arith, (c .before .before .before .before .before .if1 .left)))
+    (λ c κs. search needs)
+    (λ c κs.
+    let start = c .before .before .before .before .before .before .before .before .before .before in
+    let the-if1 = c .before .before .before .before .before .before .before .if1 in
+    omega (arith, parts.part-at (fileOf (start .args .law .now)) (start .pre .1 .1) (start .args .at) (start .args .part .now) (start .pre .1 .2) (the-if1 .left), laws.terms-limit (start .args .law .now) (start .args .index .now) (start .pre .1 .0)))
+    (λ c.
+    let the-if2 = c .before .before .before .before .before .before .before .if2 in
+    omega (arith, the-if2 .left))
+    (λ c κs.
+    let start = c .before .before .before .before .before .before .before .before .before .before .before in
+    let the-if2 = c .before .before .before .before .before .before .before .if2 in
+    let the-if1 = c .before .before .before .before .before .before .before .before .if1 in
+    let the-term-at = c .before .before .term-at in
+    (omega (arith, the-if2 .left, start .pre .0), (start .pre .1 .0, start .pre .1 .1, rw (c .block-first .ensures ∙ (start .pre .1 .0 .words .blocks (start .args .at) (parts.part-at (fileOf (start .args .law .now)) (start .pre .1 .1) (start .args .at) (start .args .part .now) (start .pre .1 .2) (the-if1 .left))), c .before .sentences-in .ensures, the-term-at .ensures) (parts.part-sentences (fileOf (start .args .law .now)) (start .pre .1 .1) (start .args .at) (start .args .part .now) (start .pre .1 .2) (the-if1 .left)), omega (arith, the-if2 .left))))
+    (λ c.
+    let start = c .before .before .before .before .before .before .before .before .before .before .before .before .before in
+    let the-run-depth = c .before .before .before .before .before .before .run-depth in
+    let the-if3 = c .before .before .before .before .before .if3 in
+    let the-sentences-in = c .before .before .before .sentences-in in
+    let the-term-at = c .before .before .before .before .term-at in
+    let the-block-first = c .before .before .block-first in
+    let the-if1 = c .before .before .before .before .before .before .before .before .before .before .if1 in
+    let the-end-of = c .before .before .before .before .before .before .before .before .end-of in
+    let the-if2 = c .before .before .before .before .before .before .before .before .before .if2 in
+    sym (rw ((sym (the-run-depth .ensures)) ∙ not-false _ (the-if3 .left), (sym (rw (the-sentences-in .ensures, the-term-at .ensures, the-block-first .ensures ∙ (start .pre .1 .0 .words .blocks (start .args .at) (parts.part-at (fileOf (start .args .law .now)) (start .pre .1 .1) (start .args .at) (start .args .part .now) (start .pre .1 .2) (the-if1 .left)))) at (c .before .sentences-depth .ensures))) ∙ not-true _ (c .if4 .taken)) at (steps.run-step (fileOf (start .args .law .now)) (start .pre .1 .1) (start .args .at) (start .args .depth) (the-end-of .result) (start .args .part .now) (start .pre .1 .2) (the-if1 .left) (the-end-of .ensures .0) (the-if2 .left))))
+    (λ c κs.
+    let the-if1 = c .before .before .before .before .before .before .before .before .before .before .if1 in
+    omega (arith, (the-if1 .left)))
+    (λ c. omega arith)
+    (λ c. omega arith)
+    (λ c. omega arith)
+    (λ c. omega arith)
+    (λ c.
+    let start = c .before .before .before .before .before .before .before .before .before .before .before .before .before .before .before in
+    let the-if1 = c .before .before .before .before .before .before .before .before .before .before .before .before .if1 in
+    omega (arith, parts.part-at (fileOf (start .args .law .now)) (start .pre .1 .1) (start .args .at) (start .args .part .now) (start .pre .1 .2) (the-if1 .left), laws.terms-limit (start .args .law .now) (start .args .index .now) (start .pre .1 .0)))
+    (λ c.
+    let start = c .before .before .before .before .before .before .before .before .before .before .before .before .before .before .before in
+    let the-if1 = c .before .before .before .before .before .before .before .before .before .before .before .before .if1 in
+    omega (arith, parts.rest-part (fileOf (start .args .law .now)) (start .pre .1 .1) (start .args .at) (start .args .part .now) (start .pre .1 .2) (the-if1 .left) .inside, c .before .word-at .ensures, laws.terms-limit (start .args .law .now) (start .args .index .now) (start .pre .1 .0)))
+    (λ c κs.
+    let start = c .before .before .before .before .before .before .before .before .before .before .before .before .before .before .before in
+    let the-end-of = c .before .before .before .before .before .before .before .before .before .before .end-of in
+    let the-if1 = c .before .before .before .before .before .before .before .before .before .before .before .before .if1 in
+    (omega (arith, after-falls (start .args .part .now) (the-end-of .result) (length (start .args .part .now)) (the-if1 .left) (the-end-of .ensures .0) refl, start .pre .0), (start .pre .1 .0, start .pre .1 .1, rw ((the-end-of .ensures .0), c .before .word-at .ensures) (parts.rest-part (fileOf (start .args .law .now)) (start .pre .1 .1) (start .args .at) (start .args .part .now) (start .pre .1 .2) (the-if1 .left)), start .pre .1 .3)))
+    (λ c.
+    let start = c .before .before .before .before .before .before .before .before .before .before .before .before .before .before .before .before in
+    let the-word-at = c .before .before .word-at in
+    let the-run-depth = c .before .before .before .before .before .before .before .before .before .run-depth in
+    let the-if3 = c .before .before .before .before .before .before .before .before .if3 in
+    let the-sentences-in = c .before .before .before .before .before .before .sentences-in in
+    let the-term-at = c .before .before .before .before .before .before .before .term-at in
+    let the-block-first = c .before .before .before .before .before .block-first in
+    let the-if1 = c .before .before .before .before .before .before .before .before .before .before .before .before .before .if1 in
+    let the-sentences-depth = c .before .before .before .before .sentences-depth in
+    let the-if4 = c .before .before .before .if4 in
+    let the-end-of = c .before .before .before .before .before .before .before .before .before .before .before .end-of in
+    let the-if2 = c .before .before .before .before .before .before .before .before .before .before .before .before .if2 in
+    rw (the-word-at .ensures) at (c .run-depth2 .ensures) ∙ sym (rw ((sym (the-run-depth .ensures)) ∙ not-false _ (the-if3 .left), (sym (rw (the-sentences-in .ensures, the-term-at .ensures, the-block-first .ensures ∙ (start .pre .1 .0 .words .blocks (start .args .at) (parts.part-at (fileOf (start .args .law .now)) (start .pre .1 .1) (start .args .at) (start .args .part .now) (start .pre .1 .2) (the-if1 .left)))) at (the-sentences-depth .ensures))) ∙ not-false _ (the-if4 .left)) at (steps.run-step (fileOf (start .args .law .now)) (start .pre .1 .1) (start .args .at) (start .args .depth) (the-end-of .result) (start .args .part .now) (start .pre .1 .2) (the-if1 .left) (the-end-of .ensures .0) (the-if2 .left)))))
+    (λ t. sentence-depth-lts.spec (
+      pattern-reads.Asked,
+      pattern-reads.Learnt,
+      pattern-at-reads.Asked,
+      pattern-at-reads.Learnt,
+      run-depth-below t,
+      run-depth.Post,
+      conditions-depth-below t,
+      conditions-depth.Post,
+      result-reads.Asked,
+      result-reads.Learnt,
+      result-at-reads.Asked,
+      result-at-reads.Learnt,
+    )
+    (sentence-depth-at t)
+    sentence-depth.Post
+    (λ c κs. (c .before .pre .1 .0, c .before .pre .1 .2))
+    (λ c κs. (c .before .before .pre .1 .0, le-of-lt (c .before .before .pre .1 .2)))
+    (λ c κs.
+    let start = c .before .before .before in
+    (omega (arith, parts.part-small (start .args .law .now) (start .args .index .now) (start .pre .1 .0) (start .pre .1 .1) (c .pattern-at .result) (c .before .pattern .result .now) (rw (c .pattern-at .ensures, c .before .pattern .ensures) (parts.pattern-part (fileOf (start .args .law .now)) (start .pre .1 .1) (start .args .s) (start .pre .1 .2))), start .pre .0), (start .pre .1 .0, start .pre .1 .1, rw (c .pattern-at .ensures, c .before .pattern .ensures) (parts.pattern-part (fileOf (start .args .law .now)) (start .pre .1 .1) (start .args .s) (start .pre .1 .2)), start .pre .1 .3)))
+    (λ c.
+    let start = c .before .before .before .before .before in
+    let the-pattern-at = c .before .before .pattern-at in
+    let the-pattern = c .before .before .before .pattern in
+    sym (rw (sym (rw (the-pattern-at .ensures, the-pattern .ensures) at (c .before .run-depth .ensures)) ∙ not-true _ (c .if1 .taken)) at (steps.sentence-step (fileOf (start .args .law .now)) (start .pre .1 .1) (start .args .s) (start .args .depth) (start .pre .1 .2))))
+    (λ c κs.
+    let start = c .before .before .before .before .before in
+    (omega (arith, start .pre .0), (start .pre .1 .0, start .pre .1 .1, start .pre .1 .2, start .pre .1 .3)))
+    (λ c.
+    let start = c .before .before .before .before .before .before .before in
+    let the-pattern-at = c .before .before .before .before .pattern-at in
+    let the-pattern = c .before .before .before .before .before .pattern in
+    let the-run-depth = c .before .before .before .run-depth in
+    let the-if1 = c .before .before .if1 in
+    sym (rw (sym (rw (the-pattern-at .ensures, the-pattern .ensures) at (the-run-depth .ensures)) ∙ not-false _ (the-if1 .left), sym (c .before .conditions-depth .ensures) ∙ not-true _ (c .if2 .taken)) at (steps.sentence-step (fileOf (start .args .law .now)) (start .pre .1 .1) (start .args .s) (start .args .depth) (start .pre .1 .2))))
+    (λ c κs.
+    let start = c .before .before .before .before .before .before .before in
+    (start .pre .1 .0, start .pre .1 .2))
+    (λ c κs.
+    let start = c .before .before .before .before .before .before .before .before in
+    (start .pre .1 .0, start .pre .1 .2))
+    (λ c κs.
+    let start = c .before .before .before .before .before .before .before .before .before in
+    (omega (arith, parts.part-small (start .args .law .now) (start .args .index .now) (start .pre .1 .0) (start .pre .1 .1) (c .result-at .result) (c .before .result .result .now) (rw (c .result-at .ensures, c .before .result .ensures) (parts.result-part (fileOf (start .args .law .now)) (start .pre .1 .1) (start .args .s) (start .pre .1 .2))), start .pre .0), (start .pre .1 .0, start .pre .1 .1, rw (c .result-at .ensures, c .before .result .ensures) (parts.result-part (fileOf (start .args .law .now)) (start .pre .1 .1) (start .args .s) (start .pre .1 .2)), start .pre .1 .3)))
+    (λ c.
+    let start = c .before .before .before .before .before .before .before .before .before .before in
+    let the-result = c .before .before .result in
+    let the-pattern-at = c .before .before .before .before .before .before .before .pattern-at in
+    let the-pattern = c .before .before .before .before .before .before .before .before .pattern in
+    let the-run-depth = c .before .before .before .before .before .before .run-depth in
+    let the-if1 = c .before .before .before .before .before .if1 in
+    let the-conditions-depth = c .before .before .before .before .conditions-depth in
+    let the-if2 = c .before .before .before .if2 in
+    rw (c .before .result-at .ensures, the-result .ensures) at (c .run-depth2 .ensures) ∙ sym (rw (sym (rw (the-pattern-at .ensures, the-pattern .ensures) at (the-run-depth .ensures)) ∙ not-false _ (the-if1 .left), sym (the-conditions-depth .ensures) ∙ not-false _ (the-if2 .left)) at (steps.sentence-step (fileOf (start .args .law .now)) (start .pre .1 .1) (start .args .s) (start .args .depth) (start .pre .1 .2)))))
+    λ t. sentences-depth-lts.spec
+    (sentence-depth-below t, sentence-depth.Post)
+    (sentences-depth-at t)
+    sentences-depth.Post
+    sentences-depth-Inv-loop
+    sentences-depth-μ-loop
+    (λ c.
+    let start = c .before in
+    (omega arith, steps.sentences-same (fileOf (start .args .law .now)) _ _ _ _ (start .args .depth) (omega arith) (omega arith)))
+    (λ c.
+    let start = c .before .before .before in
+    omega (arith, laws.sentences-limit (start .args .law .now) (start .args .index .now) (start .pre .1 .0), start .pre .1 .2, c .loop-test .taken))
+    (λ c κs.
+    let start = c .before .before .before in
+    (omega (arith, start .pre .0), (start .pre .1 .0, start .pre .1 .1, omega (arith, start .pre .1 .2, c .loop-test .taken), start .pre .1 .3)))
+    (λ c.
+    let start = c .before .before .before .before .before in
+    let loop = c .before .before .before .loop in
+    let the-loop-test = c .before .before .loop-test in
+    sym (rw (sym (c .before .sentence-depth .ensures) ∙ not-true _ (c .if1 .taken)) at (loop .inv .1 ∙ steps.sentences-next (fileOf (start .args .law .now)) (start .pre .1 .1) (start .args .count) (start .args .first) (loop .i) (start .args .depth) (the-loop-test .taken) (start .pre .1 .2))))
+    (λ c. omega arith)
+    (λ c. omega arith)
+    (λ c.
+    let start = c .before .before .before .before .before in
+    let loop = c .before .before .before .loop in
+    let the-loop-test = c .before .before .loop-test in
+    (omega arith, rw (sym (c .before .sentence-depth .ensures) ∙ not-false _ (c .if1 .left)) at (loop .inv .1 ∙ steps.sentences-next (fileOf (start .args .law .now)) (start .pre .1 .1) (start .args .count) (start .args .first) (loop .i) (start .args .depth) (the-loop-test .taken) (start .pre .1 .2))))
+    (λ c.
+    let start = c .before .before .before in
+    let loop = c .before .loop in
+    sym (loop .inv .1 ∙ steps.sentences-same (fileOf (start .args .law .now)) _ 0 _ (start .args .first + loop .i) (start .args .depth) (omega (arith, c .loop-test .left)) refl ∙ steps.sentences-none (fileOf (start .args .law .now)) _ (start .args .depth)))

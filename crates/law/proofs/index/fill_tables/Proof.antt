@@ -1,0 +1,78 @@
+-- The five fills, one after the other: `tables-made` says what they leave behind and what their sums tell.
+use native.Mathlib.Omega.{arith}
+use borrow.Author.Needs.{needs}
+use Rattle.law.proofs.Tables.{functions-fit, sentences-fit, conditions-fit, terms-fit, tables-made}
+use Rattle.law.proofs.index.fill_tables.Statement.{statement}
+use Rattle.law.proofs.index.fill_tables.Tie as tie
+
+pub fill-tables-spec : {M : Type 1} → statement M
+fill-tables-spec =
+    tie.close
+    (tie.spec
+    (λ c. search needs)
+    (λ c. search needs)
+    (λ c. search needs)
+    (λ c. search needs)
+    (λ c. search needs)
+    (λ c. search needs)
+    (λ c. search needs)
+    (λ c. search needs)
+    (λ c. search needs)
+    (λ c. search needs)
+    (λ c. search needs)
+    (λ c. search needs)
+    (λ c. search needs)
+    (λ c. search needs)
+    (λ c. search needs)
+    (λ c. search needs)
+    (λ c. search needs)
+    (λ c. search needs)
+    (λ c. search needs)
+    (λ c. search needs)
+    (λ c. search needs)
+    (λ c. search needs)
+    (λ c. search needs)
+    (λ c. search needs)
+    (λ c. search needs)
+    (λ c. search needs)
+    (λ c. search needs)
+    (λ c. search needs)
+    (λ c. search needs)
+    (λ c. search needs)
+    (λ c. search needs)
+    (λ c. search needs)
+    (λ c. search needs)
+    (λ c. search needs)
+    (λ c. search needs)
+    (λ c. search needs)
+    (λ c κs.
+    let start = c .before .before .before .before .before .before .before .before .before .before in
+    (functions-fit (start .args .law .now) (start .args .sections) (start .pre .2), omega arith, omega (arith, start .pre .1), start .pre .3))
+    (λ c κs.
+    let start = c .before .before .before .before .before .before .before .before .before .before .before .before in
+    (sentences-fit (start .args .law .now) (start .args .sections) (start .pre .2), omega arith, omega (arith, start .pre .1), c .before .fill-sums .ensures .2))
+    (λ c κs.
+    let start = c .before .before .before .before .before .before .before .before .before .before .before .before .before .before in
+    (conditions-fit (start .args .law .now) (start .args .sections) (start .pre .2), omega arith, omega (arith, start .pre .1), c .before .fill-sums2 .ensures .2))
+    (λ c κs.
+    let start = c .before .before .before .before .before .before .before .before .before .before .before .before .before .before .before .before in
+    (sentences-fit (start .args .law .now) (start .args .sections) (start .pre .2), omega arith, omega (arith, start .pre .1), c .before .fill-pair-sums .ensures .2))
+    (λ c κs.
+    let start = c .before .before .before .before .before .before .before .before .before .before .before .before .before .before .before .before .before .before in (
+      terms-fit (start .args .law .now) (start .args .sections) (start .pre .2),
+      omega (arith, start .pre .1),
+      omega (arith, start .pre .1, c .before .before .before .before .before .before .before .fill-sums .ensures .1),
+      c .before .fill-pair-sums2 .ensures .2,
+    ))
+    (λ c. omega (arith, c .before .before .before .before .before .before .before .before .before .before .before .before .before .before .before .before .before .before .before .pre .1, c .before .before .before .before .before .before .before .before .fill-sums .ensures .1, c .fill-blocks .ensures .1))
+    (λ c. omega (arith, c .before .before .before .before .before .before .before .before .before .before .before .before .before .before .before .before .before .before .before .pre .1, c .before .before .before .before .fill-pair-sums .ensures .1, c .before .before .fill-pair-sums2 .ensures .1))
+    (λ c κs. search needs)
+    (λ c.
+    let start = c .before .before .before .before .before .before .before .before .before .before .before .before .before .before .before .before .before .before .before .before in
+    let functions = c .before .before .before .before .before .before .before .before .before .fill-sums .ensures in
+    let asked = c .before .before .before .before .before .before .before .fill-sums2 .ensures in
+    let conditions = c .before .before .before .before .before .fill-pair-sums .ensures in
+    let sentences = c .before .before .before .fill-pair-sums2 .ensures in
+    let blocks = c .before .fill-blocks .ensures in
+    let made = tables-made (start .args .law .now) (start .args .sections) (start .pre .0) _ _ _ _ _ _ _ _ _ _ _ _ (start .pre .1) (functions .0) (functions .3) (asked .0) (asked .3) (conditions .0) (conditions .3) (sentences .0) (sentences .3) (blocks .0) (blocks .3) (c .used-exactly .ensures) in
+    (made .0, blocks .2, made .1)))

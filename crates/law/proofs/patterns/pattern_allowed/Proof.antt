@@ -1,0 +1,31 @@
+-- The invariant: the variables that were counted, and the different ones from record i on, are all different ones.
+use Prim.Native.Nat.{_+_, _-_, _≤_}
+use mathlib.Core.Path.{_≡_}
+use native.Mathlib.Omega.{arith}
+use Rattle.law.specs.Variables.{variablesFrom, distinct}
+use Rattle.law.proofs.PatternLaws.{distinct-start, distinct-end}
+use Rattle.law.proofs.patterns.pattern_allowed.Statement.{statement}
+use Rattle.law.proofs.patterns.pattern_allowed.Tie as tie
+
+abbrev Inv-loop : tie.InvT-loop
+Inv-loop text pattern count found₀ i₀ found i =
+    (i ≤ count) × (found ≤ i) × (distinct (variablesFrom text pattern count 0) ≡ found + distinct (variablesFrom text pattern (count - i) i))
+
+abbrev μ-loop : tie.MeasureT-loop
+μ-loop text pattern count found₀ i₀ found i = count - i
+
+pub pattern-allowed-spec : {M : Type 1} → statement M
+pattern-allowed-spec =
+    tie.close
+    (tie.spec
+    Inv-loop
+    μ-loop
+    (λ c. let a = c .before .before .args in
+    (omega arith, omega arith, distinct-start (a .text .now) (a .pattern .now) (a .count)))
+    (λ c κs. let p = c .before .before .before .before .pre in (p .0, p .1, c .loop-test .taken))
+    (λ c. omega arith)
+    (λ c. omega arith)
+    (λ c. omega arith)
+    (λ c. (omega arith, omega arith, omega arith))
+    (λ c. let a = c .before .before .before .before .args in
+    rw (distinct-end (a .text .now) (a .pattern .now) (a .count) (c .before .loop .i) (c .before .loop .found) _ (c .loop-test .left) (c .before .loop .inv .2))))

@@ -1,0 +1,36 @@
+use native.Mathlib.Omega.{arith}
+use Prim.Native.Nat.{_+_, _*_, _-_, _≤_, _<_}
+use mathlib.Core.Path.{_≡_, sym, ap, _∙_}
+use Rattle.law.proofs.IndexLaws as laws
+use borrow.Author.Needs.{needs}
+use Rattle.law.proofs.places.asked_at.Statement.{statement}
+use Rattle.law.proofs.places.asked_at.Tie as tie
+
+pub asked-at-spec : {M : Type 1} → statement M
+asked-at-spec =
+    tie.close
+    (tie.spec
+    (λ c.
+    let start = c .before in
+    omega (arith, laws.sentences-limit (start .args .law .now) (start .args .index .now) (start .pre .0), start .pre .1))
+    (λ c κs.
+    let start = c .before in
+    omega (arith, laws.sentences-limit (start .args .law .now) (start .args .index .now) (start .pre .0), start .pre .1))
+    (λ c κs. search needs)
+    (λ c.
+    let start = c .before .before .before in
+    omega (arith, laws.pattern-small (start .args .law .now) (start .args .index .now) (start .pre .0) (start .args .s) (start .pre .1), c .before .word .ensures .1, c .pattern-size .ensures))
+    (λ c.
+    let start = c .before .before .before in
+    omega (arith, laws.conditions-limit (start .args .law .now) (start .args .index .now) (start .pre .0), start .pre .2))
+    (λ c κs.
+    let start = c .before .before .before in
+    omega (arith, laws.conditions-limit (start .args .law .now) (start .args .index .now) (start .pre .0), start .pre .2))
+    (λ c.
+    let start = c .before .before .before .before in
+    let the-word = c .before .before .word in
+    omega (arith, laws.pattern-small (start .args .law .now) (start .args .index .now) (start .pre .0) (start .args .s) (start .pre .1), the-word .ensures .1, c .word2 .ensures .1, c .before .pattern-size .ensures))
+    (λ c.
+    let start = c .before .before .before .before in
+    let the-word = c .before .before .word in
+    rw (the-word .ensures .0, c .word2 .ensures .0, c .before .pattern-size .ensures) (laws.asked-is (start .args .law .now) (start .args .index .now) (start .pre .0) (start .args .s) (start .args .c) (start .pre .1) (omega arith))))

@@ -1,0 +1,12 @@
+use native.Mathlib.Omega.{arith}
+use Prim.Native.Nat.{_+_, _*_, _-_, _≤_, _<_}
+use mathlib.Core.Path.{_≡_, sym, ap, _∙_}
+use Rattle.law.proofs.IndexLaws as laws
+use borrow.Author.Needs.{needs}
+use Rattle.law.proofs.places.asked_size.Statement.{statement}
+use Rattle.law.proofs.places.asked_size.Tie as tie
+
+pub asked-size-spec : {M : Type 1} → statement M
+asked-size-spec = tie.close (tie.spec
+    (λ c κs. search needs)
+    (λ c. c .condition-word .ensures ∙ laws.zero-offset _ _))

@@ -1,0 +1,41 @@
+-- Expressions: what a law's functions are called on and give back. Document 01, "A run of a law": "any expression (symbols, numbers by value,
+-- brackets around expressions)"; "a number record is one symbol, also above 4294967295".
+use Prim.Native.Nat.{ℕ, _+_, _*_, _-_}
+use mathlib.Core.List.{List, [], _∷_}
+use Rattle.names.specs.Name.{folded}
+use Rattle.law.specs.Tree as tree
+
+-- a symbol: a character, an identifier, folded, or a number, by value
+pub data Literal : Type 0 where
+  character : ℕ → Literal
+  identifier : List ℕ → Literal
+  number : ℕ → Literal
+  deriving Discrete as literal-discrete
+
+-- terms in a row: "contents then rest"
+pub data Expression : Type 0 where
+  nothing : Expression
+  symbol : Literal → Expression → Expression
+  brackets : Expression → Expression → Expression
+  deriving Discrete as expression-discrete
+
+-- the value of decimal digits, before which a value was read
+abbrev pub valueAfter : ℕ → List ℕ → ℕ
+valueAfter n [] = n
+valueAfter n (d ∷ ds) = valueAfter (n * 10 + (d - 48)) ds
+
+abbrev pub valueOf : List ℕ → ℕ
+valueOf digits = valueAfter 0 digits
+
+-- what a symbol of a law is in a run
+abbrev pub literalOf : tree.Symbol → Literal
+literalOf (tree.Symbol.character c) = character c
+literalOf (tree.Symbol.identifier i) = identifier (folded (i .spelled))
+literalOf (tree.Symbol.number n) = number (valueOf (n .spelled))
+
+-- one expression after another
+infixl 65 _⊕_
+abbrev pub _⊕_ : Expression → Expression → Expression
+nothing ⊕ y = y
+symbol a x ⊕ y = symbol a (x ⊕ y)
+brackets c x ⊕ y = brackets c (x ⊕ y)

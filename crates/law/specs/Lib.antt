@@ -1,0 +1,11 @@
+pub mod Tree
+pub mod Expression
+pub mod Places
+pub mod Runs
+pub mod Reading
+pub mod Depth
+pub mod Variables
+pub mod Index
+pub mod Filling
+pub mod Law
+pub mod Examples

@@ -1,0 +1,147 @@
+// How deep the terms of a law stand (refusal 8).
+use crate::places::asked;
+use crate::places::asked_at;
+use crate::places::asked_size;
+use crate::places::block_first;
+use crate::places::first_condition;
+use crate::places::first_sentence;
+use crate::places::functions;
+use crate::places::pattern;
+use crate::places::pattern_at;
+use crate::places::result;
+use crate::places::result_at;
+use crate::places::wanted;
+use crate::runs::end_of;
+use file::Term;
+use file::term_at;
+use file::word_at;
+ghost use mathlib.Core.Path.{_≡_};
+ghost use Prim.Native.Nat.{_+_, _≤_, _<_};
+ghost use lib.Dec.{leb};
+ghost use Rattle.file.specs.Sections.{fileOf};
+ghost use Rattle.law.specs.Tree.{keep};
+ghost use Rattle.law.specs.Places.{conditionsOf, firstCondition};
+ghost use Rattle.law.specs.Reading.{runOf, own, sentencesAt, sentencesIn, conditionsFrom, treeOf};
+ghost use Rattle.law.specs.Depth.{deepest, deepestSentences, deepestConditions, depthOf};
+ghost use Rattle.law.specs.Index.{Indexed, Readable, PartAt};
+
+// A term's number of sentences, 0 where it is no block.
+pub fn sentences_in(term: Term) -> usize
+    ensures { λ r. ⌜ r ≡ sentencesIn term ⌝ }
+{
+    match term {
+        Term::Symbolic(_) => 0,
+        Term::SVariable(_, _) => 0,
+        Term::TVariable(_, _) => 0,
+        Term::EVariable(_, _) => 0,
+        Term::Bracket => 0,
+        Term::Call(_, _) => 0,
+        Term::Block(n) => n as usize,
+    }
+}
+
+// Whether no term of a part of the term records has over 32 brackets, calls and blocks around it, of which `depth` are around the part.
+// The part's first record is number `at`.
+fn run_depth(law: &[u8], index: &[u16; 972], part: &[u8], at: usize, depth: usize) -> bool
+    requires { ⌜ Indexed (now law) (now index) × Readable (fileOf (now law)) × PartAt (fileOf (now law)) at (now part) × (depth ≤ 33) ⌝ }
+    ensures { λ r. ⌜ r ≡ leb (deepest (runOf (fileOf (now (law .entry))) (own (fileOf (now (law .entry)))) at (now (part .entry))) depth) 32 ⌝ }
+{
+    if part.len() < 24 {
+        return true;
+    }
+    if 32 < depth {
+        return false;
+    }
+    let end = end_of(part);
+    if !run_depth(law, index, &part[24..end], at + 1, depth + 1) {
+        return false;
+    }
+    let count = sentences_in(term_at(part, 0));
+    if !sentences_depth(law, index, block_first(index, at), count, depth + 1) {
+        return false;
+    }
+    let n = word_at(part, 12) as usize;
+    run_depth(law, index, &part[end..], at + 1 + n, depth)
+}
+
+// The same of so many sentences from one on.
+fn sentences_depth(law: &[u8], index: &[u16; 972], first: usize, count: usize, depth: usize) -> bool
+    requires { ⌜ Indexed (now law) (now index) × Readable (fileOf (now law)) × (first + count ≤ fileOf (now law) .sentences .count) × (depth ≤ 33) ⌝ }
+    ensures { λ r. ⌜ r ≡ leb (deepestSentences (keep count (sentencesAt (fileOf (now (law .entry))) first)) depth) 32 ⌝ }
+{
+    let mut i = 0;
+    while i < count {
+        if !sentence_depth(law, index, first + i, depth) {
+            return false;
+        }
+        i += 1;
+    }
+    true
+}
+
+// The same of one sentence.
+fn sentence_depth(law: &[u8], index: &[u16; 972], s: usize, depth: usize) -> bool
+    requires { ⌜ Indexed (now law) (now index) × Readable (fileOf (now law)) × (s < fileOf (now law) .sentences .count) × (depth ≤ 33) ⌝ }
+    ensures { λ r. ⌜ r ≡ leb (deepestSentences (keep 1 (sentencesAt (fileOf (now (law .entry))) s)) depth) 32 ⌝ }
+{
+    if !run_depth(
+        law,
+        index,
+        pattern(law, index, s),
+        pattern_at(law, index, s),
+        depth,
+    ) {
+        return false;
+    }
+    if !conditions_depth(law, index, s, depth) {
+        return false;
+    }
+    run_depth(
+        law,
+        index,
+        result(law, index, s),
+        result_at(law, index, s),
+        depth,
+    )
+}
+
+// The same of a sentence's conditions.
+fn conditions_depth(law: &[u8], index: &[u16; 972], s: usize, depth: usize) -> bool
+    requires { ⌜ Indexed (now law) (now index) × Readable (fileOf (now law)) × (s < fileOf (now law) .sentences .count) × (depth ≤ 33) ⌝ }
+    ensures { λ r. ⌜ r ≡ leb (deepestConditions (conditionsFrom (fileOf (now (law .entry))) (own (fileOf (now (law .entry)))) s
+        (conditionsOf (fileOf (now (law .entry))) s) (firstCondition (fileOf (now (law .entry))) s)) depth) 32 ⌝ }
+{
+    let first = first_condition(index, s);
+    let count = first_condition(index, s + 1) - first;
+    let mut i = 0;
+    while i < count {
+        let at = asked_at(law, index, s, first + i);
+        if !run_depth(law, index, asked(law, index, s, first + i), at, depth) {
+            return false;
+        }
+        let next = at + asked_size(law, index, first + i);
+        if !run_depth(law, index, wanted(law, index, s, first + i), next, depth) {
+            return false;
+        }
+        i += 1;
+    }
+    true
+}
+
+// Whether no term of the law has over 32 brackets, calls and blocks around it.
+pub fn depth_allowed(law: &[u8], index: &[u16; 972]) -> bool
+    requires { ⌜ Indexed (now law) (now index) × Readable (fileOf (now law)) ⌝ }
+    ensures { λ r. ⌜ r ≡ leb (depthOf (treeOf (fileOf (now (law .entry))))) 32 ⌝ }
+{
+    let count = functions(index);
+    let mut f = 0;
+    while f < count {
+        let first = first_sentence(index, f);
+        let number = first_sentence(index, f + 1) - first;
+        if !sentences_depth(law, index, first, number, 0) {
+            return false;
+        }
+        f += 1;
+    }
+    true
+}

@@ -1,0 +1,129 @@
+// A law: the runs, blocks, depth and patterns of a file (refusals 6 to 9), and where things stand in it.
+use crate::blocks::blocks_allowed;
+use crate::depth::depth_allowed;
+use crate::index::place_records;
+use crate::patterns::patterns_allowed;
+use crate::runs::runs_fit;
+use file::Cut;
+use file::Refusal;
+use file::Sections;
+use file::functions_allowed;
+use file::sections_of;
+use file::terms_allowed;
+ghost use mathlib.Core.Path.{_≡_};
+ghost use mathlib.Core.Bool.{true};
+ghost use lib.ListN.{replicate};
+ghost use Rattle.file.specs.Answer.{given};
+ghost use Rattle.file.specs.Sections.{sectionsOf, fileOf, countsOf};
+ghost use Rattle.file.specs.Fields.{fieldsAllowed};
+ghost use Rattle.law.specs.Index.{Indexed};
+ghost use Rattle.law.specs.Law.{checkAnswer, verdictOf, IndexAfter};
+
+pub mod blocks;
+pub mod depth;
+pub mod index;
+pub mod patterns;
+pub mod places;
+pub mod runs;
+
+// Whether a file is a law. `checkAnswer` of specs/Law.antt gives document 01's number for each case.
+pub enum Check {
+    Accepted,
+    Refused(Refusal),
+}
+
+// The check of a file, and the index of an accepted one.
+pub struct Checked {
+    pub check: Check,
+    pub index: [u16; 972],
+}
+
+// Whether every field of the functions and terms is allowed (refusal 5).
+fn fields_allowed(law: &[u8], sections: Sections) -> bool
+    requires { ⌜ (sectionsOf (now law) ≡ given (fileOf (now law))) × (countsOf (fileOf (now law)) ≡ sections) ⌝ }
+    ensures { λ r. ⌜ r ≡ fieldsAllowed (fileOf (now (law .entry))) ⌝ }
+{
+    let functions = sections.functions;
+    let terms = sections.terms;
+    let text_end = 4 + sections.text;
+    let functions_at = 8 + sections.text;
+    let functions_end = functions_at + 20 * functions;
+    let terms_at = 20
+        + sections.text
+        + 20 * functions
+        + 20 * sections.sentences
+        + 16 * sections.conditions;
+    let terms_end = terms_at + 24 * terms;
+    let text = &law[4..text_end];
+    if !functions_allowed(text, &law[functions_at..functions_end], functions) {
+        return false;
+    }
+    terms_allowed(text, &law[terms_at..terms_end], terms)
+}
+
+// Refusals 6 to 9 of a file whose sections are used up exactly.
+fn check_placed(law: &[u8], index: &[u16; 972]) -> Check
+    requires { ⌜ Indexed (now law) (now index) × (fieldsAllowed (fileOf (now law)) ≡ true) ⌝ }
+    ensures { λ r. ⌜ checkAnswer r ≡ verdictOf (now (law .entry)) ⌝ }
+{
+    if !runs_fit(law, index) {
+        return Check::Refused(Refusal::Runs);
+    }
+    if !blocks_allowed(law, index) {
+        return Check::Refused(Refusal::Blocks);
+    }
+    if !depth_allowed(law, index) {
+        return Check::Refused(Refusal::Depth);
+    }
+    if !patterns_allowed(law, index) {
+        return Check::Refused(Refusal::Patterns);
+    }
+    Check::Accepted
+}
+
+// What a refused file is answered: no word of the index is filled.
+fn refused(why: Refusal) -> Checked
+    ensures { λ r. ⌜ (r .check ≡ Check.Refused why) × (r .index ≡ replicate 972 0) ⌝ }
+{
+    Checked {
+        check: Check::Refused(why),
+        index: [0; 972],
+    }
+}
+
+// The check of a file that is cut into its sections, and its index.
+fn check_sections(law: &[u8], sections: Sections) -> Checked
+    requires { ⌜ (sectionsOf (now law) ≡ given (fileOf (now law))) × (countsOf (fileOf (now law)) ≡ sections) ⌝ }
+    ensures { λ r. ⌜ (checkAnswer (r .check) ≡ verdictOf (now (law .entry))) × IndexAfter (r .check) (now (law .entry)) (r .index) ⌝ }
+{
+    if !fields_allowed(law, sections) {
+        return refused(Refusal::Fields);
+    }
+    let placed = place_records(law, sections);
+    if !placed.exact {
+        return refused(Refusal::Runs);
+    }
+    let index = placed.index;
+    let check = check_placed(law, &index);
+    match check {
+        Check::Accepted => Checked { check, index },
+        Check::Refused(why) => refused(why),
+    }
+}
+
+// Whether any bytes are a law, with the index of an accepted one.
+pub fn read_law(law: &[u8]) -> Checked
+    ensures { λ r. ⌜ (checkAnswer (r .check) ≡ verdictOf (now (law .entry))) × IndexAfter (r .check) (now (law .entry)) (r .index) ⌝ }
+{
+    match sections_of(law) {
+        Cut::Refused(why) => refused(why),
+        Cut::Whole(sections) => check_sections(law, sections),
+    }
+}
+
+// Whether any bytes are a law.
+pub fn check_law(law: &[u8]) -> Check
+    ensures { λ r. ⌜ checkAnswer r ≡ verdictOf (now (law .entry)) ⌝ }
+{
+    read_law(law).check
+}

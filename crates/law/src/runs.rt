@@ -1,0 +1,93 @@
+// Runs of term records (refusal 6).
+use crate::places::asked;
+use crate::places::first_condition;
+use crate::places::pattern;
+use crate::places::result;
+use crate::places::sentences;
+use crate::places::wanted;
+use file::word_at;
+ghost use mathlib.Core.Path.{_≡_};
+ghost use Prim.Native.Nat.{_+_, _≤_, _<_};
+ghost use lib.ListN.{length};
+ghost use Rattle.file.specs.Below.{every};
+ghost use Rattle.file.specs.Sections.{fileOf};
+ghost use Rattle.law.specs.Places.{conditionsOf, firstCondition};
+ghost use Rattle.law.specs.Runs.{endOf, runFits, conditionFits, sentenceFits};
+ghost use Rattle.law.specs.Index.{Indexed};
+
+// Where the contents of the run's first record end.
+pub fn end_of(part: &[u8]) -> usize
+    requires { ⌜ 24 ≤ length (now part) ⌝ }
+    ensures { λ r. ⌜ (r ≡ endOf (now (part .entry))) × (24 ≤ r) × (r ≤ length (now (part .entry))) ⌝ }
+{
+    let end = 24 + 24 * (word_at(part, 12) as usize);
+    if end < part.len() { end } else { part.len() }
+}
+
+// Whether no record's n passes the run that the record stands in.
+pub fn run_fits(part: &[u8]) -> bool
+    ensures { λ r. ⌜ r ≡ runFits (now (part .entry)) ⌝ }
+{
+    if part.len() < 24 {
+        return true;
+    }
+    let end = 24 + 24 * (word_at(part, 12) as usize);
+    if part.len() < end {
+        return false;
+    }
+    if !run_fits(&part[24..end]) {
+        return false;
+    }
+    run_fits(&part[end..])
+}
+
+// Whether the runs of a sentence's conditions fit.
+fn conditions_fit(law: &[u8], index: &[u16; 972], s: usize) -> bool
+    requires { ⌜ Indexed (now law) (now index) × (s < fileOf (now law) .sentences .count) ⌝ }
+    ensures { λ r. ⌜ r ≡ every (conditionsOf (fileOf (now (law .entry))) s)
+        (λ i. conditionFits (fileOf (now (law .entry))) s (firstCondition (fileOf (now (law .entry))) s + i)) ⌝ }
+{
+    let first = first_condition(index, s);
+    let count = first_condition(index, s + 1) - first;
+    let mut i = 0;
+    while i < count {
+        if !run_fits(asked(law, index, s, first + i)) {
+            return false;
+        }
+        if !run_fits(wanted(law, index, s, first + i)) {
+            return false;
+        }
+        i += 1;
+    }
+    true
+}
+
+// Whether all runs of a sentence fit.
+fn sentence_fits(law: &[u8], index: &[u16; 972], s: usize) -> bool
+    requires { ⌜ Indexed (now law) (now index) × (s < fileOf (now law) .sentences .count) ⌝ }
+    ensures { λ r. ⌜ r ≡ sentenceFits (fileOf (now (law .entry))) s ⌝ }
+{
+    if !run_fits(pattern(law, index, s)) {
+        return false;
+    }
+    if !conditions_fit(law, index, s) {
+        return false;
+    }
+    run_fits(result(law, index, s))
+}
+
+// Whether all runs of all sentences fit.
+pub fn runs_fit(law: &[u8], index: &[u16; 972]) -> bool
+    requires { ⌜ Indexed (now law) (now index) ⌝ }
+    ensures { λ r. ⌜ r ≡ every (fileOf (now (law .entry)) .sentences .count) (sentenceFits (fileOf (now (law .entry)))) ⌝ }
+{
+    let count = sentences(index);
+    let mut s = 0;
+    while s < count {
+        if !sentence_fits(law, index, s) {
+            return false;
+        }
+        s += 1;
+    }
+    true
+}
