@@ -1,0 +1,23 @@
+-- `edges::answer_law` is safe and ends. The parts that are lent have the length asked for, which is at most the space's.
+use borrow.Author.Needs.{needs}
+use native.Mathlib.Omega.{arith}
+use lib.ListN.{length-take}
+use Rattle.edges.proofs.answer_law.Statement.{statement}
+use Rattle.edges.proofs.answer_law.Tie as tie
+
+pub answer-law-spec : {M : Type 1} → statement M
+answer-law-spec =
+    tie.close
+    (tie.spec
+    (λ c. search needs)
+    (λ c. search needs)
+    (λ c. simp length-take (omega arith))
+    (λ c κs. search needs)
+    (λ c. search needs)
+    (λ c. search needs)
+    (λ c. search needs)
+    (λ c. simp length-take (omega arith))
+    (λ c κs. search needs)
+    (λ c κs. search needs)
+    (λ c. search needs)
+    (λ c. search needs))
