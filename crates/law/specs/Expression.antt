@@ -12,12 +12,14 @@ pub data Literal : Type 0 where
   number : ℕ → Literal
   deriving Discrete as literal-discrete
 
--- terms in a row: "contents then rest"
-pub data Expression : Type 0 where
-  nothing : Expression
-  symbol : Literal → Expression → Expression
-  brackets : Expression → Expression → Expression
-  deriving Discrete as expression-discrete
+-- terms in a row, "contents then rest": symbols of some kind, and brackets
+pub data Terms (A : Type 0) : Type 0 where
+  nothing : Terms A
+  symbol : A → Terms A → Terms A
+  brackets : Terms A → Terms A → Terms A
+
+abbrev pub Expression : Type 0
+Expression = Terms Literal
 
 -- the value of decimal digits, before which a value was read
 abbrev pub valueAfter : ℕ → List ℕ → ℕ
@@ -33,9 +35,10 @@ literalOf (tree.Symbol.character c) = character c
 literalOf (tree.Symbol.identifier i) = identifier (folded (i .spelled))
 literalOf (tree.Symbol.number n) = number (valueOf (n .spelled))
 
--- one expression after another
-infixl 65 _⊕_
-abbrev pub _⊕_ : Expression → Expression → Expression
-nothing ⊕ y = y
-symbol a x ⊕ y = symbol a (x ⊕ y)
-brackets c x ⊕ y = brackets c (x ⊕ y)
+-- one row after another
+module _ {A : Type 0} where
+  infixl 65 _⊕_
+  abbrev pub _⊕_ : Terms A → Terms A → Terms A
+  nothing ⊕ y = y
+  symbol a x ⊕ y = symbol a (x ⊕ y)
+  brackets c x ⊕ y = brackets c (x ⊕ y)

@@ -1,4 +1,4 @@
--- `edges::answer_law` is safe and ends. The parts that are lent have the length asked for, which is at most the space's.
+-- `edges::answer_law` is safe and ends. The part that is lent has as many bytes as were read, which the space has.
 use borrow.Author.Needs.{needs}
 use native.Mathlib.Omega.{arith}
 use lib.ListN.{length-take}
@@ -9,9 +9,6 @@ pub answer-law-spec : {M : Type 1} → statement M
 answer-law-spec =
     tie.close
     (tie.spec
-    (λ c. search needs)
-    (λ c. search needs)
-    (λ c. simp length-take (omega arith))
     (λ c κs. search needs)
     (λ c. search needs)
     (λ c. search needs)

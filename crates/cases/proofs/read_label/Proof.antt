@@ -1,11 +1,11 @@
--- `edges::read_label` meets its contract. The loop's invariant: the bytes read so far lie within the label, whose length stays.
+-- `cases::read_label` meets its contract. The loop's invariant: the bytes read so far lie within the label, whose length stays.
 -- The measure is what is left of the label.
 use mathlib.Core.Path.{_≡_}
 use Prim.Native.Nat.{_≤_, _-_}
 use native.Mathlib.Omega.{arith}
 use lib.ListN.{length, length-take, length-set}
-use Rattle.edges.proofs.read_label.Statement.{statement}
-use Rattle.edges.proofs.read_label.Tie as tie
+use Rattle.cases.proofs.read_label.Statement.{statement}
+use Rattle.cases.proofs.read_label.Tie as tie
 
 abbrev Inv-loop : tie.InvT-loop
 Inv-loop label₀ n₀ label n = (n ≤ length label) × (length label ≡ length label₀)

@@ -1,0 +1,94 @@
+// Reads the cases of the test programs from standard input.
+//
+// A case is a label, one line of at most 80 bytes; the law's length, a 32-bit word with its least byte first; and the
+// law. The input ends where a label is empty.
+use file::Refusal;
+use libc::STDIN_FILENO;
+ghost use mathlib.Core.Path.{_≡_};
+ghost use Prim.Native.Nat.{_≤_};
+ghost use lib.ListN.{length};
+ghost use Rattle.io.specs.Counts.{Counts};
+ghost use Rattle.file.specs.Sections.{numberOf};
+
+// A label's most bytes, with its line feed.
+pub const LABEL: usize = 81;
+
+// A law's most bytes: a few more than the 16,384 that a law file may have.
+pub const LAW: usize = 16400;
+
+// A law that was read: whether all of it was there and had room, and its bytes.
+pub struct Found {
+    pub whole: bool,
+    pub bytes: usize,
+}
+
+// The next byte of standard input, or a line feed where it has ended.
+fn next_byte() -> u8 {
+    let mut byte = [b'\n'];
+    io::read_full(STDIN_FILENO, &mut byte);
+    byte[0]
+}
+
+// Reads a label and its line feed, and answers how many bytes the label has: none where the input has ended.
+pub fn read_label(label: &mut [u8]) -> usize
+    ensures { λ r. ⌜ Counts r (now (label .exit)) ⌝ }
+{
+    let mut n = 0;
+    while n < label.len() {
+        let byte = next_byte();
+        if byte == b'\n' {
+            break;
+        }
+        label[n] = byte;
+        n += 1;
+    }
+    n
+}
+
+// The next word of standard input, with zeros for the bytes that are missing.
+fn read_word() -> u32 {
+    let mut word = [0u8; 4];
+    io::read_full(STDIN_FILENO, &mut word);
+    file::word_at(&word, 0)
+}
+
+// Reads a law of so many bytes.
+fn read_bytes(space: &mut [u8], bytes: usize) -> Found
+    ensures { λ r. ⌜ r .bytes ≤ length (now (space .entry)) ⌝ }
+{
+    if space.len() < bytes {
+        return Found {
+            whole: false,
+            bytes: 0,
+        };
+    }
+    let got = io::read_full(STDIN_FILENO, &mut space[..bytes]);
+    Found {
+        whole: bytes <= got,
+        bytes: bytes,
+    }
+}
+
+// Reads a law's length and the law.
+pub fn read_law(space: &mut [u8]) -> Found
+    ensures { λ r. ⌜ r .bytes ≤ length (now (space .entry)) ⌝ }
+{
+    read_bytes(space, read_word() as usize)
+}
+
+// Document 01's number of a law's refusal.
+pub fn number(refusal: Refusal) -> u64
+    ensures { λ r. ⌜ r ≡ numberOf refusal ⌝ }
+{
+    match refusal {
+        Refusal::FileOver => 1,
+        Refusal::CutOff => 2,
+        Refusal::LeftOver => 3,
+        Refusal::CountOver => 4,
+        Refusal::Fields => 5,
+        Refusal::Runs => 6,
+        Refusal::Blocks => 7,
+        Refusal::Depth => 8,
+        Refusal::Patterns => 9,
+    }
+}

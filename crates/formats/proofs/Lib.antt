@@ -1,0 +1,14 @@
+pub mod SlotLaws
+pub mod EntryLaws
+pub mod StateLaws
+pub mod RowLaws
+pub mod TurnLaws
+pub mod SentenceLaws
+pub mod TurnSteps
+pub mod FunctionSteps
+pub mod RoundSteps
+pub mod CallLaws
+pub mod TableLaws
+pub mod RoundLaws
+pub mod SizeLaws
+pub mod FormatOfLaws

@@ -1,0 +1,150 @@
+-- Laws of what the functions that infer formats promise (specs/Turns.antt): a format that was made of a row, and the join of two formats by a local buffer.
+use Prim.Native.Nat.{ℕ, _+_, _*_, _-_, _≤_}
+use mathlib.Core.Bool.{Bool, true, false, cond, not}
+use mathlib.Core.List.{List, _++_}
+use mathlib.Core.Path.{_≡_, refl, sym, ap, _∙_}
+use native.Mathlib.Omega.{arith}
+use native.Mathlib.Nat.{add-sub-cancel-left}
+use lib.ListN.{length, take, drop, set, replicate, length-append, length-set, length-replicate}
+use lib.Seq.{take-at, length-take-le}
+use Rattle.file.specs.Sections.{fileOf}
+use Rattle.law.specs.Index.{PartAt}
+use Rattle.law.proofs.IndexLaws.{terms-limit}
+use Rattle.shapes.specs.Format.{Shapes, Format, of, size, formatSize, isOpen}
+use Rattle.shapes.specs.Join.{join}
+use Rattle.shapes.specs.Same.{sameFormat}
+use Rattle.shapes.specs.Words.{shapeWords, usedWords, formatWords, readFormat, FormatIn}
+use Rattle.shapes.specs.Written.{written}
+use Rattle.shapes.proofs.WordLaws.{words-length, read-write}
+use Rattle.shapes.proofs.WrittenLaws.{written-front}
+use Rattle.shapes.proofs.FormatLaws.{written-filled, format-in-length, format-in-read, join-small, join-format-in, same-words-format}
+use Rattle.formats.specs.Rows.{formatAt, RowIs, RowAsked, Stored}
+use Rattle.formats.specs.Turns.{Asked, FormatMade}
+use Rattle.formats.specs.declared.Row.{Row}
+use Rattle.formats.specs.declared.Row.the-variants.{Over, Ends}
+use Rattle.formats.proofs.RowLaws.{over-passes, ends-fits, ends-at, ends-open}
+use Rattle.formats.proofs.StateLaws.{lent-written}
+
+-- ---- the format of a row
+
+-- what is asked to write a row after the place of a header
+pub row-asked : {bytes index slots part store out : List ℕ} {limit count known at most : ℕ} → Asked bytes index slots limit count → PartAt (fileOf bytes) at part
+    → Stored store limit known → length out ≡ limit + 1 → most ≡ limit + 1 → RowAsked (fileOf bytes) at part store limit known out 1 most
+row-asked {bytes = bytes} {index = index} asked here stored long e = record {
+  readable = asked .readable;
+  terms = terms-limit bytes index (asked .indexed);
+  here = here;
+  stored = stored;
+  begins = omega arith;
+  room = omega arith;
+  small = omega (arith, asked .small);
+}
+
+module _ (limit : ℕ) (f : Shapes) (old new : List ℕ) where
+  -- a row that was over
+  pub made-over : {most : ℕ} {row : Row} → length old ≡ limit + 1 → most ≡ limit + 1 → row ≡ Over → RowIs f old new 1 most row → FormatMade limit f false new
+  made-over {most = most} long e o r = record {
+    fits = λ h. absurd (omega (arith, over-passes f old new 1 most (rw o at r)));
+    over = λ h. refl;
+    kept = r .kept ∙ long;
+  }
+
+  -- a row that was written over zeros, and a header in front of it
+  pub made-written : {most next header : ℕ} {o : Bool} {row : Row} → old ≡ replicate (limit + 1) 0 → most ≡ limit + 1 → row ≡ Ends next o
+      → header ≡ next - 1 + cond o 256 0 → RowIs f old new 1 most row → FormatMade limit f true (set new 0 header)
+  made-written {most = most} {next = next} {header = header} {o = o} zeros e ends h r = record {
+    fits = λ _. (refl, words);
+    over = λ l. absurd (omega (arith, fit));
+    kept = length-set new 0 header ∙ (r .kept ∙ long);
+  }
+    where
+      is : RowIs f old new 1 most (Ends next o)
+      is = rw ends at r
+
+      fit : 1 + size f ≤ most
+      fit = ends-fits f old new 1 most next o is
+
+      long : length old ≡ limit + 1
+      long = rw zeros (length-replicate (limit + 1) 0)
+
+      words : set new 0 header ≡ formatWords limit (of f)
+      words =
+          let number : next - 1 ≡ size f = omega (arith, ends-at f old new 1 most next o is) in
+          rw (h, number, ends-open f old new 1 most next o is, is .fits fit .1, zeros)
+          (written-front (replicate (limit + 1) 0) 0 (size f + cond (isOpen f) 256 0) (shapeWords f) (omega (arith, fit, words-length f, length-replicate {A = ℕ} (limit + 1) 0))
+          ∙ written-filled (limit + 1) (usedWords (of f)))
+
+-- ---- a buffer of 65 words, lent up to a limit
+
+-- as many words are lent as a format has
+pub lent-length : (limit : ℕ) → limit ≤ 64 → length (take (limit + 1) (replicate {A = ℕ} 65 0)) ≡ limit + 1
+lent-length limit l = length-take-le (limit + 1) (replicate 65 0) (omega (arith, length-replicate {A = ℕ} 65 0))
+
+module _ {limit : ℕ} (l : limit ≤ 64) (new rest : List ℕ) (kept : length new ≡ length (take (limit + 1) (replicate {A = ℕ} 65 0))) where
+  -- what came back is as long
+  new-length : length new ≡ limit + 1
+  new-length = kept ∙ lent-length limit l
+
+  -- words that came back are within the buffer, and are its front
+  pub back-inside : limit + 1 ≤ length (new ++ rest)
+  back-inside = omega (arith, new-length, length-append new rest)
+
+  pub back-front : take (limit + 1) (new ++ rest) ≡ new
+  back-front = take-at new rest (limit + 1) new-length
+
+  pub back-length : length (take (limit + 1) (new ++ rest)) ≡ limit + 1
+  back-length = rw back-front new-length
+
+-- ---- a format of a store joined with another, by such a buffer
+
+-- the format number k of a store as the code lends it
+abbrev pub lentAt : ℕ → List ℕ → ℕ → List ℕ
+lentAt limit store k = take (k * (limit + 1) + (limit + 1) - k * (limit + 1)) (drop (k * (limit + 1)) store)
+
+-- its join with another
+abbrev joinedAt : ℕ → List ℕ → ℕ → List ℕ → Format
+joinedAt limit store k other = join (readFormat (formatAt limit store k)) (readFormat other)
+
+-- the format that words say is no larger than they have room for
+read-small : (limit : ℕ) (words : List ℕ) → limit ≤ 64 → FormatIn limit words → formatSize (readFormat words) ≤ limit
+read-small limit words l x = rw (format-in-read limit words (omega arith) x) (x .small)
+
+module _ (limit : ℕ) (store : List ℕ) (k : ℕ) where
+  -- it is that format
+  lent-is : lentAt limit store k ≡ formatAt limit store k
+  lent-is = rw (add-sub-cancel-left (k * (limit + 1)) (limit + 1))
+
+  module _ (x : FormatIn limit (formatAt limit store k)) where
+    -- it is a format, and as long as one
+    pub lent-format : FormatIn limit (lentAt limit store k)
+    lent-format = rw lent-is x
+
+    pub lent-format-length : length (lentAt limit store k) ≡ limit + 1
+    lent-format-length = format-in-length limit (lentAt limit store k) lent-format
+
+    module _ {other joined : List ℕ} (rest : List ℕ) (l : limit ≤ 64) (y : FormatIn limit other)
+        (kept : length joined ≡ length (take (limit + 1) (replicate {A = ℕ} 65 0)))
+        (is : joined ≡ formatWords limit (join (readFormat (lentAt limit store k)) (readFormat other))) where
+      -- the join's words
+      words : joined ≡ formatWords limit (joinedAt limit store k other)
+      words = rw lent-is at is
+
+      -- the join's words, copied over it
+      pub renewed-words : {copied : List ℕ} → copied ≡ take (limit + 1) (joined ++ rest)
+          → take (k * (limit + 1)) store ++ (copied ++ drop (k * (limit + 1) + (limit + 1) - k * (limit + 1)) (drop (k * (limit + 1)) store))
+          ≡ written store (k * (limit + 1)) (formatWords limit (joinedAt limit store k other))
+      renewed-words {copied = copied} e =
+          let same : copied ≡ joined = e ∙ back-front l joined rest kept in
+          lent-written store copied (k * (limit + 1)) (k * (limit + 1) + (limit + 1)) (rw (same, new-length l joined rest kept)) ∙ ap (written store (k * (limit + 1))) (same ∙ words)
+
+      -- a test whether the join's words are its own
+      pub renewed-test : {same : Bool} → (same ≡ true → take (limit + 1) (joined ++ rest) ≡ lentAt limit store k)
+          → (take (limit + 1) (joined ++ rest) ≡ lentAt limit store k → same ≡ true)
+          → not same ≡ not (sameFormat (joinedAt limit store k other) (readFormat (formatAt limit store k)))
+      renewed-test {same = same} p q =
+          let old = formatAt limit store k in
+          let few : limit ≤ 127 = omega arith in
+          let front : take (limit + 1) (joined ++ rest) ≡ joined = back-front l joined rest kept in
+          let read : readFormat joined ≡ joinedAt limit store k other = rw words (read-write limit (joinedAt limit store k other) (join-small limit (readFormat old) (readFormat other) (read-small limit old l x) (read-small limit other l y)) few) in
+          let test : same ≡ sameFormat (readFormat joined) (readFormat old) = same-words-format limit joined old same few (join-format-in limit old other joined few x y words) x (λ e. sym front ∙ (p e ∙ lent-is)) (λ e. q (front ∙ (e ∙ sym lent-is))) in
+          ap not (rw read at test)

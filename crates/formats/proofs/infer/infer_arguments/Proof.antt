@@ -1,0 +1,52 @@
+-- `infer::infer_arguments` meets its contract. The invariant: after f functions the store holds entries of which the functions left make the arguments
+-- (`ArgumentsFrom`), and the words lent for a join are as many as a format's.
+use Prim.Native.Nat.{_+_, _-_}
+use mathlib.Core.Path.{_≡_, sym, _∙_}
+use native.Mathlib.Omega.{arith}
+use lib.ListN.{length}
+use Rattle.file.specs.Sections.{fileOf}
+use Rattle.law.proofs.IndexLaws.{functions-limit}
+use Rattle.formats.proofs.FunctionSteps.{ArgumentsFrom, functions-read, tag-over, tag-not-over, arguments-start, arguments-holding, arguments-long, arguments-all, arguments-refused, arguments-more}
+use Rattle.formats.proofs.infer.infer_arguments.Statement.{statement}
+use Rattle.formats.proofs.infer.infer_arguments.Tie as tie
+
+abbrev Inv-loop : tie.InvT-loop
+Inv-loop law index slots store₀ limit count joined₀ most f₀ store joined f = ArgumentsFrom limit (fileOf law) store₀ f store × (length joined ≡ limit + 1)
+
+abbrev μ-loop : tie.MeasureT-loop
+μ-loop law index slots store₀ limit count joined₀ most f₀ store joined f = most - f
+
+pub infer-arguments-spec : {M : Type 1} → statement M
+infer-arguments-spec =
+    tie.close
+    (tie.spec
+    Inv-loop
+    μ-loop
+    (λ c κs. tt)
+    (λ c.
+    let start = c .before .before .before .before in
+    (arguments-start (start .args .limit) (fileOf (start .args .law .now)) (start .args .store .now), start .pre .2))
+    (λ c κs.
+    let now = c .before .before .before .loop in
+    let start = c .before .before .before .before .before .before .before .before in (
+      start .pre .0,
+      arguments-holding (now .inv .0) (start .pre .1),
+      (omega (arith, c .before .before .loop-test .taken, functions-read (c .before .before .before .before .before .before .before .before .pre .0) (c .before .before .before .before .functions .result) (c .before .before .before .before .functions .ensures))),
+      now .inv .1,
+    ))
+    (λ c. c .match .keys1)
+    (λ c. c .before .before .before .before .before .before .function-turn .kept .1 .1 .1 .0 ∙ arguments-long (c .before .before .before .before .before .before .before .before .before .before .loop .inv .0) (c .before .before .before .before .before .before .before .before .before .before .before .before .before .before .before .pre .1))
+    (λ c. c .before .before .before .before .before .before .function-turn .kept .1 .1 .1 .1 .1 .1 .1 .1 .0 ∙ c .before .before .before .before .before .before .before .before .before .before .loop .inv .1 ∙ sym (c .before .before .before .before .before .before .before .before .before .before .before .before .before .before .before .pre .2))
+    (λ c.
+    let turn = c .before .before .before .before .before .before .function-turn in
+    arguments-refused (c .before .before .before .before .before .before .before .before .before .before .loop .inv .0) (turn .last .1 .1 .1 .0) (turn .result) (turn .ensures) (tag-over _ (c .before .match .keys1)) (omega (arith, c .before .before .before .before .before .before .before .before .before .loop-test .taken, functions-read (c .before .before .before .before .before .before .before .before .before .before .before .before .before .before .before .pre .0) (c .before .before .before .before .before .before .before .before .before .before .before .functions .result) (c .before .before .before .before .before .before .before .before .before .before .before .functions .ensures))))
+    (λ c. omega (arith, c .before .before .before .before .before .before .before .before .loop-test .taken, functions-read (c .before .before .before .before .before .before .before .before .before .before .before .before .before .before .pre .0) (c .before .before .before .before .before .before .before .before .before .before .functions .result) (c .before .before .before .before .before .before .before .before .before .before .functions .ensures), functions-limit (c .before .before .before .before .before .before .before .before .before .before .before .before .before .before .args .law .now) (c .before .before .before .before .before .before .before .before .before .before .before .before .before .before .args .index .now) (c .before .before .before .before .before .before .before .before .before .before .before .before .before .before .pre .0 .indexed)))
+    (λ c. omega (arith, c .before .before .before .before .before .before .before .before .loop-test .taken))
+    (λ c.
+    let turn = c .before .before .before .before .before .function-turn in (
+      arguments-more (c .before .before .before .before .before .before .before .before .before .loop .inv .0) (turn .last .1 .1 .1 .0) (turn .result) (turn .ensures) (tag-not-over _ (c .match .keys2)) (omega (arith, c .before .before .before .before .before .before .before .before .loop-test .taken, functions-read (c .before .before .before .before .before .before .before .before .before .before .before .before .before .before .pre .0) (c .before .before .before .before .before .before .before .before .before .before .functions .result) (c .before .before .before .before .before .before .before .before .before .before .functions .ensures))) (c .before .before .before .before .before .before .before .before .before .before .before .before .before .before .pre .0 .small),
+      turn .kept .1 .1 .1 .1 .1 .1 .1 .1 .0 ∙ c .before .before .before .before .before .before .before .before .before .loop .inv .1,
+    ))
+    (λ c. arguments-long (c .before .loop .inv .0) (c .before .before .before .before .before .before .pre .1))
+    (λ c. c .before .loop .inv .1 ∙ sym (c .before .before .before .before .before .before .pre .2))
+    (λ c. arguments-all (c .before .loop .inv .0) (omega (arith, c .loop-test .left, functions-read (c .before .before .before .before .before .before .pre .0) (c .before .before .functions .result) (c .before .before .functions .ensures)))))

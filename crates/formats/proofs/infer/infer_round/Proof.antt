@@ -1,0 +1,62 @@
+-- `infer::infer_round` meets its contract. The invariant: after f functions the store holds entries, and the round is what the functions left make of
+-- them with the mark that a format changed (`RoundFrom`); the words lent for a join are as many as a format's.
+use Prim.Native.Nat.{_+_, _-_}
+use mathlib.Core.Logic.{⊎-elim, inl, inr}
+use mathlib.Core.Path.{_≡_, sym, _∙_}
+use native.Mathlib.Omega.{arith}
+use lib.ListN.{length}
+use Rattle.file.specs.Sections.{fileOf}
+use Rattle.law.proofs.IndexLaws.{functions-limit}
+use Rattle.formats.specs.declared.infer.Turn.the-variants.{Changed, Same}
+use Rattle.formats.proofs.FunctionSteps.{RoundFrom, Marked, functions-read, tag-over, tag-changed, tag-same, round-start, round-holding, round-long, round-all, round-refused, round-more}
+use Rattle.formats.proofs.infer.infer_round.Statement.{statement}
+use Rattle.formats.proofs.infer.infer_round.Tie as tie
+
+abbrev Inv-loop : tie.InvT-loop
+Inv-loop law index slots store₀ limit count joined₀ most changed₀ f₀ store joined changed f =
+    RoundFrom limit (fileOf law) store₀ f store changed × (length joined ≡ limit + 1)
+
+abbrev μ-loop : tie.MeasureT-loop
+μ-loop law index slots store₀ limit count joined₀ most changed₀ f₀ store joined changed f = most - f
+
+pub infer-round-spec : {M : Type 1} → statement M
+infer-round-spec =
+    tie.close
+    (tie.spec
+    Inv-loop
+    μ-loop
+    (λ c κs. tt)
+    (λ c.
+    let start = c .before .before .before .before in
+    (round-start (start .args .limit) (fileOf (start .args .law .now)) (start .args .store .now), start .pre .2))
+    (λ c κs.
+    let now = c .before .before .before .loop in
+    let start = c .before .before .before .before .before .before .before .before in (
+      start .pre .0,
+      round-holding (now .inv .0) (start .pre .1),
+      (omega (arith, c .before .before .loop-test .taken, functions-read (c .before .before .before .before .before .before .before .before .pre .0) (c .before .before .before .before .functions .result) (c .before .before .before .before .functions .ensures))),
+      now .inv .1,
+    ))
+    (λ c. c .match .keys1)
+    (λ c. c .before .before .before .before .before .before .function-turn .kept .1 .1 .1 .0 ∙ round-long (c .before .before .before .before .before .before .before .before .before .before .loop .inv .0) (c .before .before .before .before .before .before .before .before .before .before .before .before .before .before .before .pre .1))
+    (λ c. c .before .before .before .before .before .before .function-turn .kept .1 .1 .1 .1 .1 .1 .1 .1 .0 ∙ c .before .before .before .before .before .before .before .before .before .before .loop .inv .1 ∙ sym (c .before .before .before .before .before .before .before .before .before .before .before .before .before .before .before .pre .2))
+    (λ c.
+    let turn = c .before .before .before .before .before .before .function-turn in
+    round-refused (c .before .before .before .before .before .before .before .before .before .before .loop .inv .0) (turn .last .1 .1 .1 .0) (turn .result) (turn .ensures) (tag-over _ (c .before .match .keys1)) (omega (arith, c .before .before .before .before .before .before .before .before .before .loop-test .taken, functions-read (c .before .before .before .before .before .before .before .before .before .before .before .before .before .before .before .pre .0) (c .before .before .before .before .before .before .before .before .before .before .before .functions .result) (c .before .before .before .before .before .before .before .before .before .before .before .functions .ensures))) (c .before .before .before .before .before .before .before .before .before .before .before .before .before .before .before .pre .0 .small))
+    (λ c. c .match .keys2)
+    (λ c. c .match .keys3)
+    (λ c. omega (arith, c .before .before .before .before .before .before .before .before .loop-test .taken, functions-read (c .before .before .before .before .before .before .before .before .before .before .before .before .before .before .pre .0) (c .before .before .before .before .before .before .before .before .before .before .functions .result) (c .before .before .before .before .before .before .before .before .before .before .functions .ensures), functions-limit (c .before .before .before .before .before .before .before .before .before .before .before .before .before .before .args .law .now) (c .before .before .before .before .before .before .before .before .before .before .before .before .before .before .args .index .now) (c .before .before .before .before .before .before .before .before .before .before .before .before .before .before .pre .0 .indexed)))
+    (λ c. omega (arith, c .before .before .before .before .before .before .before .before .loop-test .taken))
+    (λ c.
+    let turn = c .before .before .before .before .before .function-turn in
+    let marked : Marked (turn .result) (c .before .before .before .before .before .before .before .before .before .loop .changed) (c .match .changed) =
+    ⊎-elim (λ w. inl (tag-changed _ (w .0 .keys2), w .2)) (λ w. inr (tag-same _ (w .0 .keys3), w .2)) (c .match .came) in (
+      round-more (c .before .before .before .before .before .before .before .before .before .loop .inv .0) (turn .last .1 .1 .1 .0) (turn .result) (turn .ensures) (c .match .changed) marked (omega (arith, c .before .before .before .before .before .before .before .before .loop-test .taken, functions-read (c .before .before .before .before .before .before .before .before .before .before .before .before .before .before .pre .0) (c .before .before .before .before .before .before .before .before .before .before .functions .result) (c .before .before .before .before .before .before .before .before .before .before .functions .ensures))) (c .before .before .before .before .before .before .before .before .before .before .before .before .before .before .pre .0 .small),
+      turn .kept .1 .1 .1 .1 .1 .1 .1 .1 .0 ∙ c .before .before .before .before .before .before .before .before .before .loop .inv .1,
+    ))
+    (λ c. round-long (c .before .before .loop .inv .0) (c .before .before .before .before .before .before .before .pre .1))
+    (λ c. c .before .before .loop .inv .1 ∙ sym (c .before .before .before .before .before .before .before .pre .2))
+    (λ c. round-all (c .before .before .loop .inv .0) Changed (rw (c .if1 .taken)) (omega (arith, c .before .loop-test .left, functions-read (c .before .before .before .before .before .before .before .pre .0) (c .before .before .before .functions .result) (c .before .before .before .functions .ensures))))
+    (λ c. round-long (c .before .before .loop .inv .0) (c .before .before .before .before .before .before .before .pre .1))
+    (λ c. c .before .before .loop .inv .1 ∙ sym (c .before .before .before .before .before .before .before .pre .2))
+    (λ c. round-all (c .before .before .loop .inv .0) Same (rw (c .if1 .left)) (omega (arith, c .before .loop-test .left, functions-read (c .before .before .before .before .before .before .before .pre .0) (c .before .before .before .functions .result) (c .before .before .before .functions .ensures)))))

@@ -1,0 +1,30 @@
+-- `infer::row_format` meets its contract, by the row that `write_row` wrote over zeros: a law for each return.
+use mathlib.Core.Path.{refl, ap, _∙_}
+use native.Mathlib.Omega.{arith}
+use lib.ListN.{replicate, length-set}
+use borrow.Author.Needs.{needs}
+use Rattle.formats.proofs.RowLaws.{ends-between}
+use Rattle.formats.proofs.TurnLaws.{row-asked, made-over, made-written}
+use Rattle.formats.proofs.infer.row_format.Statement.{statement}
+use Rattle.formats.proofs.infer.row_format.Tie as tie
+
+pub row-format-spec : {M : Type 1} → statement M
+row-format-spec =
+    tie.close
+    (tie.spec
+    (λ c κs. search needs)
+    (λ c. search needs)
+    (λ c κs. let p = c .before .before .before .before .before .before .before .before .before .pre in row-asked (p .0) (p .1) (p .2) (c .before .before .before .clear-words .kept .0 ∙ p .3) refl)
+    (λ c. search needs)
+    (λ c. search needs)
+    (λ c. omega (arith, ends-between (c .before .next .given .1) (c .before .before .before .before .before .write-row .ensures .0)))
+    (λ c κs. omega (arith, ends-between (c .before .next .given .1) (c .before .before .before .before .before .write-row .ensures .0), c .before .before .before .before .before .before .before .before .before .before .before .before .before .before .before .pre .0 .small))
+    (λ c. search needs)
+    (λ c. search needs)
+    (λ c.
+    let p = c .before .before .before .before .before .before .before .before .before .before .before .before .before .before .pre in
+    λ t knows. made-over (c .before .before .before .before .before .before .before .before .before .before .before .before .before .before .args .limit) _ _ _ (c .before .before .before .before .before .before .before .before .clear-words .kept .0 ∙ p .3) refl (c .enum-told .given .1) (c .before .before .before .before .write-row .ensures .1 t knows))
+    (λ c. length-set (c .before .before .before .before .before .before .write-row .last .1 .1 .1 .1 .1 .1 .1 .0) _ _ ∙ c .before .before .before .before .before .before .write-row .kept .1 .1 .1 .1 .1 .1 .1 .0 ∙ c .before .before .before .before .before .before .before .before .before .before .clear-words .kept .0)
+    (λ c.
+    let p = c .before .before .before .before .before .before .before .before .before .before .before .before .before .before .before .before .pre in
+    λ t knows. made-written (c .before .before .before .before .before .before .before .before .before .before .before .before .before .before .before .before .args .limit) _ _ _ (c .before .before .before .before .before .before .before .before .before .before .clear-words .ensures ∙ ap (λ n. replicate n 0) (p .3)) refl (c .before .before .next .given .1) (c .header-word .ensures) (c .before .before .before .before .before .before .write-row .ensures .1 t knows)))

@@ -1,0 +1,239 @@
+-- `rows::write_row`, `write_first` and `write_bracket` meet their contracts, by a law of proofs/RowLaws.antt for each return. The measure is three times
+-- the part's length, with 2, 1 and 0 more, since they hand the same part on in that order; the contents and the rest of a part are shorter.
+use Prim.Native.Nat.{ℕ, _+_, _*_, _<_}
+use native.Mathlib.Omega.{arith}
+use borrow.Author.Needs.{needs}
+use mathlib.Core.Path.{refl, _∙_}
+use lib.ListN.{length, length-set}
+use Rattle.law.proofs.Forests.{inside-falls, after-falls}
+use Rattle.formats.proofs.RowLaws as laws
+use borrow.Fn.Kinds.{In}
+use borrow.Fn.PlainCycle.{Measures, is, falls, and}
+use Rattle.formats.proofs.rows.write_bracket.Reads as write-bracket
+use Rattle.formats.proofs.rows.write_bracket.Kinds as write-bracket-kinds
+use Rattle.formats.proofs.rows.+write_bracket+write_first+write_row.Lts-write_bracket as write-bracket-lts
+use Rattle.formats.proofs.rows.write_first.Reads as write-first
+use Rattle.formats.proofs.rows.write_first.Kinds as write-first-kinds
+use Rattle.formats.proofs.rows.+write_bracket+write_first+write_row.Lts-write_first as write-first-lts
+use Rattle.formats.proofs.rows.write_row.Reads as write-row
+use Rattle.formats.proofs.rows.write_row.Kinds as write-row-kinds
+use Rattle.formats.proofs.rows.+write_bracket+write_first+write_row.Lts-write_row as write-row-lts
+use Rattle.file.proofs.term_at.Reads as term-at-reads
+use Rattle.file.proofs.word_at.Reads as word-at-reads
+use Rattle.formats.proofs.rows.bracket_word.Reads as bracket-word-reads
+use Rattle.formats.proofs.rows.step_of.Reads as step-of-reads
+use Rattle.formats.proofs.rows.wide.Reads as wide-reads
+use Rattle.formats.proofs.rows.write_call.Reads as write-call-reads
+use Rattle.formats.proofs.rows.write_leaf.Reads as write-leaf-reads
+use Rattle.law.proofs.runs.end_of.Reads as end-of-reads
+use Rattle.formats.proofs.rows.+write_bracket+write_first+write_row.{statement}
+use Rattle.formats.proofs.rows.+write_bracket+write_first+write_row.Tie.{close}
+
+abbrev μ-write-bracket : Measures 5 write-bracket-kinds.ps ℕ
+μ-write-bracket κs a = 3 * length (a .1 .0 .now)
+
+abbrev μ-write-first : Measures 5 write-first-kinds.ps ℕ
+μ-write-first κs a = 3 * length (a .1 .0 .now) + 1
+
+abbrev μ-write-row : Measures 5 write-row-kinds.ps ℕ
+μ-write-row κs a = 3 * length (a .1 .0 .now) + 2
+
+abbrev write-bracket-at : ℕ → In 5 write-bracket-kinds.ps
+write-bracket-at t =
+    and 5 write-bracket-kinds.ps (is 5 write-bracket-kinds.ps μ-write-bracket t) write-bracket.Pre
+
+abbrev write-bracket-below : ℕ → In 5 write-bracket-kinds.ps
+write-bracket-below t =
+    and
+    5
+    write-bracket-kinds.ps
+    (falls 5 write-bracket-kinds.ps _<_ μ-write-bracket t)
+    write-bracket.Pre
+
+abbrev write-first-at : ℕ → In 5 write-first-kinds.ps
+write-first-at t =
+    and 5 write-first-kinds.ps (is 5 write-first-kinds.ps μ-write-first t) write-first.Pre
+
+abbrev write-first-below : ℕ → In 5 write-first-kinds.ps
+write-first-below t =
+    and 5 write-first-kinds.ps (falls 5 write-first-kinds.ps _<_ μ-write-first t) write-first.Pre
+
+abbrev write-row-at : ℕ → In 5 write-row-kinds.ps
+write-row-at t = and 5 write-row-kinds.ps (is 5 write-row-kinds.ps μ-write-row t) write-row.Pre
+
+abbrev write-row-below : ℕ → In 5 write-row-kinds.ps
+write-row-below t =
+    and 5 write-row-kinds.ps (falls 5 write-row-kinds.ps _<_ μ-write-row t) write-row.Pre
+
+pub +write-bracket+write-first+write-row-spec : {M : Type 1} → statement M
++write-bracket+write-first+write-row-spec =
+    close μ-write-bracket μ-write-first μ-write-row (λ t. write-bracket-lts.spec (
+      end-of-reads.Asked,
+      end-of-reads.Learnt,
+      write-row-below t,
+      write-row.Post,
+      bracket-word-reads.Asked,
+      bracket-word-reads.Learnt,
+    )
+    (write-bracket-at t)
+    write-bracket.Post
+    (λ c. let start = c .before .before .before .before .before in
+    (tt, λ results knows. laws.group-none _ (start .args .out .now) (start .args .to) (start .args .most) (c .if1 .taken)))
+    (λ c κs. search needs)
+    (λ c. search needs)
+    (λ c. search needs)
+    (λ c. search needs)
+    (λ c. let start = c .before .before .before .before .before .before .before in
+    omega (arith, laws.asked-small (start .pre .1 .0) (start .pre .1 .1)))
+    (λ c. let start = c .before .before .before .before .before .before .before in
+    omega (arith, c .before .before .if1 .left, start .pre .1 .0 .small))
+    (λ c κs. let start = c .before .before .before .before .before .before .before .before in
+    let the-end = c .before .before .end-of in
+    let part = start .args .part .now in (
+      omega (arith, inside-falls part (the-end .result) (length part) (start .pre .1 .1) (the-end .ensures .0) refl, start .pre .0),
+      laws.asked-inside (start .pre .1 .0) (start .pre .1 .1) (the-end .ensures .0) (c .before .before .before .if1 .left),
+    ))
+    (λ c. search needs)
+    (λ c. search needs)
+    (λ c. omega (arith, laws.ends-between (c .before .next .given .1) (c .before .before .before .before .before .write-row .ensures .0)))
+    (λ c κs. let start = c .before .before .before .before .before .before .before .before .before .before .before .before .before .before in
+    omega (arith, laws.ends-between (c .before .next .given .1) (c .before .before .before .before .before .write-row .ensures .0), start .pre .1 .0 .small))
+    (λ c. let start = c .before .before .before .before .before .before .before .before .before .before .before .before .before .before .before in
+    omega (arith, c .before .before .before .before .before .before .before .before .before .before .if1 .left, start .pre .1 .0 .small))
+    (λ c. let start = c .before .before .before .before .before .before .before .before .before .before .before .before .before .before .before in
+    omega (arith, c .before .before .before .before .before .before .before .before .before .before .if1 .left, start .pre .1 .0 .room, c .before .before .before .before .before .before .write-row .kept .1 .1 .1 .1 .1 .1 .1 .0))
+    (λ c. c .before .before .before .before .write-row .kept .1 .1 .1 .1 .1 .1 .1 .0)
+    (λ c. let start = c .before .before .before .before .before .before .before .before .before .before .before .before .before in
+    let inside = c .before .before .before .before .write-row in (
+      tt,
+      λ results knows. laws.bracket-over (start .pre .1 .0) (start .pre .1 .1) results (c .before .before .before .before .before .before .before .end-of .ensures .0) (c .enum-told .given .1) (inside .ensures .1 results knows),
+    ))
+    (λ c. let inside = c .before .before .before .before .before .before .write-row in
+    length-set (inside .last .1 .1 .1 .1 .1 .1 .1 .0) _ _ ∙ inside .kept .1 .1 .1 .1 .1 .1 .1 .0)
+    (λ c. let start = c .before .before .before .before .before .before .before .before .before .before .before .before .before .before .before in
+    let inside = c .before .before .before .before .before .before .write-row in
+    let ends = c .before .before .next .given .1 in
+    let between = laws.ends-between ends (inside .ensures .0) in (
+      (omega arith, omega arith),
+      λ results knows. laws.bracket-written (start .pre .1 .0) (start .pre .1 .1) results (c .before .before .before .before .before .before .before .before .before .end-of .ensures .0) ends (c .bracket-word .ensures) (inside .ensures .1 results knows),
+    )))
+    (λ t. write-first-lts.spec (
+      term-at-reads.Asked,
+      term-at-reads.Learnt,
+      step-of-reads.Asked,
+      step-of-reads.Learnt,
+      write-leaf-reads.Asked,
+      write-leaf-reads.Learnt,
+      write-bracket-below t,
+      write-bracket.Post,
+      wide-reads.Asked,
+      wide-reads.Learnt,
+      write-call-reads.Asked,
+      write-call-reads.Learnt,
+    )
+    (write-first-at t)
+    write-first.Post
+    (λ c κs. search needs)
+    (λ c κs. search needs)
+    (λ c. search needs)
+    (λ c κs. let start = c .before .before .before .before .before .before .before .before .before .before in
+    let part = start .args .part .now in (
+      laws.leaf-small part _ (laws.step-is part (c .before .before .before .before .before .term-at .ensures) (c .before .before .before .before .step-of .ensures) (c .before .before .word .given .1)),
+      start .pre .1 .0 .begins,
+      start .pre .1 .0 .room,
+    ))
+    (λ c. search needs)
+    (λ c. search needs)
+    (λ c κs. let start = c .before .before .before .before .before .before .before .before .before in
+    (omega (arith, start .pre .0), start .pre .1))
+    (λ c. search needs)
+    (λ c. let start = c .before .before .before .before .before .before .before .before in
+    omega (arith, laws.asked-small (start .pre .1 .0) (start .pre .1 .1)))
+    (λ c. let start = c .before .before .before .before .before .before .before .before in
+    omega (arith, laws.asked-small (start .pre .1 .0) (start .pre .1 .1)))
+    (λ c κs. search needs)
+    (λ c κs. let start = c .before .before .before .before .before .before .before .before .before .before .before in
+    (start .pre .1 .0 .stored, c .before .wide .ensures .1, start .pre .1 .0 .begins, start .pre .1 .0 .room))
+    (λ c. c .before .before .write-leaf .kept .1 .0)
+    (λ c. let start = c .before .before .before .before .before .before .before .before .before .before .before .before .before in
+    let step = laws.step-is (start .args .part .now) (c .before .before .before .before .before .before .before .before .term-at .ensures) (c .before .before .before .before .before .before .before .step-of .ensures) (c .before .before .before .before .before .word .given .1) in (
+      c .before .before .write-leaf .ensures .0,
+      λ results knows. laws.first-leaf (start .pre .1 .0) (start .pre .1 .1) results step (c .before .before .write-leaf .ensures .1),
+    ))
+    (λ c. let start = c .before .before .before .before .before .before .before .before in
+    let a = start .args in
+    let asked = start .pre .1 .0 in
+    let step = laws.step-is (a .part .now) (c .before .before .before .term-at .ensures) (c .before .before .step-of .ensures) (c .enum-told .given .1) in (
+      (omega arith, asked .begins),
+      λ results knows. laws.first-open _ results _ (a .part .now) (a .out .now) (a .to) (a .most) (asked .begins) (asked .room) step,
+    ))
+    (λ c. c .before .before .write-bracket .kept .1 .1 .1 .1 .1 .1 .1 .0)
+    (λ c. let start = c .before .before .before .before .before .before .before .before .before .before .before .before in
+    let step = laws.step-is (start .args .part .now) (c .before .before .before .before .before .before .before .term-at .ensures) (c .before .before .before .before .before .before .step-of .ensures) (c .before .before .before .before .enum-told2 .given .1) in (
+      c .before .before .write-bracket .ensures .0,
+      λ results knows. laws.first-bracket (start .pre .1 .0) (start .pre .1 .1) results step (c .before .before .write-bracket .ensures .1 results knows),
+    ))
+    (λ c. c .before .before .write-call .kept .1 .1 .1 .1 .0)
+    (λ c. let start = c .before .before .before .before .before .before .before .before .before .before .before .before .before .before in
+    let step = laws.step-is (start .args .part .now) (c .before .before .before .before .before .before .before .before .before .term-at .ensures) (c .before .before .before .before .before .before .before .before .step-of .ensures) (c .before .before .before .before .before .before .enum-told3 .given .1) in (
+      c .before .before .write-call .ensures .0,
+      λ results knows. laws.first-call (start .pre .1 .0) (start .pre .1 .1) results step (c .before .before .before .before .wide .ensures .0) knows (c .before .before .write-call .ensures .1),
+    )))
+    λ t. write-row-lts.spec (
+      write-first-below t,
+      write-first.Post,
+      end-of-reads.Asked,
+      end-of-reads.Learnt,
+      word-at-reads.Asked,
+      word-at-reads.Learnt,
+      write-row-below t,
+      write-row.Post,
+    )
+    (write-row-at t)
+    write-row.Post
+    (λ c. let start = c .before .before .before .before .before in
+    let a = start .args in
+    let asked = start .pre .1 in (
+      (omega arith, asked .begins),
+      λ results knows. laws.row-none _ results _ (a .part .now) (a .out .now) (a .to) (a .most) (c .if1 .taken) (asked .begins) (asked .room),
+    ))
+    (λ c κs. let start = c .before .before .before .before .before .before in
+    (omega (arith, start .pre .0), (start .pre .1, c .before .if1 .left)))
+    (λ c. search needs)
+    (λ c. search needs)
+    (λ c. c .before .before .before .before .write-first .kept .1 .1 .1 .1 .1 .1 .1 .0)
+    (λ c. let start = c .before .before .before .before .before .before .before .before .before .before .before in
+    (tt, λ results knows. laws.row-first-over (start .pre .1) (c .before .before .before .before .before .before .if1 .left) results (c .enum-told .given .1) (c .before .before .before .before .write-first .ensures .1 results knows)))
+    (λ c. c .before .before .before .before .before .before .write-first .kept .1 .1 .1 .1 .1 .1 .1 .0)
+    (λ c. let start = c .before .before .before .before .before .before .before .before .before .before .before .before .before in
+    let first = c .before .before .before .before .before .before .write-first in
+    let ends = c .before .before .first .given .1 in (
+      laws.ends-between ends (first .ensures .0),
+      λ results knows. laws.row-first-open (start .pre .1) (c .before .before .before .before .before .before .before .before .if1 .left) results ends (c .if2 .taken) (first .ensures .1 results knows),
+    ))
+    (λ c κs. search needs)
+    (λ c. search needs)
+    (λ c. search needs)
+    (λ c. search needs)
+    (λ c. let start = c .before .before .before .before .before .before .before .before .before .before .before .before .before .before .before in
+    omega (arith, laws.asked-small (start .pre .1) (c .before .before .before .before .before .before .before .before .before .before .if1 .left)))
+    (λ c κs. search needs)
+    (λ c. search needs)
+    (λ c. let start = c .before .before .before .before .before .before .before .before .before .before .before .before .before .before .before .before in
+    omega (arith, laws.rest-small (start .pre .1) (c .before .before .before .before .before .before .before .before .before .before .before .if1 .left) (c .word-at .ensures)))
+    (λ c κs. let start = c .before .before .before .before .before .before .before .before .before .before .before .before .before .before .before .before .before in
+    let the-end = c .before .before .before .end-of in
+    let first = c .before .before .before .before .before .before .before .before .before .before .write-first in
+    let some = c .before .before .before .before .before .before .before .before .before .before .before .before .if1 .left in
+    let part = start .args .part .now in (
+      omega (arith, after-falls part (the-end .result) (length part) some (the-end .ensures .0) refl, start .pre .0),
+      laws.asked-rest (start .pre .1) some (the-end .ensures .0) (c .before .word-at .ensures) (laws.ends-between (c .before .before .before .before .before .before .first .given .1) (first .ensures .0) .1) (first .kept .1 .1 .1 .1 .1 .1 .1 .0),
+    ))
+    (λ c. c .before .before .write-row .kept .1 .1 .1 .1 .1 .1 .1 .0 ∙ c .before .before .before .before .before .before .before .before .before .before .before .before .before .write-first .kept .1 .1 .1 .1 .1 .1 .1 .0)
+    (λ c. let start = c .before .before .before .before .before .before .before .before .before .before .before .before .before .before .before .before .before .before .before .before in
+    let first = c .before .before .before .before .before .before .before .before .before .before .before .before .before .write-first in
+    let rest = c .before .before .write-row in
+    let ends = c .before .before .before .before .before .before .before .before .before .first .given .1 in (
+      laws.between-later _ (start .args .most) _ (rest .result) (laws.ends-between ends (first .ensures .0) .0) (rest .ensures .0),
+      λ results knows. laws.row-first-rest (start .pre .1) (c .before .before .before .before .before .before .before .before .before .before .before .before .before .before .before .if1 .left) results ends (c .before .before .before .before .before .before .before .if2 .left) (c .before .before .before .before .before .before .end-of .ensures .0) (c .before .before .before .before .word-at .ensures) (first .ensures .1 results knows) (rest .ensures .1 results knows),
+    ))

@@ -1,0 +1,20 @@
+-- The functions' places, then the number of names, then the calls, which read both.
+use mathlib.Core.Path.{_∙_}
+use lib.ListN.{length-set}
+use Rattle.law.proofs.IndexLaws.{functions-limit}
+use Rattle.formats.proofs.SlotLaws.{slots-start}
+use borrow.Author.Needs.{needs}
+use Rattle.formats.proofs.slots.slots_of.Statement.{statement}
+use Rattle.formats.proofs.slots.slots_of.Tie as tie
+
+pub slots-of-spec : {M : Type 1} → statement M
+slots-of-spec =
+    tie.close
+    (tie.spec
+    (λ c κs. search needs)
+    (λ c κs. search needs)
+    (λ c. search needs)
+    (λ c κs. let p = c .before .before .before .before .before .before .before .pre in
+    let f = c .before .fill-functions .ensures in
+    (p .0, p .1, length-set (c .before .fill-functions .last .1 .1 .1 .0) 576 _ ∙ f .0, slots-start _ (c .before .fill-functions .last .1 .1 .1 .0) _ (functions-limit _ _ (p .0)) (f .0) (f .1) (c .before .before .before .before .fill-weights .ensures .0)))
+    (λ c. search needs))

@@ -1,0 +1,126 @@
+-- The number of words of the first row falls: a shape asks about its contents, a row about its first shape and then about the rest. One law of
+-- `FirstLaws` for each return.
+use Prim.Native.Nat.{ℕ, _<_, _+_, _*_}
+use native.Mathlib.Omega.{arith}
+use borrow.Author.Needs.{needs}
+use lib.ListN.{length}
+use Rattle.shapes.proofs.WordLaws.{shapes-contents-falls, shapes-rest-falls}
+use Rattle.shapes.proofs.FirstLaws.{disjoint-none-none, disjoint-none-some, disjoint-some-none, disjoint-first, disjoint-rest, apart-brackets, apart-bracket-leaf, apart-leaf-bracket, apart-leaves}
+use borrow.Fn.Kinds.{In}
+use borrow.Fn.PlainCycle.{Measures, is, falls, and}
+use Rattle.shapes.proofs.disjoint_rows.Reads as disjoint-rows
+use Rattle.shapes.proofs.disjoint_rows.Kinds as disjoint-rows-kinds
+use Rattle.shapes.proofs.+disjoint_rows+disjoint_shapes.Lts-disjoint_rows as disjoint-rows-lts
+use Rattle.shapes.proofs.disjoint_shapes.Reads as disjoint-shapes
+use Rattle.shapes.proofs.disjoint_shapes.Kinds as disjoint-shapes-kinds
+use Rattle.shapes.proofs.+disjoint_rows+disjoint_shapes.Lts-disjoint_shapes as disjoint-shapes-lts
+use Rattle.shapes.proofs.end_of.Reads as end-of-reads
+use Rattle.shapes.proofs.holds_brackets.Reads as holds-brackets-reads
+use Rattle.shapes.proofs.inside_open.Reads as inside-open-reads
+use Rattle.shapes.proofs.is_bracket.Reads as is-bracket-reads
+use Rattle.shapes.proofs.leaves_apart.Reads as leaves-apart-reads
+use Rattle.shapes.proofs.+disjoint_rows+disjoint_shapes.{statement}
+use Rattle.shapes.proofs.+disjoint_rows+disjoint_shapes.Tie.{close}
+
+abbrev μ-disjoint-rows : Measures 2 disjoint-rows-kinds.ps ℕ
+μ-disjoint-rows κs a = 2 * length (a .0 .now) + 1
+
+abbrev μ-disjoint-shapes : Measures 2 disjoint-shapes-kinds.ps ℕ
+μ-disjoint-shapes κs a = 2 * length (a .0 .now)
+
+abbrev disjoint-rows-at : ℕ → In 2 disjoint-rows-kinds.ps
+disjoint-rows-at t =
+    and 2 disjoint-rows-kinds.ps (is 2 disjoint-rows-kinds.ps μ-disjoint-rows t) disjoint-rows.Pre
+
+abbrev disjoint-rows-below : ℕ → In 2 disjoint-rows-kinds.ps
+disjoint-rows-below t =
+    and
+    2
+    disjoint-rows-kinds.ps
+    (falls 2 disjoint-rows-kinds.ps _<_ μ-disjoint-rows t)
+    disjoint-rows.Pre
+
+abbrev disjoint-shapes-at : ℕ → In 2 disjoint-shapes-kinds.ps
+disjoint-shapes-at t =
+    and
+    2
+    disjoint-shapes-kinds.ps
+    (is 2 disjoint-shapes-kinds.ps μ-disjoint-shapes t)
+    disjoint-shapes.Pre
+
+abbrev disjoint-shapes-below : ℕ → In 2 disjoint-shapes-kinds.ps
+disjoint-shapes-below t =
+    and
+    2
+    disjoint-shapes-kinds.ps
+    (falls 2 disjoint-shapes-kinds.ps _<_ μ-disjoint-shapes t)
+    disjoint-shapes.Pre
+
+pub +disjoint-rows+disjoint-shapes-spec : {M : Type 1} → statement M
++disjoint-rows+disjoint-shapes-spec =
+    close μ-disjoint-rows μ-disjoint-shapes (λ t. disjoint-rows-lts.spec (
+      disjoint-shapes-below t,
+      disjoint-shapes.Post,
+      end-of-reads.Asked,
+      end-of-reads.Learnt,
+      disjoint-rows-below t,
+      disjoint-rows.Post,
+    )
+    (disjoint-rows-at t)
+    disjoint-rows.Post
+    (λ c. let x = c .before .before .before .before .args in disjoint-none-none (x .a .now) (x .a-open) (x .b .now) (x .b-open) (c .before .if1 .taken) (c .if2 .taken))
+    (λ c. let x = c .before .before .before .before .args in disjoint-none-some (x .a .now) (x .a-open) (x .b .now) (x .b-open) (c .before .if1 .taken) (c .if2 .left))
+    (λ c. let x = c .before .before .before .before .args in disjoint-some-none (x .a .now) (x .a-open) (x .b .now) (x .b-open) (c .before .if1 .left) (c .if3 .taken))
+    (λ c κs. (omega arith, (c .before .if1 .left, c .if3 .left)))
+    (λ c. let x = c .before .before .before .before .before .before .args in disjoint-first (x .a .now) (x .a-open) (x .b .now) (x .b-open) _ (c .before .before .before .if1 .left) (c .before .before .if3 .left) (c .before .disjoint-shapes .ensures) (c .if4 .taken))
+    (λ c κs. omega arith)
+    (λ c κs. omega arith)
+    (λ c. search needs)
+    (λ c. omega arith)
+    (λ c. omega arith)
+    (λ c. search needs)
+    (λ c. search needs)
+    (λ c. omega arith)
+    (λ c. omega arith)
+    (λ c. search needs)
+    (λ c κs. (omega (arith, shapes-rest-falls (c .before .before .before .before .before .before .before .before .before .before .args .a .now) (c .before .before .before .end-of .result) (c .before .before .before .before .before .before .before .if1 .left) (c .before .before .before .end-of .ensures .0)), tt))
+    (λ c. let x = c .before .before .before .before .before .before .before .before .before .before .before .args in disjoint-rest (x .a .now) (x .a-open) (x .b .now) (x .b-open) _ _ _ _ (c .before .before .before .before .before .before .before .before .if1 .left) (c .before .before .before .before .before .before .before .if3 .left) (c .before .before .before .before .before .before .disjoint-shapes .ensures) (c .before .before .before .before .before .if4 .left) (c .before .before .before .before .end-of .ensures .0) (c .before .before .before .end-of2 .ensures .0) (c .disjoint-rows .ensures)))
+    λ t. disjoint-shapes-lts.spec (
+      is-bracket-reads.Asked,
+      is-bracket-reads.Learnt,
+      end-of-reads.Asked,
+      end-of-reads.Learnt,
+      inside-open-reads.Asked,
+      inside-open-reads.Learnt,
+      disjoint-rows-below t,
+      disjoint-rows.Post,
+      holds-brackets-reads.Asked,
+      holds-brackets-reads.Learnt,
+      leaves-apart-reads.Asked,
+      leaves-apart-reads.Learnt,
+    )
+    (disjoint-shapes-at t)
+    disjoint-shapes.Post
+    (λ c. omega arith)
+    (λ c. omega arith)
+    (λ c κs. search needs)
+    (λ c κs. search needs)
+    (λ c κs. omega arith)
+    (λ c κs. omega arith)
+    (λ c. omega arith)
+    (λ c. omega arith)
+    (λ c. search needs)
+    (λ c κs. search needs)
+    (λ c. omega arith)
+    (λ c. omega arith)
+    (λ c. search needs)
+    (λ c κs. search needs)
+    (λ c κs. (omega (arith, shapes-contents-falls (c .before .before .before .before .before .before .before .before .before .before .before .before .before .before .args .a .now) (c .before .before .before .before .before .end-of .result) (c .before .before .before .before .before .before .before .before .before .before .before .before .before .before .pre .1 .0) (c .before .before .before .before .before .end-of .ensures .0)), tt))
+    (λ c. let x = c .before .before .before .before .before .before .before .before .before .before .before .before .before .before .before .args in apart-brackets (x .a .now) (x .b .now) _ _ (c .before .before .before .before .before .before .before .before .before .before .is-bracket .ensures) (c .before .before .before .before .before .before .before .before .is-bracket2 .ensures) _ _ _ _ _ (c .before .before .before .before .before .before .before .before .before .if1 .taken) (c .before .before .before .before .before .before .before .if2 .taken) (c .before .before .before .before .before .before .end-of .ensures .0) (c .before .before .before .before .before .end-of2 .ensures .0) (c .before .before .before .inside-open .ensures) (c .before .inside-open2 .ensures) (c .disjoint-rows .ensures))
+    (λ c κs. search needs)
+    (λ c. let x = c .before .before .before .before .before .before .before .before .before .args in apart-bracket-leaf (x .a .now) (x .b .now) _ _ (c .before .before .before .before .is-bracket .ensures) (c .before .before .is-bracket2 .ensures) _ (c .before .before .before .if1 .taken) (c .before .if2 .left) (c .holds-brackets .ensures))
+    (λ c κs. search needs)
+    (λ c κs. search needs)
+    (λ c. let x = c .before .before .before .before .before .before .before .before .before .args in apart-leaf-bracket (x .a .now) (x .b .now) _ _ (c .before .before .before .before .is-bracket .ensures) (c .before .before .is-bracket3 .ensures) _ (c .before .before .before .if1 .left) (c .before .if3 .taken) (c .holds-brackets2 .ensures))
+    (λ c κs. search needs)
+    (λ c. let x = c .before .before .before .before .before .before .before .before .before .args in apart-leaves (x .a .now) (x .b .now) _ _ (c .before .before .before .before .is-bracket .ensures) (c .before .before .is-bracket3 .ensures) _ (c .before .before .before .if1 .left) (c .before .if3 .left) (c .leaves-apart .ensures))

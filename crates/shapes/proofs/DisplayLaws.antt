@@ -1,0 +1,164 @@
+-- Laws of a format's text (specs/Display.antt): text put after text, and a law for each return of the code that writes it.
+use Prim.Native.Nat.{ℕ, _+_, _-_, _≤_, _<_}
+use mathlib.Core.Bool.{Bool, true, false, cond}
+use mathlib.Core.List.{List, [], _∷_, _++_, append-assoc}
+use mathlib.Core.Path.{_≡_, refl, _∙_}
+use native.Mathlib.Omega.{arith}
+use lib.ListN.{length, take, drop, getD, set, length-append}
+use lib.Dec.{leb}
+use Rattle.shapes.specs.Leaf.{leafByte, leafAt}
+use Rattle.shapes.specs.Format.{Shapes, end, of}
+use Rattle.shapes.specs.Words.{isBracket, insideOpen, shapesEnd, shapesIn, readFormat, rowEnd}
+use Rattle.shapes.specs.Written.{written, Put}
+use Rattle.shapes.specs.Display.{spaced, display, shown, firstShown}
+use Rattle.shapes.proofs.WordLaws.{shapes-none, shapes-leaf, shapes-bracket}
+use Rattle.shapes.proofs.WrittenLaws.{written-none, written-one, written-more}
+use Rattle.shapes.proofs.FormatLaws.{read-never}
+
+-- ---- text put at a position
+
+-- nothing
+pub put-none : (old : List ℕ) (at : ℕ) → Put old at [] at old
+put-none old at = record { end = omega arith; room = λ h. written-none old at }
+
+-- one byte, where there is room or not
+pub put-one : (old : List ℕ) (at byte : ℕ) → at < length old → Put old at (byte ∷ []) (at + 1) (set old at byte)
+put-one old at byte h = record { end = refl; room = λ k. written-one old at byte h }
+
+pub put-one-past : (old : List ℕ) (at byte : ℕ) → length old ≤ at → Put old at (byte ∷ []) (at + 1) old
+put-one-past old at byte h = record { end = refl; room = λ k. absurd (omega arith) }
+
+-- a piece for which there is no room
+pub put-piece-past : (old piece : List ℕ) (at : ℕ) → length old < at + length piece → Put old at piece (at + length piece) old
+put-piece-past old piece at h = record { end = refl; room = λ k. absurd (omega arith) }
+
+-- one text after another
+pub put-more : (old first middle second last : List ℕ) (at next after : ℕ) → length middle ≡ length old → Put old at first next middle → Put middle next second after last
+    → Put old at (first ++ second) after last
+put-more old first middle second last at next after l p q =
+    let long : length (first ++ second) ≡ length first + length second = length-append first second in
+    let there : next ≡ at + length first = p .end in
+    let then : after ≡ next + length second = q .end in
+    record {
+      end = omega arith;
+      room = λ h. q .room (omega arith) ∙ (rw (p .room (omega arith)) (written-more old at next first second (omega arith) there));
+    }
+
+-- ---- rows
+
+-- a row that is not empty: a space, its first item and the rest
+spaced-split : (o : Bool) (s : List ℕ) (e : ℕ) → 1 ≤ length s → e ≡ shapesEnd s
+    → spaced (shapesIn o s) ≡ 32 ∷ (firstShown s ++ spaced (shapesIn o (take (length s - e) (drop e s))))
+unfolding spaced firstShown
+spaced-split o s e h u = rw u (go (isBracket (getD s 0 0)) refl)
+  where
+    go : (t : Bool) → isBracket (getD s 0 0) ≡ t
+        → spaced (shapesIn o s) ≡ 32 ∷ (firstShown s ++ spaced (shapesIn o (take (length s - shapesEnd s) (drop (shapesEnd s) s))))
+    go true q = rw (shapes-bracket o s (shapesEnd s) h q refl, q) (simp append-assoc)
+    go false q = rw (shapes-leaf o s (shapesEnd s) h q refl, q)
+
+-- the space before an item that is not the first
+abbrev pub space : Bool → List ℕ
+space first = cond first [] (32 ∷ [])
+
+-- an empty row that is open, and one that is closed
+shown-none-open : (o first : Bool) (s : List ℕ) → length s < 1 → o ≡ true → space first ++ (46 ∷ 46 ∷ []) ≡ shown first (shapesIn o s)
+unfolding spaced
+shown-none-open o true s h e = rw (shapes-none o s h, e)
+shown-none-open o false s h e = rw (shapes-none o s h, e)
+
+shown-none-closed : (o first : Bool) (s : List ℕ) → length s < 1 → o ≡ false → [] ≡ shown first (shapesIn o s)
+unfolding spaced
+shown-none-closed o true s h e = rw (shapes-none o s h, e)
+shown-none-closed o false s h e = rw (shapes-none o s h, e)
+
+-- a row that is not empty
+shown-some : (o first : Bool) (s : List ℕ) (e : ℕ) → 1 ≤ length s → e ≡ shapesEnd s
+    → (space first ++ firstShown s) ++ spaced (shapesIn o (take (length s - e) (drop e s))) ≡ shown first (shapesIn o s)
+shown-some o true s e h u = rw (spaced-split o s e h u)
+shown-some o false s e h u = rw (spaced-split o s e h u)
+
+-- the first item: a bracket with its contents, or a letter
+first-bracket : (s : List ℕ) (t o : Bool) (e : ℕ) → t ≡ isBracket (getD s 0 0) → t ≡ true → o ≡ insideOpen (getD s 0 0) → e ≡ shapesEnd s
+    → ((40 ∷ 91 ∷ []) ++ drop 1 (spaced (shapesIn o (take (e - 1) (drop 1 s))))) ++ (93 ∷ 41 ∷ []) ≡ firstShown s
+unfolding firstShown
+first-bracket s t o e p q u v = rw (← p, q, u, v)
+
+first-leaf : (s : List ℕ) (t : Bool) (byte : ℕ) → t ≡ isBracket (getD s 0 0) → t ≡ false → byte ≡ leafByte (leafAt (getD s 0 0)) → (byte ∷ []) ≡ firstShown s
+unfolding firstShown
+first-leaf s t byte p q e = rw (← p, q, e)
+
+-- ---- formats
+
+-- a format that is never, and one that is not
+display-never : (s : List ℕ) (t : Bool) → t ≡ leb 512 (getD s 0 0) → t ≡ true → (110 ∷ 101 ∷ 118 ∷ 101 ∷ 114 ∷ []) ≡ display (readFormat s)
+unfolding display
+display-never s t e h = rw (read-never s t e h)
+
+display-row : (s : List ℕ) (f : Shapes) → readFormat s ≡ of f → ((91 ∷ []) ++ drop 1 (spaced f)) ++ (93 ∷ []) ≡ display (readFormat s)
+unfolding display
+display-row s f e = rw e
+
+-- a format's row has fewer than 256 shapes
+pub row-end-few : (s : List ℕ) → rowEnd s ≤ 256
+unfolding rowEnd
+row-end-few s = omega arith
+
+-- ---- what the code put, at each return
+
+-- a space is one byte at most
+pub space-length : (first : Bool) → length (space first) ≤ 1
+space-length true = omega arith
+space-length false = omega arith
+
+module _ (o first : Bool) (s old : List ℕ) (at : ℕ) where
+  -- an empty row that is open, and one that is closed
+  pub show-none-open : (one last : List ℕ) (next after : ℕ) → length s < 1 → o ≡ true → length one ≡ length old
+      → Put old at (space first) next one → Put one next (46 ∷ 46 ∷ []) after last → Put old at (shown first (shapesIn o s)) after last
+  show-none-open one last next after h e k p q = rw (shown-none-open o first s h e) at (put-more old (space first) one (46 ∷ 46 ∷ []) last at next after k p q)
+
+  pub show-none-closed : length s < 1 → o ≡ false → Put old at (shown first (shapesIn o s)) at old
+  show-none-closed h e = rw (shown-none-closed o first s h e) at (put-none old at)
+
+  -- a row's first item, then the rest
+  pub show-some : (one two last : List ℕ) (e first-at next after : ℕ) → 1 ≤ length s → e ≡ shapesEnd s → length one ≡ length old → length two ≡ length one
+      → Put old at (space first) first-at one → Put one first-at (firstShown s) next two → Put two next (spaced (shapesIn o (take (length s - e) (drop e s)))) after last
+      → Put old at (shown first (shapesIn o s)) after last
+  show-some one two last e first-at next after h u k l p q r =
+      rw (shown-some o first s e h u)
+      at (
+      put-more old (space first ++ firstShown s) two (spaced (shapesIn o (take (length s - e) (drop e s)))) last at next after (l ∙ k)
+      (put-more old (space first) one (firstShown s) two at first-at next k p q)
+      r
+      )
+
+-- the first item
+module _ (s : List ℕ) (t : Bool) (p : t ≡ isBracket (getD s 0 0)) (old : List ℕ) (at : ℕ) where
+  pub show-bracket : (one two last : List ℕ) (o : Bool) (e start next after : ℕ) → t ≡ true → o ≡ insideOpen (getD s 0 0) → e ≡ shapesEnd s
+      → length one ≡ length old → length two ≡ length one → Put old at (40 ∷ 91 ∷ []) start one
+      → Put one start (drop 1 (spaced (shapesIn o (take (e - 1) (drop 1 s))))) next two → Put two next (93 ∷ 41 ∷ []) after last → Put old at (firstShown s) after last
+  show-bracket one two last o e start next after q u v k l a b c =
+      rw (first-bracket s t o e p q u v)
+      at (
+      put-more old ((40 ∷ 91 ∷ []) ++ drop 1 (spaced (shapesIn o (take (e - 1) (drop 1 s))))) two (93 ∷ 41 ∷ []) last at next after (l ∙ k)
+      (put-more old (40 ∷ 91 ∷ []) one (drop 1 (spaced (shapesIn o (take (e - 1) (drop 1 s))))) two at start next k a b)
+      c
+      )
+
+  pub show-leaf : (byte next : ℕ) (last : List ℕ) → t ≡ false → byte ≡ leafByte (leafAt (getD s 0 0)) → Put old at (byte ∷ []) next last → Put old at (firstShown s) next last
+  show-leaf byte next last q e a = rw (first-leaf s t byte p q e) at a
+
+-- a whole format
+pub show-never : (s old last : List ℕ) (at next : ℕ) (t : Bool) → t ≡ leb 512 (getD s 0 0) → t ≡ true → Put old at (110 ∷ 101 ∷ 118 ∷ 101 ∷ 114 ∷ []) next last
+    → Put old at (display (readFormat s)) next last
+show-never s old last at next t e h a = rw (display-never s t e h) at a
+
+pub show-whole : (s old one two last : List ℕ) (at start next after : ℕ) (f : Shapes) → readFormat s ≡ of f → length one ≡ length old → length two ≡ length one
+    → Put old at (91 ∷ []) start one → Put one start (drop 1 (spaced f)) next two → Put two next (93 ∷ []) after last → Put old at (display (readFormat s)) after last
+show-whole s old one two last at start next after f e k l a b c =
+    rw (display-row s f e)
+    at (
+    put-more old ((91 ∷ []) ++ drop 1 (spaced f)) two (93 ∷ []) last at next after (l ∙ k)
+    (put-more old (91 ∷ []) one (drop 1 (spaced f)) two at start next k a b)
+    c
+    )

@@ -1,0 +1,11 @@
+pub mod LeafLaws
+pub mod JoinLaws
+pub mod DisjointLaws
+pub mod SameLaws
+pub mod WordLaws
+pub mod WrittenLaws
+pub mod LeafWordLaws
+pub mod FirstLaws
+pub mod FormatLaws
+pub mod ListLaws
+pub mod DisplayLaws

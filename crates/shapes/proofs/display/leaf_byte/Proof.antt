@@ -1,0 +1,13 @@
+-- A word that is none of the first four says unknown.
+use Rattle.shapes.proofs.LeafWordLaws.{leaf-high, leaf-word-past}
+use borrow.Author.Needs.{needs}
+use Rattle.shapes.proofs.display.leaf_byte.Statement.{statement}
+use Rattle.shapes.proofs.display.leaf_byte.Tie as tie
+
+pub leaf-byte-spec : {M : Type 1} → statement M
+leaf-byte-spec = tie.close (tie.spec
+    (λ c. search needs)
+    (λ c. search needs)
+    (λ c. search needs)
+    (λ c. search needs)
+    (λ c. rw (leaf-high (c .before .args .w) (leaf-word-past (c .before .args .w) (c .match .rest .0 .0 .0 .1) (c .match .rest .0 .0 .1) (c .match .rest .0 .1) (c .match .rest .1)))))

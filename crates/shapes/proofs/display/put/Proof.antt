@@ -1,0 +1,13 @@
+-- Where there is no room, nothing is said of the bytes.
+use Rattle.shapes.proofs.DisplayLaws.{put-piece-past}
+use borrow.Author.Needs.{needs}
+use Rattle.shapes.proofs.display.put.Statement.{statement}
+use Rattle.shapes.proofs.display.put.Tie as tie
+
+pub put-spec : {M : Type 1} → statement M
+put-spec = tie.close (tie.spec
+    (λ c. search needs)
+    (λ c κs. search needs)
+    (λ c. search needs)
+    (λ c. search needs)
+    (λ c. let x = c .before .before .before .args in put-piece-past (x .out .now) (x .piece .now) (x .at) (c .if1 .left)))

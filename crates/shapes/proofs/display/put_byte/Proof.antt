@@ -1,0 +1,13 @@
+-- One byte, where there is room for it or not.
+use Rattle.shapes.proofs.DisplayLaws.{put-one, put-one-past}
+use borrow.Author.Needs.{needs}
+use Rattle.shapes.proofs.display.put_byte.Statement.{statement}
+use Rattle.shapes.proofs.display.put_byte.Tie as tie
+
+pub put-byte-spec : {M : Type 1} → statement M
+put-byte-spec = tie.close (tie.spec
+    (λ c. search needs)
+    (λ c. search needs)
+    (λ c. search needs)
+    (λ c. let x = c .before .args in put-one (x .out .now) (x .at) (x .byte) (c .if1 .taken))
+    (λ c. let x = c .before .args in put-one-past (x .out .now) (x .at) (x .byte) (c .if1 .left)))

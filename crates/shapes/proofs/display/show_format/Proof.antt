@@ -1,0 +1,33 @@
+-- Rests on reading the format's row, which has fewer than 256 shapes.
+use native.Mathlib.Omega.{arith}
+use Rattle.shapes.proofs.FormatLaws.{read-row}
+use Rattle.shapes.proofs.DisplayLaws.{row-end-few, show-never, show-whole}
+use borrow.Author.Needs.{needs}
+use Rattle.shapes.proofs.display.show_format.Statement.{statement}
+use Rattle.shapes.proofs.display.show_format.Tie as tie
+
+pub show-format-spec : {M : Type 1} → statement M
+show-format-spec =
+    tie.close
+    (tie.spec
+    (λ c. search needs)
+    (λ c κs. search needs)
+    (λ c. search needs)
+    (λ c κs. search needs)
+    (λ c. search needs)
+    (λ c. let x = c .before .before .before .before .before .before .before .before .before .before .args in show-never (x .format .now) (x .out .now) _ (x .at) _ _ (c .before .before .before .before .before .before .is-never .ensures) (c .before .before .before .before .before .if1 .taken) (c .before .before .put .ensures))
+    (λ c κs. search needs)
+    (λ c. search needs)
+    (λ c κs. search needs)
+    (λ c. search needs)
+    (λ c. search needs)
+    (λ c. search needs)
+    (λ c κs. search needs)
+    (λ c κs. omega (arith, c .before .before .before .before .before .before .before .before .before .before .before .before .before .before .pre, c .before .before .before .before .before .put2 .ensures .end, c .before .before .before .before .before .before .before .before .row-end .ensures, row-end-few (c .before .before .before .before .before .before .before .before .before .before .before .before .before .before .args .format .now)))
+    (λ c. search needs)
+    (λ c κs. omega (arith, c .before .before .before .before .before .before .before .before .before .before .before .before .before .before .before .before .before .before .before .pre, c .before .before .before .before .show-row .ensures .0, c .before .before .before .before .before .before .before .before .before .before .put2 .ensures .end, c .before .before .before .before .before .before .before .before .before .before .before .before .before .row-end .ensures, row-end-few (c .before .before .before .before .before .before .before .before .before .before .before .before .before .before .before .before .before .before .before .args .format .now)))
+    (λ c. search needs)
+    (λ c. let x = c .before .before .before .before .before .before .before .before .before .before .before .before .before .before .before .before .before .before .before .before .before .before .args in
+    show-whole (x .format .now) (x .out .now) _ _ _ (x .at) _ _ _ _
+    (read-row (x .format .now) _ _ _ (c .before .before .before .before .before .before .before .before .before .before .before .before .before .before .before .before .before .before .before .before .before .before .pre .0) (c .before .before .before .before .before .before .before .before .before .before .before .before .before .before .before .before .before .before .is-never .ensures) (c .before .before .before .before .before .before .before .before .before .before .before .before .before .before .before .before .before .if1 .left) (c .before .before .before .before .before .before .before .before .before .before .before .before .before .before .before .before .row-end .ensures .0) (c .before .before .before .before .before .before .before .before .before .row-open .ensures))
+    (c .before .before .before .before .before .before .before .before .before .before .before .before .before .put2 .kept .1 .0) (c .before .before .before .before .before .before .before .show-row .kept .1 .1 .1 .0) (c .before .before .before .before .before .before .before .before .before .before .before .before .before .put2 .ensures) (c .before .before .before .before .before .before .before .show-row .ensures .1) (c .before .before .put3 .ensures)))

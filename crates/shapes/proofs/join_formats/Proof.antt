@@ -1,0 +1,50 @@
+-- Rests on reading the formats' rows, and on the words that the join of rows wrote over zeros.
+use Prim.Native.Nat.{_+_}
+use mathlib.Core.Path.{_≡_, ap, _∙_}
+use native.Mathlib.Omega.{arith}
+use lib.ListN.{length, replicate, length-set}
+use Rattle.shapes.proofs.FormatLaws.{format-in-length, read-row, join-never-left, join-never-right, join-rows-are}
+use borrow.Author.Needs.{needs}
+use Rattle.shapes.proofs.join_formats.Statement.{statement}
+use Rattle.shapes.proofs.join_formats.Tie as tie
+
+pub join-formats-spec : {M : Type 1} → statement M
+join-formats-spec =
+    tie.close
+    (tie.spec
+    (λ c. omega (arith, format-in-length (c .before .before .before .before .args .limit) (c .before .before .before .before .args .a .now) (c .before .before .before .before .pre .1)))
+    (λ c. omega (arith, format-in-length (c .before .before .before .before .before .args .limit) (c .before .before .before .before .before .args .b .now) (c .before .before .before .before .before .pre .2)))
+    (λ c κs. search needs)
+    (λ c κs. omega (arith, c .before .before .before .before .before .before .before .before .pre .3, format-in-length (c .before .before .before .before .before .before .before .before .args .limit) (c .before .before .before .before .before .before .before .before .args .b .now) (c .before .before .before .before .before .before .before .before .pre .2)))
+    (λ c. search needs)
+    (λ c. let x = c .before .before .before .before .before .before .before .before .before .before .before .args in join-never-left (x .limit) (x .a .now) (x .b .now) _ _ (c .before .before .before .before .before .before .before .before .before .before .before .pre .0) (c .before .before .before .before .before .before .before .before .before .before .before .pre .2) (c .before .before .before .before .before .is-never .ensures) (c .before .before .before .before .if1 .taken) (c .before .before .copy-words .ensures))
+    (λ c κs. search needs)
+    (λ c κs. omega (arith, c .before .before .before .before .before .before .before .before .before .before .pre .3, format-in-length (c .before .before .before .before .before .before .before .before .before .before .args .limit) (c .before .before .before .before .before .before .before .before .before .before .args .a .now) (c .before .before .before .before .before .before .before .before .before .before .pre .1)))
+    (λ c. search needs)
+    (λ c. let x = c .before .before .before .before .before .before .before .before .before .before .before .before .before .args in join-never-right (x .limit) (x .a .now) (x .b .now) _ _ (c .before .before .before .before .before .before .before .before .before .before .before .before .before .pre .0) (c .before .before .before .before .before .before .before .before .before .before .before .before .before .pre .1) (c .before .before .before .before .before .is-never2 .ensures) (c .before .before .before .before .if2 .taken) (c .before .before .copy-words2 .ensures))
+    (λ c κs. omega (arith, format-in-length (c .before .before .before .before .before .before .before .before .before .args .limit) (c .before .before .before .before .before .before .before .before .before .args .a .now) (c .before .before .before .before .before .before .before .before .before .pre .1)))
+    (λ c κs. omega (arith, format-in-length (c .before .before .before .before .before .before .before .before .before .before .args .limit) (c .before .before .before .before .before .before .before .before .before .before .args .b .now) (c .before .before .before .before .before .before .before .before .before .before .pre .2)))
+    (λ c κs. search needs)
+    (λ c. search needs)
+    (λ c. search needs)
+    (λ c. search needs)
+    (λ c κs. search needs)
+    (λ c. search needs)
+    (λ c. search needs)
+    (λ c. search needs)
+    (λ c κs. search needs)
+    (λ c κs. omega (arith, c .before .before .before .before .before .before .before .before .before .before .before .before .before .before .before .before .before .before .before .before .pre, c .before .before .before .before .before .before .before .before .before .before .row-end .ensures, c .before .before .before .before .before .before .before .clear-words .kept, format-in-length (c .before .before .before .before .before .before .before .before .before .before .before .before .before .before .before .before .before .before .before .before .args .limit) (c .before .before .before .before .before .before .before .before .before .before .before .before .before .before .before .before .before .before .before .before .args .a .now) (c .before .before .before .before .before .before .before .before .before .before .before .before .before .before .before .before .before .before .before .before .pre .1)))
+    (λ c. search needs)
+    (λ c κs. omega (arith, c .before .before .before .before .before .before .before .before .before .before .before .before .before .before .before .before .before .before .before .before .before .before .before .before .pre, c .before .before .before .before .before .before .before .before .before .before .before .before .before .before .row-end .ensures, c .before .before .before .join-rows .ensures .0, format-in-length (c .before .before .before .before .before .before .before .before .before .before .before .before .before .before .before .before .before .before .before .before .before .before .before .before .args .limit) (c .before .before .before .before .before .before .before .before .before .before .before .before .before .before .before .before .before .before .before .before .before .before .before .before .args .a .now) (c .before .before .before .before .before .before .before .before .before .before .before .before .before .before .before .before .before .before .before .before .before .before .before .before .pre .1)))
+    (λ c. search needs)
+    (λ c. simp length-set (omega (arith, c .before .before .before .before .before .before .before .before .before .before .before .before .clear-words .kept, c .before .before .before .before .join-rows .kept)))
+    (λ c. let x = c .before .before .before .before .before .before .before .before .before .before .before .before .before .before .before .before .before .before .before .before .before .before .before .before .before .args in let p = c .before .before .before .before .before .before .before .before .before .before .before .before .before .before .before .before .before .before .before .before .before .before .before .before .before .pre in
+    let long : length (x .a .now) ≡ x .limit + 1 = format-in-length (x .limit) (x .a .now) (p .1) in
+    let others : length (x .b .now) ≡ x .limit + 1 = format-in-length (x .limit) (x .b .now) (p .2) in
+    join-rows-are (x .limit) (x .a .now) (x .b .now) _ _ _ _ _ _ _
+    (read-row (x .a .now) _ _ _ (omega arith) (c .before .before .before .before .before .before .before .before .before .before .before .before .before .before .before .before .before .before .before .is-never .ensures) (c .before .before .before .before .before .before .before .before .before .before .before .before .before .before .before .before .before .before .if1 .left) (c .before .before .before .before .before .before .before .before .before .before .before .before .before .before .before .row-end .ensures .0) (c .before .before .before .before .before .before .before .before .row-open .ensures))
+    (read-row (x .b .now) _ _ _ (omega arith) (c .before .before .before .before .before .before .before .before .before .before .before .before .before .before .before .before .before .is-never2 .ensures) (c .before .before .before .before .before .before .before .before .before .before .before .before .before .before .before .before .if2 .left) (c .before .before .before .before .before .before .before .before .before .before .before .before .before .before .row-end2 .ensures .0) (c .before .before .before .before .before .before .row-open2 .ensures))
+    (c .before .before .before .before .before .before .before .before .before .before .before .before .clear-words .ensures ∙ ap (λ n. replicate n 0) (p .3))
+    (omega (arith, c .before .before .before .before .before .before .before .before .before .before .before .before .before .before .before .row-end .ensures, c .before .before .before .before .join-rows .ensures .0))
+    (c .before .before .before .before .join-rows .ensures .1)
+    (c .header-word .ensures)))

@@ -1,0 +1,104 @@
+-- The shapes of single terms that are no brackets of a format. Document 01, "Formats": "Shapes: character, number, identifier, symbol (all three), bracket of a
+-- format, unknown." What they hold, how they join, when they share nothing, their store words and how they are displayed stand here alone.
+use Prim.Native.Nat.{ℕ}
+use mathlib.Core.Bool.{Bool, true, false}
+use mathlib.Core.List.{[], _∷_}
+use lib.ListN.{getD}
+use Rattle.law.specs.Expression as expressions
+use Rattle.law.specs.Tree as tree
+
+pub data Leaf : Type 0 where
+  character number identifier anySymbol unknown : Leaf
+  deriving Discrete as leaf-discrete
+
+-- a symbol is of this shape
+abbrev pub holdsSymbol : Leaf → expressions.Literal → Bool
+holdsSymbol character (expressions.Literal.character c) = true
+holdsSymbol character (expressions.Literal.identifier i) = false
+holdsSymbol character (expressions.Literal.number n) = false
+holdsSymbol number (expressions.Literal.character c) = false
+holdsSymbol number (expressions.Literal.identifier i) = false
+holdsSymbol number (expressions.Literal.number n) = true
+holdsSymbol identifier (expressions.Literal.character c) = false
+holdsSymbol identifier (expressions.Literal.identifier i) = true
+holdsSymbol identifier (expressions.Literal.number n) = false
+holdsSymbol anySymbol x = true
+holdsSymbol unknown x = true
+
+-- a bracket is of this shape
+abbrev pub holdsBrackets : Leaf → Bool
+holdsBrackets character = false
+holdsBrackets number = false
+holdsBrackets identifier = false
+holdsBrackets anySymbol = false
+holdsBrackets unknown = true
+
+-- the least shape over both: two kinds of symbol are any symbol, and what is unknown stays so
+abbrev pub joinLeaf : Leaf → Leaf → Leaf
+joinLeaf character character = character
+joinLeaf character number = anySymbol
+joinLeaf character identifier = anySymbol
+joinLeaf character anySymbol = anySymbol
+joinLeaf character unknown = unknown
+joinLeaf number character = anySymbol
+joinLeaf number number = number
+joinLeaf number identifier = anySymbol
+joinLeaf number anySymbol = anySymbol
+joinLeaf number unknown = unknown
+joinLeaf identifier character = anySymbol
+joinLeaf identifier number = anySymbol
+joinLeaf identifier identifier = identifier
+joinLeaf identifier anySymbol = anySymbol
+joinLeaf identifier unknown = unknown
+joinLeaf anySymbol character = anySymbol
+joinLeaf anySymbol number = anySymbol
+joinLeaf anySymbol identifier = anySymbol
+joinLeaf anySymbol anySymbol = anySymbol
+joinLeaf anySymbol unknown = unknown
+joinLeaf unknown b = unknown
+
+-- no term is of both shapes
+abbrev pub apartLeaf : Leaf → Leaf → Bool
+apartLeaf character character = false
+apartLeaf character number = true
+apartLeaf character identifier = true
+apartLeaf character anySymbol = false
+apartLeaf character unknown = false
+apartLeaf number character = true
+apartLeaf number number = false
+apartLeaf number identifier = true
+apartLeaf number anySymbol = false
+apartLeaf number unknown = false
+apartLeaf identifier character = true
+apartLeaf identifier number = true
+apartLeaf identifier identifier = false
+apartLeaf identifier anySymbol = false
+apartLeaf identifier unknown = false
+apartLeaf anySymbol b = false
+apartLeaf unknown b = false
+
+-- store words: "0 character, 1 number, 2 identifier, 3 symbol, 4 unknown"
+abbrev pub leafWord : Leaf → ℕ
+leafWord character = 0
+leafWord number = 1
+leafWord identifier = 2
+leafWord anySymbol = 3
+leafWord unknown = 4
+
+-- as formats.rs displays them: C, N, I, S and ?
+abbrev pub leafByte : Leaf → ℕ
+leafByte character = 67
+leafByte number = 78
+leafByte identifier = 73
+leafByte anySymbol = 83
+leafByte unknown = 63
+
+-- the shape of a symbol of a law
+abbrev pub leafOf : tree.Symbol → Leaf
+leafOf (tree.Symbol.character c) = character
+leafOf (tree.Symbol.identifier i) = identifier
+leafOf (tree.Symbol.number n) = number
+
+-- the shape that a store word says; any other word says unknown
+abbrev pub leafAt : ℕ → Leaf
+leafAt w = getD (character ∷ number ∷ identifier ∷ anySymbol ∷ []) w unknown

@@ -1,0 +1,10 @@
+pub mod Leaf
+pub mod Format
+pub mod Join
+pub mod Disjoint
+pub mod Same
+pub mod Words
+pub mod Written
+pub mod First
+pub mod Display
+pub mod Examples

@@ -1,0 +1,149 @@
+// Formats as text, written into a lent buffer.
+use crate::end_of;
+use crate::inside_open;
+use crate::is_bracket;
+use crate::is_never;
+use crate::row_end;
+use crate::row_open;
+ghost use mathlib.Core.Path.{_≡_};
+ghost use mathlib.Core.Bool.{true, false, cond};
+ghost use mathlib.Core.List.{[], _∷_};
+ghost use Prim.Native.Nat.{_+_, _*_, _≤_, _<_};
+ghost use lib.ListN.{length};
+ghost use Rattle.shapes.specs.Leaf.{leafAt, leafByte};
+ghost use Rattle.shapes.specs.Words.{shapesEnd, shapesIn, readFormat};
+ghost use Rattle.shapes.specs.Written.{written, Put};
+ghost use Rattle.shapes.specs.Display.{display, shown, firstShown, largest};
+
+// The position after a text, or that there is no room for it.
+pub enum Shown {
+    At(usize),
+    NoRoom,
+}
+
+// Bytes copied to a position where there is room for them.
+fn copy_bytes(piece: &[u8], out: &mut [u8], at: usize)
+    requires { ⌜ at + length (now piece) ≤ length (now out) ⌝ }
+    ensures { λ _. ⌜ now (out .exit) ≡ written (now (out .entry)) at (now (piece .entry)) ⌝ }
+{
+    let mut i = 0;
+    while i < piece.len() {
+        out[at + i] = piece[i];
+        i += 1;
+    }
+}
+
+// Bytes put at a position, where there is room; the position after them in any case.
+fn put(piece: &[u8], out: &mut [u8], at: usize) -> usize
+    requires { ⌜ at + length (now piece) ≤ largest ⌝ }
+    ensures { λ r. ⌜ Put (now (out .entry)) at (now (piece .entry)) r (now (out .exit)) ⌝ }
+{
+    let next = at + piece.len();
+    if next <= out.len() {
+        copy_bytes(piece, out, at);
+    }
+    next
+}
+
+// The same of one byte.
+fn put_byte(byte: u8, out: &mut [u8], at: usize) -> usize
+    requires { ⌜ at + 1 ≤ largest ⌝ }
+    ensures { λ r. ⌜ Put (now (out .entry)) at (byte ∷ []) r (now (out .exit)) ⌝ }
+{
+    let next = at + 1;
+    if at < out.len() {
+        out[at] = byte;
+    }
+    next
+}
+
+// A space, unless what follows is the first item.
+fn put_space(first: bool, out: &mut [u8], at: usize) -> usize
+    requires { ⌜ at + 1 ≤ largest ⌝ }
+    ensures { λ r. ⌜ Put (now (out .entry)) at (cond first [] (32 ∷ [])) r (now (out .exit)) ⌝ }
+{
+    if first {
+        return at;
+    }
+    put_byte(b' ', out, at)
+}
+
+// The letter of a shape that is no bracket of a format.
+fn leaf_byte(w: u32) -> u8
+    ensures { λ r. ⌜ r ≡ leafByte (leafAt w) ⌝ }
+{
+    match w {
+        0 => b'C',
+        1 => b'N',
+        2 => b'I',
+        3 => b'S',
+        _ => b'?',
+    }
+}
+
+// The first item of a row. A bracket shows its contents.
+fn show_shape(s: &[u32], out: &mut [u8], at: usize) -> usize
+    requires { ⌜ (1 ≤ length (now s)) × (at + 8 * length (now s) ≤ largest) ⌝ }
+    ensures { λ r. ⌜ (r + 1 ≤ at + 8 * shapesEnd (now (s .entry))) × Put (now (out .entry)) at (firstShown (now (s .entry))) r (now (out .exit)) ⌝ }
+{
+    let x = s[0];
+    let e = end_of(s);
+    if is_bracket(x) {
+        let start = put(b"([", out, at);
+        let next = show_row(&s[1..e], inside_open(x), true, out, start);
+        return put(b"])", out, next);
+    }
+    put_byte(leaf_byte(x), out, at)
+}
+
+// The items of a row, and `..` where it is open.
+fn show_row(s: &[u32], is_open: bool, first: bool, out: &mut [u8], at: usize) -> usize
+    requires { ⌜ at + 8 * length (now s) + 3 ≤ largest ⌝ }
+    ensures { λ r. ⌜ (r ≤ at + 8 * length (now (s .entry)) + 3)
+        × Put (now (out .entry)) at (shown first (shapesIn «is_open» (now (s .entry)))) r (now (out .exit)) ⌝ }
+{
+    if s.len() < 1 {
+        if is_open {
+            let start = put_space(first, out, at);
+            return put(b"..", out, start);
+        }
+        return at;
+    }
+    let start = put_space(first, out, at);
+    let next = show_shape(s, out, start);
+    let e = end_of(s);
+    show_row(&s[e..], is_open, false, out, next)
+}
+
+// A format as text; the position after it, whether there was room or not.
+pub fn show_format(format: &[u32], out: &mut [u8], at: usize) -> usize
+    requires { ⌜ (1 ≤ length (now format)) × (at + 4096 ≤ largest) ⌝ }
+    ensures { λ r. ⌜ Put (now (out .entry)) at (display (readFormat (now (format .entry)))) r (now (out .exit)) ⌝ }
+{
+    let x = format[0];
+    if is_never(x) {
+        return put(b"never", out, at);
+    }
+    let e = row_end(format);
+    let start = put(b"[", out, at);
+    let next = show_row(&format[1..e], row_open(x), true, out, start);
+    put(b"]", out, next)
+}
+
+// A format as text at a position, where there is room for all of it.
+pub fn display_format(format: &[u32], out: &mut [u8], at: usize) -> Shown
+    requires { ⌜ 1 ≤ length (now format) ⌝ }
+    ensures { λ r. ⌜ (at + length (display (readFormat (now (format .entry)))) ≤ length (now (out .entry))
+        → (r ≡ Shown.At (at + length (display (readFormat (now (format .entry))))))
+        × (now (out .exit) ≡ written (now (out .entry)) at (display (readFormat (now (format .entry))))))
+        × (length (now (out .entry)) < at + length (display (readFormat (now (format .entry)))) → r ≡ Shown.NoRoom) ⌝ }
+{
+    if out.len() < at {
+        return Shown::NoRoom;
+    }
+    let next = show_format(format, out, at);
+    if next <= out.len() {
+        return Shown::At(next);
+    }
+    Shown::NoRoom
+}
