@@ -137,10 +137,10 @@ module _ (limit : ℕ) (law : Law) (tail : List ℕ) where
       go (refused n) is k = absurd (false-true (sym (k .2) ∙ e))
 
   -- and the rounds
-  pub started-rounds : (found : List Entry) (after : List ℕ) (r : Inference) → arguments limit law start ≡ given found
-      → RoundsIs limit (namesOf law) (roundsFrom limit (roundLimit law) law start 0) found tail after r
+  pub started-rounds : (found : List Entry) (after : List ℕ) (r : Inference) (most : ℕ) → most ≡ roundLimit law → arguments limit law start ≡ given found
+      → RoundsIs limit (namesOf law) (roundsFrom limit most law start 0) found tail after r
       → StartedIs limit (namesOf law) (infer limit law) tail after r
-  started-rounds found after r a h = go (roundsFrom limit (roundLimit law) law start 0) refl h
+  started-rounds found after r most rounds a h = go (roundsFrom limit (roundLimit law) law start 0) refl (rw rounds at h)
     where
       go : (b : Answer Rounds) → roundsFrom limit (roundLimit law) law start 0 ≡ b → RoundsIs limit (namesOf law) b found tail after r
           → StartedIs limit (namesOf law) (infer limit law) tail after r

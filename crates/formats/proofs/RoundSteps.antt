@@ -9,7 +9,7 @@ use Rattle.file.specs.Answer.{Answer, refused, given}
 use Rattle.file.specs.Sections.{fileOf}
 use Rattle.law.specs.Tree.{Law}
 use Rattle.law.proofs.IndexLaws.{functions-limit}
-use Rattle.formats.specs.Infer.{Entry, namesOf, round, roundsFrom, roundLimit}
+use Rattle.formats.specs.Infer.{Entry, namesOf, round, roundsFrom}
 use Rattle.formats.specs.Store.{StoreHolds}
 use Rattle.formats.specs.Turns.{Asked, Holding, turnOf, RoundIs, RoundsIs}
 use Rattle.formats.specs.declared.infer.Turn.{Turn}
@@ -68,16 +68,16 @@ module _ (limit : ℕ) (law : Law) where
       → RoundIs limit (namesOf law) (round limit law results false) found tail after r
 
   -- the rounds from any results that a store holds come to this store and this answer
-  abbrev pub RoundsOf : List ℕ → List ℕ → Inference → Type 0
-  RoundsOf store after i =
+  abbrev pub RoundsOf : ℕ → List ℕ → List ℕ → Inference → Type 0
+  RoundsOf most store after i =
       (found results : List Entry) (tail : List ℕ) → StoreHolds limit (namesOf law) found results tail store
-      → RoundsIs limit (namesOf law) (roundsFrom limit (roundLimit law) law results 0) found tail after i
+      → RoundsIs limit (namesOf law) (roundsFrom limit most law results 0) found tail after i
 
   -- after some rounds, which all changed a format: the results that the store holds, from which the rounds left come to the same
   pub record Reached (most : ℕ) (found results : List Entry) (tail store : List ℕ) (done : ℕ) : Type 0 where
     pub present : List Entry
     pub holds : StoreHolds limit (namesOf law) found present tail store
-    pub same : roundsFrom limit (roundLimit law) law results 0 ≡ roundsFrom limit (most - done) law present done
+    pub same : roundsFrom limit most law results 0 ≡ roundsFrom limit (most - done) law present done
 
   -- this from any results that the store held before the first round
   pub record RoundsAt (most : ℕ) (before store : List ℕ) (done : ℕ) : Type 0 where
@@ -86,9 +86,9 @@ module _ (limit : ℕ) (law : Law) where
         → Reached most found results tail store done
 
 -- the start: no round is done
-pub rounds-start : (limit count : ℕ) (law : Law) (store : List ℕ) → count ≡ length (namesOf law) → RoundsAt limit law (count + 4) store store 0
-rounds-start limit count law store names =
-    let left : count + 4 - 0 ≡ roundLimit law = omega (arith, names) in
+pub rounds-start : (limit most : ℕ) (law : Law) (store : List ℕ) → RoundsAt limit law most store store 0
+rounds-start limit most law store =
+    let left : most - 0 ≡ most = omega arith in
     record { long = refl; reached = λ found results tail h. record { present = results; holds = h; same = rw left } }
 
 module _ {limit : ℕ} {law : Law} {most : ℕ} {before store : List ℕ} {done : ℕ} (at : RoundsAt limit law most before store done) where
@@ -117,7 +117,7 @@ module _ {limit : ℕ} {law : Law} {most : ℕ} {before store : List ℕ} {done 
 
   -- one more round, which changes nothing: it is the last
   pub rounds-settled : (after : List ℕ) (r : Turn) → RoundOf limit law store after r → r ≡ Same → done < most
-      → RoundsOf limit law before after (Ran (done + 1) true)
+      → RoundsOf limit law most before after (Ran (done + 1) true)
   rounds-settled after r made quiet inside found results tail h =
       let now = at .reached found results tail h in
       let (next, is, holds) =
@@ -125,7 +125,7 @@ module _ {limit : ℕ} {law : Law} {most : ℕ} {before store : List ℕ} {done 
       rw (now .same ∙ rounds-quiet limit law (most - done) (now .present) next done (done + 1) (omega arith) (omega arith) is) (holds, refl)
 
   -- one more round, in which a row passes the limit
-  pub rounds-wide : (after : List ℕ) (r : Turn) → RoundOf limit law store after r → r ≡ Over → done < most → RoundsOf limit law before after TooWide
+  pub rounds-wide : (after : List ℕ) (r : Turn) → RoundOf limit law store after r → r ≡ Over → done < most → RoundsOf limit law most before after TooWide
   rounds-wide after r made over inside found results tail h =
       let now = at .reached found results tail h in
       let (n, is, entries, holds) =
@@ -133,7 +133,7 @@ module _ {limit : ℕ} {law : Law} {most : ℕ} {before store : List ℕ} {done 
       rw (now .same ∙ rounds-over limit law (most - done) (now .present) done n (omega arith) is) (entries, holds, refl)
 
   -- no round is left
-  pub rounds-out : most ≤ done → RoundsOf limit law before store (Ran done false)
+  pub rounds-out : most ≤ done → RoundsOf limit law most before store (Ran done false)
   rounds-out none-left found results tail h =
       let now = at .reached found results tail h in
       rw (now .same ∙ rounds-end limit law (most - done) (now .present) done (omega arith)) (now .holds, refl)

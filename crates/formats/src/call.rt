@@ -58,7 +58,16 @@ fn infer_started(
     if !infer_arguments(law, index, slots, store, limit, count, &mut joined[..end]) {
         return Inference::TooWide;
     }
-    infer_rounds(law, index, slots, store, limit, count, &mut joined[..end])
+    infer_rounds(
+        law,
+        index,
+        slots,
+        store,
+        limit,
+        count,
+        count + 4,
+        &mut joined[..end],
+    )
 }
 
 // The formats of a law in a store, or zeros where a row has too many shapes.

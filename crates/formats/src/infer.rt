@@ -28,7 +28,7 @@ ghost use Rattle.shapes.specs.Same.{sameFormat};
 ghost use Rattle.shapes.specs.Words.{formatWords, readFormat, FormatIn};
 ghost use Rattle.shapes.specs.Written.{written};
 ghost use Rattle.formats.specs.FormatOf.{Results};
-ghost use Rattle.formats.specs.Infer.{Entry, find, arguments, round, roundsFrom, roundLimit};
+ghost use Rattle.formats.specs.Infer.{Entry, find, arguments, round, roundsFrom};
 ghost use Rattle.formats.specs.Store.{StoreHolds};
 ghost use Rattle.formats.specs.Slots.{fileNames, functionFolded, position};
 ghost use Rattle.formats.specs.Rows.{formatAt, Knows, Stored, partShapes};
@@ -301,7 +301,7 @@ fn infer_round(
     if changed { Turn::Changed } else { Turn::Same }
 }
 
-// Rounds, at most so many as there are names and four more; one that changes nothing is the last.
+// Rounds, at most so many; one that changes nothing is the last.
 pub fn infer_rounds(
     law: &[u8],
     index: &[u16; 972],
@@ -309,13 +309,13 @@ pub fn infer_rounds(
     store: &mut [u32],
     limit: usize,
     count: usize,
+    most: usize,
     joined: &mut [u32],
 ) -> Inference
     requires { ⌜ Asked (now law) (now index) (now slots) limit count × Holding limit (fileNames (fileOf (now law))) (now store) × (length (now joined) ≡ limit + 1) ⌝ }
     ensures { λ r. ⌜ ((found results : List Entry) (tail : List ℕ) → StoreHolds limit (fileNames (fileOf (now (law .entry)))) found results tail (now (store .entry))
-        → RoundsIs limit (fileNames (fileOf (now (law .entry)))) (roundsFrom limit (roundLimit (treeOf (fileOf (now (law .entry))))) (treeOf (fileOf (now (law .entry)))) results 0) found tail (now (store .exit)) r) ⌝ }
+        → RoundsIs limit (fileNames (fileOf (now (law .entry)))) (roundsFrom limit most (treeOf (fileOf (now (law .entry)))) results 0) found tail (now (store .exit)) r) ⌝ }
 {
-    let most = count + 4;
     let mut done = 0;
     while done < most {
         match infer_round(law, index, slots, store, limit, count, joined) {

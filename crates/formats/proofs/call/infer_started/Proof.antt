@@ -2,6 +2,8 @@ use borrow.Author.Needs.{needs}
 use borrow.Author.Tests.{not-true, not-false}
 use mathlib.Core.Path.{sym}
 use Rattle.formats.proofs.TurnLaws.{lent-length, back-inside, back-length}
+use native.Mathlib.Omega.{arith}
+use Rattle.formats.proofs.RoundSteps.{names-at-most}
 use Rattle.formats.proofs.CallLaws.{holding, started-over, started-arguments, started-rounds}
 use Rattle.formats.proofs.call.infer_started.Statement.{statement}
 use Rattle.formats.proofs.call.infer_started.Tie as tie
@@ -20,6 +22,7 @@ infer-started-spec =
     (λ c κs. (c .before .before .before .before .pre .0, holding (c .before .before .before .before .pre .1 .1), lent-length (c .before .before .before .before .args .limit) (c .before .before .before .before .pre .0 .small)))
     (λ c. search needs)
     (λ c. λ tail h. started-over (c .before .before .before .before .before .before .before .before .before .args .limit) _ tail _ (c .before .before .before .before .infer-arguments .result) (not-true _ (c .if1 .taken)) (c .before .before .before .before .infer-arguments .ensures _ _ tail h))
+    (λ c. omega (arith, names-at-most (c .before .before .before .before .before .before .before .before .before .before .pre .0)))
     (λ c. back-inside (c .before .before .before .before .before .before .before .before .before .before .pre .0 .small) (c .before .before .before .before .before .infer-arguments .last .1 .1 .1 .1 .1 .1 .0) _ (c .before .before .before .before .before .infer-arguments .kept .1 .1 .1 .1 .1 .1 .0))
     (λ c. sym (back-length (c .before .before .before .before .before .before .before .before .before .before .before .pre .0 .small) (c .before .before .before .before .before .before .infer-arguments .last .1 .1 .1 .1 .1 .1 .0) _ (c .before .before .before .before .before .before .infer-arguments .kept .1 .1 .1 .1 .1 .1 .0)))
     (λ c κs.
@@ -28,4 +31,4 @@ infer-started-spec =
     (λ c. search needs)
     (λ c. λ tail h.
     let (found, is, held) = started-arguments (c .before .before .before .before .before .before .before .before .before .before .before .before .before .before .before .args .limit) _ tail _ (c .before .before .before .before .before .before .before .before .before .before .infer-arguments .result) (not-false _ (c .before .before .before .before .before .before .if1 .left)) (c .before .before .before .before .before .before .before .before .before .before .infer-arguments .ensures _ _ tail h) in
-    started-rounds (c .before .before .before .before .before .before .before .before .before .before .before .before .before .before .before .args .limit) _ tail found _ (c .before .before .before .infer-rounds .result) is (c .before .before .before .infer-rounds .ensures found _ tail held)))
+    started-rounds (c .before .before .before .before .before .before .before .before .before .before .before .before .before .before .before .args .limit) _ tail found _ (c .before .before .before .infer-rounds .result) _ (omega (arith, c .before .before .before .before .before .before .before .before .before .before .before .before .before .before .before .pre .0 .names)) is (c .before .before .before .infer-rounds .ensures found _ tail held)))

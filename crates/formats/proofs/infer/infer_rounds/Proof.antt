@@ -7,16 +7,16 @@ use lib.ListN.{length}
 use borrow.Author.Needs.{needs}
 use Rattle.file.specs.Sections.{fileOf}
 use Rattle.law.specs.Reading.{treeOf}
-use Rattle.formats.proofs.RoundSteps.{names-at-most, RoundsAt, rounds-start, rounds-holding, rounds-more, rounds-settled, rounds-wide, rounds-out}
+use Rattle.formats.proofs.RoundSteps.{RoundsAt, rounds-start, rounds-holding, rounds-more, rounds-settled, rounds-wide, rounds-out}
 use Rattle.formats.proofs.infer.infer_rounds.Statement.{statement}
 use Rattle.formats.proofs.infer.infer_rounds.Tie as tie
 
 abbrev Inv-loop : tie.InvT-loop
-Inv-loop law index slots store₀ limit count joined₀ most done₀ store joined done =
-    (length joined ≡ limit + 1) × RoundsAt limit (treeOf (fileOf law)) (count + 4) store₀ store done
+Inv-loop law index slots store₀ limit count most joined₀ done₀ store joined done =
+    (length joined ≡ limit + 1) × RoundsAt limit (treeOf (fileOf law)) most store₀ store done
 
 abbrev μ-loop : tie.MeasureT-loop
-μ-loop law index slots store₀ limit count joined₀ most done₀ store joined done = most - done
+μ-loop law index slots store₀ limit count most joined₀ done₀ store joined done = most - done
 
 pub infer-rounds-spec : {M : Type 1} → statement M
 infer-rounds-spec =
@@ -24,8 +24,7 @@ infer-rounds-spec =
     (tie.spec
     Inv-loop
     μ-loop
-    (λ c. omega (arith, names-at-most (c .before .before .before .pre .0)))
-    (λ c. let start = c .before .before .before in (start .pre .2, rounds-start (start .args .limit) (start .args .count) (treeOf (fileOf (start .args .law .now))) (start .args .store .now) (start .pre .0 .names)))
+    (λ c. let start = c .before .before .before in (start .pre .2, rounds-start (start .args .limit) (start .args .most) (treeOf (fileOf (start .args .law .now))) (start .args .store .now)))
     (λ c κs. let p = c .before .before .before .before .before .before .before .pre in (p .0, rounds-holding (c .before .before .before .loop .inv .1) (p .1), c .before .before .before .loop .inv .0))
     (λ c. search needs)
     (λ c. c .before .before .before .before .before .before .infer-round .kept .1 .1 .1 .0 ∙ c .before .before .before .before .before .before .before .before .before .before .loop .inv .1 .long)
@@ -34,7 +33,7 @@ infer-rounds-spec =
     let one = c .before .before .before .before .before .before .infer-round in
     rounds-wide (c .before .before .before .before .before .before .before .before .before .before .loop .inv .1) (one .last .1 .1 .1 .0) (one .result) (one .ensures) (c .enum-told .given .1) (c .before .before .before .before .before .before .before .before .before .loop-test .taken))
     (λ c. search needs)
-    (λ c. omega (arith, c .before .before .before .before .before .before .before .before .before .loop-test .taken, names-at-most (c .before .before .before .before .before .before .before .before .before .before .before .before .before .before .pre .0)))
+    (λ c. search needs)
     (λ c. omega (arith, c .before .before .before .before .before .before .before .before .before .loop-test .taken))
     (λ c.
     let one = c .before .before .before .before .before .before .infer-round in
@@ -43,7 +42,7 @@ infer-rounds-spec =
       rounds-more (inv .1) (one .last .1 .1 .1 .0) (one .result) (one .ensures) (c .enum-told2 .given .1) (c .before .before .before .before .before .before .before .before .before .loop-test .taken) (one .kept .1 .1 .1 .0),
     ))
     (λ c. search needs)
-    (λ c. omega (arith, c .before .before .before .before .before .before .before .before .before .loop-test .taken, names-at-most (c .before .before .before .before .before .before .before .before .before .before .before .before .before .before .pre .0)))
+    (λ c. search needs)
     (λ c. c .before .before .before .before .before .before .infer-round .kept .1 .1 .1 .0 ∙ c .before .before .before .before .before .before .before .before .before .before .loop .inv .1 .long)
     (λ c. c .before .before .before .before .before .before .infer-round .kept .1 .1 .1 .1 .1 .1 .0 ∙ c .before .before .before .before .before .before .before .before .before .before .loop .inv .0 ∙ sym (c .before .before .before .before .before .before .before .before .before .before .before .before .before .before .pre .2))
     (λ c.
