@@ -1,4 +1,4 @@
--- Document 01's small laws about inference, as one table and one theorem, and further examples of the definitions, all by computation.
+-- Document 01's small laws about join, disjointness and inference, as one table and one theorem, and further examples of the definitions, all by computation.
 use Prim.Native.Nat.{ℕ, zero, suc}
 use mathlib.Core.Bool.{Bool, true, false}
 use mathlib.Core.List.{List, [], _∷_, _++_, flatMap}
@@ -22,8 +22,9 @@ use Rattle.law.specs.Variables.{variablesFrom, occurs, distinct, patternsAllowe
 use Rattle.law.specs.Law.{lawOf}
 use Rattle.law.specs.Examples.{bytesOf, unusedTerm, listed}
 use Rattle.shapes.specs.Leaf.{character, number, anySymbol}
-use Rattle.shapes.specs.Format.{item, of, size, isOpen}
-use Rattle.shapes.specs.Join.{joinShapes}
+use Rattle.shapes.specs.Format.{item, group, never, of, size, isOpen}
+use Rattle.shapes.specs.Join.{joinShapes, join}
+use Rattle.shapes.specs.Disjoint.{disjointShapes, disjoint}
 use Rattle.shapes.specs.Same.{sameShapes}
 use Rattle.shapes.specs.Words.{shapeWords}
 use Rattle.shapes.specs.Examples.{closed, opened}
@@ -56,8 +57,20 @@ growing n =
 
 abbrev pub SmallLaws : Type 0
 SmallLaws =
+    -- "Join of closed [character] and closed [number]: closed [symbol]."
+    (join (of (item character closed)) (of (item number closed)) ≡ of (item anySymbol closed))
+    -- "Of closed [character] and closed [character, number]: open [character]."
+    × (join (of (item character closed)) (of (item character (item number closed))) ≡ of (item character opened))
+    -- "Never with empty: empty."
+    × (join never (of closed) ≡ of closed)
+    -- "Disjoint: character and number;"
+    × (disjoint (of (item character closed)) (of (item number closed)) ≡ true)
+    -- "`()` and `('a')`."
+    × (disjoint (of (group closed closed)) (of (group (item character closed) closed)) ≡ true)
+    -- "Not: open nothing and closed [number]."
+    × (disjoint (of opened) (of (item number closed)) ≡ false)
     -- "`F { = 'a' <F> 1 1 1; }`: 5 rounds, settled, open [character, three symbols]."
-    (infer 64 (growing 3)
+    × (infer 64 (growing 3)
     ≡ given (record {
       arguments = record { name = 70 ∷ []; format = of closed } ∷ [];
       results = record { name = 70 ∷ []; format = of (item character (item anySymbol (item anySymbol (item anySymbol opened)))) } ∷ [];
@@ -81,9 +94,9 @@ SmallLaws =
 
 pub small-laws : SmallLaws
 unfolding
-    joinShapes size patternShapes chain resultShapes sameShapes insertName namesOf find renew allAt joinResults joinPatterns round roundsFrom arguments
+    joinShapes disjointShapes size patternShapes chain resultShapes sameShapes insertName namesOf find renew allAt joinResults joinPatterns round roundsFrom arguments
     inferWithin infer sameBytes orderBytes
-small-laws = (refl, refl, refl)
+small-laws = (refl, refl, refl, refl, refl, refl, refl, refl, refl)
 
 -- ---- further examples of inference
 

@@ -1,4 +1,4 @@
--- Document 01's small laws about join and disjointness, as one table and one theorem, and further examples of the definitions, all by computation.
+-- Examples of the definitions, by computation. The table of document 01's small laws stands in the crate `formats`.
 use mathlib.Core.Bool.{true, false}
 use mathlib.Core.List.{[], _∷_}
 use mathlib.Core.Path.{_≡_, refl}
@@ -7,8 +7,6 @@ use Rattle.file.specs.Forest.{decode, forestOf}
 use Rattle.law.specs.Examples.{bytesOf}
 use Rattle.shapes.specs.Leaf.{character, number, identifier, anySymbol, unknown}
 use Rattle.shapes.specs.Format.{Shapes, end, item, group, Format, never, of, size, isOpen}
-use Rattle.shapes.specs.Join.{joinShapes, join}
-use Rattle.shapes.specs.Disjoint.{disjointShapes, disjoint}
 use Rattle.shapes.specs.Words.{shapeWords, formatWords, shapesEnd, shapesOf, shapesIn, readFormat}
 use Rattle.shapes.specs.Display.{spaced, display}
 
@@ -18,29 +16,6 @@ closed = end false
 
 abbrev pub opened : Shapes
 opened = end true
-
--- ---- document 01's table
-
-abbrev pub SmallLaws : Type 0
-SmallLaws =
-    -- "Join of closed [character] and closed [number]: closed [symbol]."
-    (join (of (item character closed)) (of (item number closed)) ≡ of (item anySymbol closed))
-    -- "Of closed [character] and closed [character, number]: open [character]."
-    × (join (of (item character closed)) (of (item character (item number closed))) ≡ of (item character opened))
-    -- "Never with empty: empty."
-    × (join never (of closed) ≡ of closed)
-    -- "Disjoint: character and number;"
-    × (disjoint (of (item character closed)) (of (item number closed)) ≡ true)
-    -- "`()` and `('a')`."
-    × (disjoint (of (group closed closed)) (of (group (item character closed) closed)) ≡ true)
-    -- "Not: open nothing and closed [number]."
-    × (disjoint (of opened) (of (item number closed)) ≡ false)
-
-pub small-laws : SmallLaws
-unfolding joinShapes disjointShapes
-small-laws = (refl, refl, refl, refl, refl, refl)
-
--- ---- further examples
 
 -- as formats.rs displays formats
 abbrev Displays : Type 0
