@@ -1,0 +1,6 @@
+pub mod Pattern
+pub mod Match
+pub mod Fill
+pub mod Literal
+pub mod Shadow
+pub mod Examples

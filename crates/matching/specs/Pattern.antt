@@ -1,0 +1,69 @@
+-- Patterns as such: they may stand in a law, or in none.
+use Prim.Native.Nat.{ℕ}
+use mathlib.Core.Bool.{Bool, true, false}
+use mathlib.Core.List.{List}
+use lib.Dec.{eqb}
+use Rattle.names.specs.Name.{folded, foldedIndex, sameBytes}
+use Rattle.law.specs.Tree as tree
+use Rattle.law.specs.Expression.{Literal, valueOf, Terms, nothing, symbol, brackets}
+use Rattle.law.specs.Variables.{Variable}
+
+-- a symbol of a law: an identifier is folded, a number kept as spelled
+pub data Symbol : Type 0 where
+  character : ℕ → Symbol
+  identifier : List ℕ → Symbol
+  number : List ℕ → Symbol
+
+-- "numbers compare by text": the one place where two symbols of a law are said to be the same
+abbrev pub sameSymbol : Symbol → Symbol → Bool
+sameSymbol (character a) (character b) = eqb a b
+sameSymbol (character a) (identifier y) = false
+sameSymbol (character a) (number y) = false
+sameSymbol (identifier x) (character b) = false
+sameSymbol (identifier x) (identifier y) = sameBytes x y
+sameSymbol (identifier x) (number y) = false
+sameSymbol (number x) (character b) = false
+sameSymbol (number x) (identifier y) = false
+sameSymbol (number x) (number y) = sameBytes x y
+
+-- what a symbol of a law is in a run: numbers by value
+abbrev pub literalOf : Symbol → Literal
+literalOf (character c) = Literal.character c
+literalOf (identifier i) = Literal.identifier i
+literalOf (number n) = Literal.number (valueOf n)
+
+-- two symbols of a run are the same
+abbrev pub sameLiteral : Literal → Literal → Bool
+sameLiteral (Literal.character a) (Literal.character b) = eqb a b
+sameLiteral (Literal.character a) (Literal.identifier y) = false
+sameLiteral (Literal.character a) (Literal.number y) = false
+sameLiteral (Literal.identifier x) (Literal.character b) = false
+sameLiteral (Literal.identifier x) (Literal.identifier y) = sameBytes x y
+sameLiteral (Literal.identifier x) (Literal.number y) = false
+sameLiteral (Literal.number x) (Literal.character b) = false
+sameLiteral (Literal.number x) (Literal.identifier y) = false
+sameLiteral (Literal.number x) (Literal.number y) = eqb x y
+
+-- a term of a pattern that is no bracket; `other` is a call or a block, with which a pattern matches nothing
+pub data Atom : Type 0 where
+  literal : Symbol → Atom
+  variable : Variable → Atom
+  other : Atom
+
+abbrev pub Pattern : Type 0
+Pattern = Terms Atom
+
+-- the symbol of a tree
+abbrev pub symbolOf : tree.Symbol → Symbol
+symbolOf (tree.Symbol.character c) = character c
+symbolOf (tree.Symbol.identifier i) = identifier (folded (i .spelled))
+symbolOf (tree.Symbol.number n) = number (n .spelled)
+
+-- a run of a law as a pattern
+unfoldable pub patternOf : tree.Run → Pattern
+patternOf tree.Run.empty = nothing
+patternOf (tree.Run.symbol a after) = symbol (literal (symbolOf a)) (patternOf after)
+patternOf (tree.Run.variable k i after) = symbol (variable (record { kind = k; index = foldedIndex (i .spelled) })) (patternOf after)
+patternOf (tree.Run.bracket inside after) = brackets (patternOf inside) (patternOf after)
+patternOf (tree.Run.call m f inside after) = symbol other (patternOf after)
+patternOf (tree.Run.block m inside ss after) = symbol other (patternOf after)
