@@ -7,7 +7,7 @@ use native.Mathlib.Omega.{arith}
 use native.Mathlib.Nat.{add-sub-cancel-left}
 use lib.ListN.{length, take, drop, set, replicate, length-append, length-set, length-replicate}
 use lib.Seq.{take-at, length-take-le}
-use Rattle.file.specs.Sections.{fileOf}
+use Rattle.file.specs.Sections.{File, fileOf}
 use Rattle.law.specs.Index.{PartAt}
 use Rattle.law.proofs.IndexLaws.{terms-limit}
 use Rattle.shapes.specs.Format.{Shapes, Format, of, size, formatSize, isOpen}
@@ -37,6 +37,19 @@ row-asked {bytes = bytes} {index = index} asked here stored long e = record {
   stored = stored;
   begins = omega arith;
   room = omega arith;
+  small = omega (arith, asked .small);
+}
+
+-- and is asked of a buffer that was cleared
+pub row-cleared : {file : File} {part store before out : List ℕ} {limit known at most : ℕ} → RowAsked file at part store limit known before 1 (limit + 1)
+    → length out ≡ length before → most ≡ limit + 1 → RowAsked file at part store limit known out 1 most
+row-cleared asked long e = record {
+  readable = asked .readable;
+  terms = asked .terms;
+  here = asked .here;
+  stored = asked .stored;
+  begins = omega arith;
+  room = omega (arith, asked .room);
   small = omega (arith, asked .small);
 }
 

@@ -2,8 +2,8 @@
 use crate::infer::Inference;
 use crate::infer::infer_arguments;
 use crate::infer::infer_rounds;
-use crate::infer::wide;
 use crate::slots::slots_of;
+use crate::slots::wide;
 use shapes::clear_words;
 ghost use mathlib.Core.List.{List, _++_};
 ghost use mathlib.Core.Path.{_≡_};

@@ -1,6 +1,7 @@
 // Inference of a law's formats by rounds, in place in a lent store.
 use crate::Row;
 use crate::rows::write_row;
+use crate::slots::wide;
 use law::places::first_sentence;
 use law::places::functions;
 use law::places::pattern;
@@ -18,7 +19,6 @@ ghost use mathlib.Core.Path.{_≡_};
 ghost use Prim.Native.Nat.{ℕ, _+_, _*_, _≤_, _<_};
 ghost use lib.ListN.{length};
 ghost use Rattle.file.specs.Sections.{fileOf};
-ghost use Rattle.law.specs.Index.{PartAt};
 ghost use Rattle.law.specs.Places.{sentencesOf, firstSentence};
 ghost use Rattle.law.specs.Reading.{sentencesAt, treeOf};
 ghost use Rattle.law.specs.Tree.{keep};
@@ -31,7 +31,7 @@ ghost use Rattle.formats.specs.FormatOf.{Results};
 ghost use Rattle.formats.specs.Infer.{Entry, find, arguments, round, roundsFrom};
 ghost use Rattle.formats.specs.Store.{StoreHolds};
 ghost use Rattle.formats.specs.Slots.{fileNames, functionFolded, position};
-ghost use Rattle.formats.specs.Rows.{formatAt, Knows, Stored, partShapes};
+ghost use Rattle.formats.specs.Rows.{formatAt, Knows, partShapes, RowAsked};
 ghost use Rattle.formats.specs.Turns.{Asked, Holding, resultsIn, FormatMade, rowOf, rowsJoined, JoinedIs, formatNumber, TurnIs, ArgumentsIs, RoundIs, RoundsIs};
 
 // A function's turn: a row passes the limit on shapes, its name's format changed, or it is as it was.
@@ -50,17 +50,15 @@ pub enum Inference {
 // The format of a run of term records, every word of it, or false where it has too many shapes.
 fn row_format(
     law: &[u8],
-    index: &[u16; 972],
     slots: &[u8; 577],
     store: &[u32],
     part: &[u8],
     at: usize,
     limit: usize,
     known: usize,
-    count: usize,
     out: &mut [u32],
 ) -> bool
-    requires { ⌜ Asked (now law) (now index) (now slots) limit count × PartAt (fileOf (now law)) at (now part) × Stored (now store) limit known × (length (now out) ≡ limit + 1) ⌝ }
+    requires { ⌜ RowAsked (fileOf (now law)) at (now part) (now store) limit known (now out) 1 (limit + 1) × (length (now out) ≡ limit + 1) ⌝ }
     ensures { λ r. ⌜ ((t : Results) → Knows (fileOf (now (law .entry))) (now (slots .entry)) (now (store .entry)) limit known t
         → FormatMade limit (partShapes (fileOf (now (law .entry))) t at (now (part .entry))) r (now (out .exit))) ⌝ }
 {
@@ -102,29 +100,16 @@ fn sentence_format(
 {
     if patterns {
         let at = pattern_at(law, index, s);
-        return row_format(
-            law,
-            index,
-            slots,
-            store,
-            pattern(law, index, s),
-            at,
-            limit,
-            0,
-            count,
-            out,
-        );
+        return row_format(law, slots, store, pattern(law, index, s), at, limit, 0, out);
     }
     let at = result_at(law, index, s);
     row_format(
         law,
-        index,
         slots,
         store,
         result(law, index, s),
         at,
         limit,
-        count,
         count,
         out,
     )
@@ -186,13 +171,6 @@ fn renew_format(store: &mut [u32], k: usize, limit: usize, other: &[u32]) -> boo
     let same = same_words(&joined[..end], &store[a..e]);
     copy_words(&joined[..end], &mut store[a..e]);
     !same
-}
-
-// A place among the names as a number.
-pub fn wide(place: u8) -> usize
-    ensures { λ r. ⌜ (r ≡ place) × (r < 256) ⌝ }
-{
-    place as usize
 }
 
 // Joins the patterns or the results of a function into its name's format in the store.

@@ -1,5 +1,6 @@
 // The shapes of a run of term records, written as words into a buffer.
 use crate::Row;
+use crate::slots::wide;
 use file::Symbol;
 use file::Term;
 use file::term_at;
@@ -63,13 +64,6 @@ fn bracket_word(inside: usize, opened: bool) -> u32
     } else {
         5 + 8 * (inside as u32)
     }
-}
-
-// A place among the names as a number.
-fn wide(place: u8) -> usize
-    ensures { λ r. ⌜ (r ≡ place) × (r < 256) ⌝ }
-{
-    place as usize
 }
 
 // So many words of the store, from a position on, written at a position of the buffer.

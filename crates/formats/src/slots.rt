@@ -158,3 +158,10 @@ pub fn slots_of(law: &[u8], index: &[u16; 972]) -> [u8; 577]
     fill_calls(law, index, &mut slots);
     slots
 }
+
+// A place among the names as a number.
+pub fn wide(place: u8) -> usize
+    ensures { λ r. ⌜ (r ≡ place) × (r < 256) ⌝ }
+{
+    place as usize
+}

@@ -6,11 +6,13 @@ use mathlib.Core.Path.{_≡_, refl, _∙_}
 use native.Mathlib.Omega.{arith}
 use lib.ListN.{length, take, drop, getD, set, length-append}
 use lib.Dec.{leb}
+use borrow.Author.Tests.{le-leb, lt-leb}
 use Rattle.shapes.specs.Leaf.{leafByte, leafAt}
 use Rattle.shapes.specs.Format.{Shapes, end, of}
 use Rattle.shapes.specs.Words.{isBracket, insideOpen, shapesEnd, shapesIn, readFormat, rowEnd}
 use Rattle.shapes.specs.Written.{written, Put}
-use Rattle.shapes.specs.Display.{spaced, display, shown, firstShown}
+use Rattle.shapes.specs.Display.{spaced, display, shown, firstShown, outcomeOf, textAt}
+use Rattle.shapes.specs.declared.display.Shown.the-variants.{At, NoRoom}
 use Rattle.shapes.proofs.WordLaws.{shapes-none, shapes-leaf, shapes-bracket}
 use Rattle.shapes.proofs.WrittenLaws.{written-none, written-one, written-more}
 use Rattle.shapes.proofs.FormatLaws.{read-never}
@@ -90,6 +92,12 @@ first-leaf s t byte p q e = rw (← p, q, e)
 
 -- ---- formats
 
+-- no words are the empty format
+display-none : (s : List ℕ) → length s < 1 → (91 ∷ 93 ∷ []) ≡ display (readFormat s)
+unfolding display readFormat spaced
+display-none [] h = rw (shapes-none false [] h)
+display-none (w ∷ s) h = absurd (omega arith)
+
 -- a format that is never, and one that is not
 display-never : (s : List ℕ) (t : Bool) → t ≡ leb 512 (getD s 0 0) → t ≡ true → (110 ∷ 101 ∷ 118 ∷ 101 ∷ 114 ∷ []) ≡ display (readFormat s)
 unfolding display
@@ -149,6 +157,9 @@ module _ (s : List ℕ) (t : Bool) (p : t ≡ isBracket (getD s 0 0)) (old : Lis
   show-leaf byte next last q e a = rw (first-leaf s t byte p q e) at a
 
 -- a whole format
+pub show-none : (s old last : List ℕ) (at next : ℕ) → length s < 1 → Put old at (91 ∷ 93 ∷ []) next last → Put old at (display (readFormat s)) next last
+show-none s old last at next h a = rw (display-none s h) at a
+
 pub show-never : (s old last : List ℕ) (at next : ℕ) (t : Bool) → t ≡ leb 512 (getD s 0 0) → t ≡ true → Put old at (110 ∷ 101 ∷ 118 ∷ 101 ∷ 114 ∷ []) next last
     → Put old at (display (readFormat s)) next last
 show-never s old last at next t e h a = rw (display-never s t e h) at a
@@ -162,3 +173,25 @@ show-whole s old one two last at start next after f e k l a b c =
     (put-more old (91 ∷ []) one (drop 1 (spaced f)) two at start next k a b)
     c
     )
+
+-- ---- a text put into a buffer
+
+-- a position past the buffer
+pub text-past : (buffer : List ℕ) (at : ℕ) (text : List ℕ) → length buffer < at → outcomeOf NoRoom buffer ≡ textAt buffer at text
+text-past buffer at text h = rw (lt-leb (at + length text) (length buffer) (omega arith))
+
+-- an empty part
+none : (part : List ℕ) → length part ≡ 0 → part ≡ []
+none [] h = refl
+none (x ∷ part) h = absurd (omega arith)
+
+-- the text was put into an empty part, which only found the position after it
+module _ (buffer : List ℕ) (at : ℕ) (text part : List ℕ) (empty : length part ≡ 0) where
+  pub text-over : (next : ℕ) → next ≡ at + length text → length buffer < next → outcomeOf NoRoom (part ++ buffer) ≡ textAt buffer at text
+  text-over next e h = rw (none part empty, lt-leb (at + length text) (length buffer) (omega arith))
+
+  pub text-fits : (next after : ℕ) (last : List ℕ) → next ≡ at + length text → next ≤ length buffer → Put (part ++ buffer) at text after last
+      → outcomeOf (At next) last ≡ textAt buffer at text
+  text-fits next after last e h p =
+      let put : Put buffer at text after last = rw (none part empty) at p in
+      rw (le-leb (at + length text) (length buffer) (omega arith), e, put .room (omega (arith, put .end)))

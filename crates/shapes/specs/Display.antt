@@ -1,12 +1,17 @@
 -- A format as formats.rs displays it: `never`, or its items between `[` and `]`, one space between them, with `..` last where it is open.
-use Prim.Native.Nat.{ℕ}
+use Prim.Native.Nat.{ℕ, _+_}
 use mathlib.Core.Bool.{Bool, true, false, cond}
 use mathlib.Core.List.{List, [], _∷_, _++_}
-use lib.ListN.{drop, getD}
+use lib.ListN.{length, drop, getD}
+use lib.Dec.{leb}
+use Rattle.file.specs.Answer.{Answer, refused, given}
 use Rattle.shapes.specs.Leaf.{leafByte, leafAt}
 use Rattle.shapes.specs.Format.{Shapes, end, item, group, Format, never, of}
 use Rattle.shapes.specs.Words.{isBracket}
 use Rattle.shapes.specs.First.{firstInside}
+use Rattle.shapes.specs.Written.{written}
+use Rattle.shapes.specs.declared.display.Shown.{Shown}
+use Rattle.shapes.specs.declared.display.Shown.the-variants.{At, NoRoom}
 
 -- the items of a row, each after a space; a bracket's contents stand as a format between `(` and `)`
 unfoldable pub spaced : Shapes → List ℕ
@@ -18,6 +23,28 @@ spaced (group g f) = 32 ∷ 40 ∷ 91 ∷ drop 1 (spaced g) ++ 93 ∷ 41 ∷ spa
 unfoldable pub display : Format → List ℕ
 display never = 110 ∷ 101 ∷ 118 ∷ 101 ∷ 114 ∷ []
 display (of f) = 91 ∷ drop 1 (spaced f) ++ 93 ∷ []
+
+-- ---- a text put into a buffer
+
+-- the position after the text; or 13, "the text does not fit"
+abbrev pub answerOf : Shown → Answer ℕ
+answerOf (At next) = given next
+answerOf NoRoom = refused 13
+
+-- what is answered, and the buffer after it
+pub record Outcome : Type 0 where
+  pub answer : Answer ℕ
+  pub buffer : List ℕ
+
+abbrev pub outcomeOf : Shown → List ℕ → Outcome
+outcomeOf r bytes = record { answer = answerOf r; buffer = bytes }
+
+-- a text at a position of a buffer: all of it is written; where there is no room for all of it the buffer stays as it is
+abbrev pub textAt : List ℕ → ℕ → List ℕ → Outcome
+textAt buffer at text =
+    cond (leb (at + length text) (length buffer))
+    (record { answer = given (at + length text); buffer = written buffer at text })
+    (record { answer = refused 13; buffer = buffer })
 
 -- ---- as the code writes it
 

@@ -3,12 +3,14 @@ use mathlib.Core.Bool.{true, false}
 use mathlib.Core.List.{[], _∷_}
 use mathlib.Core.Path.{_≡_, refl}
 use lib.ListN.{replicate}
+use Rattle.file.specs.Answer.{refused, given}
 use Rattle.file.specs.Forest.{decode, forestOf}
 use Rattle.law.specs.Examples.{bytesOf}
 use Rattle.shapes.specs.Leaf.{character, number, identifier, anySymbol, unknown}
 use Rattle.shapes.specs.Format.{Shapes, end, item, group, Format, never, of, size, isOpen}
 use Rattle.shapes.specs.Words.{shapeWords, formatWords, shapesEnd, shapesOf, shapesIn, readFormat}
-use Rattle.shapes.specs.Display.{spaced, display}
+use Rattle.shapes.specs.Written.{written}
+use Rattle.shapes.specs.Display.{spaced, display, textAt}
 
 -- the ends of a row
 abbrev pub closed : Shapes
@@ -31,6 +33,17 @@ Displays =
 displays : Displays
 unfolding spaced display bytesOf
 displays = (refl, refl, refl, refl, refl, refl, refl)
+
+-- a text where there is room for it, and where one byte is wanting; no words are the empty format
+abbrev Texts : Type 0
+Texts =
+    (textAt (replicate 3 0) 1 (bytesOf "[]") ≡ record { answer = given 3; buffer = 0 ∷ 91 ∷ 93 ∷ [] })
+    × (textAt (replicate 3 0) 2 (bytesOf "[]") ≡ record { answer = refused 13; buffer = 0 ∷ 0 ∷ 0 ∷ [] })
+    × (display (readFormat []) ≡ bytesOf "[]")
+
+texts : Texts
+unfolding written spaced display bytesOf shapesEnd shapesOf shapesIn readFormat decode forestOf
+texts = (refl, refl, refl)
 
 -- [([C ..]) ? ..]: three shapes, of which one stands in a bracket whose contents are open
 abbrev nested : Format

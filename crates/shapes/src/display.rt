@@ -8,12 +8,12 @@ use crate::row_open;
 ghost use mathlib.Core.Path.{_≡_};
 ghost use mathlib.Core.Bool.{true, false, cond};
 ghost use mathlib.Core.List.{[], _∷_};
-ghost use Prim.Native.Nat.{_+_, _*_, _≤_, _<_};
+ghost use Prim.Native.Nat.{_+_, _*_, _≤_};
 ghost use lib.ListN.{length};
 ghost use Rattle.shapes.specs.Leaf.{leafAt, leafByte};
 ghost use Rattle.shapes.specs.Words.{shapesEnd, shapesIn, readFormat};
 ghost use Rattle.shapes.specs.Written.{written, Put};
-ghost use Rattle.shapes.specs.Display.{display, shown, firstShown, largest};
+ghost use Rattle.shapes.specs.Display.{display, shown, firstShown, largest, outcomeOf, textAt};
 
 // The position after a text, or that there is no room for it.
 pub enum Shown {
@@ -115,11 +115,14 @@ fn show_row(s: &[u32], is_open: bool, first: bool, out: &mut [u8], at: usize) ->
     show_row(&s[e..], is_open, false, out, next)
 }
 
-// A format as text; the position after it, whether there was room or not.
-pub fn show_format(format: &[u32], out: &mut [u8], at: usize) -> usize
-    requires { ⌜ (1 ≤ length (now format)) × (at + 4096 ≤ largest) ⌝ }
+// A format as text; the position after it, whether there was room or not. No words are the empty format.
+fn show_format(format: &[u32], out: &mut [u8], at: usize) -> usize
+    requires { ⌜ at + 4096 ≤ largest ⌝ }
     ensures { λ r. ⌜ Put (now (out .entry)) at (display (readFormat (now (format .entry)))) r (now (out .exit)) ⌝ }
 {
+    if format.len() < 1 {
+        return put(b"[]", out, at);
+    }
     let x = format[0];
     if is_never(x) {
         return put(b"never", out, at);
@@ -130,20 +133,18 @@ pub fn show_format(format: &[u32], out: &mut [u8], at: usize) -> usize
     put(b"]", out, next)
 }
 
-// A format as text at a position, where there is room for all of it.
+// A format as text at a position, where there is room for all of it; else the buffer stays as it is.
 pub fn display_format(format: &[u32], out: &mut [u8], at: usize) -> Shown
-    requires { ⌜ 1 ≤ length (now format) ⌝ }
-    ensures { λ r. ⌜ (at + length (display (readFormat (now (format .entry)))) ≤ length (now (out .entry))
-        → (r ≡ Shown.At (at + length (display (readFormat (now (format .entry))))))
-        × (now (out .exit) ≡ written (now (out .entry)) at (display (readFormat (now (format .entry))))))
-        × (length (now (out .entry)) < at + length (display (readFormat (now (format .entry)))) → r ≡ Shown.NoRoom) ⌝ }
+    ensures { λ r. ⌜ outcomeOf r (now (out .exit)) ≡ textAt (now (out .entry)) at (display (readFormat (now (format .entry)))) ⌝ }
 {
-    if out.len() < at {
+    let room = out.len();
+    if room < at {
         return Shown::NoRoom;
     }
-    let next = show_format(format, out, at);
-    if next <= out.len() {
-        return Shown::At(next);
+    let next = show_format(format, &mut out[..0], at); // no byte fits: only the position is found
+    if room < next {
+        return Shown::NoRoom;
     }
-    Shown::NoRoom
+    show_format(format, out, at);
+    Shown::At(next)
 }

@@ -58,9 +58,7 @@ fn print_words(words: &[u32]) {
 }
 
 // Writes a format's text.
-fn print_text(format: &[u32])
-    requires { ⌜ 1 ≤ length (now format) ⌝ }
-{
+fn print_text(format: &[u32]) {
     let mut text = [0u8; TEXT];
     let shown = display_format(format, &mut text, 0);
     match shown {
@@ -76,9 +74,7 @@ fn print_text(format: &[u32])
 }
 
 // Writes a format's line.
-fn print_format(k: usize, format: &[u32])
-    requires { ⌜ 1 ≤ length (now format) ⌝ }
-{
+fn print_format(k: usize, format: &[u32]) {
     io::write_all(STDOUT_FILENO, b"  ");
     io::print_decimal(STDOUT_FILENO, k as u64);
     io::write_all(STDOUT_FILENO, b" ");

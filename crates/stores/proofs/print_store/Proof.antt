@@ -3,7 +3,7 @@
 use Prim.Native.Nat.{_≤_, _-_}
 use borrow.Author.Needs.{needs}
 use native.Mathlib.Omega.{arith}
-use lib.ListN.{length, length-take, length-drop}
+use lib.ListN.{length}
 use Rattle.stores.proofs.print_store.Statement.{statement}
 use Rattle.stores.proofs.print_store.Tie as tie
 
@@ -27,7 +27,7 @@ print-store-spec =
     (λ c. omega arith)
     (λ c. omega arith)
     (λ c. omega arith)
-    (λ c κs. simp (length-take, length-drop) (omega arith))
+    (λ c κs. tt)
     (λ c. omega arith)
     (λ c. omega arith)
     (λ c. omega arith)

@@ -1,14 +1,9 @@
+-- `call::infer_store` meets its contract: the store is started for the law's names; then inference ran in it, or was refused and the store cleared.
+use native.Mathlib.Omega.{arith}
 use borrow.Author.Needs.{needs}
 use Rattle.formats.proofs.CallLaws.{store-asked, store-few, store-started, infer-cleared, infer-ran}
 use Rattle.formats.proofs.call.infer_store.Statement.{statement}
 use Rattle.formats.proofs.call.infer_store.Tie as tie
-use Rattle.formats.proofs.call.infer_store.Reads as reads
-use Rattle.formats.proofs.call.infer_store.Lts as lts
-use Rattle.formats.proofs.call.clear_store.Reads as clear-store-reads
-use Rattle.formats.proofs.call.infer_started.Reads as infer-started-reads
-use Rattle.formats.proofs.call.start_store.Reads as start-store-reads
-use Rattle.formats.proofs.infer.wide.Reads as wide-reads
-use Rattle.formats.proofs.slots.slots_of.Reads as slots-of-reads
 
 pub infer-store-spec : {M : Type 1} → statement M
 infer-store-spec =
@@ -18,16 +13,32 @@ infer-store-spec =
     (λ c. search needs)
     (λ c κs. search needs)
     (λ c. search needs)
-    (λ c κs. (c .before .before .before .before .before .pre .2, store-few (c .before .before .before .before .before .pre .0) (c .before .before .before .before .before .pre .1) (c .before .before .slots-of .ensures) (c .before .before .before .before .before .pre .2) (c .before .wide .result) (c .before .wide .ensures .0), c .before .before .before .before .before .pre .3))
-    (λ c κs. (store-asked (c .before .before .before .before .before .before .before .before .before .before .pre .0) (c .before .before .before .before .before .before .before .before .before .before .pre .1) (c .before .before .before .before .before .before .before .slots-of .ensures) (c .before .before .before .before .before .before .before .before .before .before .pre .2) (c .before .before .before .before .before .before .wide .result) (c .before .before .before .before .before .before .wide .ensures .0), (_, store-started (c .before .before .before .before .before .before .before .before .before .before .pre .0) (c .before .before .before .before .before .before .before .before .before .before .pre .1) (c .before .before .before .before .before .before .before .slots-of .ensures) (c .before .before .before .before .before .before .before .before .before .before .pre .2) (c .before .before .before .before .before .before .wide .result) (c .before .before .before .before .before .before .wide .ensures .0) _ _ (c .before .before .before .before .start-store .ensures))))
+    (λ c κs.
+    let start = c .before .before .before .before .before in
+    (start .pre .2, omega (arith, store-few (start .pre .0) (start .pre .1) (c .before .before .slots-of .ensures) (start .pre .2) (c .before .wide .result) (c .before .wide .ensures .0)), start .pre .3))
+    (λ c κs.
+    let start = c .before .before .before .before .before .before .before .before .before .before in
+    let slots = c .before .before .before .before .before .before .before .slots-of in
+    let names = c .before .before .before .before .before .before .wide in
+    (store-asked (start .pre .0) (start .pre .1) (slots .ensures) (start .pre .2) (names .result) (names .ensures .0), (_, store-started (start .pre .0) (start .pre .1) (slots .ensures) (start .pre .2) (names .result) (names .ensures .0) _ _ (c .before .before .before .before .start-store .ensures))))
     (λ c. search needs)
     (λ c κs. search needs)
     (λ c. search needs)
     (λ c. search needs)
     (λ c.
-    let held = store-started (c .before .before .before .before .before .before .before .before .before .before .before .before .before .before .before .before .before .before .before .pre .0) (c .before .before .before .before .before .before .before .before .before .before .before .before .before .before .before .before .before .before .before .pre .1) (c .before .before .before .before .before .before .before .before .before .before .before .before .before .before .before .before .slots-of .ensures) (c .before .before .before .before .before .before .before .before .before .before .before .before .before .before .before .before .before .before .before .pre .2) (c .before .before .before .before .before .before .before .before .before .before .before .before .before .before .before .wide .result) (c .before .before .before .before .before .before .before .before .before .before .before .before .before .before .before .wide .ensures .0) _ _ (c .before .before .before .before .before .before .before .before .before .before .before .before .before .start-store .ensures) in
-    infer-cleared (c .before .before .before .before .before .before .before .before .before .before .before .before .before .before .before .before .before .before .before .args .limit) _ (c .before .before .before .before .before .before .before .before .before .before .before .before .before .before .before .before .before .before .before .args .store .now) _ (c .before .before .before .before .before .before .before .before .infer-started .result) (c .before .before .before .before .before .before .before .before .infer-started .ensures _ held) _ (c .before .before .before .before .enum-told .given .1) (c .before .before .clear-store .ensures))
+    let start = c .before .before .before .before .before .before .before .before .before .before .before .before .before .before .before .before .before .before .before in
+    let slots = c .before .before .before .before .before .before .before .before .before .before .before .before .before .before .before .before .slots-of in
+    let names = c .before .before .before .before .before .before .before .before .before .before .before .before .before .before .before .wide in
+    let begun = c .before .before .before .before .before .before .before .before .before .before .before .before .before .start-store in
+    let started = c .before .before .before .before .before .before .before .before .infer-started in
+    let held = store-started (start .pre .0) (start .pre .1) (slots .ensures) (start .pre .2) (names .result) (names .ensures .0) _ _ (begun .ensures) in
+    infer-cleared (start .args .limit) _ (start .args .store .now) _ (started .result) (started .ensures _ held) _ (c .before .before .before .before .enum-told .given .1) (c .before .before .clear-store .ensures))
     (λ c. search needs)
     (λ c.
-    let held = store-started (c .before .before .before .before .before .before .before .before .before .before .before .before .before .before .before .before .pre .0) (c .before .before .before .before .before .before .before .before .before .before .before .before .before .before .before .before .pre .1) (c .before .before .before .before .before .before .before .before .before .before .before .before .before .slots-of .ensures) (c .before .before .before .before .before .before .before .before .before .before .before .before .before .before .before .before .pre .2) (c .before .before .before .before .before .before .before .before .before .before .before .before .wide .result) (c .before .before .before .before .before .before .before .before .before .before .before .before .wide .ensures .0) _ _ (c .before .before .before .before .before .before .before .before .before .before .start-store .ensures) in
-    infer-ran (c .before .before .before .before .before .before .before .before .before .before .before .before .before .before .before .before .args .limit) _ (c .before .before .before .before .before .before .before .before .before .before .before .before .before .before .before .before .args .store .now) _ (c .before .before .before .before .before .infer-started .result) (c .before .before .before .before .before .infer-started .ensures _ held) _ _ (c .before .rounds .given .1)))
+    let start = c .before .before .before .before .before .before .before .before .before .before .before .before .before .before .before .before in
+    let slots = c .before .before .before .before .before .before .before .before .before .before .before .before .before .slots-of in
+    let names = c .before .before .before .before .before .before .before .before .before .before .before .before .wide in
+    let begun = c .before .before .before .before .before .before .before .before .before .before .start-store in
+    let started = c .before .before .before .before .before .infer-started in
+    let held = store-started (start .pre .0) (start .pre .1) (slots .ensures) (start .pre .2) (names .result) (names .ensures .0) _ _ (begun .ensures) in
+    infer-ran (start .args .limit) _ (start .args .store .now) _ (started .result) (started .ensures _ held) _ _ (c .before .rounds .given .1)))

@@ -4,7 +4,7 @@ use native.Mathlib.Omega.{arith}
 use lib.ListN.{replicate, length-set}
 use borrow.Author.Needs.{needs}
 use Rattle.formats.proofs.RowLaws.{ends-between}
-use Rattle.formats.proofs.TurnLaws.{row-asked, made-over, made-written}
+use Rattle.formats.proofs.TurnLaws.{row-cleared, made-over, made-written}
 use Rattle.formats.proofs.infer.row_format.Statement.{statement}
 use Rattle.formats.proofs.infer.row_format.Tie as tie
 
@@ -14,17 +14,17 @@ row-format-spec =
     (tie.spec
     (λ c κs. search needs)
     (λ c. search needs)
-    (λ c κs. let p = c .before .before .before .before .before .before .before .before .before .pre in row-asked (p .0) (p .1) (p .2) (c .before .before .before .clear-words .kept .0 ∙ p .3) refl)
+    (λ c κs. let p = c .before .before .before .before .before .before .before .before .before .pre in row-cleared (p .0) (c .before .before .before .clear-words .kept .0) refl)
     (λ c. search needs)
     (λ c. search needs)
     (λ c. omega (arith, ends-between (c .before .next .given .1) (c .before .before .before .before .before .write-row .ensures .0)))
-    (λ c κs. omega (arith, ends-between (c .before .next .given .1) (c .before .before .before .before .before .write-row .ensures .0), c .before .before .before .before .before .before .before .before .before .before .before .before .before .before .before .pre .0 .small))
+    (λ c κs. omega (arith, ends-between (c .before .next .given .1) (c .before .before .before .before .before .write-row .ensures .0), c .before .before .before .before .before .before .before .before .before .before .before .before .before .before .before .pre .0 .stored .limited))
     (λ c. search needs)
     (λ c. search needs)
     (λ c.
     let p = c .before .before .before .before .before .before .before .before .before .before .before .before .before .before .pre in
-    λ t knows. made-over (c .before .before .before .before .before .before .before .before .before .before .before .before .before .before .args .limit) _ _ _ (c .before .before .before .before .before .before .before .before .clear-words .kept .0 ∙ p .3) refl (c .enum-told .given .1) (c .before .before .before .before .write-row .ensures .1 t knows))
+    λ t knows. made-over (c .before .before .before .before .before .before .before .before .before .before .before .before .before .before .args .limit) _ _ _ (c .before .before .before .before .before .before .before .before .clear-words .kept .0 ∙ p .1) refl (c .enum-told .given .1) (c .before .before .before .before .write-row .ensures .1 t knows))
     (λ c. length-set (c .before .before .before .before .before .before .write-row .last .1 .1 .1 .1 .1 .1 .1 .0) _ _ ∙ c .before .before .before .before .before .before .write-row .kept .1 .1 .1 .1 .1 .1 .1 .0 ∙ c .before .before .before .before .before .before .before .before .before .before .clear-words .kept .0)
     (λ c.
     let p = c .before .before .before .before .before .before .before .before .before .before .before .before .before .before .before .before .pre in
-    λ t knows. made-written (c .before .before .before .before .before .before .before .before .before .before .before .before .before .before .before .before .args .limit) _ _ _ (c .before .before .before .before .before .before .before .before .before .before .clear-words .ensures ∙ ap (λ n. replicate n 0) (p .3)) refl (c .before .before .next .given .1) (c .header-word .ensures) (c .before .before .before .before .before .before .write-row .ensures .1 t knows)))
+    λ t knows. made-written (c .before .before .before .before .before .before .before .before .before .before .before .before .before .before .before .before .args .limit) _ _ _ (c .before .before .before .before .before .before .before .before .before .before .clear-words .ensures ∙ ap (λ n. replicate n 0) (p .1)) refl (c .before .before .next .given .1) (c .header-word .ensures) (c .before .before .before .before .before .before .write-row .ensures .1 t knows)))

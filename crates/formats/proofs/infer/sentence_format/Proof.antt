@@ -9,6 +9,7 @@ use Rattle.formats.specs.Turns.{resultsIn}
 use Rattle.file.specs.Sections.{fileOf}
 use Rattle.formats.proofs.RowLaws.{stored-none}
 use Rattle.formats.proofs.SentenceLaws.{holding-stored, holding-knows, pattern-here, result-here, pattern-made, result-made}
+use Rattle.formats.proofs.TurnLaws.{row-asked}
 use Rattle.formats.proofs.infer.sentence_format.Statement.{statement}
 use Rattle.formats.proofs.infer.sentence_format.Tie as tie
 
@@ -21,12 +22,9 @@ sentence-format-spec =
     (λ c κs.
     let start = c .before .before .before .before .before .before .before in
     let a = start .args in
-    let asked = start .pre .0 in (
-      asked,
-      pattern-here (fileOf (a .law .now)) (asked .readable) (start .pre .2) (c .before .before .pattern-at .ensures) (c .before .pattern .ensures),
-      stored-none (a .store .now) (a .limit) (asked .small),
-      start .pre .3,
-    ))
+    let asked = start .pre .0 in
+    let here = pattern-here (fileOf (a .law .now)) (asked .readable) (start .pre .2) (c .before .before .pattern-at .ensures) (c .before .pattern .ensures) in
+    (row-asked asked here (stored-none (a .store .now) (a .limit) (asked .small)) (start .pre .3) refl, start .pre .3))
     (λ c. search needs)
     (λ c.
     let begins = c .before .before .before .before .before in
@@ -39,12 +37,9 @@ sentence-format-spec =
     (λ c κs.
     let start = c .before .before .before .before .before .before .before in
     let a = start .args in
-    let asked = start .pre .0 in (
-      asked,
-      result-here (fileOf (a .law .now)) (asked .readable) (start .pre .2) (c .before .before .result-at .ensures) (c .before .result .ensures),
-      holding-stored (a .count) (start .pre .1) (asked .names) (asked .small),
-      start .pre .3,
-    ))
+    let asked = start .pre .0 in
+    let here = result-here (fileOf (a .law .now)) (asked .readable) (start .pre .2) (c .before .before .result-at .ensures) (c .before .result .ensures) in
+    (row-asked asked here (holding-stored (a .count) (start .pre .1) (asked .names) (asked .small)) (start .pre .3) refl, start .pre .3))
     (λ c. search needs)
     (λ c.
     let begins = c .before .before .before .before .before in

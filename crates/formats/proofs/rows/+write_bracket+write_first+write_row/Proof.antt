@@ -22,7 +22,7 @@ use Rattle.file.proofs.term_at.Reads as term-at-reads
 use Rattle.file.proofs.word_at.Reads as word-at-reads
 use Rattle.formats.proofs.rows.bracket_word.Reads as bracket-word-reads
 use Rattle.formats.proofs.rows.step_of.Reads as step-of-reads
-use Rattle.formats.proofs.rows.wide.Reads as wide-reads
+use Rattle.formats.proofs.slots.wide.Reads as wide-reads
 use Rattle.formats.proofs.rows.write_call.Reads as write-call-reads
 use Rattle.formats.proofs.rows.write_leaf.Reads as write-leaf-reads
 use Rattle.law.proofs.runs.end_of.Reads as end-of-reads

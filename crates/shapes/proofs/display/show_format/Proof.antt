@@ -1,7 +1,7 @@
--- Rests on reading the format's row, which has fewer than 256 shapes.
+-- No words are the empty format. Else it rests on reading the format's row, which has fewer than 256 shapes.
 use native.Mathlib.Omega.{arith}
 use Rattle.shapes.proofs.FormatLaws.{read-row}
-use Rattle.shapes.proofs.DisplayLaws.{row-end-few, show-never, show-whole}
+use Rattle.shapes.proofs.DisplayLaws.{row-end-few, show-none, show-never, show-whole}
 use borrow.Author.Needs.{needs}
 use Rattle.shapes.proofs.display.show_format.Statement.{statement}
 use Rattle.shapes.proofs.display.show_format.Tie as tie
@@ -13,21 +13,37 @@ show-format-spec =
     (λ c. search needs)
     (λ c κs. search needs)
     (λ c. search needs)
-    (λ c κs. search needs)
-    (λ c. search needs)
-    (λ c. let x = c .before .before .before .before .before .before .before .before .before .before .args in show-never (x .format .now) (x .out .now) _ (x .at) _ _ (c .before .before .before .before .before .before .is-never .ensures) (c .before .before .before .before .before .if1 .taken) (c .before .before .put .ensures))
-    (λ c κs. search needs)
-    (λ c. search needs)
-    (λ c κs. search needs)
-    (λ c. search needs)
-    (λ c. search needs)
+    (λ c.
+    let x = c .before .before .before .before .before .before .before .before .args in
+    show-none (x .format .now) (x .out .now) _ (x .at) _ (c .before .before .before .before .before .if1 .taken) (c .before .before .put .ensures))
     (λ c. search needs)
     (λ c κs. search needs)
-    (λ c κs. omega (arith, c .before .before .before .before .before .before .before .before .before .before .before .before .before .before .pre, c .before .before .before .before .before .put2 .ensures .end, c .before .before .before .before .before .before .before .before .row-end .ensures, row-end-few (c .before .before .before .before .before .before .before .before .before .before .before .before .before .before .args .format .now)))
     (λ c. search needs)
-    (λ c κs. omega (arith, c .before .before .before .before .before .before .before .before .before .before .before .before .before .before .before .before .before .before .before .pre, c .before .before .before .before .show-row .ensures .0, c .before .before .before .before .before .before .before .before .before .before .put2 .ensures .end, c .before .before .before .before .before .before .before .before .before .before .before .before .before .row-end .ensures, row-end-few (c .before .before .before .before .before .before .before .before .before .before .before .before .before .before .before .before .before .before .before .args .format .now)))
+    (λ c κs. search needs)
     (λ c. search needs)
-    (λ c. let x = c .before .before .before .before .before .before .before .before .before .before .before .before .before .before .before .before .before .before .before .before .before .before .args in
+    (λ c.
+    let x = c .before .before .before .before .before .before .before .before .before .before .before .args in
+    show-never (x .format .now) (x .out .now) _ (x .at) _ _ (c .before .before .before .before .before .before .is-never .ensures) (c .before .before .before .before .before .if2 .taken) (c .before .before .put2 .ensures))
+    (λ c κs. search needs)
+    (λ c. search needs)
+    (λ c κs. search needs)
+    (λ c. search needs)
+    (λ c. search needs)
+    (λ c. search needs)
+    (λ c κs. search needs)
+    (λ c κs.
+    let start = c .before .before .before .before .before .before .before .before .before .before .before .before .before .before .before in
+    omega (arith, start .pre, c .before .before .before .before .before .put3 .ensures .end, c .before .before .before .before .before .before .before .before .row-end .ensures, row-end-few (start .args .format .now)))
+    (λ c. search needs)
+    (λ c κs.
+    let start = c .before .before .before .before .before .before .before .before .before .before .before .before .before .before .before .before .before .before .before .before in
+    omega (arith, start .pre, c .before .before .before .before .show-row .ensures .0, c .before .before .before .before .before .before .before .before .before .before .put3 .ensures .end, c .before .before .before .before .before .before .before .before .before .before .before .before .before .row-end .ensures, row-end-few (start .args .format .now)))
+    (λ c. search needs)
+    (λ c.
+    let row = c .before .before .before .before .before .before .before in
+    let opened = row .before .before .before .before .before .before in
+    let tested = opened .before .before .before .before in
+    let x = tested .before .before .before .before .before .before .args in
     show-whole (x .format .now) (x .out .now) _ _ _ (x .at) _ _ _ _
-    (read-row (x .format .now) _ _ _ (c .before .before .before .before .before .before .before .before .before .before .before .before .before .before .before .before .before .before .before .before .before .before .pre .0) (c .before .before .before .before .before .before .before .before .before .before .before .before .before .before .before .before .before .before .is-never .ensures) (c .before .before .before .before .before .before .before .before .before .before .before .before .before .before .before .before .before .if1 .left) (c .before .before .before .before .before .before .before .before .before .before .before .before .before .before .before .before .row-end .ensures .0) (c .before .before .before .before .before .before .before .before .before .row-open .ensures))
-    (c .before .before .before .before .before .before .before .before .before .before .before .before .before .put2 .kept .1 .0) (c .before .before .before .before .before .before .before .show-row .kept .1 .1 .1 .0) (c .before .before .before .before .before .before .before .before .before .before .before .before .before .put2 .ensures) (c .before .before .before .before .before .before .before .show-row .ensures .1) (c .before .before .put3 .ensures)))
+    (read-row (x .format .now) _ _ _ (tested .before .before .before .if1 .left) (tested .before .is-never .ensures) (tested .if2 .left) (opened .before .before .before .row-end .ensures .0) (row .before .before .row-open .ensures))
+    (opened .put3 .kept .1 .0) (row .show-row .kept .1 .1 .1 .0) (opened .put3 .ensures) (row .show-row .ensures .1) (c .before .before .put4 .ensures)))
