@@ -1,7 +1,6 @@
 -- Small law files, decoded or refused. The text of the first two is the law as it is written, so that names and spans are places in it.
 use Prim.Native.Nat.{ℕ, zero, suc, _/_, _%_}
-use Prim.Native.Char.{code}
-use Prim.Native.String.{String, [] as noText, _∷_ as _·_}
+use Prim.Native.String.{String}
 use mathlib.Core.List.{List, [], _∷_, _++_, map, flatMap}
 use mathlib.Core.Path.{_≡_, refl}
 use lib.ListN.{length}
@@ -13,6 +12,7 @@ use Rattle.file.specs.Fields.{fieldsAllowed, termAllowed, spelled}
 use Rattle.file.specs.Forest.{decode, forestOf}
 use Rattle.file.specs.Head.{termAt, termFrom}
 use Rattle.names.specs.Name.{everyByte, sameBytes}
+unfoldable pub use Rattle.law.specs.Text.{bytesOf}
 use Rattle.law.specs.Tree.{Name, character, number, symbolKind, expressionKind, Mark, Run, empty, symbol, variable, bracket, call, block, noSentence, sentence, noCondition, condition, Law, keep, skip}
 use Rattle.law.specs.Places.{firstSentence, blockFirst, firstCondition, patternAt, askedAt, resultAt, patternPart, resultPart, askedPart, wantedPart}
 use Rattle.law.specs.Runs.{endOf, fits, usedUp, runsAllowed, blocksAllowed}
@@ -20,11 +20,6 @@ use Rattle.law.specs.Reading.{forestRun, conditionsFrom, sentencesFrom, 
 use Rattle.law.specs.Depth.{deepest, depthOf}
 use Rattle.law.specs.Variables.{variablesFrom, occurs, distinct, patternsAllowed}
 use Rattle.law.specs.Law.{lawOf, verdictOf}
-
--- the bytes of a text in ASCII
-unfoldable pub bytesOf : String → List ℕ
-bytesOf noText = []
-bytesOf (_·_ c s) = code c ∷ bytesOf s
 
 -- a word, least byte first
 abbrev pub word : ℕ → List ℕ

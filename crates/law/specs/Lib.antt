@@ -1,4 +1,6 @@
+pub mod Text
 pub mod Tree
+pub mod Definition
 pub mod Expression
 pub mod Places
 pub mod Runs

@@ -1,2 +1,5 @@
 pub mod Machine
+pub mod Numbers
+pub mod Claim
 pub mod Examples
+pub mod Premises

@@ -2,12 +2,12 @@
 -- "A run is fed a law, one of its functions, any expression [..] and a list of such expressions, the answers of functions not defined."
 -- "Its state: what is left to work out or try, the variables' values, the answers left."
 use Prim.Native.Nat.{ℕ, zero, suc}
-use mathlib.Core.Bool.{Bool, true, false, cond}
 use mathlib.Core.List.{List, [], _∷_}
-use mathlib.Core.Option.{Option, none, some}
-use Rattle.names.specs.Name.{folded, foldedIndex, sameBytes}
+use mathlib.Core.Option.{none, some}
+use Rattle.names.specs.Name.{folded, foldedIndex}
 use Rattle.law.specs.Tree as tree
-use Rattle.law.specs.Tree.{Run, Sentences, noSentence, sentence, Conditions, noCondition, condition, Law}
+use Rattle.law.specs.Tree.{Run, Sentences, noSentence, sentence, Conditions, noCondition, condition, Function, Law}
+use Rattle.law.specs.Definition.{definition}
 use Rattle.law.specs.Expression.{Literal, literalOf, Expression, nothing, symbol, brackets, _⊕_}
 use Rattle.law.specs.Variables.{Variable}
 use Rattle.matching.specs.Pattern.{patternOf}
@@ -15,15 +15,6 @@ use Rattle.matching.specs.Match.{Values, none-bound, valueIn, runMatches}
 
 abbrev pub Env : Type 0
 Env = Values Literal
-
--- the last function of this folded name, where a name is defined twice
-unfoldable pub definition : Law → List ℕ → Option Sentences
-definition [] f = none
-definition (d ∷ ds) f =
-    elim (definition ds f) as (λ _. Option Sentences) [
-      | some ss ↦ some ss
-      | none ↦ cond (sameBytes (folded (d .name .spelled)) f) (some (d .sentences)) none
-    ]
 
 -- what is left to try: sentences, for an argument and from the values around them; above these, the matches of one sentence's left side or condition,
 -- with the sentence's record and the conditions and the result that follow
@@ -40,21 +31,16 @@ pub data Stack : Type 0 where
   inPlace : Expression → Run → Env → Stack → Stack
   inCondition : Run → Env → ℕ → Conditions → Run → Trial → Stack → Stack
 
--- where a call stands: the call that the run starts with, or a term record
-pub data Place : Type 0 where
-  start : Place
-  at : ℕ → Place
-
 pub data State : Type 0 where
   -- a result is worked out: what is left of it, and what it came to so far
   working : Run → Env → Expression → Stack → List Expression → State
-  -- "a call is reached once its argument is worked out"
-  called : Place → List ℕ → Expression → Stack → List Expression → State
-  -- a block is reached
+  -- "a call is reached once its argument is worked out": its term record, its folded name, its argument
+  called : ℕ → List ℕ → Expression → Stack → List Expression → State
+  -- a block is reached: its term record, its sentences, the values around it, its argument
   entered : ℕ → Sentences → Env → Expression → Stack → List Expression → State
   -- sentences or matches are tried
   trying : Trial → Stack → List Expression → State
-  -- "Once all hold, the sentence is chosen"
+  -- "Once all hold, the sentence is chosen": its record, its result, its values
   chosen : ℕ → Run → Env → Stack → List Expression → State
   -- the run has come to its end with an expression, or was ended
   finished : Expression → State
@@ -64,7 +50,7 @@ pub data State : Type 0 where
 unfoldable pub give : Expression → Stack → List Expression → State
 give v over answers = finished v
 give v (inBracket u r env k) answers = working r env (u ⊕ brackets v nothing) k answers
-give v (inCall n f u r env k) answers = called (at n) f v (inPlace u r env k) answers
+give v (inCall n f u r env k) answers = called n f v (inPlace u r env k) answers
 give v (inBlock n ss u r env k) answers = entered n ss env v (inPlace u r env k) answers
 give v (inPlace u r env k) answers = working r env (u ⊕ v) k answers
 give v (inCondition p env i cs r t k) answers = trying (ways (runMatches (patternOf p) v env) i cs r t) k answers
@@ -113,6 +99,7 @@ unfoldable pub steps : Law → ℕ → State → State
 steps law zero state = state
 steps law (suc n) state = step law (steps law n state)
 
--- "It starts by reaching a call of that function on that expression." "A run may be cut off after any step"
-unfoldable pub run : Law → List ℕ → Expression → List Expression → ℕ → State
-run law f v answers n = steps law n (called start f v over answers)
+-- "It starts by reaching a call of that function on that expression." That call has no record; its function is this one, also where a later one has its
+-- name. "A run may be cut off after any step"
+unfoldable pub run : Law → Function → Expression → List Expression → ℕ → State
+run law f v answers n = steps law n (trying (sentences none-bound v (f .sentences)) over answers)

@@ -1,1 +1,1 @@
-// A run of a law. The machine stands in specs/; no code is needed to define it.
+// A run of a law, and the claim that no finding is false in it: definitions in specs/, laws in proofs/; no code is needed for either.

@@ -1,0 +1,29 @@
+-- The findings of a law: `dead_sentences`, `recognition_impossible`, `builtin_domains`, `open_expression_complexity`, in this order, then the level and
+-- mode steps. Refusal 14 belongs to the settings alone and comes before any file is looked at.
+use Prim.Native.Nat.{ℕ}
+use mathlib.Core.List.{List, _++_}
+use Rattle.file.specs.Answer.{Answer, given, refuseIf, _>>=_, _>>_}
+use Rattle.law.specs.Tree.{Law}
+use Rattle.formats.specs.Infer.{Inferred, infer}
+use Rattle.lints.specs.Finding.{Finding}
+use Rattle.lints.specs.Dead.{deadFindings}
+use Rattle.lints.specs.Recognition.{recognitionFindings, argumentsOver}
+use Rattle.lints.specs.Builtin.{builtinFindings}
+use Rattle.lints.specs.Open.{openFindings}
+use Rattle.lints.specs.Levels.{Settings, shown}
+
+-- all findings, shown or hidden
+unfoldable pub findingsOf : Law → Inferred → List Finding
+findingsOf law formats = deadFindings law ++ recognitionFindings law formats ++ builtinFindings law ++ openFindings law
+
+-- what the findings call answers by
+pub record Listing : Type 0 where
+  pub formats : Inferred
+  pub findings : List Finding
+
+-- 10 by inference and then by arguments, whatever the settings
+unfoldable pub listing : ℕ → Settings → Law → Answer Listing
+listing limit settings law = do
+  formats ← infer limit law
+  refuseIf 10 (argumentsOver limit law formats)
+  given (record { formats = formats; findings = shown settings (findingsOf law formats) })

@@ -1,0 +1,11 @@
+pub mod Lint
+pub mod Finding
+pub mod Calls
+pub mod Dead
+pub mod Recognition
+pub mod Builtin
+pub mod Open
+pub mod Levels
+pub mod Findings
+pub mod Message
+pub mod Examples
