@@ -1,3 +1,17 @@
+pub mod PartLaws
+pub mod CutLaws
+pub mod LengthLaws
+pub mod VariableLaws
+pub mod CapacityLaws
+pub mod AtomLaws
+pub mod BeginLaws
+pub mod BoundLaws
+pub mod StepLaws
+pub mod AskedLaws
+pub mod ShadowSteps
+pub mod ShadowStart
+pub mod LevelLaws
+pub mod SentencePatterns
 pub mod SameLaws
 pub mod RowLaws
 pub mod SearchLaws
@@ -5,3 +19,6 @@ pub mod FillLaws
 pub mod ShadowLaws
 pub mod DigitLaws
 pub mod LiteralLaws
+pub mod LiteralSearch
+pub mod LiteralParts
+pub mod LiteralStart

@@ -3,4 +3,9 @@ pub mod Match
 pub mod Fill
 pub mod Literal
 pub mod Shadow
+pub mod Part
+pub mod Bound
+pub mod Step
+pub mod Capacity
+pub mod Asked
 pub mod Examples

@@ -1,0 +1,346 @@
+-- `literal_run`, `literal_lengths`, `literal_inside` and `literal_out` meet their contracts, by laws of proofs/LevelLaws.antt and ShadowSteps.antt for each
+-- return and each call. The measure is four times the bytes of the term records from the pattern's position on, and twice the levels around, with 1 more
+-- for `literal_run`, which hands the same pattern on: gone into brackets, a level is more, but the pattern's position is further on.
+use Prim.Native.Nat.{ℕ, suc, _+_, _*_, _-_, _<_}
+use mathlib.Core.Bool.{Bool, true, false}
+use mathlib.Core.List.{List, []}
+use mathlib.Core.Path.{_≡_, refl, sym, ap, _∙_}
+use native.Mathlib.Omega.{arith}
+use borrow.Author.Needs.{needs}
+use lib.ListN.{length, getD}
+use Rattle.law.specs.Runs.{endOf}
+use Rattle.matching.specs.Pattern.{Atom}
+use Rattle.matching.specs.Match.{Values}
+use Rattle.matching.specs.Step.{eachLength}
+use Rattle.matching.specs.Bound.{valuesOf}
+use Rattle.matching.specs.Asked.{someHolds, resume, levelsOf}
+use Rattle.matching.specs.declared.literal.Pending.{Pending}
+use Rattle.matching.proofs.CutLaws.{Begin, at-start, one-on, begin-inside, from-length}
+use Rattle.matching.proofs.LengthLaws.{leftAt}
+use Rattle.matching.proofs.AskedLaws as calls
+use Rattle.matching.proofs.LevelLaws as level
+use Rattle.matching.proofs.ShadowSteps as step
+use borrow.Fn.Kinds.{In}
+use borrow.Fn.PlainCycle.{Measures, is, falls, and}
+use Rattle.matching.proofs.literal.literal_inside.Reads as literal-inside
+use Rattle.matching.proofs.literal.literal_inside.Kinds as literal-inside-kinds
+use Rattle.matching.proofs.literal.+literal_inside+literal_lengths+literal_out+literal_run.Lts-literal_inside as literal-inside-lts
+use Rattle.matching.proofs.literal.literal_lengths.Reads as literal-lengths
+use Rattle.matching.proofs.literal.literal_lengths.Kinds as literal-lengths-kinds
+use Rattle.matching.proofs.literal.+literal_inside+literal_lengths+literal_out+literal_run.Lts-literal_lengths as literal-lengths-lts
+use Rattle.matching.proofs.literal.literal_out.Reads as literal-out
+use Rattle.matching.proofs.literal.literal_out.Kinds as literal-out-kinds
+use Rattle.matching.proofs.literal.+literal_inside+literal_lengths+literal_out+literal_run.Lts-literal_out as literal-out-lts
+use Rattle.matching.proofs.literal.literal_run.Reads as literal-run
+use Rattle.matching.proofs.literal.literal_run.Kinds as literal-run-kinds
+use Rattle.matching.proofs.literal.+literal_inside+literal_lengths+literal_out+literal_run.Lts-literal_run as literal-run-lts
+use Rattle.law.proofs.runs.end_of.Reads as end-of-reads
+use Rattle.matching.proofs.bind.Reads as bind-reads
+use Rattle.matching.proofs.first_of.Reads as first-of-reads
+use Rattle.matching.proofs.literal.push.Reads as push-reads
+use Rattle.matching.proofs.wide.Reads as wide-reads
+use Rattle.matching.proofs.literal.+literal_inside+literal_lengths+literal_out+literal_run.{
+  statement,
+}
+use Rattle.matching.proofs.literal.+literal_inside+literal_lengths+literal_out+literal_run.Tie.{
+  close,
+}
+
+abbrev μ-literal-inside : Measures 4 literal-inside-kinds.ps ℕ
+μ-literal-inside κs a = 4 * (length (a .1 .0 .now) - a .1 .1 .1 .0) + 2 * (a .1 .1 .1 .1 .1 .1 .0 .count)
+
+abbrev μ-literal-lengths : Measures 4 literal-lengths-kinds.ps ℕ
+μ-literal-lengths κs a = 4 * (length (a .1 .0 .now) - a .1 .1 .1 .0) + 2 * (a .1 .1 .1 .1 .1 .1 .0 .count)
+
+abbrev μ-literal-out : Measures 2 literal-out-kinds.ps ℕ
+μ-literal-out κs a = 4 * (length (a .1 .0 .now) - a .1 .1 .0) + 2 * (a .1 .1 .1 .1 .0 .count)
+
+abbrev μ-literal-run : Measures 4 literal-run-kinds.ps ℕ
+μ-literal-run κs a = 4 * (length (a .1 .0 .now) - a .1 .1 .1 .0) + 2 * (a .1 .1 .1 .1 .1 .1 .0 .count) + 1
+
+abbrev literal-inside-at : ℕ → In 4 literal-inside-kinds.ps
+literal-inside-at t =
+    and
+    4
+    literal-inside-kinds.ps
+    (is 4 literal-inside-kinds.ps μ-literal-inside t)
+    literal-inside.Pre
+
+abbrev literal-inside-below : ℕ → In 4 literal-inside-kinds.ps
+literal-inside-below t =
+    and
+    4
+    literal-inside-kinds.ps
+    (falls 4 literal-inside-kinds.ps _<_ μ-literal-inside t)
+    literal-inside.Pre
+
+abbrev literal-lengths-at : ℕ → In 4 literal-lengths-kinds.ps
+literal-lengths-at t =
+    and
+    4
+    literal-lengths-kinds.ps
+    (is 4 literal-lengths-kinds.ps μ-literal-lengths t)
+    literal-lengths.Pre
+
+abbrev literal-lengths-below : ℕ → In 4 literal-lengths-kinds.ps
+literal-lengths-below t =
+    and
+    4
+    literal-lengths-kinds.ps
+    (falls 4 literal-lengths-kinds.ps _<_ μ-literal-lengths t)
+    literal-lengths.Pre
+
+abbrev literal-out-at : ℕ → In 2 literal-out-kinds.ps
+literal-out-at t =
+    and 2 literal-out-kinds.ps (is 2 literal-out-kinds.ps μ-literal-out t) literal-out.Pre
+
+abbrev literal-out-below : ℕ → In 2 literal-out-kinds.ps
+literal-out-below t =
+    and 2 literal-out-kinds.ps (falls 2 literal-out-kinds.ps _<_ μ-literal-out t) literal-out.Pre
+
+abbrev literal-run-at : ℕ → In 4 literal-run-kinds.ps
+literal-run-at t =
+    and 4 literal-run-kinds.ps (is 4 literal-run-kinds.ps μ-literal-run t) literal-run.Pre
+
+abbrev literal-run-below : ℕ → In 4 literal-run-kinds.ps
+literal-run-below t =
+    and 4 literal-run-kinds.ps (falls 4 literal-run-kinds.ps _<_ μ-literal-run t) literal-run.Pre
+
+-- is there a match of all that is around the pattern and the row?
+abbrev outside : List ℕ → List ℕ → Pending → List ℕ → ℕ → List ℕ → ℕ → Values Atom → Bool
+outside text terms pending pattern at row start = resume (levelsOf text terms pending (at + length pattern) (start + length row))
+
+abbrev literal-lengths-Inv-loop : literal-lengths-lts.InvT-loop
+literal-lengths-Inv-loop text terms pattern at row start pending b end rest next n₀ n =
+    Begin row n × (someHolds (outside text terms pending pattern at row start) (eachLength text true pattern row (valuesOf text terms b))
+    ≡ someHolds (outside text terms pending pattern at row start) (leftAt text true pattern row (valuesOf text terms b) n))
+
+abbrev literal-lengths-μ-loop : literal-lengths-lts.MeasureT-loop
+literal-lengths-μ-loop text terms pattern at row start pending b end rest next n₀ n = length row - n
+
+pub +literal-inside+literal-lengths+literal-out+literal-run-spec : {M : Type 1} → statement M
++literal-inside+literal-lengths+literal-out+literal-run-spec =
+    close
+    μ-literal-inside
+    μ-literal-lengths
+    μ-literal-out
+    μ-literal-run
+    (λ t. literal-inside-lts.spec (
+      end-of-reads.Asked,
+      end-of-reads.Learnt,
+      push-reads.Asked,
+      push-reads.Learnt,
+      literal-run-below t,
+      literal-run.Post,
+    )
+    (literal-inside-at t)
+    literal-inside.Post
+    (λ c κs. c .before .before .before .before .pre .1 .1)
+    (λ c κs. c .before .before .before .before .before .pre .1 .2 .some)
+    (λ c. let asked = c .before .before .before .before .before .before .pre .1 .0 .asked in
+    omega (arith, asked .pattern-stands .inside, asked .small))
+    (λ c. let asked = c .before .before .before .before .before .before .pre .1 .0 .asked in
+    omega (arith, asked .row-stands .inside, asked .small))
+    (λ c κs. let start = c .before .before .before .before .before .before .pre in
+    let asked = start .1 .0 .asked in (
+      omega (arith, asked .pattern-stands .inside, asked .small),
+      omega (arith, asked .row-stands .inside, asked .small),
+      level.level-ready (start .1 .0) (start .1 .1) (start .1 .2) _ _ (c .before .end-of .ensures .0) (c .end-of2 .ensures .0),
+      start .1 .0 .around .patterns,
+      start .1 .0 .around .rows,
+    ))
+    (λ c. c .before .before .end-of .ensures .1)
+    (λ c. search needs)
+    (λ c. search needs)
+    (λ c. c .before .before .end-of2 .ensures .1)
+    (λ c. search needs)
+    (λ c. search needs)
+    (λ c. let start = c .before .before .before .before .before .before .before .before .before .pre in
+    omega (arith, start .1 .0 .asked .pattern-stands .inside, start .1 .0 .asked .small, start .1 .1))
+    (λ c. let start = c .before .before .before .before .before .before .before .before .before .pre in
+    omega (arith, start .1 .0 .asked .row-stands .inside, start .1 .0 .asked .small, start .1 .2 .some))
+    (λ c κs. let start = c .before .before .before .before .before .before .before .before .before .pre in
+    let more = c .before .before .push .ensures in (
+      omega (arith, start .0, more .0, start .1 .0 .asked .pattern-stands .inside, start .1 .1),
+      level.literal-inside (start .1 .0) (start .1 .1) (start .1 .2) _ _ (c .before .before .before .before .end-of .ensures .0) (c .before .before .before .end-of2 .ensures .0) (c .before .before .push .result) (more .0) (more .1) (more .2),
+    ))
+    (λ c. let start = c .before .before .before .before .before .before .before .before .before .before .pre in
+    let more = c .before .before .before .push .ensures in
+    level.inside-answer (start .1 .0) (start .1 .1) (start .1 .2) _ _ (c .before .before .before .before .before .end-of .ensures .0) (c .before .before .before .before .end-of2 .ensures .0) (c .before .before .before .push .result) (more .0) (more .1) (more .2)
+    (c .literal-run .result) (c .literal-run .ensures)))
+    (λ t. literal-lengths-lts.spec (
+      end-of-reads.Asked,
+      end-of-reads.Learnt,
+      bind-reads.Asked,
+      bind-reads.Learnt,
+      literal-run-below t,
+      literal-run.Post,
+    )
+    (literal-lengths-at t)
+    literal-lengths.Post
+    literal-lengths-Inv-loop
+    literal-lengths-μ-loop
+    (λ c κs. c .before .before .before .before .pre .1 .0 .1)
+    (λ c. c .end-of .ensures .2)
+    (λ c. search needs)
+    (λ c. search needs)
+    (λ c. let asked = c .before .before .before .before .before .before .pre .1 .0 .0 .asked in
+    omega (arith, asked .pattern-stands .inside, asked .small, c .before .end-of .ensures .2))
+    (λ c. let start = c .before .before .before .before .before .before .pre in
+    (at-start, level.lengths-start (start .1 .0 .0) (start .1 .0 .1) (start .1 .1)))
+    (λ c. begin-inside (c .loop .inv .0))
+    (λ c. begin-inside (c .loop .inv .0))
+    (λ c. search needs)
+    (λ c κs. let start = c .before .before .before .before .before .before .before .before .pre in
+    let asked = start .1 .0 .0 .asked in (
+      (
+        omega (arith, asked .pattern-stands .inside, asked .small, start .1 .0 .1),
+        omega (arith, asked .row-stands .inside, asked .small),
+        omega (arith, asked .row-stands .inside, asked .small, begin-inside (c .before .loop .inv .0)),
+        calls.place-ready asked (start .1 .0 .1) (start .1 .1),
+      ),
+      (asked .kept .keys, asked .kept .starts, asked .kept .sizes),
+    ))
+    (λ c. let asked = c .before .before .before .before .before .before .before .before .before .pre .1 .0 .0 .asked in
+    omega (arith, asked .row-stands .inside, asked .small, begin-inside (c .before .before .loop .inv .0)))
+    (λ c κs. let start = c .before .before .before .before .before .before .before .before .before .pre in
+    let ends = c .before .before .before .before .end-of in
+    let inside = begin-inside (c .before .before .loop .inv .0) in (
+      omega (arith, start .0, ends .ensures .1, ends .ensures .2, start .1 .0 .0 .asked .pattern-stands .inside),
+      level.literal-more (start .1 .0 .0) (start .1 .0 .1) (start .1 .1) inside (c .bind .ensures) (ends .result) (c .before .before .loop .n) (ends .ensures .0) inside,
+    ))
+    (λ c κs. c .if2 .left)
+    (λ c. let asked = c .before .before .before .before .before .before .before .before .before .before .before .before .before .pre .1 .0 .0 .asked in
+    omega (arith, asked .row-stands .inside, asked .small, c .end-of2 .ensures .2, from-length (c .before .before .before .before .before .before .loop .n) (c .before .before .before .before .before .before .before .before .before .before .before .before .before .args .row .now), begin-inside (c .before .before .before .before .before .before .loop .inv .0)))
+    (λ c. omega (arith, c .end-of2 .ensures .1, c .end-of2 .ensures .2, from-length (c .before .before .before .before .before .before .loop .n) (c .before .before .before .before .before .before .before .before .before .before .before .before .before .args .row .now), begin-inside (c .before .before .before .before .before .before .loop .inv .0)))
+    (λ c. let start = c .before .before .before .before .before .before .before .before .before .before .before .before .before .pre in (
+      rw (c .end-of2 .ensures .0) (one-on (c .before .if2 .left) (c .before .before .before .before .before .before .loop .inv .0)),
+      rw (c .end-of2 .ensures .0) (level.length-next (start .1 .0 .0) (start .1 .0 .1) (start .1 .1) (c .before .before .before .before .before .before .before .before .end-of .ensures .0) (c .before .before .before .before .before .before .loop .inv .0) (c .before .before .before .before .bind .ensures)
+          (c .before .before .before .literal-run .result) (c .before .before .before .literal-run .ensures) (c .before .before .before .before .before .before .loop .inv .1) (c .before .before .if1 .left) (c .before .if2 .left)),
+    ))
+    (λ c. let start = c .before .before .before .before .before .before .before .before .before .before .before .pre in
+    level.length-found (start .1 .0 .0) (start .1 .0 .1) (start .1 .1) (c .before .before .before .before .before .before .end-of .ensures .0) (c .before .before .before .before .loop .inv .0) (c .before .before .bind .ensures) (c .before .literal-run .result)
+    (c .before .literal-run .ensures) (c .before .before .before .before .loop .inv .1) (c .if1 .taken))
+    (λ c. let start = c .before .before .before .before .before .before .before .before .before .before .before .before .pre in
+    level.length-none (start .1 .0 .0) (start .1 .0 .1) (start .1 .1) (c .before .before .before .before .before .before .before .end-of .ensures .0) (c .before .before .before .before .before .loop .inv .0) (c .before .before .before .bind .ensures) (c .before .before .literal-run .result)
+    (c .before .before .literal-run .ensures) (c .before .before .before .before .before .loop .inv .1) (c .before .if1 .left) (c .if2 .taken)))
+    (λ t. literal-out-lts.spec (
+      wide-reads.Asked,
+      wide-reads.Learnt,
+      literal-run-below t,
+      literal-run.Post,
+    )
+    (literal-out-at t)
+    literal-out.Post
+    (λ c. level.out-none _ _ _ _ _ _ (c .if1 .taken))
+    (λ c. omega (arith, c .if1 .left))
+    (λ c. omega (arith, c .before .before .before .pre .1 .0 .1 .few))
+    (λ c. omega (arith, c .before .before .before .pre .1 .0 .1 .few, c .if1 .left))
+    (λ c κs. tt)
+    (λ c. omega (arith, c .before .before .before .before .before .pre .1 .0 .1 .few))
+    (λ c. omega (arith, c .before .before .before .before .before .pre .1 .0 .1 .few, c .before .before .if1 .left))
+    (λ c κs. tt)
+    (λ c. let start = c .before .before .before .before .before .before .before .pre in
+    level.out-pattern (start .1 .0 .0) (start .1 .0 .1) (start .1 .0 .2) (start .1 .1) (omega (arith, c .before .before .before .before .if1 .left)) (c .before .before .wide .ensures .0) (c .wide2 .ensures .0) .0)
+    (λ c. let start = c .before .before .before .before .before .before .before .pre in
+    level.out-pattern (start .1 .0 .0) (start .1 .0 .1) (start .1 .0 .2) (start .1 .1) (omega (arith, c .before .before .before .before .if1 .left)) (c .before .before .wide .ensures .0) (c .wide2 .ensures .0) .0)
+    (λ c. let start = c .before .before .before .before .before .before .before .pre in
+    level.out-pattern (start .1 .0 .0) (start .1 .0 .1) (start .1 .0 .2) (start .1 .1) (omega (arith, c .before .before .before .before .if1 .left)) (c .before .before .wide .ensures .0) (c .wide2 .ensures .0) .1)
+    (λ c. let start = c .before .before .before .before .before .before .before .before .pre in
+    level.out-row (start .1 .0 .0) (start .1 .0 .1) (start .1 .0 .2) (start .1 .1) (omega (arith, c .before .before .before .before .before .if1 .left)) (c .before .before .before .wide .ensures .0) (c .before .wide2 .ensures .0) .0)
+    (λ c. let start = c .before .before .before .before .before .before .before .before .pre in
+    level.out-row (start .1 .0 .0) (start .1 .0 .1) (start .1 .0 .2) (start .1 .1) (omega (arith, c .before .before .before .before .before .if1 .left)) (c .before .before .before .wide .ensures .0) (c .before .wide2 .ensures .0) .0)
+    (λ c. let start = c .before .before .before .before .before .before .before .before .pre in
+    level.out-row (start .1 .0 .0) (start .1 .0 .1) (start .1 .0 .2) (start .1 .1) (omega (arith, c .before .before .before .before .before .if1 .left)) (c .before .before .before .wide .ensures .0) (c .before .wide2 .ensures .0) .1)
+    (λ c κs. let start = c .before .before .before .before .before .before .before .before .before .pre in (
+      omega (arith, start .0, c .before .before .before .before .before .before .if1 .left),
+      level.literal-out (start .1 .0 .0) (start .1 .0 .1) (start .1 .0 .2) (start .1 .1) (omega (arith, c .before .before .before .before .before .before .if1 .left)) (c .before .before .before .before .wide .ensures .0) (c .before .before .wide2 .ensures .0),
+    ))
+    (λ c. let start = c .before .before .before .before .before .before .before .before .before .before .pre in
+    level.out-answer (start .1 .0 .0) (start .1 .0 .1) (start .1 .0 .2) (start .1 .1) (omega (arith, c .before .before .before .before .before .before .before .if1 .left)) (c .before .before .before .before .before .wide .ensures .0) (c .before .before .before .wide2 .ensures .0)
+    (c .literal-run .result) (c .literal-run .ensures)))
+    λ t. literal-run-lts.spec (
+      literal-out-below t,
+      literal-out.Post,
+      end-of-reads.Asked,
+      end-of-reads.Learnt,
+      first-of-reads.Asked,
+      first-of-reads.Learnt,
+      literal-run-below t,
+      literal-run.Post,
+      bind-reads.Asked,
+      bind-reads.Learnt,
+      literal-lengths-below t,
+      literal-lengths.Post,
+      literal-inside-below t,
+      literal-inside.Post,
+    )
+    (literal-run-at t)
+    literal-run.Post
+    (λ c. let asked = c .before .before .before .before .before .before .pre .1 .asked in
+    omega (arith, asked .pattern-stands .inside, asked .small))
+    (λ c. let asked = c .before .before .before .before .before .before .pre .1 .asked in
+    omega (arith, asked .row-stands .inside, asked .small))
+    (λ c κs. let start = c .before .before .before .before .before .before .pre in (
+      omega (arith, start .0),
+      ((start .1 .asked .small, start .1 .around, start .1 .asked .kept), level.out-capacity (start .1) (c .before .if1 .taken)),
+    ))
+    (λ c. level.run-out (c .before .before .before .before .before .before .before .pre .1) (c .literal-out .result) (c .before .before .if1 .taken) (c .before .if2 .taken) (c .literal-out .ensures))
+    (λ c. level.run-none (c .before .before .before .before .before .before .pre .1) (step.end-one _ _ _ true _ (c .before .if1 .taken) (c .if2 .left)))
+    (λ c κs. c .if1 .left)
+    (λ c. c .end-of .ensures .2)
+    (λ c. search needs)
+    (λ c. search needs)
+    (λ c. let asked = c .before .before .before .before .before .before .before .pre .1 .asked in
+    omega (arith, asked .pattern-stands .inside, asked .small, c .before .end-of .ensures .2))
+    (λ c κs. (c .before .before .before .before .before .before .before .pre .1 .asked .kept, c .before .before .if1 .left))
+    (λ c. search needs)
+    (λ c. search needs)
+    (λ c. step.goes-within (c .before .before .before .first-of .ensures) true _ (c .before .n .given .1))
+    (λ c. step.goes-within (c .before .before .before .first-of .ensures) true _ (c .before .n .given .1))
+    (λ c. search needs)
+    (λ c. let asked = c .before .before .before .before .before .before .before .before .before .before .before .before .pre .1 .asked in
+    omega (arith, asked .row-stands .inside, asked .small, step.goes-within (c .before .before .before .before .first-of .ensures) true _ (c .before .before .n .given .1)))
+    (λ c κs. let start = c .before .before .before .before .before .before .before .before .before .before .before .before .pre in
+    let ends = c .before .before .before .before .before .before .end-of in (
+      omega (arith, start .0, ends .ensures .1, ends .ensures .2, start .1 .asked .pattern-stands .inside),
+      level.literal-rest (start .1) (c .before .before .before .before .before .before .before .if1 .left) (ends .result) (c .before .before .n .given .0 .0) (ends .ensures .0) (step.goes-within (c .before .before .before .before .first-of .ensures) true _ (c .before .before .n .given .1)),
+    ))
+    (λ c. search needs)
+    (λ c. step.binds-within (c .before .before .before .first-of .ensures) true _ (c .before .n2 .given .1) .0)
+    (λ c. step.binds-within (c .before .before .before .first-of .ensures) true _ (c .before .n2 .given .1) .0)
+    (λ c. search needs)
+    (λ c κs. let asked = c .before .before .before .before .before .before .before .before .before .before .before .before .pre .1 .asked in
+    let binds = step.binds-within (c .before .before .before .before .first-of .ensures) true _ (c .before .before .n2 .given .1) in (
+      (
+        omega (arith, asked .pattern-stands .inside, asked .small, c .before .before .before .before .before .before .before .if1 .left),
+        omega (arith, asked .row-stands .inside, asked .small),
+        omega (arith, asked .row-stands .inside, asked .small, binds .0),
+        calls.place-ready asked (c .before .before .before .before .before .before .before .if1 .left) (binds .1),
+      ),
+      (asked .kept .keys, asked .kept .starts, asked .kept .sizes),
+    ))
+    (λ c. let asked = c .before .before .before .before .before .before .before .before .before .before .before .before .before .pre .1 .asked in
+    omega (arith, asked .row-stands .inside, asked .small, step.binds-within (c .before .before .before .before .before .first-of .ensures) true _ (c .before .before .before .n2 .given .1) .0))
+    (λ c κs. let start = c .before .before .before .before .before .before .before .before .before .before .before .before .before .pre in
+    let ends = c .before .before .before .before .before .before .before .end-of in
+    let binds = step.binds-within (c .before .before .before .before .before .first-of .ensures) true _ (c .before .before .before .n2 .given .1) in (
+      omega (arith, start .0, ends .ensures .1, ends .ensures .2, start .1 .asked .pattern-stands .inside),
+      level.literal-more (start .1) (c .before .before .before .before .before .before .before .before .if1 .left) (binds .1) (binds .0) (c .bind .ensures) (ends .result) (c .before .before .before .n2 .given .0 .0) (ends .ensures .0) (binds .0),
+    ))
+    (λ c. search needs)
+    (λ c κs. let start = c .before .before .before .before .before .before .before .before .before .before .pre in
+    (omega (arith, start .0), ((start .1, c .before .before .before .before .before .if1 .left), step.tries-free (c .before .before .first-of .ensures) true (c .enum-told2 .given .1))))
+    (λ c. search needs)
+    (λ c κs. let start = c .before .before .before .before .before .before .before .before .before .before .pre in
+    (omega (arith, start .0), (start .1, c .before .before .before .before .before .if1 .left, step.inside-facing (c .before .before .first-of .ensures) true (c .enum-told3 .given .1))))
+    (λ c. level.run-none (c .before .before .before .before .before .before .before .before .before .before .pre .1) (step.step-fails (c .before .before .first-of .ensures) true (c .enum-told .given .1)))
+    (λ c. let goes = step.goes-within (c .before .before .before .before .before .first-of .ensures) true _ (c .before .before .before .n .given .1) in
+    level.run-rest (c .before .before .before .before .before .before .before .before .before .before .before .before .before .pre .1) (c .literal-run .result) (c .before .before .before .before .before .before .before .end-of .result) (c .before .before .before .n .given .0 .0) (c .before .before .before .before .before .before .before .before .before .before .before .before .before .args .b) (c .before .before .before .before .before .before .before .end-of .ensures .0) goes
+    (step.step-goes (c .before .before .before .before .before .first-of .ensures) true _ _ (c .before .before .before .n .given .1) (c .before .before .before .before .before .before .before .end-of .ensures .0)) (c .literal-run .ensures))
+    (λ c. let binds = step.binds-within (c .before .before .before .before .before .before .first-of .ensures) true _ (c .before .before .before .before .n2 .given .1) in
+    level.run-rest (c .before .before .before .before .before .before .before .before .before .before .before .before .before .before .pre .1) (c .literal-run2 .result) (c .before .before .before .before .before .before .before .before .end-of .result) (c .before .before .before .before .n2 .given .0 .0) (c .before .bind .result) (c .before .before .before .before .before .before .before .before .end-of .ensures .0) (binds .0)
+    (step.step-binds (c .before .before .before .before .before .before .first-of .ensures) true _ _ _ (c .before .before .before .before .n2 .given .1) (c .before .before .before .before .before .before .before .before .end-of .ensures .0)
+    (calls.values-more (c .before .before .before .before .before .before .before .before .before .before .before .before .before .before .pre .1 .asked) (c .before .before .before .before .before .before .before .before .before .if1 .left) (binds .1) (binds .0) (c .before .bind .ensures))) (c .literal-run2 .ensures))
+    (λ c. level.run-same (c .before .before .before .before .before .before .before .before .before .before .before .pre .1) (c .literal-lengths .result) _ (c .literal-lengths .ensures) (step.step-tries (c .before .before .before .first-of .ensures) true (c .before .enum-told2 .given .1)))
+    (λ c. level.run-same (c .before .before .before .before .before .before .before .before .before .before .before .pre .1) (c .literal-inside .result) _ (c .literal-inside .ensures) (step.step-inside (c .before .before .before .first-of .ensures) true (c .before .enum-told3 .given .1)))

@@ -1,0 +1,22 @@
+use native.Mathlib.Omega.{arith}
+use mathlib.Core.Path.{ap}
+use lib.ListN.{set}
+use borrow.Author.Needs.{needs}
+use Rattle.matching.proofs.literal.push.Statement.{statement}
+use Rattle.matching.proofs.literal.push.Tie as tie
+use Rattle.matching.proofs.literal.push.Reads as reads
+use Rattle.matching.proofs.literal.push.Lts as lts
+use Rattle.matching.proofs.narrow.Reads as narrow-reads
+
+pub push-spec : {M : Type 1} → statement M
+push-spec =
+    tie.close
+    (tie.spec
+    (λ c κs. search needs)
+    (λ c. search needs)
+    (λ c. search needs)
+    (λ c κs. search needs)
+    (λ c. search needs)
+    (λ c. search needs)
+    (λ c. search needs)
+    (λ c. (omega arith, ap (set (c .before .before .args .pending .patterns) (c .before .before .args .pending .count)) (c .before .narrow .ensures), ap (set (c .before .before .args .pending .rows) (c .before .before .args .pending .count)) (c .narrow2 .ensures))))

@@ -1,0 +1,217 @@
+// Literal matching: does a pattern match a row without variables, calls and blocks? A bracket whose contents matched is gone back into.
+use crate::Bindings;
+use crate::First;
+use crate::bind;
+use crate::first_of;
+use crate::narrow;
+use crate::none;
+use crate::wide;
+use file::Term;
+use file::term_at;
+use law::runs::end_of;
+ghost use mathlib.Core.Path.{_≡_};
+ghost use mathlib.Core.Bool.{true, false};
+ghost use mathlib.Core.List.{[], _++_};
+ghost use mathlib.Core.Option.{none};
+ghost use Prim.Native.Nat.{suc, _+_, _≤_, _<_};
+ghost use lib.ListN.{length, set};
+ghost use Rattle.file.specs.Head.{termAt};
+ghost use Rattle.law.specs.Variables.{distinct};
+ghost use Rattle.matching.specs.Literal.{literalMatches};
+ghost use Rattle.matching.specs.Part.{rowOf, literalPart, symbolsOf, Stands};
+ghost use Rattle.matching.specs.Bound.{valuesOf, Kept};
+ghost use Rattle.matching.specs.Step.{found, eachLength, eachInside, Free, Facing, firstVariable};
+ghost use Rattle.matching.specs.Capacity.{variablesIn, Capacity};
+ghost use Rattle.matching.specs.Asked.{someHolds, Asked, nesting, resume, comingIn, levelsOf, Around, LiteralAsked};
+
+// What is still to be matched around the brackets that were gone into: the positions among the term records where each level of the pattern and of the
+// row ends, the outermost first. A level begins where the one inside it ends.
+pub struct Pending {
+    pub patterns: [u16; 33],
+    pub rows: [u16; 33],
+    pub count: usize,
+}
+
+// Nothing is around.
+fn alone() -> Pending
+    ensures { λ r. ⌜ (r .count ≡ 0) × (length (r .patterns) ≡ 33) × (length (r .rows) ≡ 33) ⌝ }
+{
+    Pending {
+        patterns: [0; 33],
+        rows: [0; 33],
+        count: 0,
+    }
+}
+
+// One level more.
+fn push(pending: Pending, pattern_end: usize, row_end: usize) -> Pending
+    requires { ⌜ («pattern_end» < 65536) × («row_end» < 65536) × (pending .count < 33) × (length (pending .patterns) ≡ 33) × (length (pending .rows) ≡ 33) ⌝ }
+    ensures { λ r. ⌜ (r .count ≡ suc (pending .count)) × (r .patterns ≡ set (pending .patterns) (pending .count) «pattern_end») × (r .rows ≡ set (pending .rows) (pending .count) «row_end») ⌝ }
+{
+    let at = pending.count;
+    let mut next = pending;
+    next.patterns[at] = narrow(pattern_end);
+    next.rows[at] = narrow(row_end);
+    next.count = at + 1;
+    next
+}
+
+// Everything that is left at this level is matched: the next level out, or all.
+fn literal_out(
+    text: &[u8],
+    terms: &[u8],
+    at: usize,
+    start: usize,
+    pending: Pending,
+    b: Bindings,
+) -> bool
+    requires { ⌜ (length (now terms) < 65536) × Around (now text) (now terms) pending at start × Kept (now text) (now terms) b ⌝ }
+    requires { ⌜ Capacity (comingIn (levelsOf (now text) (now terms) pending at start)) (valuesOf (now text) (now terms) b) ⌝ }
+    ensures { λ r. ⌜ r ≡ resume (levelsOf (now (text .entry)) (now (terms .entry)) pending at start) (valuesOf (now (text .entry)) (now (terms .entry)) b) ⌝ }
+{
+    let n = pending.count;
+    if n == 0 {
+        return true;
+    }
+    let top = n - 1;
+    let mut out = pending;
+    out.count = top;
+    let end = wide(pending.patterns[top]);
+    let row_end = wide(pending.rows[top]);
+    let pattern = &terms[at..end];
+    let row = &terms[start..row_end];
+    literal_run(text, terms, pattern, at, row, start, out, b)
+}
+
+// An e. variable without a value, then the rest of the pattern: every length in turn.
+fn literal_lengths(
+    text: &[u8],
+    terms: &[u8],
+    pattern: &[u8],
+    at: usize,
+    row: &[u8],
+    start: usize,
+    pending: Pending,
+    b: Bindings,
+) -> bool
+    requires { ⌜ LiteralAsked (now text) (now terms) (now pattern) at (now row) start pending b × (24 ≤ length (now pattern)) ⌝ }
+    requires { ⌜ Free (rowOf (now text) (now pattern)) (firstVariable (now text) (now pattern)) (valuesOf (now text) (now terms) b) ⌝ }
+    ensures { λ r. ⌜ r ≡ someHolds (resume (levelsOf (now (text .entry)) (now (terms .entry)) pending (at + length (now (pattern .entry))) (start + length (now (row .entry)))))
+        (eachLength (now (text .entry)) true (now (pattern .entry)) (now (row .entry)) (valuesOf (now (text .entry)) (now (terms .entry)) b)) ⌝ }
+{
+    let end = end_of(pattern);
+    let rest = &pattern[end..];
+    let next = at + end;
+    let mut n = 0;
+    loop {
+        let left = &row[n..];
+        let more = bind(b, at, start, n);
+        if literal_run(text, terms, rest, next, left, start + n, pending, more) {
+            break true;
+        }
+        if left.len() < 24 {
+            break false;
+        }
+        n += end_of(left);
+    }
+}
+
+// A bracket against a bracket: the contents, and then what is around them.
+fn literal_inside(
+    text: &[u8],
+    terms: &[u8],
+    pattern: &[u8],
+    at: usize,
+    row: &[u8],
+    start: usize,
+    pending: Pending,
+    b: Bindings,
+) -> bool
+    requires { ⌜ LiteralAsked (now text) (now terms) (now pattern) at (now row) start pending b × (24 ≤ length (now pattern)) × Facing (rowOf (now text) (now pattern)) (now row) ⌝ }
+    ensures { λ r. ⌜ r ≡ someHolds (resume (levelsOf (now (text .entry)) (now (terms .entry)) pending (at + length (now (pattern .entry))) (start + length (now (row .entry)))))
+        (eachInside (now (text .entry)) true (now (pattern .entry)) (now (row .entry)) (valuesOf (now (text .entry)) (now (terms .entry)) b)) ⌝ }
+{
+    let m = end_of(pattern);
+    let n = end_of(row);
+    let around = push(pending, at + pattern.len(), start + row.len());
+    let contents = &pattern[24..m];
+    let inside = &row[24..n];
+    let first = at + 24;
+    literal_run(text, terms, contents, first, inside, start + 24, around, b)
+}
+
+// Is there a match of a pattern with a row, and then of all that is around them?
+fn literal_run(
+    text: &[u8],
+    terms: &[u8],
+    pattern: &[u8],
+    at: usize,
+    row: &[u8],
+    start: usize,
+    pending: Pending,
+    b: Bindings,
+) -> bool
+    requires { ⌜ LiteralAsked (now text) (now terms) (now pattern) at (now row) start pending b ⌝ }
+    ensures { λ r. ⌜ r ≡ someHolds (resume (levelsOf (now (text .entry)) (now (terms .entry)) pending (at + length (now (pattern .entry))) (start + length (now (row .entry)))))
+        (found true (rowOf (now (text .entry)) (now (pattern .entry))) (rowOf (now (text .entry)) (now (row .entry))) (valuesOf (now (text .entry)) (now (terms .entry)) b)) ⌝ }
+{
+    if pattern.len() < 24 {
+        if row.len() < 24 {
+            let next = at + pattern.len();
+            return literal_out(text, terms, next, start + row.len(), pending, b);
+        }
+        return false;
+    }
+    let end = end_of(pattern);
+    let rest = &pattern[end..];
+    let next = at + end;
+    match first_of(text, terms, pattern, row, b) {
+        First::Fails => false,
+        First::Goes(n) => {
+            let left = &row[n..];
+            literal_run(text, terms, rest, next, left, start + n, pending, b)
+        }
+        First::Binds(n) => {
+            let left = &row[n..];
+            let more = bind(b, at, start, n);
+            literal_run(text, terms, rest, next, left, start + n, pending, more)
+        }
+        First::Tries => literal_lengths(text, terms, pattern, at, row, start, pending, b),
+        First::Inside => literal_inside(text, terms, pattern, at, row, start, pending, b),
+    }
+}
+
+// Has a part no variable, call or block at any depth?
+pub fn is_literal(part: &[u8]) -> bool
+    ensures { λ r. ⌜ r ≡ literalPart (now (part .entry)) ⌝ }
+{
+    if part.len() < 24 {
+        return true;
+    }
+    let end = end_of(part);
+    match term_at(part, 0) {
+        Term::Symbolic(_) => is_literal(&part[end..]),
+        Term::SVariable(_, _) => false,
+        Term::TVariable(_, _) => false,
+        Term::EVariable(_, _) => false,
+        Term::Bracket => is_literal(&part[24..end]) && is_literal(&part[end..]),
+        Term::Call(_, _) => false,
+        Term::Block(_) => false,
+    }
+}
+
+// Does a pattern match a literal part?
+pub fn literal(
+    text: &[u8],
+    terms: &[u8],
+    pattern: &[u8],
+    at: usize,
+    row: &[u8],
+    start: usize,
+) -> bool
+    requires { ⌜ (length (now terms) < 65536) × Stands (now terms) (now pattern) at × Stands (now terms) (now row) start ⌝ }
+    requires { ⌜ (distinct (variablesIn (rowOf (now text) (now pattern))) ≤ 32) × (nesting (rowOf (now text) (now pattern)) ≤ 33) × (literalPart (now row) ≡ true) ⌝ }
+    ensures { λ r. ⌜ r ≡ literalMatches (rowOf (now (text .entry)) (now (pattern .entry))) (symbolsOf (now (text .entry)) (now (row .entry))) ⌝ }
+{
+    literal_run(text, terms, pattern, at, row, start, alone(), none())
+}
