@@ -9,3 +9,4 @@ pub mod Levels
 pub mod Findings
 pub mod Message
 pub mod Examples
+pub mod Part

@@ -50,7 +50,7 @@ module _ {A B : Type 0} (f : A → B) where
 pub literal-in-run : (p : Pattern) (x : Terms Symbol) → literalMatches p x ≡ true → some-in (runMatches p (expressionOf x) none-bound) ≡ true
 literal-in-run p x h =
     let σ =
-    fills-of-match sameSymbol (λ a. a) anySymbol anySymbol true symbol-sound (character 0) refl refl
+    fills-of-match sameSymbol (λ a. a) anySymbol anySymbol _ symbol-sound (character 0) refl refl
     p x none-bound (none-kinded anySymbol anySymbol) h in
     run-complete p (expressionOf x) none-bound
     (record {

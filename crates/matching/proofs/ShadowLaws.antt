@@ -102,7 +102,7 @@ pub shadow-sound-from : (valued : List Variable) (earlier later : Pattern) → s
 unfolding shadowsWith
 shadow-sound-from valued earlier later sh x vs k within m =
     let β =
-    fills-of-match sameAtom literal symbolLike singleTerm false atom-sound (literal (pattern.character 0)) refl refl
+    fills-of-match sameAtom literal symbolLike singleTerm _ atom-sound (literal (pattern.character 0)) refl refl
     earlier later (ownValues valued) (own-kinded valued) sh in
     let σ = matches-iff-from later x vs k .0 m in
     run-complete earlier x vs

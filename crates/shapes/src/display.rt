@@ -34,7 +34,7 @@ fn copy_bytes(piece: &[u8], out: &mut [u8], at: usize)
 }
 
 // Bytes put at a position, where there is room; the position after them in any case.
-fn put(piece: &[u8], out: &mut [u8], at: usize) -> usize
+pub fn put(piece: &[u8], out: &mut [u8], at: usize) -> usize
     requires { ⌜ at + length (now piece) ≤ largest ⌝ }
     ensures { λ r. ⌜ Put (now (out .entry)) at (now (piece .entry)) r (now (out .exit)) ⌝ }
 {
@@ -46,7 +46,7 @@ fn put(piece: &[u8], out: &mut [u8], at: usize) -> usize
 }
 
 // The same of one byte.
-fn put_byte(byte: u8, out: &mut [u8], at: usize) -> usize
+pub fn put_byte(byte: u8, out: &mut [u8], at: usize) -> usize
     requires { ⌜ at + 1 ≤ largest ⌝ }
     ensures { λ r. ⌜ Put (now (out .entry)) at (byte ∷ []) r (now (out .exit)) ⌝ }
 {
@@ -116,7 +116,7 @@ fn show_row(s: &[u32], is_open: bool, first: bool, out: &mut [u8], at: usize) ->
 }
 
 // A format as text; the position after it, whether there was room or not. No words are the empty format.
-fn show_format(format: &[u32], out: &mut [u8], at: usize) -> usize
+pub fn show_format(format: &[u32], out: &mut [u8], at: usize) -> usize
     requires { ⌜ at + 4096 ≤ largest ⌝ }
     ensures { λ r. ⌜ Put (now (out .entry)) at (display (readFormat (now (format .entry)))) r (now (out .exit)) ⌝ }
 {

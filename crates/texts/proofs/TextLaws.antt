@@ -1,0 +1,56 @@
+-- Laws of texts that are put piece after piece, and how long the parts of a finding's text are.
+use Prim.Native.Nat.{ℕ, _+_, _*_, _%_, _≤_}
+use mathlib.Core.Bool.{Bool, true, false}
+use mathlib.Core.List.{List, [], _∷_, _++_}
+use mathlib.Core.Path.{_≡_, refl, _∙_}
+use native.Mathlib.Omega.{arith}
+use lib.ListN.{length, take, drop, getD, length-append, length-take, length-drop}
+use lib.Dec.{leb}
+use Rattle.shapes.specs.Format.{Shapes, end, item, group, Format, never, of, size}
+use Rattle.shapes.specs.Words.{shapesIn, readFormat}
+use Rattle.shapes.specs.Written.{Put}
+use Rattle.shapes.specs.Display.{spaced, display}
+use Rattle.shapes.proofs.WordLaws.{shapes-size}
+use Rattle.shapes.proofs.DisplayLaws.{put-more}
+
+-- a text was put in a buffer of the length that it had
+abbrev pub Done : List ℕ → ℕ → List ℕ → ℕ → List ℕ → Type 0
+Done old at text next new = Put old at text next new × (length new ≡ length old)
+
+-- one text after another
+infixl 20 _then_
+pub _then_ : {old middle last first second : List ℕ} {at next end : ℕ} → Done old at first next middle → Done middle next second end last → Done old at (first ++ second) end last
+_then_ {old} {middle} {last} {first} {second} {at} {next} {end} p q =
+    (put-more old first middle second last at next end (p .1) (p .0) (q .0), q .1 ∙ p .1)
+
+-- a shape takes eight bytes at most
+spaced-few : (f : Shapes) → length (spaced f) ≤ 8 * size f + 3
+unfolding spaced size
+spaced-few (end true) = omega arith
+spaced-few (end false) = omega arith
+spaced-few (item b f) = omega (arith, spaced-few f)
+spaced-few (group g f) = omega (arith, spaced-few g, spaced-few f, length-append (drop 1 (spaced g)) (93 ∷ 41 ∷ spaced f), length-drop 1 (spaced g))
+
+-- words say a format of at most 255 shapes
+display-few : (s : List ℕ) → length (display (readFormat s)) ≤ 2048
+unfolding display readFormat
+display-few s = go (leb 512 (getD s 0 0)) refl
+  where
+    go : (t : Bool) → leb 512 (getD s 0 0) ≡ t → length (display (readFormat s)) ≤ 2048
+    go true q = rw q (omega arith)
+    go false q =
+        let shapes : Shapes = shapesIn (leb 256 (getD s 0 0)) (take (getD s 0 0 % 256) (drop 1 s)) in
+        rw q (
+        omega (
+          arith,
+          length-append (drop 1 (spaced shapes)) (93 ∷ []),
+          length-drop 1 (spaced shapes),
+          spaced-few shapes,
+          shapes-size (leb 256 (getD s 0 0)) (take (getD s 0 0 % 256) (drop 1 s)),
+          length-take (getD s 0 0 % 256) (drop 1 s),
+        )
+        )
+
+-- so the position after it is near
+pub shown-near : (s : List ℕ) {old new : List ℕ} {at next : ℕ} → Put old at (display (readFormat s)) next new → next ≤ at + 2048
+shown-near s p = omega (arith, p .end, display-few s)

@@ -1,0 +1,17 @@
+-- How the text begins, and why the call fails.
+use Rattle.lints.specs.Message.{claimText}
+use Rattle.texts.proofs.TextLaws.{_then_}
+use borrow.Author.Needs.{needs}
+use Rattle.texts.proofs.put_fails.Statement.{statement}
+use Rattle.texts.proofs.put_fails.Tie as tie
+
+pub put-fails-spec : {M : Type 1} → statement M
+unfolding claimText
+put-fails-spec = tie.close (tie.spec
+    (λ c κs. search needs)
+    (λ c κs. search needs)
+    (λ c. search needs)
+    (λ c.
+    let call = c .before .before .before .before .before .before .put-call in
+    let why = c .before .before .put-failure in
+    λ owner f e. ((call .ensures .1 f e, call .kept .1 .0) then (why .ensures, why .kept .1 .0)) .0))

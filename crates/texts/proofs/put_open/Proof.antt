@@ -1,0 +1,32 @@
+-- Six pieces, one after another.
+use Rattle.law.specs.Text.{bytesOf}
+use Rattle.lints.specs.Message.{claimText}
+use Rattle.texts.proofs.TextLaws.{_then_}
+use borrow.Author.Needs.{needs}
+use Rattle.texts.proofs.put_open.Statement.{statement}
+use Rattle.texts.proofs.put_open.Tie as tie
+
+pub put-open-spec : {M : Type 1} → statement M
+unfolding bytesOf claimText
+put-open-spec =
+    tie.close
+    (tie.spec
+    (λ c. search needs)
+    (λ c κs. search needs)
+    (λ c κs. search needs)
+    (λ c. search needs)
+    (λ c κs. search needs)
+    (λ c κs. search needs)
+    (λ c. search needs)
+    (λ c κs. search needs)
+    (λ c κs. search needs)
+    (λ c. search needs)
+    (λ c.
+    let first = c .before .before .before .before .before .before .before .before .before .before .before .before .before .before .before .before .before .before .before .before .before .before .before .before .put in
+    let owner = c .before .before .before .before .before .before .before .before .before .before .before .before .before .before .before .before .before .before .before .before .put2 in
+    let second = c .before .before .before .before .before .before .before .before .before .before .before .before .before .before .before .put3 in
+    let count = c .before .before .before .before .before .before .before .before .before .before .before .put-decimal in
+    let third = c .before .before .before .before .before .before .put4 in
+    let again = c .before .before .put-decimal2 in
+    λ f e. rw e (((first .ensures, first .kept .1 .0) then (owner .ensures, owner .kept .1 .0) then (second .ensures, second .kept .1 .0)
+    then (count .ensures .1, count .kept .1 .0) then (third .ensures, third .kept .1 .0) then (again .ensures .1, again .kept .1 .0)) .0)))
