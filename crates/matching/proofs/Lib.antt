@@ -12,6 +12,8 @@ pub mod ShadowSteps
 pub mod ShadowStart
 pub mod LevelLaws
 pub mod SentencePatterns
+pub mod Arguments
+pub mod SentenceLaws
 pub mod SameLaws
 pub mod RowLaws
 pub mod SearchLaws

@@ -8,4 +8,5 @@ pub mod Bound
 pub mod Step
 pub mod Capacity
 pub mod Asked
+pub mod Entry
 pub mod Examples

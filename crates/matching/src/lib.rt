@@ -23,6 +23,7 @@ ghost use Rattle.matching.specs.Bound.{valuesOf, placed, Kept, Bound, Pl
 ghost use Rattle.matching.specs.Step.{beginsWith, BeginsIn, openTerm, symbolTerm, singleOne, mayStand, Leaves};
 
 pub mod literal;
+pub mod sentences;
 pub mod shadow;
 
 // Values of variables, in places: the position of the variable's first record among the term records, and the position and the size of the value.
@@ -239,7 +240,7 @@ fn is_symbol(term: Term) -> bool
     }
 }
 
-// May a t. variable stand for this term? An e. variable is never a single term.
+// May a t. variable stand for this term?
 fn is_single(term: Term) -> bool
     ensures { λ r. ⌜ r ≡ singleOne term ⌝ }
 {
@@ -247,7 +248,7 @@ fn is_single(term: Term) -> bool
         Term::Symbolic(_) => true,
         Term::SVariable(_, _) => true,
         Term::TVariable(_, _) => true,
-        Term::EVariable(_, _) => false,
+        Term::EVariable(_, _) => false, // never a single term
         Term::Bracket => true,
         Term::Call(_, _) => false,
         Term::Block(_) => false,

@@ -1,0 +1,76 @@
+-- The records inside a term record of an accepted file are term records too.
+use Prim.Native.Nat.{ℕ, suc, _+_, _*_, _-_, _≤_, _<_}
+use mathlib.Core.Bool.{true}
+use mathlib.Core.Path.{_≡_}
+use native.Mathlib.Omega.{arith}
+use native.Mathlib.Decide.{decLt}
+use Rattle.file.specs.Word.{wordAt}
+use Rattle.file.specs.Sections.{File}
+use Rattle.law.specs.Places.{patternSize, conditionsOf, resultSize, askedSize, wantedSize, firstCondition, patternAt, askedAt, resultAt, termsAt, patternPart, resultPart, askedPart, wantedPart}
+use Rattle.law.specs.Runs.{runFits, usedUp}
+use Rattle.law.specs.Index.{Readable}
+use Rattle.law.proofs.PlaceLaws.{condition-next, asked-first, asked-next, asked-last, pattern-next, pattern-inside, result-inside, asked-inside}
+use Rattle.law.proofs.RunLaws.{by-records}
+use Rattle.law.proofs.Allowed.{all-used, pattern-fits, result-fits, asked-fits, wanted-fits}
+use Rattle.law.proofs.Owners.{step-around, sentence-of}
+
+module _ (file : File) (readable : Readable file) where
+  -- where the records inside a record end
+  abbrev endAt : ℕ → ℕ
+  endAt t = t + 1 + wordAt (file .terms .records) (24 * t + 12)
+
+  -- each of some records has the records inside it among them
+  abbrev Holds : ℕ → ℕ → Type 0
+  Holds at count = (t : ℕ) → at ≤ t → t < at + count → endAt t ≤ at + count
+
+  holds-first : (at count n : ℕ) → at + count ≤ file .terms .count → wordAt (file .terms .records) (24 * at + 12) ≡ n → 1 + n ≤ count
+      → Holds (at + 1) n → Holds (at + 1 + n) (count - (1 + n)) → Holds at count
+  holds-first at count n inside word fit in-holds out-holds t low high = go (decLt at t) (decLt t (at + 1 + n))
+    where
+      go : Dec (at < t) → Dec (t < at + 1 + n) → endAt t ≤ at + count
+      go (no l) e =
+          let same : t ≡ at = omega arith in
+          rw (same, word) (omega arith)
+      go (yes l) (yes m) = omega (arith, in-holds t (omega arith) (omega arith))
+      go (yes l) (no m) = omega (arith, out-holds t (omega arith) (omega arith))
+
+  run-inside : (at count t : ℕ) → at + count ≤ file .terms .count → runFits (termsAt file at count) ≡ true → at ≤ t → t < at + count
+      → endAt t ≤ file .terms .count
+  run-inside at count t inside fit low high =
+      omega (arith, by-records file (readable .whole) Holds (λ at t low high. absurd (omega arith)) holds-first at count inside fit t low high)
+
+  used : usedUp file ≡ true
+  used = all-used file (readable .runs)
+
+  -- in the pattern, a condition or the result of its sentence
+  sentence-inside : (s t : ℕ) → s < file .sentences .count → patternAt file s ≤ t → t < patternAt file (suc s) → endAt t ≤ file .terms .count
+  unfolding patternPart resultPart askedPart wantedPart
+  sentence-inside s t inside low high = go (decLt t (patternAt file s + patternSize file s)) (decLt t (resultAt file s))
+    where
+      in-condition : (c : ℕ) → firstCondition file s ≤ c → c < firstCondition file (suc s) → askedAt file s c ≤ t → t < askedAt file s (suc c)
+          → Dec (t < askedAt file s c + askedSize file c) → endAt t ≤ file .terms .count
+      in-condition c from below under over (yes l) =
+          run-inside (askedAt file s c) (askedSize file c) t (omega (arith, asked-inside file used s c inside below))
+          (asked-fits file (readable .runs) s inside c from below)
+          under l
+      in-condition c from below under over (no l) =
+          run-inside (askedAt file s c + askedSize file c) (wantedSize file c) t (omega (arith, asked-inside file used s c inside below))
+          (wanted-fits file (readable .runs) s inside c from below)
+          (omega arith) (omega (arith, asked-next file s c))
+
+      go : Dec (t < patternAt file s + patternSize file s) → Dec (t < resultAt file s) → endAt t ≤ file .terms .count
+      go (yes l) e =
+          run-inside (patternAt file s) (patternSize file s) t (pattern-inside file used s inside) (pattern-fits file (readable .runs) s inside) low l
+      go (no l) (yes m) =
+          let ends : askedAt file s (firstCondition file s + conditionsOf file s) ≡ resultAt file s = rw (← condition-next file s) (asked-last file s) in
+          let (c, from, below, under, over) =
+          step-around (askedAt file s) (firstCondition file s) (conditionsOf file s) t (omega (arith, asked-first file s)) (omega arith) in
+          in-condition c from (omega (arith, condition-next file s)) under over (decLt t (askedAt file s c + askedSize file c))
+      go (no l) (no m) =
+          run-inside (resultAt file s) (resultSize file s) t (result-inside file used s inside) (result-fits file (readable .runs) s inside)
+          (omega arith) (omega (arith, pattern-next file s))
+
+  pub record-inside : (t : ℕ) → t < file .terms .count → t + 1 + wordAt (file .terms .records) (24 * t + 12) ≤ file .terms .count
+  record-inside t l =
+      let (s, within, low, high) = sentence-of file used t l in
+      sentence-inside s t within low high

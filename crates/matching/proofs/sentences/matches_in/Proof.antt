@@ -1,0 +1,15 @@
+use Rattle.matching.proofs.SentenceLaws.{law-asked, recognise-refused, recognise-accepted}
+use borrow.Author.Needs.{needs}
+use Rattle.matching.proofs.sentences.matches_in.Statement.{statement}
+use Rattle.matching.proofs.sentences.matches_in.Tie as tie
+
+pub matches-in-spec : {M : Type 1} → statement M
+matches-in-spec =
+    tie.close
+    (tie.spec
+    (λ c κs. search needs)
+    (λ c. search needs)
+    (λ c. search needs)
+    (λ c κs. law-asked _ _ (c .before .before .before .before .read-law .ensures .0) _ (c .before .before .before .before .read-law .ensures .1) (c .before .enum-told .given .1))
+    (λ c. recognise-refused _ _ (c .before .before .before .before .read-law .ensures .0) _ _ _ (c .before .check .given .1))
+    (λ c. recognise-accepted _ _ (c .before .before .before .before .before .read-law .ensures .0) _ _ (c .recognise-accepted .result) (c .before .before .enum-told .given .1) (c .recognise-accepted .ensures)))
