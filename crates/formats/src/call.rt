@@ -19,7 +19,7 @@ ghost use Rattle.formats.specs.Slots.{fileNames};
 ghost use Rattle.formats.specs.Turns.{Asked, StartedIs, InferIs};
 
 // Sets a store's words to zero; words past it are kept.
-fn clear_store(store: &mut [u32], limit: usize)
+pub fn clear_store(store: &mut [u32], limit: usize)
     requires { ⌜ (limit ≤ 64) × (storeSize limit ≤ length (now store)) ⌝ }
     ensures { λ _. ⌜ now (store .exit) ≡ replicate (storeSize limit) 0 ++ drop (storeSize limit) (now (store .entry)) ⌝ }
 {

@@ -48,7 +48,7 @@ pub enum Inference {
 }
 
 // The format of a run of term records, every word of it, or false where it has too many shapes.
-fn row_format(
+pub fn row_format(
     law: &[u8],
     slots: &[u8; 577],
     store: &[u32],

@@ -10,3 +10,4 @@ pub mod Findings
 pub mod Message
 pub mod Examples
 pub mod Part
+pub mod Records

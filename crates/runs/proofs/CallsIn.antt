@@ -72,7 +72,7 @@ module _ (OfSymbol : Symbol → Type 0) (OfCall : ℕ → Name → Run → Type 
         own (List·Memᴰ·head e) g below = rw e g
         own (List·Memᴰ·tail i) g below = below i
 
-    sentence-block : (ss : Sentences) → EverySentence OfSymbol OfCall OfBlock ss → (b : Sentences) → List·Memᴰ b (sentenceBlocks ss)
+    pub sentence-block : (ss : Sentences) → EverySentence OfSymbol OfCall OfBlock ss → (b : Sentences) → List·Memᴰ b (sentenceBlocks ss)
         → EachRecord OfBlock b
     sentence-block (sentence n p cs r ss) h b m =
         either (blocks p ++ conditionBlocks cs ++ blocks r) (sentenceBlocks ss) m

@@ -248,7 +248,7 @@ abbrev pub Found : List Finding → ℕ → ℕ → Type 0
 Found fs lint subject = (x : Finding) × List·Memᴰ x fs × (lintNumber (lintOf (x .claim)) ≡ lint) × (x .subject .at ≡ subject)
 
 module _ (law : Law) (formats : Inferred) (x : Finding) (m : List·Memᴰ x (findingsOf law formats)) where
-  by-lint : {R : Type 0} → (List·Memᴰ x (deadFindings law) → R) → (List·Memᴰ x (recognitionFindings law formats) → R)
+  pub by-lint : {R : Type 0} → (List·Memᴰ x (deadFindings law) → R) → (List·Memᴰ x (recognitionFindings law formats) → R)
       → (List·Memᴰ x (builtinFindings law) → R) → (List·Memᴰ x (openFindings law) → R) → R
   unfolding findingsOf
   by-lint f g h k =

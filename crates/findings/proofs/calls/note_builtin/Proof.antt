@@ -1,0 +1,27 @@
+-- `calls::note_builtin` meets its contract: the events of the failure are those of the lint (`builtin-met`).
+use borrow.Author.Needs.{needs}
+use Rattle.file.specs.Sections.{fileOf}
+use Rattle.law.specs.Reading.{treeOf}
+use Rattle.findings.specs.Events.{sinkOf}
+use Rattle.findings.proofs.CallLaws.{name-inside, builtin-met}
+use Rattle.findings.proofs.calls.note_builtin.Statement.{statement}
+use Rattle.findings.proofs.calls.note_builtin.Tie as tie
+
+pub note-builtin-spec : {M : Type 1} → statement M
+note-builtin-spec =
+    tie.close
+    (tie.spec
+    (λ c κs. search needs)
+    (λ c κs. search needs)
+    (λ c κs. search needs)
+    (λ c κs.
+    let p = c .before .before .before .before .before .pre in
+    let a = c .before .before .before .before .before .args in
+    name-inside (fileOf (a .law .now)) (a .t) (p .1 .fields) (p .2) (p .3) (c .before .before .text .ensures) (c .before .term-word .ensures) (c .term-word2 .ensures))
+    (λ c κs. search needs)
+    (λ c κs. search needs)
+    (λ c κs. search needs)
+    (λ c. search needs)
+    (λ c.
+    let a = c .before .before .before .before .before .before .before .before .before .before .before .before .args in
+    builtin-met (fileOf (a .law .now)) (a .t) (a .task) (treeOf (fileOf (a .law .now))) (a .task .room) (sinkOf (a .tally) (a .out .now)) (c .before .before .before .before .before .before .before .before .before .text .ensures) (c .before .before .before .before .before .before .before .before .term-word .ensures) (c .before .before .before .before .before .before .before .term-word2 .ensures) (c .before .before .before .before .before .before .name-in .ensures) (c .before .before .before .before .before .argument .ensures) (c .before .before .before .before .builtin-fails .ensures) (c .before .before .note-failure .ensures)))

@@ -1,0 +1,38 @@
+-- `calls::note_call` meets its contract, by the task's lint.
+use borrow.Author.Needs.{needs}
+use Rattle.file.specs.Sections.{fileOf}
+use Rattle.law.specs.Reading.{treeOf}
+use Rattle.lints.specs.Records.{formatsIn}
+use Rattle.findings.specs.Events.{sinkOf}
+use Rattle.findings.specs.Tasks.{callEvents}
+use Rattle.findings.proofs.CallLaws.{kind-call, met-none, met-recognition, met-builtin, met-other}
+use Rattle.findings.proofs.calls.note_call.Statement.{statement}
+use Rattle.findings.proofs.calls.note_call.Tie as tie
+
+pub note-call-spec : {M : Type 1} → statement M
+note-call-spec =
+    tie.close
+    (tie.spec
+    (λ c κs. search needs)
+    (λ c.
+    let a = c .before .before .before .before .before .args in
+    met-none (fileOf (a .law .now)) (a .t) (c .before .term-word .ensures) (a .task .room) (sinkOf (a .tally) (a .out .now)) (callEvents (treeOf (fileOf (a .law .now))) (formatsIn (fileOf (a .law .now)) (a .task .limit) (a .store .now)) (a .task)) (c .if1 .taken))
+    (λ c κs.
+    let p = c .before .before .before .before .before .before .before .before .pre in
+    let a = c .before .before .before .before .before .before .before .before .args in
+    (p .0, p .1, kind-call (fileOf (a .law .now)) (a .t) (c .before .before .before .before .term-word .ensures) (c .before .before .before .if1 .left)))
+    (λ c. search needs)
+    (λ c.
+    let a = c .before .before .before .before .before .before .before .before .before .before .before .args in
+    met-recognition (fileOf (a .law .now)) (a .t) (c .before .before .before .before .before .before .before .term-word .ensures) (treeOf (fileOf (a .law .now))) (formatsIn (fileOf (a .law .now)) (a .task .limit) (a .store .now)) (a .task) (c .before .before .before .before .before .before .if1 .left) (a .task .room) (sinkOf (a .tally) (a .out .now)) (c .before .before .before .before .if2 .taken) (c .before .before .note-recognition .ensures))
+    (λ c κs.
+    let p = c .before .before .before .before .before .before .before .before .before .before .pre in
+    let a = c .before .before .before .before .before .before .before .before .before .before .args in
+    (p .0 .asked .indexed, p .0 .accepted, p .1, kind-call (fileOf (a .law .now)) (a .t) (c .before .before .before .before .before .before .term-word .ensures) (c .before .before .before .before .before .if1 .left)))
+    (λ c. search needs)
+    (λ c.
+    let a = c .before .before .before .before .before .before .before .before .before .before .before .before .before .args in
+    met-builtin (fileOf (a .law .now)) (a .t) (c .before .before .before .before .before .before .before .before .before .term-word .ensures) (treeOf (fileOf (a .law .now))) (formatsIn (fileOf (a .law .now)) (a .task .limit) (a .store .now)) (a .task) (c .before .before .before .before .before .before .before .before .if1 .left) (a .task .room) (sinkOf (a .tally) (a .out .now)) (c .before .before .before .before .if3 .taken) (c .before .before .note-builtin .ensures))
+    (λ c.
+    let a = c .before .before .before .before .before .before .before .before .before .args in
+    met-other (fileOf (a .law .now)) (a .t) (c .before .before .before .before .before .term-word .ensures) (treeOf (fileOf (a .law .now))) (formatsIn (fileOf (a .law .now)) (a .task .limit) (a .store .now)) (a .task) (c .before .before .before .before .if1 .left) (a .task .room) (sinkOf (a .tally) (a .out .now)) (c .before .before .if2 .left) (c .if3 .left)))

@@ -1,0 +1,38 @@
+-- `calls::note_failure` meets its contract, by the failure.
+use borrow.Author.Needs.{needs}
+use Rattle.file.specs.Sections.{fileOf}
+use Rattle.lints.specs.Part.{failureIn}
+use Rattle.lints.specs.declared.builtin.Fails.{Fails}
+use Rattle.findings.specs.Events.{sinkOf}
+use Rattle.findings.specs.Judging.{callFound, failureEvents}
+use Rattle.findings.proofs.CollectLaws.{collect-none}
+use Rattle.findings.proofs.CallLaws.{met-by, collect-met}
+use Rattle.findings.proofs.calls.note_failure.Statement.{statement}
+use Rattle.findings.proofs.calls.note_failure.Tie as tie
+
+pub note-failure-spec : {M : Type 1} → statement M
+note-failure-spec =
+    tie.close
+    (tie.spec
+    (λ c. search needs)
+    (λ c. search needs)
+    (λ c κs. search needs)
+    (λ c. search needs)
+    (λ c κs. search needs)
+    (λ c. search needs)
+    (λ c κs. search needs)
+    (λ c.
+    let a = c .before .before .before .before .args in
+    met-by (λ (x : Fails). failureEvents (fileOf (a .law .now)) (a .task) (a .t) (failureIn x)) (a .task .room) (sinkOf (a .tally) (a .out .now)) (c .enum-told .given .1) (collect-none (a .task .room) (sinkOf (a .tally) (a .out .now))))
+    (λ c. search needs)
+    (λ c.
+    let a = c .before .before .before .before .before .before .before .before .args in
+    met-by (λ (x : Fails). failureEvents (fileOf (a .law .now)) (a .task) (a .t) (failureIn x)) (a .task .room) (sinkOf (a .tally) (a .out .now)) (c .before .before .before .before .enum-told2 .given .1) (collect-met (a .task .room) (callFound (fileOf (a .law .now)) (a .task) (a .t) 1) (a .tally) (a .out .now) (c .before .before .put-call .ensures)))
+    (λ c. search needs)
+    (λ c.
+    let a = c .before .before .before .before .before .before .before .before .args in
+    met-by (λ (x : Fails). failureEvents (fileOf (a .law .now)) (a .task) (a .t) (failureIn x)) (a .task .room) (sinkOf (a .tally) (a .out .now)) (c .before .before .before .before .enum-told3 .given .1) (collect-met (a .task .room) (callFound (fileOf (a .law .now)) (a .task) (a .t) 2) (a .tally) (a .out .now) (c .before .before .put-call2 .ensures)))
+    (λ c. search needs)
+    (λ c.
+    let a = c .before .before .before .before .before .before .before .before .args in
+    met-by (λ (x : Fails). failureEvents (fileOf (a .law .now)) (a .task) (a .t) (failureIn x)) (a .task .room) (sinkOf (a .tally) (a .out .now)) (c .before .before .before .before .enum-told4 .given .1) (collect-met (a .task .room) (callFound (fileOf (a .law .now)) (a .task) (a .t) 3) (a .tally) (a .out .now) (c .before .before .put-call3 .ensures))))

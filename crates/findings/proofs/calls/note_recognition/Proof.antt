@@ -1,0 +1,26 @@
+-- `calls::note_recognition` meets its contract: the events of the verdict are those of the lint (`recognition-met`).
+use mathlib.Core.Path.{sym, _∙_}
+use borrow.Author.Needs.{needs}
+use Rattle.file.specs.Sections.{fileOf}
+use Rattle.law.specs.Reading.{treeOf}
+use Rattle.lints.specs.Records.{formatsIn, callAt}
+use Rattle.findings.specs.Events.{sinkOf}
+use Rattle.findings.specs.Tasks.{recognitionEvents}
+use Rattle.findings.proofs.CallLaws.{collect-over, recognition-met}
+use Rattle.findings.proofs.calls.note_recognition.Statement.{statement}
+use Rattle.findings.proofs.calls.note_recognition.Tie as tie
+
+pub note-recognition-spec : {M : Type 1} → statement M
+note-recognition-spec =
+    tie.close
+    (tie.spec
+    (λ c κs. search needs)
+    (λ c.
+    let a = c .before .before .before .before .before .args in
+    collect-over (a .task .room) (a .tally) (a .out .now) (recognitionEvents (treeOf (fileOf (a .law .now))) (formatsIn (fileOf (a .law .now)) (a .task .limit) (a .store .now)) (a .task) (callAt (fileOf (a .law .now)) (a .t))) (sym (c .before .is-over .ensures) ∙ c .if1 .taken))
+    (λ c κs. search needs)
+    (λ c κs. search needs)
+    (λ c. search needs)
+    (λ c.
+    let a = c .before .before .before .before .before .before .before .before .before .before .args in
+    recognition-met (fileOf (a .law .now)) (a .task) (formatsIn (fileOf (a .law .now)) (a .task .limit) (a .store .now)) (treeOf (fileOf (a .law .now))) (a .t) (a .task .room) (sinkOf (a .tally) (a .out .now)) (c .before .before .before .before .judge-call .ensures) (c .before .before .note-verdict .ensures)))

@@ -1,0 +1,34 @@
+-- `calls::note_verdict` meets its contract, by the verdict.
+use borrow.Author.Needs.{needs}
+use Rattle.file.specs.Sections.{fileOf}
+use Rattle.findings.specs.Events.{sinkOf}
+use Rattle.findings.specs.Judging.{verdictEvents}
+use Rattle.findings.proofs.CollectLaws.{collect-none}
+use Rattle.findings.proofs.CallLaws.{met-by, collect-wide}
+use Rattle.findings.proofs.calls.note_verdict.Statement.{statement}
+use Rattle.findings.proofs.calls.note_verdict.Tie as tie
+
+pub note-verdict-spec : {M : Type 1} → statement M
+note-verdict-spec =
+    tie.close
+    (tie.spec
+    (λ c. search needs)
+    (λ c. search needs)
+    (λ c. search needs)
+    (λ c κs. search needs)
+    (λ c. search needs)
+    (λ c κs. search needs)
+    (λ c.
+    let a = c .before .before .before .before .args in
+    met-by (verdictEvents (fileOf (a .law .now)) (a .task) (a .t)) (a .task .room) (sinkOf (a .tally) (a .out .now)) (c .enum-told .given .1) (collect-none (a .task .room) (sinkOf (a .tally) (a .out .now))))
+    (λ c.
+    let a = c .before .before .before .before .args in
+    met-by (verdictEvents (fileOf (a .law .now)) (a .task) (a .t)) (a .task .room) (sinkOf (a .tally) (a .out .now)) (c .enum-told2 .given .1) (collect-wide (a .task .room) (a .tally) (a .out .now)))
+    (λ c. search needs)
+    (λ c.
+    let a = c .before .before .before .before .before .before .before .before .args in
+    met-by (verdictEvents (fileOf (a .law .now)) (a .task) (a .t)) (a .task .room) (sinkOf (a .tally) (a .out .now)) (c .before .before .before .before .enum-told3 .given .1) (c .before .before .put-shown .ensures))
+    (λ c. search needs)
+    (λ c.
+    let a = c .before .before .before .before .before .before .before .before .args in
+    met-by (verdictEvents (fileOf (a .law .now)) (a .task) (a .t)) (a .task .room) (sinkOf (a .tally) (a .out .now)) (c .before .before .before .before .enum-told4 .given .1) (c .before .before .put-shown2 .ensures)))

@@ -1,0 +1,14 @@
+use Rattle.findings.proofs.LevelLaws.{mode-over, words-over, settings-are}
+use borrow.Author.Needs.{needs}
+use Rattle.findings.proofs.levels.settings_allowed.Statement.{statement}
+use Rattle.findings.proofs.levels.settings_allowed.Tie as tie
+use Rattle.findings.proofs.levels.settings_allowed.Reads as reads
+use Rattle.findings.proofs.levels.settings_allowed.Lts as lts
+use Rattle.findings.proofs.levels.overrides_allowed.Reads as overrides-allowed-reads
+
+pub settings-allowed-spec : {M : Type 1} → statement M
+settings-allowed-spec = tie.close (tie.spec
+    (λ c. mode-over (c .before .before .args .mode) (c .before .before .args .overrides .now) (c .if1 .taken))
+    (λ c. words-over (c .before .before .before .args .mode) (c .before .before .before .args .overrides .now) (c .before .if1 .left) (c .if2 .taken))
+    (λ c κs. search needs)
+    (λ c. settings-are (c .before .before .before .before .args .mode) (c .before .before .before .before .args .overrides .now) (c .before .before .if1 .left) (c .before .if2 .left) (c .overrides-allowed .ensures)))

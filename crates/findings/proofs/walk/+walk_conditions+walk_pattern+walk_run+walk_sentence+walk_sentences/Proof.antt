@@ -1,0 +1,529 @@
+use Prim.Native.Nat.{ℕ, _+_, _-_, _≤_, _<_}
+use mathlib.Core.Path.{_≡_, refl, ap, _∙_}
+use native.Mathlib.Omega.{arith}
+use native.Mathlib.Nat.{le-of-lt}
+use borrow.Author.Needs.{needs}
+use lib.ListN.{length}
+use Rattle.file.specs.Sections.{fileOf}
+use Rattle.law.specs.Places.{conditionsOf, firstCondition}
+use Rattle.law.specs.Reading.{sentencesIn}
+use Rattle.lints.specs.Records.{formatsIn}
+use Rattle.findings.specs.Events.{sinkOf}
+use Rattle.findings.proofs.WalkSteps as steps
+use borrow.Fn.Kinds.{In}
+use borrow.Fn.PlainCycle.{Measures, is, falls, and}
+use Rattle.findings.proofs.walk.walk_conditions.Reads as walk-conditions
+use Rattle.findings.proofs.walk.walk_conditions.Kinds as walk-conditions-kinds
+use Rattle.findings.proofs.walk.+walk_conditions+walk_pattern+walk_run+walk_sentence+walk_sentences.Lts-walk_conditions as walk-conditions-lts
+use Rattle.findings.proofs.walk.walk_pattern.Reads as walk-pattern
+use Rattle.findings.proofs.walk.walk_pattern.Kinds as walk-pattern-kinds
+use Rattle.findings.proofs.walk.+walk_conditions+walk_pattern+walk_run+walk_sentence+walk_sentences.Lts-walk_pattern as walk-pattern-lts
+use Rattle.findings.proofs.walk.walk_run.Reads as walk-run
+use Rattle.findings.proofs.walk.walk_run.Kinds as walk-run-kinds
+use Rattle.findings.proofs.walk.+walk_conditions+walk_pattern+walk_run+walk_sentence+walk_sentences.Lts-walk_run as walk-run-lts
+use Rattle.findings.proofs.walk.walk_sentence.Reads as walk-sentence
+use Rattle.findings.proofs.walk.walk_sentence.Kinds as walk-sentence-kinds
+use Rattle.findings.proofs.walk.+walk_conditions+walk_pattern+walk_run+walk_sentence+walk_sentences.Lts-walk_sentence as walk-sentence-lts
+use Rattle.findings.proofs.walk.walk_sentences.Reads as walk-sentences
+use Rattle.findings.proofs.walk.walk_sentences.Kinds as walk-sentences-kinds
+use Rattle.findings.proofs.walk.+walk_conditions+walk_pattern+walk_run+walk_sentence+walk_sentences.Lts-walk_sentences as walk-sentences-lts
+use Rattle.file.proofs.term_at.Reads as term-at-reads
+use Rattle.file.proofs.word_at.Reads as word-at-reads
+use Rattle.findings.proofs.calls.note_call.Reads as note-call-reads
+use Rattle.findings.proofs.walk.note_block.Reads as note-block-reads
+use Rattle.law.proofs.depth.sentences_in.Reads as sentences-in-reads
+use Rattle.law.proofs.places.asked.Reads as asked-reads
+use Rattle.law.proofs.places.asked_at.Reads as asked-at-reads
+use Rattle.law.proofs.places.asked_size.Reads as asked-size-reads
+use Rattle.law.proofs.places.block_first.Reads as block-first-reads
+use Rattle.law.proofs.places.first_condition.Reads as first-condition-reads
+use Rattle.law.proofs.places.pattern.Reads as pattern-reads
+use Rattle.law.proofs.places.pattern_at.Reads as pattern-at-reads
+use Rattle.law.proofs.places.result.Reads as result-reads
+use Rattle.law.proofs.places.result_at.Reads as result-at-reads
+use Rattle.law.proofs.places.wanted.Reads as wanted-reads
+use Rattle.law.proofs.runs.end_of.Reads as end-of-reads
+use Rattle.findings.proofs.walk.+walk_conditions+walk_pattern+walk_run+walk_sentence+walk_sentences.{
+  statement,
+}
+use Rattle.findings.proofs.walk.+walk_conditions+walk_pattern+walk_run+walk_sentence+walk_sentences.Tie.{
+  close,
+}
+
+abbrev μ-walk-conditions : Measures 5 walk-conditions-kinds.ps ℕ
+μ-walk-conditions κs a = steps.conditionsWork (fileOf (a .0 .now)) (a .1 .1 .1 .1 .1 .0)
+
+abbrev μ-walk-pattern : Measures 6 walk-pattern-kinds.ps ℕ
+μ-walk-pattern κs a = steps.patternWork (fileOf (a .0 .now)) (a .1 .1 .1 .1 .1 .1 .0) (a .1 .1 .1 .1 .1 .0 .now)
+
+abbrev μ-walk-run : Measures 6 walk-run-kinds.ps ℕ
+μ-walk-run κs a = steps.runWork (fileOf (a .0 .now)) (a .1 .1 .1 .1 .1 .1 .0) (a .1 .1 .1 .1 .1 .0 .now)
+
+abbrev μ-walk-sentence : Measures 5 walk-sentence-kinds.ps ℕ
+μ-walk-sentence κs a = steps.sentenceWork (fileOf (a .0 .now)) (a .1 .1 .1 .1 .1 .0)
+
+abbrev μ-walk-sentences : Measures 5 walk-sentences-kinds.ps ℕ
+μ-walk-sentences κs a = steps.sentencesWork (fileOf (a .0 .now)) (a .1 .1 .1 .1 .1 .1 .0) (a .1 .1 .1 .1 .1 .0)
+
+abbrev walk-conditions-at : ℕ → In 5 walk-conditions-kinds.ps
+walk-conditions-at t =
+    and
+    5
+    walk-conditions-kinds.ps
+    (is 5 walk-conditions-kinds.ps μ-walk-conditions t)
+    walk-conditions.Pre
+
+abbrev walk-conditions-below : ℕ → In 5 walk-conditions-kinds.ps
+walk-conditions-below t =
+    and
+    5
+    walk-conditions-kinds.ps
+    (falls 5 walk-conditions-kinds.ps _<_ μ-walk-conditions t)
+    walk-conditions.Pre
+
+abbrev walk-pattern-at : ℕ → In 6 walk-pattern-kinds.ps
+walk-pattern-at t =
+    and 6 walk-pattern-kinds.ps (is 6 walk-pattern-kinds.ps μ-walk-pattern t) walk-pattern.Pre
+
+abbrev walk-pattern-below : ℕ → In 6 walk-pattern-kinds.ps
+walk-pattern-below t =
+    and
+    6
+    walk-pattern-kinds.ps
+    (falls 6 walk-pattern-kinds.ps _<_ μ-walk-pattern t)
+    walk-pattern.Pre
+
+abbrev walk-run-at : ℕ → In 6 walk-run-kinds.ps
+walk-run-at t = and 6 walk-run-kinds.ps (is 6 walk-run-kinds.ps μ-walk-run t) walk-run.Pre
+
+abbrev walk-run-below : ℕ → In 6 walk-run-kinds.ps
+walk-run-below t =
+    and 6 walk-run-kinds.ps (falls 6 walk-run-kinds.ps _<_ μ-walk-run t) walk-run.Pre
+
+abbrev walk-sentence-at : ℕ → In 5 walk-sentence-kinds.ps
+walk-sentence-at t =
+    and 5 walk-sentence-kinds.ps (is 5 walk-sentence-kinds.ps μ-walk-sentence t) walk-sentence.Pre
+
+abbrev walk-sentence-below : ℕ → In 5 walk-sentence-kinds.ps
+walk-sentence-below t =
+    and
+    5
+    walk-sentence-kinds.ps
+    (falls 5 walk-sentence-kinds.ps _<_ μ-walk-sentence t)
+    walk-sentence.Pre
+
+abbrev walk-sentences-at : ℕ → In 5 walk-sentences-kinds.ps
+walk-sentences-at t =
+    and
+    5
+    walk-sentences-kinds.ps
+    (is 5 walk-sentences-kinds.ps μ-walk-sentences t)
+    walk-sentences.Pre
+
+abbrev walk-sentences-below : ℕ → In 5 walk-sentences-kinds.ps
+walk-sentences-below t =
+    and
+    5
+    walk-sentences-kinds.ps
+    (falls 5 walk-sentences-kinds.ps _<_ μ-walk-sentences t)
+    walk-sentences.Pre
+
+abbrev walk-conditions-Inv-loop : walk-conditions-lts.InvT-loop
+walk-conditions-Inv-loop law index slots store task s out₀ first count so-far₀ i₀ out so-far i =
+    (first ≡ firstCondition (fileOf law) s)
+    × (count ≡ conditionsOf (fileOf law) s)
+    × (i ≤ count)
+    × (length out ≡ length out₀)
+    × (steps.after (fileOf law) (formatsIn (fileOf law) (task .limit) store) task (sinkOf so-far₀ out₀) (steps.conditionsMet (fileOf law) (formatsIn (fileOf law) (task .limit) store) task s (conditionsOf (fileOf law) s) (firstCondition (fileOf law) s))
+    ≡ steps.after (fileOf law) (formatsIn (fileOf law) (task .limit) store) task (sinkOf so-far out) (steps.conditionsMet (fileOf law) (formatsIn (fileOf law) (task .limit) store) task s (count - i) (first + i)))
+
+abbrev walk-conditions-μ-loop : walk-conditions-lts.MeasureT-loop
+walk-conditions-μ-loop law index slots store task s out₀ first count so-far₀ i₀ out so-far i = count - i
+
+abbrev walk-sentences-Inv-loop : walk-sentences-lts.InvT-loop
+walk-sentences-Inv-loop law index slots store task first count out₀ so-far₀ i₀ out so-far i =
+    (i ≤ count)
+    × (length out ≡ length out₀)
+    × (steps.after (fileOf law) (formatsIn (fileOf law) (task .limit) store) task (sinkOf so-far₀ out₀) (steps.sentencesMet (fileOf law) (formatsIn (fileOf law) (task .limit) store) task count first)
+    ≡ steps.after (fileOf law) (formatsIn (fileOf law) (task .limit) store) task (sinkOf so-far out) (steps.sentencesMet (fileOf law) (formatsIn (fileOf law) (task .limit) store) task (count - i) (first + i)))
+
+abbrev walk-sentences-μ-loop : walk-sentences-lts.MeasureT-loop
+walk-sentences-μ-loop law index slots store task first count out₀ so-far₀ i₀ out so-far i = count - i
+
+pub +walk-conditions+walk-pattern+walk-run+walk-sentence+walk-sentences-spec :
+    {M : Type 1} → statement M
++walk-conditions+walk-pattern+walk-run+walk-sentence+walk-sentences-spec =
+    close
+    μ-walk-conditions
+    μ-walk-pattern
+    μ-walk-run
+    μ-walk-sentence
+    μ-walk-sentences
+    (λ t. walk-conditions-lts.spec (
+      first-condition-reads.Asked,
+      first-condition-reads.Learnt,
+      asked-at-reads.Asked,
+      asked-at-reads.Learnt,
+      asked-reads.Asked,
+      asked-reads.Learnt,
+      walk-run-below t,
+      walk-run.Post,
+      asked-size-reads.Asked,
+      asked-size-reads.Learnt,
+      wanted-reads.Asked,
+      wanted-reads.Learnt,
+      walk-pattern-below t,
+      walk-pattern.Post,
+    )
+    (walk-conditions-at t)
+    walk-conditions.Post
+    walk-conditions-Inv-loop
+    walk-conditions-μ-loop
+    (λ c κs.
+    let start = c .before .before .before in
+    omega (arith, steps.sentences-small (start .pre .1 .0), (start .pre .1 .1)))
+    (λ c.
+    let start = c .before .before .before .before in
+    omega (arith, steps.sentences-small (start .pre .1 .0), (start .pre .1 .1)))
+    (λ c κs.
+    let start = c .before .before .before .before in
+    omega (arith, steps.sentences-small (start .pre .1 .0), (start .pre .1 .1)))
+    (λ c.
+    let start = c .before .before .before .before .before in
+    let the-first-condition = c .before .first-condition in
+    let the-first-condition2 = c .first-condition2 in
+    omega (arith, steps.conditions-first-reads (start .pre .1 .0) (start .args .s) (start .pre .1 .1) (the-first-condition .result) (the-first-condition .ensures), steps.conditions-next-reads (start .pre .1 .0) (start .args .s) (start .pre .1 .1) (the-first-condition2 .result) (the-first-condition2 .ensures)))
+    (λ c.
+    let start = c .before .before .before .before .before in
+    let the-first-condition = c .before .first-condition in
+    let the-first-condition2 = c .first-condition2 in
+    (steps.conditions-first-reads (start .pre .1 .0) (start .args .s) (start .pre .1 .1) (the-first-condition .result) (the-first-condition .ensures), steps.conditions-count (start .pre .1 .0) (start .args .s) (start .pre .1 .1) (the-first-condition .result) (the-first-condition2 .result) (the-first-condition .ensures) (the-first-condition2 .ensures), omega arith, refl, steps.conditions-start (fileOf (start .args .law .now)) (formatsIn (fileOf (start .args .law .now)) (start .args .task .limit) (start .args .store .now)) (start .args .task) (start .args .s) (the-first-condition2 .result - the-first-condition .result) (the-first-condition .result) (sinkOf (start .args .tally) (start .args .out .now)) (steps.conditions-first-reads (start .pre .1 .0) (start .args .s) (start .pre .1 .1) (the-first-condition .result) (the-first-condition .ensures)) (steps.conditions-count (start .pre .1 .0) (start .args .s) (start .pre .1 .1) (the-first-condition .result) (the-first-condition2 .result) (the-first-condition .ensures) (the-first-condition2 .ensures))))
+    (λ c.
+    let start = c .before .before .before .before .before .before .before in
+    let the-first-condition = c .before .before .before .first-condition in
+    let the-first-condition2 = c .before .before .first-condition2 in
+    let the-loop = c .before .loop in
+    let the-loop-test = c .loop-test in
+    omega (arith, steps.condition-small (start .pre .1 .0) (start .args .s) (start .pre .1 .1) (the-first-condition .result) (the-first-condition2 .result - the-first-condition .result) (the-loop .i) (the-loop .inv .0) (the-loop .inv .1) (the-loop-test .taken)))
+    (λ c κs.
+    let start = c .before .before .before .before .before .before .before in
+    let the-first-condition = c .before .before .before .first-condition in
+    let the-first-condition2 = c .before .before .first-condition2 in
+    let the-loop = c .before .loop in
+    let the-loop-test = c .loop-test in
+    (start .pre .1 .0 .asked .indexed, (start .pre .1 .1), steps.condition-inside (start .pre .1 .0) (start .args .s) (start .pre .1 .1) (the-first-condition .result) (the-first-condition2 .result - the-first-condition .result) (the-loop .i) (the-loop .inv .0) (the-loop .inv .1) (the-loop-test .taken)))
+    (λ c κs.
+    let start = c .before .before .before .before .before .before .before .before in
+    let the-first-condition = c .before .before .before .before .first-condition in
+    let the-first-condition2 = c .before .before .before .first-condition2 in
+    let the-loop = c .before .before .loop in
+    let the-loop-test = c .before .loop-test in
+    (start .pre .1 .0 .asked .indexed, steps.condition-owned (start .pre .1 .0) (start .args .s) (start .pre .1 .1) (the-first-condition .result) (the-first-condition2 .result - the-first-condition .result) (the-loop .i) (the-loop .inv .0) (the-loop .inv .1) (the-loop-test .taken)))
+    (λ c κs.
+    let start = c .before .before .before .before .before .before .before .before .before .before in
+    let the-first-condition = c .before .before .before .before .before .before .first-condition in
+    let the-first-condition2 = c .before .before .before .before .before .first-condition2 in
+    let the-loop = c .before .before .before .before .loop in
+    let the-loop-test = c .before .before .before .loop-test in
+    let the-asked-at = c .before .before .asked-at in
+    let the-asked = c .before .asked in
+    (steps.asked-falls (start .pre .1 .0) (start .args .s) (start .pre .1 .1) (the-first-condition .result) (the-first-condition2 .result - the-first-condition .result) (the-loop .i) (the-loop .inv .0) (the-loop .inv .1) (the-loop-test .taken) (the-asked-at .result) t (the-asked .result .now) (the-asked-at .ensures) (the-asked .ensures) (start .pre .0), ((start .pre .1 .0), steps.asked-reads (start .pre .1 .0) (start .args .s) (start .pre .1 .1) (the-first-condition .result) (the-first-condition2 .result - the-first-condition .result) (the-loop .i) (the-loop .inv .0) (the-loop .inv .1) (the-loop-test .taken) (the-asked-at .result) (the-asked .result .now) (the-asked-at .ensures) (the-asked .ensures))))
+    (λ c κs.
+    let start = c .before .before .before .before .before .before .before .before .before .before .before .before .before in
+    let the-first-condition = c .before .before .before .before .before .before .before .before .before .first-condition in
+    let the-first-condition2 = c .before .before .before .before .before .before .before .before .first-condition2 in
+    let the-loop = c .before .before .before .before .before .before .before .loop in
+    let the-loop-test = c .before .before .before .before .before .before .loop-test in
+    (start .pre .1 .0 .asked .indexed, steps.condition-inside (start .pre .1 .0) (start .args .s) (start .pre .1 .1) (the-first-condition .result) (the-first-condition2 .result - the-first-condition .result) (the-loop .i) (the-loop .inv .0) (the-loop .inv .1) (the-loop-test .taken)))
+    (λ c.
+    let start = c .before .before .before .before .before .before .before .before .before .before .before .before .before .before in
+    let the-first-condition = c .before .before .before .before .before .before .before .before .before .before .first-condition in
+    let the-first-condition2 = c .before .before .before .before .before .before .before .before .before .first-condition2 in
+    let the-loop = c .before .before .before .before .before .before .before .before .loop in
+    let the-loop-test = c .before .before .before .before .before .before .before .loop-test in
+    let the-asked-at = c .before .before .before .before .before .before .asked-at in
+    let the-asked-size = c .asked-size in
+    omega (arith, steps.wanted-small (start .pre .1 .0) (start .args .s) (start .pre .1 .1) (the-first-condition .result) (the-first-condition2 .result - the-first-condition .result) (the-loop .i) (the-loop .inv .0) (the-loop .inv .1) (the-loop-test .taken) (the-asked-at .result) (the-asked-size .result) (the-asked-at .ensures) (the-asked-size .ensures)))
+    (λ c κs.
+    let start = c .before .before .before .before .before .before .before .before .before .before .before .before .before .before in
+    let the-first-condition = c .before .before .before .before .before .before .before .before .before .before .first-condition in
+    let the-first-condition2 = c .before .before .before .before .before .before .before .before .before .first-condition2 in
+    let the-loop = c .before .before .before .before .before .before .before .before .loop in
+    let the-loop-test = c .before .before .before .before .before .before .before .loop-test in
+    (start .pre .1 .0 .asked .indexed, steps.condition-owned (start .pre .1 .0) (start .args .s) (start .pre .1 .1) (the-first-condition .result) (the-first-condition2 .result - the-first-condition .result) (the-loop .i) (the-loop .inv .0) (the-loop .inv .1) (the-loop-test .taken)))
+    (λ c κs.
+    let start = c .before .before .before .before .before .before .before .before .before .before .before .before .before .before .before .before in
+    let the-first-condition = c .before .before .before .before .before .before .before .before .before .before .before .before .first-condition in
+    let the-first-condition2 = c .before .before .before .before .before .before .before .before .before .before .before .first-condition2 in
+    let the-loop = c .before .before .before .before .before .before .before .before .before .before .loop in
+    let the-loop-test = c .before .before .before .before .before .before .before .before .before .loop-test in
+    let the-asked-at = c .before .before .before .before .before .before .before .before .asked-at in
+    let the-asked-size = c .before .before .asked-size in
+    let the-wanted = c .before .wanted in
+    (steps.wanted-falls (start .pre .1 .0) (start .args .s) (start .pre .1 .1) (the-first-condition .result) (the-first-condition2 .result - the-first-condition .result) (the-loop .i) (the-loop .inv .0) (the-loop .inv .1) (the-loop-test .taken) (the-asked-at .result) (the-asked-size .result) t (the-wanted .result .now) (the-asked-at .ensures) (the-asked-size .ensures) (the-wanted .ensures) (start .pre .0), ((start .pre .1 .0), steps.wanted-reads (start .pre .1 .0) (start .args .s) (start .pre .1 .1) (the-first-condition .result) (the-first-condition2 .result - the-first-condition .result) (the-loop .i) (the-loop .inv .0) (the-loop .inv .1) (the-loop-test .taken) (the-asked-at .result) (the-asked-size .result) (the-wanted .result .now) (the-asked-at .ensures) (the-asked-size .ensures) (the-wanted .ensures))))
+    (λ c.
+    let the-loop-test = c .before .before .before .before .before .before .before .before .before .before .before .before .loop-test in
+    omega (arith, the-loop-test .taken))
+    (λ c.
+    let the-loop-test = c .before .before .before .before .before .before .before .before .before .before .before .before .loop-test in
+    omega (arith, the-loop-test .taken))
+    (λ c.
+    let start = c .before .before .before .before .before .before .before .before .before .before .before .before .before .before .before .before .before .before .before in
+    let the-loop = c .before .before .before .before .before .before .before .before .before .before .before .before .before .loop in
+    let the-loop-test = c .before .before .before .before .before .before .before .before .before .before .before .before .loop-test in
+    let the-walk-pattern = c .before .before .walk-pattern in
+    let the-walk-run = c .before .before .before .before .before .before .before .before .walk-run in
+    let the-first-condition2 = c .before .before .before .before .before .before .before .before .before .before .before .before .before .before .first-condition2 in
+    let the-first-condition = c .before .before .before .before .before .before .before .before .before .before .before .before .before .before .before .first-condition in
+    let the-asked-at = c .before .before .before .before .before .before .before .before .before .before .before .asked-at in
+    let the-asked-size = c .before .before .before .before .before .asked-size in
+    let the-asked = c .before .before .before .before .before .before .before .before .before .before .asked in
+    let the-wanted = c .before .before .before .before .wanted in
+    (the-loop .inv .0, the-loop .inv .1, omega (arith, the-loop-test .taken), the-walk-pattern .kept .1 .1 .1 .1 .1 .1 .1 .0 ∙ the-walk-run .kept .1 .1 .1 .1 .1 .1 .1 .0 ∙ the-loop .inv .3, steps.conditions-next (fileOf (start .args .law .now)) (formatsIn (fileOf (start .args .law .now)) (start .args .task .limit) (start .args .store .now)) (start .args .task) (start .args .s) (the-first-condition2 .result - the-first-condition .result) (the-first-condition .result) (the-loop .i) (the-asked-at .result) (the-asked-size .result) (the-asked .result .now) (the-wanted .result .now) (steps.after (fileOf (start .args .law .now)) (formatsIn (fileOf (start .args .law .now)) (start .args .task .limit) (start .args .store .now)) (start .args .task) (sinkOf (start .args .tally) (start .args .out .now)) (steps.conditionsMet (fileOf (start .args .law .now)) (formatsIn (fileOf (start .args .law .now)) (start .args .task .limit) (start .args .store .now)) (start .args .task) (start .args .s) (conditionsOf (fileOf (start .args .law .now)) (start .args .s)) (firstCondition (fileOf (start .args .law .now)) (start .args .s)))) (sinkOf (the-loop .so-far) (the-loop .out)) (sinkOf (the-walk-run .result) (the-walk-run .last .1 .1 .1 .1 .1 .1 .1 .0)) (sinkOf (the-walk-pattern .result) (the-walk-pattern .last .1 .1 .1 .1 .1 .1 .1 .0)) (the-loop-test .taken) (the-asked-at .ensures) (the-asked .ensures) (the-asked-size .ensures) (the-wanted .ensures) (the-loop .inv .4) (the-walk-run .ensures) (the-walk-pattern .ensures)))
+    (λ c.
+    let the-loop = c .before .loop in
+    the-loop .inv .3)
+    (λ c.
+    let start = c .before .before .before .before .before .before .before in
+    let the-first-condition2 = c .before .before .first-condition2 in
+    let the-first-condition = c .before .before .before .first-condition in
+    let the-loop = c .before .loop in
+    let the-loop-test = c .loop-test in
+    steps.conditions-end (fileOf (start .args .law .now)) (formatsIn (fileOf (start .args .law .now)) (start .args .task .limit) (start .args .store .now)) (start .args .task) (start .args .s) (the-first-condition2 .result - the-first-condition .result) (the-first-condition .result) (the-loop .i) (steps.after (fileOf (start .args .law .now)) (formatsIn (fileOf (start .args .law .now)) (start .args .task .limit) (start .args .store .now)) (start .args .task) (sinkOf (start .args .tally) (start .args .out .now)) (steps.conditionsMet (fileOf (start .args .law .now)) (formatsIn (fileOf (start .args .law .now)) (start .args .task .limit) (start .args .store .now)) (start .args .task) (start .args .s) (conditionsOf (fileOf (start .args .law .now)) (start .args .s)) (firstCondition (fileOf (start .args .law .now)) (start .args .s)))) (sinkOf (the-loop .so-far) (the-loop .out)) (the-loop-test .left) (the-loop .inv .4)))
+    (λ t. walk-pattern-lts.spec
+    (walk-run-below t, walk-run.Post)
+    (walk-pattern-at t)
+    walk-pattern.Post
+    (λ c.
+    let start = c .before .before .before .before .before .before in
+    let the-if1 = c .if1 in
+    steps.pattern-passed (fileOf (start .args .law .now)) (formatsIn (fileOf (start .args .law .now)) (start .args .task .limit) (start .args .store .now)) (start .args .task) (start .args .at) (start .args .part .now) (sinkOf (start .args .tally) (start .args .out .now)) (the-if1 .taken))
+    (λ c κs.
+    let start = c .before .before .before .before .before .before .before in
+    (steps.run-less (fileOf (start .args .law .now)) (start .args .at) t (start .args .part .now) (start .pre .0), start .pre .1))
+    (λ c.
+    let the-walk-run = c .before .before .walk-run in
+    the-walk-run .kept .1 .1 .1 .1 .1 .1 .1 .0)
+    (λ c.
+    let start = c .before .before .before .before .before .before .before .before .before .before in
+    let the-walk-run = c .before .before .walk-run in
+    let the-if1 = c .before .before .before .before .if1 in
+    steps.pattern-walked (fileOf (start .args .law .now)) (formatsIn (fileOf (start .args .law .now)) (start .args .task .limit) (start .args .store .now)) (start .args .task) (start .args .at) (start .args .part .now) (sinkOf (start .args .tally) (start .args .out .now)) (sinkOf (the-walk-run .result) (the-walk-run .last .1 .1 .1 .1 .1 .1 .1 .0)) (the-if1 .left) (the-walk-run .ensures)))
+    (λ t. walk-run-lts.spec (
+      end-of-reads.Asked,
+      end-of-reads.Learnt,
+      note-call-reads.Asked,
+      note-call-reads.Learnt,
+      walk-run-below t,
+      walk-run.Post,
+      block-first-reads.Asked,
+      block-first-reads.Learnt,
+      term-at-reads.Asked,
+      term-at-reads.Learnt,
+      sentences-in-reads.Asked,
+      sentences-in-reads.Learnt,
+      note-block-reads.Asked,
+      note-block-reads.Learnt,
+      walk-sentences-below t,
+      walk-sentences.Post,
+      word-at-reads.Asked,
+      word-at-reads.Learnt,
+    )
+    (walk-run-at t)
+    walk-run.Post
+    (λ c.
+    let start = c .before .before .before .before .before in
+    let the-if1 = c .if1 in
+    steps.run-ends (fileOf (start .args .law .now)) (formatsIn (fileOf (start .args .law .now)) (start .args .task .limit) (start .args .store .now)) (start .args .task) (start .args .at) (start .args .part .now) (sinkOf (start .args .tally) (start .args .out .now)) (the-if1 .taken))
+    (λ c κs.
+    let the-if1 = c .if1 in
+    the-if1 .left)
+    (λ c κs.
+    let start = c .before .before .before .before .before .before .before in
+    let the-if1 = c .before .before .if1 in
+    ((start .pre .1 .0), steps.at-inside (start .pre .1 .0) (start .args .at) (start .args .part .now) (start .pre .1 .1) (the-if1 .left)))
+    (λ c.
+    let the-end-of = c .before .before .before .before .end-of in
+    omega (arith, the-end-of .ensures))
+    (λ c.
+    let the-end-of = c .before .before .before .before .end-of in
+    omega (arith, the-end-of .ensures))
+    (λ c.
+    let the-end-of = c .before .before .before .before .end-of in
+    omega (arith, the-end-of .ensures))
+    (λ c.
+    let start = c .before .before .before .before .before .before .before .before .before .before .before in
+    let the-if1 = c .before .before .before .before .before .before .if1 in
+    omega (arith, steps.at-small (start .pre .1 .0) (start .args .at) (start .args .part .now) (start .pre .1 .1) (the-if1 .left)))
+    (λ c κs.
+    let start = c .before .before .before .before .before .before .before .before .before .before .before .before in
+    let the-end-of = c .before .before .before .before .before .before .end-of in
+    let the-if1 = c .before .before .before .before .before .before .before .if1 in
+    (steps.inside-less (fileOf (start .args .law .now)) (start .pre .1 .0 .asked .readable) (start .args .at) (the-end-of .result) t (start .args .part .now) (start .pre .1 .1) (the-if1 .left) (the-end-of .ensures .0) (start .pre .0), ((start .pre .1 .0), steps.inside-part (start .pre .1 .0) (start .args .at) (start .args .part .now) (start .pre .1 .1) (the-if1 .left) (the-end-of .result) (the-end-of .ensures .0))))
+    (λ c κs.
+    let start = c .before .before .before .before .before .before .before .before .before .before .before .before .before .before .before in
+    let the-if1 = c .before .before .before .before .before .before .before .before .before .before .if1 in
+    steps.at-small (start .pre .1 .0) (start .args .at) (start .args .part .now) (start .pre .1 .1) (the-if1 .left))
+    (λ c κs.
+    let the-if1 = c .before .before .before .before .before .before .before .before .before .before .before .if1 in
+    omega (arith, the-if1 .left))
+    (λ c κs. search needs)
+    (λ c κs.
+    let start = c .before .before .before .before .before .before .before .before .before .before .before .before .before .before .before .before .before .before .before in
+    let the-if1 = c .before .before .before .before .before .before .before .before .before .before .before .before .before .before .if1 in
+    let the-block-first = c .before .before .before .block-first in
+    let the-sentences-in = c .before .sentences-in in
+    let the-term-at = c .before .before .term-at in
+    (start .pre .1 .0 .asked .indexed, start .pre .1 .0 .accepted, steps.block-inside (start .pre .1 .0) (start .args .at) (start .args .part .now) (start .pre .1 .1) (the-if1 .left) (the-block-first .result) (the-sentences-in .result) (the-block-first .ensures) (the-sentences-in .ensures ∙ ap sentencesIn (the-term-at .ensures))))
+    (λ c κs.
+    let start = c .before .before .before .before .before .before .before .before .before .before .before .before .before .before .before .before .before .before .before .before .before .before .before in
+    let the-sentences-in = c .before .before .before .before .before .sentences-in in
+    let the-block-first = c .before .before .before .before .before .before .before .block-first in
+    let the-if1 = c .before .before .before .before .before .before .before .before .before .before .before .before .before .before .before .before .before .before .if1 in
+    let the-term-at = c .before .before .before .before .before .before .term-at in
+    (steps.entered-less (fileOf (start .args .law .now)) (start .pre .1 .0 .asked .readable) (start .args .at) (the-sentences-in .result) (the-block-first .result) t (start .args .part .now) (start .pre .1 .1) (the-if1 .left) (the-sentences-in .ensures ∙ ap sentencesIn (the-term-at .ensures)) (steps.block-reads (start .pre .1 .0) (start .args .at) (start .args .part .now) (start .pre .1 .1) (the-if1 .left) (the-block-first .result) (the-block-first .ensures)) (start .pre .0), ((start .pre .1 .0), steps.block-inside (start .pre .1 .0) (start .args .at) (start .args .part .now) (start .pre .1 .1) (the-if1 .left) (the-block-first .result) (the-sentences-in .result) (the-block-first .ensures) (the-sentences-in .ensures ∙ ap sentencesIn (the-term-at .ensures)))))
+    (λ c.
+    let start = c .before .before .before .before .before .before .before .before .before .before .before .before .before .before .before .before .before .before .before .before .before .before .before .before .before .before in
+    let the-if1 = c .before .before .before .before .before .before .before .before .before .before .before .before .before .before .before .before .before .before .before .before .before .if1 in
+    omega (arith, steps.at-small (start .pre .1 .0) (start .args .at) (start .args .part .now) (start .pre .1 .1) (the-if1 .left)))
+    (λ c κs.
+    let the-if1 = c .before .before .before .before .before .before .before .before .before .before .before .before .before .before .before .before .before .before .before .before .before .if1 in
+    omega (arith, the-if1 .left))
+    (λ c. omega arith)
+    (λ c.
+    let start = c .before .before .before .before .before .before .before .before .before .before .before .before .before .before .before .before .before .before .before .before .before .before .before .before .before .before .before in
+    let the-if1 = c .before .before .before .before .before .before .before .before .before .before .before .before .before .before .before .before .before .before .before .before .before .before .if1 in
+    let the-word-at = c .word-at in
+    omega (arith, steps.after-small (start .pre .1 .0) (start .args .at) (start .args .part .now) (start .pre .1 .1) (the-if1 .left) (the-word-at .result) (the-word-at .ensures)))
+    (λ c.
+    let the-end-of = c .before .before .before .before .before .before .before .before .before .before .before .before .before .before .before .before .before .before .before .before .before .end-of in
+    omega (arith, the-end-of .ensures))
+    (λ c.
+    let the-end-of = c .before .before .before .before .before .before .before .before .before .before .before .before .before .before .before .before .before .before .before .before .before .end-of in
+    omega (arith, the-end-of .ensures))
+    (λ c.
+    let the-end-of = c .before .before .before .before .before .before .before .before .before .before .before .before .before .before .before .before .before .before .before .before .before .end-of in
+    omega (arith, the-end-of .ensures))
+    (λ c κs.
+    let start = c .before .before .before .before .before .before .before .before .before .before .before .before .before .before .before .before .before .before .before .before .before .before .before .before .before .before .before .before .before in
+    let the-end-of = c .before .before .before .before .before .before .before .before .before .before .before .before .before .before .before .before .before .before .before .before .before .before .before .end-of in
+    let the-word-at = c .before .before .word-at in
+    let the-if1 = c .before .before .before .before .before .before .before .before .before .before .before .before .before .before .before .before .before .before .before .before .before .before .before .before .if1 in
+    (steps.after-less (fileOf (start .args .law .now)) (start .pre .1 .0 .asked .readable) (start .args .at) (the-end-of .result) (the-word-at .result) t (start .args .part .now) (start .pre .1 .1) (the-if1 .left) (the-end-of .ensures .0) (the-word-at .ensures) (start .pre .0), ((start .pre .1 .0), steps.after-part (start .pre .1 .0) (start .args .at) (start .args .part .now) (start .pre .1 .1) (the-if1 .left) (the-end-of .result) (the-word-at .result) (the-end-of .ensures .0) (the-word-at .ensures))))
+    (λ c.
+    let the-walk-run2 = c .before .before .walk-run2 in
+    let the-walk-sentences = c .before .before .before .before .before .before .before .before .walk-sentences in
+    let the-note-block = c .before .before .before .before .before .before .before .before .before .before .before .before .note-block in
+    let the-walk-run = c .before .before .before .before .before .before .before .before .before .before .before .before .before .before .before .before .before .before .before .walk-run in
+    let the-note-call = c .before .before .before .before .before .before .before .before .before .before .before .before .before .before .before .before .before .before .before .before .before .before .before .before .note-call in
+    the-walk-run2 .kept .1 .1 .1 .1 .1 .1 .1 .0 ∙ the-walk-sentences .kept .1 .1 .1 .1 .1 .1 .1 .0 ∙ the-note-block .kept .1 .1 .1 .1 .1 .0 ∙ the-walk-run .kept .1 .1 .1 .1 .1 .1 .1 .0 ∙ the-note-call .kept .1 .1 .1 .1 .1 .1 .0)
+    (λ c.
+    let start = c .before .before .before .before .before .before .before .before .before .before .before .before .before .before .before .before .before .before .before .before .before .before .before .before .before .before .before .before .before .before .before .before in
+    let the-end-of = c .before .before .before .before .before .before .before .before .before .before .before .before .before .before .before .before .before .before .before .before .before .before .before .before .before .before .end-of in
+    let the-word-at = c .before .before .before .before .before .word-at in
+    let the-sentences-in = c .before .before .before .before .before .before .before .before .before .before .before .before .before .before .sentences-in in
+    let the-block-first = c .before .before .before .before .before .before .before .before .before .before .before .before .before .before .before .before .block-first in
+    let the-note-call = c .before .before .before .before .before .before .before .before .before .before .before .before .before .before .before .before .before .before .before .before .before .before .before .before .note-call in
+    let the-walk-run = c .before .before .before .before .before .before .before .before .before .before .before .before .before .before .before .before .before .before .before .walk-run in
+    let the-note-block = c .before .before .before .before .before .before .before .before .before .before .before .before .note-block in
+    let the-walk-sentences = c .before .before .before .before .before .before .before .before .walk-sentences in
+    let the-walk-run2 = c .before .before .walk-run2 in
+    let the-if1 = c .before .before .before .before .before .before .before .before .before .before .before .before .before .before .before .before .before .before .before .before .before .before .before .before .before .before .before .if1 in
+    let the-term-at = c .before .before .before .before .before .before .before .before .before .before .before .before .before .before .before .term-at in
+    steps.run-steps (fileOf (start .args .law .now)) (formatsIn (fileOf (start .args .law .now)) (start .args .task .limit) (start .args .store .now)) (start .args .task) (start .pre .1 .0 .asked .readable) (start .args .at) (the-end-of .result) (the-word-at .result) (the-sentences-in .result) (the-block-first .result) (start .args .part .now) (sinkOf (start .args .tally) (start .args .out .now)) (sinkOf (the-note-call .result) (the-note-call .last .1 .1 .1 .1 .1 .1 .0)) (sinkOf (the-walk-run .result) (the-walk-run .last .1 .1 .1 .1 .1 .1 .1 .0)) (sinkOf (the-note-block .result) (the-note-block .last .1 .1 .1 .1 .1 .0)) (sinkOf (the-walk-sentences .result) (the-walk-sentences .last .1 .1 .1 .1 .1 .1 .1 .0)) (sinkOf (the-walk-run2 .result) (the-walk-run2 .last .1 .1 .1 .1 .1 .1 .1 .0)) (start .pre .1 .1) (the-if1 .left) (the-end-of .ensures .0) (the-sentences-in .ensures ∙ ap sentencesIn (the-term-at .ensures)) (steps.block-reads (start .pre .1 .0) (start .args .at) (start .args .part .now) (start .pre .1 .1) (the-if1 .left) (the-block-first .result) (the-block-first .ensures)) (the-word-at .ensures) (the-note-call .ensures) (the-walk-run .ensures) (the-note-block .ensures) (the-walk-sentences .ensures) (the-walk-run2 .ensures)))
+    (λ t. walk-sentence-lts.spec (
+      pattern-at-reads.Asked,
+      pattern-at-reads.Learnt,
+      pattern-reads.Asked,
+      pattern-reads.Learnt,
+      walk-pattern-below t,
+      walk-pattern.Post,
+      walk-conditions-below t,
+      walk-conditions.Post,
+      result-at-reads.Asked,
+      result-at-reads.Learnt,
+      result-reads.Asked,
+      result-reads.Learnt,
+      walk-run-below t,
+      walk-run.Post,
+    )
+    (walk-sentence-at t)
+    walk-sentence.Post
+    (λ c κs.
+    let start = c .before .before .before in
+    (start .pre .1 .0 .asked .indexed, le-of-lt (start .pre .1 .1)))
+    (λ c κs.
+    let start = c .before .before .before .before in
+    (start .pre .1 .0 .asked .indexed, (start .pre .1 .1)))
+    (λ c κs.
+    let start = c .before .before .before .before .before .before in
+    let the-pattern-at = c .before .before .pattern-at in
+    let the-pattern = c .before .pattern in
+    (steps.pattern-less (fileOf (start .args .law .now)) (start .pre .1 .0 .asked .readable) (start .args .s) (the-pattern-at .result) t (the-pattern .result .now) (start .pre .1 .1) (the-pattern-at .ensures) (the-pattern .ensures) (start .pre .0), ((start .pre .1 .0), steps.pattern-reads (start .pre .1 .0) (start .args .s) (start .pre .1 .1) (the-pattern-at .result) (the-pattern .result .now) (the-pattern-at .ensures) (the-pattern .ensures))))
+    (λ c κs.
+    let start = c .before .before .before .before .before .before .before .before .before .before in
+    (steps.conditions-less (fileOf (start .args .law .now)) (start .pre .1 .0 .asked .readable) (start .args .s) t (start .pre .1 .1) (start .pre .0), ((start .pre .1 .0), (start .pre .1 .1))))
+    (λ c κs.
+    let start = c .before .before .before .before .before .before .before .before .before .before .before .before .before in
+    (start .pre .1 .0 .asked .indexed, (start .pre .1 .1)))
+    (λ c κs.
+    let start = c .before .before .before .before .before .before .before .before .before .before .before .before .before .before in
+    (start .pre .1 .0 .asked .indexed, (start .pre .1 .1)))
+    (λ c κs.
+    let start = c .before .before .before .before .before .before .before .before .before .before .before .before .before .before .before .before in
+    let the-result-at = c .before .before .result-at in
+    let the-result = c .before .result in
+    (steps.result-less (fileOf (start .args .law .now)) (start .pre .1 .0 .asked .readable) (start .args .s) (the-result-at .result) t (the-result .result .now) (start .pre .1 .1) (the-result-at .ensures) (the-result .ensures) (start .pre .0), ((start .pre .1 .0), steps.result-reads (start .pre .1 .0) (start .args .s) (start .pre .1 .1) (the-result-at .result) (the-result .result .now) (the-result-at .ensures) (the-result .ensures))))
+    (λ c.
+    let the-walk-run = c .before .before .walk-run in
+    let the-walk-conditions = c .before .before .before .before .before .before .before .before .walk-conditions in
+    let the-walk-pattern = c .before .before .before .before .before .before .before .before .before .before .before .before .walk-pattern in
+    the-walk-run .kept .1 .1 .1 .1 .1 .1 .1 .0 ∙ the-walk-conditions .kept .1 .1 .1 .1 .1 .1 .0 ∙ the-walk-pattern .kept .1 .1 .1 .1 .1 .1 .1 .0)
+    (λ c.
+    let start = c .before .before .before .before .before .before .before .before .before .before .before .before .before .before .before .before .before .before .before in
+    let the-pattern-at = c .before .before .before .before .before .before .before .before .before .before .before .before .before .before .before .pattern-at in
+    let the-result-at = c .before .before .before .before .before .result-at in
+    let the-pattern = c .before .before .before .before .before .before .before .before .before .before .before .before .before .before .pattern in
+    let the-result = c .before .before .before .before .result in
+    let the-walk-pattern = c .before .before .before .before .before .before .before .before .before .before .before .before .walk-pattern in
+    let the-walk-conditions = c .before .before .before .before .before .before .before .before .walk-conditions in
+    let the-walk-run = c .before .before .walk-run in
+    steps.sentence-steps (fileOf (start .args .law .now)) (formatsIn (fileOf (start .args .law .now)) (start .args .task .limit) (start .args .store .now)) (start .args .task) (start .pre .1 .0 .asked .readable) (start .args .s) (the-pattern-at .result) (the-result-at .result) (the-pattern .result .now) (the-result .result .now) (sinkOf (start .args .tally) (start .args .out .now)) (sinkOf (the-walk-pattern .result) (the-walk-pattern .last .1 .1 .1 .1 .1 .1 .1 .0)) (sinkOf (the-walk-conditions .result) (the-walk-conditions .last .1 .1 .1 .1 .1 .1 .0)) (sinkOf (the-walk-run .result) (the-walk-run .last .1 .1 .1 .1 .1 .1 .1 .0)) (start .pre .1 .1) (the-pattern-at .ensures) (the-pattern .ensures) (the-result-at .ensures) (the-result .ensures) (the-walk-pattern .ensures) (the-walk-conditions .ensures) (the-walk-run .ensures)))
+    λ t. walk-sentences-lts.spec
+    (walk-sentence-below t, walk-sentence.Post)
+    (walk-sentences-at t)
+    walk-sentences.Post
+    walk-sentences-Inv-loop
+    walk-sentences-μ-loop
+    (λ c.
+    let start = c .before .before .before in
+    (omega arith, refl, steps.sentences-start (fileOf (start .args .law .now)) (formatsIn (fileOf (start .args .law .now)) (start .args .task .limit) (start .args .store .now)) (start .args .task) (start .args .count) (start .args .first) (sinkOf (start .args .tally) (start .args .out .now))))
+    (λ c.
+    let start = c .before .before .before .before .before in
+    let the-loop-test = c .loop-test in
+    omega (arith, steps.sentences-small (start .pre .1 .0), (start .pre .1 .1), the-loop-test .taken))
+    (λ c κs.
+    let start = c .before .before .before .before .before .before in
+    let the-loop = c .before .before .loop in
+    let the-loop-test = c .before .loop-test in
+    (steps.sentence-less (fileOf (start .args .law .now)) (start .pre .1 .0 .asked .readable) (start .args .count) (start .args .first) (the-loop .i) t (the-loop-test .taken) (start .pre .1 .1) (start .pre .0), ((start .pre .1 .0), omega (arith, (start .pre .1 .1), the-loop-test .taken))))
+    (λ c.
+    let the-loop-test = c .before .before .before .before .loop-test in
+    omega (arith, the-loop-test .taken))
+    (λ c.
+    let the-loop-test = c .before .before .before .before .loop-test in
+    omega (arith, the-loop-test .taken))
+    (λ c.
+    let start = c .before .before .before .before .before .before .before .before .before in
+    let the-loop-test = c .before .before .before .before .loop-test in
+    let the-walk-sentence = c .before .before .walk-sentence in
+    let the-loop = c .before .before .before .before .before .loop in
+    (omega (arith, the-loop-test .taken), the-walk-sentence .kept .1 .1 .1 .1 .1 .1 .0 ∙ the-loop .inv .1, steps.sentences-next (fileOf (start .args .law .now)) (formatsIn (fileOf (start .args .law .now)) (start .args .task .limit) (start .args .store .now)) (start .args .task) (start .pre .1 .0 .asked .readable) (start .args .count) (start .args .first) (the-loop .i) (steps.after (fileOf (start .args .law .now)) (formatsIn (fileOf (start .args .law .now)) (start .args .task .limit) (start .args .store .now)) (start .args .task) (sinkOf (start .args .tally) (start .args .out .now)) (steps.sentencesMet (fileOf (start .args .law .now)) (formatsIn (fileOf (start .args .law .now)) (start .args .task .limit) (start .args .store .now)) (start .args .task) (start .args .count) (start .args .first))) (sinkOf (the-loop .so-far) (the-loop .out)) (sinkOf (the-walk-sentence .result) (the-walk-sentence .last .1 .1 .1 .1 .1 .1 .0)) (the-loop-test .taken) (start .pre .1 .1) (the-loop .inv .2) (the-walk-sentence .ensures)))
+    (λ c.
+    let the-loop = c .before .loop in
+    the-loop .inv .1)
+    (λ c.
+    let start = c .before .before .before .before .before in
+    let the-loop = c .before .loop in
+    let the-loop-test = c .loop-test in
+    steps.sentences-end (fileOf (start .args .law .now)) (formatsIn (fileOf (start .args .law .now)) (start .args .task .limit) (start .args .store .now)) (start .args .task) (start .args .count) (start .args .first) (the-loop .i) (steps.after (fileOf (start .args .law .now)) (formatsIn (fileOf (start .args .law .now)) (start .args .task .limit) (start .args .store .now)) (start .args .task) (sinkOf (start .args .tally) (start .args .out .now)) (steps.sentencesMet (fileOf (start .args .law .now)) (formatsIn (fileOf (start .args .law .now)) (start .args .task .limit) (start .args .store .now)) (start .args .task) (start .args .count) (start .args .first))) (sinkOf (the-loop .so-far) (the-loop .out)) (the-loop-test .left) (the-loop .inv .2))

@@ -1,0 +1,76 @@
+-- What the code of lints 2 and 3 finds on its way at one call.
+use Prim.Native.Nat.{ℕ, zero, suc, _+_, _*_}
+use mathlib.Core.Bool.{Bool, true, false, cond}
+use mathlib.Core.List.{List, [], _∷_}
+use mathlib.Core.Option.{Option, none, some}
+use lib.ListN.{getD}
+use lib.Dec.{eqb, ltb}
+use Rattle.file.specs.Word.{wordAt}
+use Rattle.file.specs.Sections.{File}
+use Rattle.law.specs.Tree.{Sentences, keep}
+use Rattle.law.specs.Places.{sentencesOf, firstSentence}
+use Rattle.law.specs.Reading.{sentencesAt}
+use Rattle.shapes.specs.Format.{of, size}
+use Rattle.shapes.specs.Disjoint.{disjoint}
+use Rattle.formats.specs.Infer.{Inferred}
+use Rattle.matching.specs.Match.{when}
+use Rattle.matching.specs.Literal.{isLiteral}
+use Rattle.lints.specs.Finding.{Failure, failureNumber}
+use Rattle.lints.specs.Calls.{Call}
+use Rattle.lints.specs.Recognition.{passed, accepted}
+use Rattle.findings.specs.declared.recognition.Verdict.{Verdict}
+use Rattle.findings.specs.declared.recognition.Verdict.the-variants.{Nothing, TooWide, ByFormats, ByLiterals}
+use Rattle.findings.specs.declared.Tally.{Tally}
+use Rattle.findings.specs.declared.Tally.the-variants.{Over, Full, Upto}
+use Rattle.findings.specs.declared.Task.{Task}
+use Rattle.findings.specs.declared.Note.{Note}
+use Rattle.findings.specs.Events.{Event, found, tooWide}
+use Rattle.findings.specs.Tasks.{noteWords}
+
+-- the last of the first n functions whose name has this place; `missing` where no name has it
+unfoldable pub lastPlaced : List ℕ → ℕ → ℕ → ℕ → ℕ
+lastPlaced slots place missing zero = missing
+lastPlaced slots place missing (suc n) = cond (eqb (getD slots n 0) place) n (lastPlaced slots place missing n)
+
+-- the sentences of the function f
+abbrev pub functionSentences : File → ℕ → Sentences
+functionSentences file f = keep (sentencesOf file f) (sentencesAt file (firstSentence file f))
+
+-- what is said of a call that is compared
+unfoldable pub comparison : ℕ → Inferred → Call → Verdict
+comparison limit formats c =
+    cond (ltb limit (size (passed formats c))) TooWide
+    (cond (disjoint (of (passed formats c)) (accepted formats c)) ByFormats (cond (isLiteral (c .argument)) ByLiterals Nothing))
+
+-- ---- what is noted of the call at a term record
+
+-- a finding about it: it has a word a of its own, and its b is 0
+abbrev pub callNote : File → ℕ → ℕ → Note
+callNote file t a = record {
+  start = wordAt (file .terms .records) (24 * t + 16);
+  end = wordAt (file .terms .records) (24 * t + 16 + 4);
+  a = a;
+  b = 0;
+  subject = t;
+}
+
+abbrev pub callFound : File → Task → ℕ → ℕ → Event
+callFound file task t a = found (noteWords task (callNote file t a))
+
+-- by what lint 2 says of it
+abbrev pub verdictEvents : File → Task → ℕ → Verdict → List Event
+verdictEvents file task t Nothing = []
+verdictEvents file task t TooWide = tooWide ∷ []
+verdictEvents file task t ByFormats = when (task .shown) (callFound file task t 1 ∷ [])
+verdictEvents file task t ByLiterals = when (task .shown) (callFound file task t 2 ∷ [])
+
+-- by why it fails
+abbrev pub failureEvents : File → Task → ℕ → Option Failure → List Event
+failureEvents file task t none = []
+failureEvents file task t (some why) = callFound file task t (failureNumber why) ∷ []
+
+-- did the count of findings end?
+abbrev pub isOver : Tally → Bool
+isOver Over = true
+isOver Full = false
+isOver (Upto n) = false

@@ -1,0 +1,7 @@
+pub mod Events
+pub mod Walk
+pub mod Verdicts
+pub mod Tasks
+pub mod Judging
+pub mod DeadSteps
+pub mod All

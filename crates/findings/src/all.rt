@@ -1,0 +1,67 @@
+// All lints under given settings.
+use crate::Tally;
+use crate::Task;
+use crate::levels::task_of;
+use crate::walk::lint_law;
+ghost use mathlib.Core.Path.{_≡_};
+ghost use Rattle.file.specs.Sections.{fileOf};
+ghost use Rattle.law.specs.Reading.{treeOf};
+ghost use Rattle.lints.specs.Records.{Prepared, formatsIn};
+ghost use Rattle.findings.specs.Events.{sinkOf, collect};
+ghost use Rattle.findings.specs.All.{settingsFrom, isDue, taskEvents, allEvents};
+
+// Whether a task has anything to meet: a lint whose findings are hidden is passed over, but for lint 2, which may meet an argument with too many shapes.
+fn is_due(task: Task) -> bool
+    ensures { λ r. ⌜ r ≡ isDue task ⌝ }
+{
+    if task.shown {
+        return true;
+    }
+    task.lint == 2
+}
+
+// Does a lint's task.
+fn lint_task(
+    law: &[u8],
+    index: &[u16; 972],
+    slots: &[u8; 577],
+    store: &[u32],
+    task: Task,
+    out: &mut [u32],
+    tally: Tally,
+) -> Tally
+    requires { ⌜ Prepared (now law) (now index) (now slots) (now store) (task .limit) ⌝ }
+    ensures { λ r. ⌜ sinkOf r (now (out .exit)) ≡ collect (task .room) (sinkOf tally (now (out .entry)))
+        (taskEvents (treeOf (fileOf (now (law .entry)))) (formatsIn (fileOf (now (law .entry))) (task .limit) (now (store .entry))) task) ⌝ }
+{
+    if !is_due(task) {
+        return tally;
+    }
+    lint_law(law, index, slots, store, task, out, tally)
+}
+
+// Notes the findings of a law that the settings show.
+pub fn lint_all(
+    law: &[u8],
+    index: &[u16; 972],
+    slots: &[u8; 577],
+    store: &[u32],
+    mode: u32,
+    overrides: &[u32],
+    room: usize,
+    limit: usize,
+    out: &mut [u32],
+) -> Tally
+    requires { ⌜ Prepared (now law) (now index) (now slots) (now store) limit ⌝ }
+    ensures { λ r. ⌜ sinkOf r (now (out .exit)) ≡ collect room (sinkOf (Tally.Upto 0) (now (out .entry)))
+        (allEvents (treeOf (fileOf (now (law .entry)))) (formatsIn (fileOf (now (law .entry))) limit (now (store .entry))) (settingsFrom mode (now (overrides .entry))) room limit) ⌝ }
+{
+    let dead = task_of(mode, overrides, 1, room, limit);
+    let first = lint_task(law, index, slots, store, dead, out, Tally::Upto(0));
+    let recognition = task_of(mode, overrides, 2, room, limit);
+    let second = lint_task(law, index, slots, store, recognition, out, first);
+    let builtin = task_of(mode, overrides, 3, room, limit);
+    let third = lint_task(law, index, slots, store, builtin, out, second);
+    let patterns = task_of(mode, overrides, 4, room, limit);
+    lint_task(law, index, slots, store, patterns, out, third)
+}

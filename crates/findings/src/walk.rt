@@ -1,0 +1,307 @@
+// The way of lints 1 to 3 through a function's sentences.
+use crate::Tally;
+use crate::Task;
+use crate::calls::note_call;
+use crate::dead::note_dead;
+use crate::open::note_open;
+use file::term_at;
+use file::word_at;
+use law::depth::sentences_in;
+use law::places::asked;
+use law::places::asked_at;
+use law::places::asked_size;
+use law::places::block_first;
+use law::places::first_condition;
+use law::places::first_sentence;
+use law::places::functions;
+use law::places::pattern;
+use law::places::pattern_at;
+use law::places::result;
+use law::places::result_at;
+use law::places::wanted;
+use law::runs::end_of;
+ghost use mathlib.Core.Path.{_≡_};
+ghost use Prim.Native.Nat.{_+_, _≤_, _<_};
+ghost use Rattle.file.specs.Sections.{fileOf};
+ghost use lib.Dec.{eqb};
+ghost use Rattle.law.specs.Tree.{keep};
+ghost use Rattle.law.specs.Places.{sentencesOf, firstSentence};
+ghost use Rattle.matching.specs.Match.{when};
+ghost use Rattle.law.specs.Reading.{runOf, own, sentencesAt, treeOf};
+ghost use Rattle.law.specs.Index.{Indexed, PartAt};
+ghost use Rattle.law.specs.Law.{Accepted};
+ghost use Rattle.lints.specs.Records.{Prepared, formatsIn, conditionsAt};
+ghost use Rattle.findings.specs.Events.{sinkOf, collect};
+ghost use Rattle.findings.specs.Tasks.{blockEvents, runEvents, insideEvents, conditionEvents, functionEvents, lintEvents};
+
+// Notes the dead ones of a block's own sentences, where the task is lint 1.
+fn note_block(
+    law: &[u8],
+    index: &[u16; 972],
+    task: Task,
+    first: usize,
+    count: usize,
+    out: &mut [u32],
+    tally: Tally,
+) -> Tally
+    requires { ⌜ Indexed (now law) (now index) × Accepted (now law) × (first + count ≤ fileOf (now law) .sentences .count) ⌝ }
+    ensures { λ r. ⌜ sinkOf r (now (out .exit)) ≡ collect (task .room) (sinkOf tally (now (out .entry)))
+        (blockEvents task (keep count (sentencesAt (fileOf (now (law .entry))) first))) ⌝ }
+{
+    if task.lint != 1 {
+        return tally;
+    }
+    note_dead(law, index, task, first, count, out, tally)
+}
+
+// Goes through a part of the term records, the first of which is number `at`.
+fn walk_run(
+    law: &[u8],
+    index: &[u16; 972],
+    slots: &[u8; 577],
+    store: &[u32],
+    task: Task,
+    part: &[u8],
+    at: usize,
+    out: &mut [u32],
+    tally: Tally,
+) -> Tally
+    requires { ⌜ Prepared (now law) (now index) (now slots) (now store) (task .limit) × PartAt (fileOf (now law)) at (now part) ⌝ }
+    ensures { λ r. ⌜ sinkOf r (now (out .exit)) ≡ collect (task .room) (sinkOf tally (now (out .entry)))
+        (runEvents (treeOf (fileOf (now (law .entry)))) (formatsIn (fileOf (now (law .entry))) (task .limit) (now (store .entry))) task
+        (runOf (fileOf (now (law .entry))) (own (fileOf (now (law .entry)))) at (now (part .entry)))) ⌝ }
+{
+    if part.len() < 24 {
+        return tally;
+    }
+    let end = end_of(part);
+    let called = note_call(law, index, slots, store, task, at, out, tally);
+    let contents = &part[24..end];
+    let inside = walk_run(
+        law,
+        index,
+        slots,
+        store,
+        task,
+        contents,
+        at + 1,
+        out,
+        called,
+    );
+    let first = block_first(index, at);
+    let count = sentences_in(term_at(part, 0));
+    let own = note_block(law, index, task, first, count, out, inside);
+    let entered = walk_sentences(law, index, slots, store, task, first, count, out, own);
+    let next = at + 1 + word_at(part, 12) as usize;
+    walk_run(
+        law,
+        index,
+        slots,
+        store,
+        task,
+        &part[end..],
+        next,
+        out,
+        entered,
+    )
+}
+
+// Goes through so many sentences from one on.
+fn walk_sentences(
+    law: &[u8],
+    index: &[u16; 972],
+    slots: &[u8; 577],
+    store: &[u32],
+    task: Task,
+    first: usize,
+    count: usize,
+    out: &mut [u32],
+    tally: Tally,
+) -> Tally
+    requires { ⌜ Prepared (now law) (now index) (now slots) (now store) (task .limit) × (first + count ≤ fileOf (now law) .sentences .count) ⌝ }
+    ensures { λ r. ⌜ sinkOf r (now (out .exit)) ≡ collect (task .room) (sinkOf tally (now (out .entry)))
+        (insideEvents (treeOf (fileOf (now (law .entry)))) (formatsIn (fileOf (now (law .entry))) (task .limit) (now (store .entry))) task
+        (keep count (sentencesAt (fileOf (now (law .entry))) first))) ⌝ }
+{
+    let mut so_far = tally;
+    let mut i = 0;
+    while i < count {
+        so_far = walk_sentence(law, index, slots, store, task, first + i, out, so_far);
+        i += 1;
+    }
+    so_far
+}
+
+// Goes through one sentence.
+fn walk_sentence(
+    law: &[u8],
+    index: &[u16; 972],
+    slots: &[u8; 577],
+    store: &[u32],
+    task: Task,
+    s: usize,
+    out: &mut [u32],
+    tally: Tally,
+) -> Tally
+    requires { ⌜ Prepared (now law) (now index) (now slots) (now store) (task .limit) × (s < fileOf (now law) .sentences .count) ⌝ }
+    ensures { λ r. ⌜ sinkOf r (now (out .exit)) ≡ collect (task .room) (sinkOf tally (now (out .entry)))
+        (insideEvents (treeOf (fileOf (now (law .entry)))) (formatsIn (fileOf (now (law .entry))) (task .limit) (now (store .entry))) task
+        (keep 1 (sentencesAt (fileOf (now (law .entry))) s))) ⌝ }
+{
+    let at = pattern_at(law, index, s);
+    let left = walk_pattern(
+        law,
+        index,
+        slots,
+        store,
+        task,
+        pattern(law, index, s),
+        at,
+        out,
+        tally,
+    );
+    let asked = walk_conditions(law, index, slots, store, task, s, out, left);
+    let next = result_at(law, index, s);
+    walk_run(
+        law,
+        index,
+        slots,
+        store,
+        task,
+        result(law, index, s),
+        next,
+        out,
+        asked,
+    )
+}
+
+// Goes through a pattern, where the task is lint 1.
+fn walk_pattern(
+    law: &[u8],
+    index: &[u16; 972],
+    slots: &[u8; 577],
+    store: &[u32],
+    task: Task,
+    part: &[u8],
+    at: usize,
+    out: &mut [u32],
+    tally: Tally,
+) -> Tally
+    requires { ⌜ Prepared (now law) (now index) (now slots) (now store) (task .limit) × PartAt (fileOf (now law)) at (now part) ⌝ }
+    ensures { λ r. ⌜ sinkOf r (now (out .exit)) ≡ collect (task .room) (sinkOf tally (now (out .entry)))
+        (when (eqb (task .lint) 1) (runEvents (treeOf (fileOf (now (law .entry)))) (formatsIn (fileOf (now (law .entry))) (task .limit) (now (store .entry))) task
+        (runOf (fileOf (now (law .entry))) (own (fileOf (now (law .entry)))) at (now (part .entry))))) ⌝ }
+{
+    if task.lint != 1 {
+        return tally;
+    }
+    walk_run(law, index, slots, store, task, part, at, out, tally)
+}
+
+// Goes through a sentence's conditions.
+fn walk_conditions(
+    law: &[u8],
+    index: &[u16; 972],
+    slots: &[u8; 577],
+    store: &[u32],
+    task: Task,
+    s: usize,
+    out: &mut [u32],
+    tally: Tally,
+) -> Tally
+    requires { ⌜ Prepared (now law) (now index) (now slots) (now store) (task .limit) × (s < fileOf (now law) .sentences .count) ⌝ }
+    ensures { λ r. ⌜ sinkOf r (now (out .exit)) ≡ collect (task .room) (sinkOf tally (now (out .entry)))
+        (conditionEvents (treeOf (fileOf (now (law .entry)))) (formatsIn (fileOf (now (law .entry))) (task .limit) (now (store .entry))) task
+        (conditionsAt (fileOf (now (law .entry))) s)) ⌝ }
+{
+    let first = first_condition(index, s);
+    let count = first_condition(index, s + 1) - first;
+    let mut so_far = tally;
+    let mut i = 0;
+    while i < count {
+        let c = first + i;
+        let at = asked_at(law, index, s, c);
+        let left = walk_run(
+            law,
+            index,
+            slots,
+            store,
+            task,
+            asked(law, index, s, c),
+            at,
+            out,
+            so_far,
+        );
+        let next = at + asked_size(law, index, c);
+        so_far = walk_pattern(
+            law,
+            index,
+            slots,
+            store,
+            task,
+            wanted(law, index, s, c),
+            next,
+            out,
+            left,
+        );
+        i += 1;
+    }
+    so_far
+}
+
+// Notes what the task's lint says of a function.
+fn lint_function(
+    law: &[u8],
+    index: &[u16; 972],
+    slots: &[u8; 577],
+    store: &[u32],
+    task: Task,
+    f: usize,
+    out: &mut [u32],
+    tally: Tally,
+) -> Tally
+    requires { ⌜ Prepared (now law) (now index) (now slots) (now store) (task .limit) × (f < fileOf (now law) .functions .count) ⌝ }
+    ensures { λ r. ⌜ sinkOf r (now (out .exit)) ≡ collect (task .room) (sinkOf tally (now (out .entry)))
+        (functionEvents (treeOf (fileOf (now (law .entry)))) (formatsIn (fileOf (now (law .entry))) (task .limit) (now (store .entry))) task
+        (keep (sentencesOf (fileOf (now (law .entry))) f) (sentencesAt (fileOf (now (law .entry))) (firstSentence (fileOf (now (law .entry))) f)))) ⌝ }
+{
+    let first = first_sentence(index, f);
+    let count = first_sentence(index, f + 1) - first;
+    if task.lint == 4 {
+        return note_open(law, index, task, first, count, out, tally);
+    }
+    let own = note_block(law, index, task, first, count, out, tally);
+    walk_sentences(law, index, slots, store, task, first, count, out, own)
+}
+
+// Notes what the task's lint says of a law, function by function.
+pub fn lint_law(
+    law: &[u8],
+    index: &[u16; 972],
+    slots: &[u8; 577],
+    store: &[u32],
+    task: Task,
+    out: &mut [u32],
+    tally: Tally,
+) -> Tally
+    requires { ⌜ Prepared (now law) (now index) (now slots) (now store) (task .limit) ⌝ }
+    ensures { λ r. ⌜ sinkOf r (now (out .exit)) ≡ collect (task .room) (sinkOf tally (now (out .entry)))
+        (lintEvents (treeOf (fileOf (now (law .entry)))) (formatsIn (fileOf (now (law .entry))) (task .limit) (now (store .entry))) task) ⌝ }
+{
+    let count = functions(index);
+    let mut so_far = tally;
+    let mut f = 0;
+    while f < count {
+        let here = Task {
+            lint: task.lint,
+            severity: task.severity,
+            shown: task.shown,
+            position: f as u32,
+            room: task.room,
+            limit: task.limit,
+        };
+        so_far = lint_function(law, index, slots, store, here, f, out, so_far);
+        f += 1;
+    }
+    so_far
+}

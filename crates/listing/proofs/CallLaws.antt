@@ -1,0 +1,90 @@
+-- The two calls, by what their front says.
+use Prim.Native.Nat.{ℕ, _+_, _*_, _/_, _≤_}
+use mathlib.Core.Bool.{Bool, true, false}
+use mathlib.Core.List.{List, [], _∷_, _++_, map}
+use mathlib.Core.Path.{_≡_, refl, sym, ap, _∙_}
+use native.Mathlib.Omega.{arith}
+use lib.ListN.{length, take, drop}
+use lib.Seq.{length-take-le}
+use Rattle.file.specs.Answer.{Answer, refused, given}
+use Rattle.file.specs.Sections.{fileOf}
+use Rattle.law.specs.Reading.{treeOf}
+use Rattle.shapes.specs.Written.{written}
+use Rattle.lints.specs.Levels.{Settings, listingWords}
+use Rattle.lints.specs.Records.{formatsIn}
+use Rattle.findings.specs.declared.Tally.{Tally}
+use Rattle.findings.specs.declared.Tally.the-variants.{Upto}
+use Rattle.findings.specs.Events.{sinkOf, collect}
+use Rattle.findings.specs.All.{allEvents}
+use Rattle.findings.proofs.EventLaws.{all-found}
+use Rattle.listing.specs.declared.Turned.{Turned}
+use Rattle.listing.specs.declared.Found.{Found}
+use Rattle.listing.specs.declared.Found.the-variants as found
+use Rattle.listing.specs.declared.Told.{Told}
+use Rattle.listing.specs.declared.Told.the-variants as told
+use Rattle.listing.specs.declared.front.Front.{Front}
+use Rattle.listing.specs.declared.front.Front.the-variants.{Refused, Ready}
+use Rattle.listing.specs.Outcome.{findingsFront, findingsOutcome, textFront, textOutcome}
+use Rattle.listing.specs.Gather.{Prepares, FrontIs, shownIn, Collected}
+use Rattle.listing.specs.Promise.{findingsAfter, FindingsPromise, textAfter}
+use Rattle.listing.proofs.GatherLaws.{all-left}
+use Rattle.listing.proofs.PromiseLaws.{words-length, promise}
+
+module _ (settings : Settings) (bytes store : List ℕ) (front : Front) (index : List ℕ) (h : FrontIs 64 settings bytes store front index) where
+  -- a law that is ready
+  pub front-ready : front ≡ Ready → Prepares 64 bytes index store
+  front-ready is = (rw is at h) .1
+
+  -- ---- the findings call
+
+  pub findings-turned : (words : List ℕ) (why : Turned) → front ≡ Refused why → FindingsPromise 64 settings bytes store words store words (found.Refused why)
+  unfolding findingsOutcome
+  findings-turned words why is = promise 64 settings bytes store words store words (found.Refused why) (rw (rw is at h))
+
+  pub findings-goes : (words filled after : List ℕ) (r : Found) → front ≡ Ready
+      → findingsAfter r filled after ≡ findingsFront 64 settings store words (given (treeOf (fileOf bytes)))
+      → FindingsPromise 64 settings bytes store words filled after r
+  unfolding findingsOutcome
+  findings-goes words filled after r is e = promise 64 settings bytes store words filled after r (rw ((rw is at h) .0) e)
+
+  -- ---- the text call
+
+  pub text-turned : (position : ℕ) (text : List ℕ) (why : Turned) → front ≡ Refused why
+      → textAfter (told.Refused why) store text ≡ textOutcome 64 settings bytes store position text
+  unfolding textOutcome
+  text-turned position text why is = rw (rw is at h)
+
+  pub text-goes : (position : ℕ) (text filled after : List ℕ) (r : Told) → front ≡ Ready
+      → textAfter r filled after ≡ textFront 64 settings store text position (given (treeOf (fileOf bytes)))
+      → textAfter r filled after ≡ textOutcome 64 settings bytes store position text
+  unfolding textOutcome
+  text-goes position text filled after r is e = rw ((rw is at h) .0) e
+
+-- ---- findings that had no place in the call's own buffer are collected again
+
+module _ (settings : Settings) {bytes index slots store own : List ℕ} {count : ℕ} (c : Collected 64 settings bytes index slots store own count) (words : List ℕ)
+    (fits : 8 * count ≤ length words) where
+  pub again : (room : ℕ) (tally : Tally) (after : List ℕ) → room ≡ length words / 8
+      → sinkOf tally after
+      ≡ collect room (sinkOf (Upto 0) words) (allEvents (treeOf (fileOf bytes)) (formatsIn (fileOf bytes) 64 store) settings room 64)
+      → after ≡ written words 0 (listingWords settings (shownIn 64 settings bytes store))
+  again room tally after size e =
+      all-left settings room (shownIn 64 settings bytes store) words (sinkOf tally after)
+      (e ∙ ap (λ es. collect room (sinkOf (Upto 0) words) es) (all-found settings room 64 (treeOf (fileOf bytes)) (formatsIn (fileOf bytes) 64 store) (c .within)))
+      .placed (omega (arith, fits, size, c .counted)) (omega (arith, fits, c .counted))
+
+  -- ---- those that have place there are copied
+
+  pub own-part : count ≤ 256 → 8 * count ≡ length (take (8 * count) own)
+  own-part few = sym (length-take-le (8 * count) own (omega (arith, few, c .long)))
+
+  pub words-part : 8 * count ≡ length (take (8 * count) words)
+  words-part = sym (length-take-le (8 * count) words fits)
+
+  pub handed : (copied : List ℕ) → count ≤ 256 → copied ≡ take (8 * count) own
+      → copied ++ drop (8 * count) words ≡ written words 0 (listingWords settings (shownIn 64 settings bytes store))
+  unfolding written
+  handed copied few same =
+      let number : 0 + length (listingWords settings (shownIn 64 settings bytes store)) ≡ 8 * count =
+      omega (arith, words-length settings (shownIn 64 settings bytes store), c .counted) in
+      rw (number, same, c .placed few)

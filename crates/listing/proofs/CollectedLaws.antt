@@ -1,0 +1,287 @@
+-- From what was inferred and gathered to what the calls hand over.
+use Prim.Native.Nat.{ℕ, zero, suc, _+_, _*_, _/_, _≤_, _<_}
+use mathlib.Core.Bool.{Bool, true, false}
+use mathlib.Core.List.{List, [], _∷_, _++_, map}
+use mathlib.Core.Logic.{_⊎_, inl, inr}
+use mathlib.Core.Path.{_≡_, refl, sym, ap, _∙_}
+use native.Mathlib.Omega.{arith}
+use native.Mathlib.Decide.{decLe}
+use borrow.Author.Tests.{le-ltb}
+use lib.ListN.{length, take, drop, replicate, length-append}
+use lib.Seq.{take-at}
+use Rattle.file.specs.Answer.{Answer, refused, given}
+use Rattle.file.specs.Sections.{File, fileOf}
+use Rattle.law.specs.Tree.{Law}
+use Rattle.law.specs.Reading.{treeOf}
+use Rattle.law.specs.Index.{Indexed}
+use Rattle.law.proofs.Accepted.{passed, taken}
+use Rattle.law.proofs.Allowed.{accepted-readable}
+use Rattle.law.proofs.Functions.{tree-length}
+use Rattle.law.proofs.IndexLaws.{functions-limit}
+use Rattle.formats.specs.Infer.{Inferred, infer}
+use Rattle.formats.specs.Store.{StoreHolds, storeSize, storeWords}
+use Rattle.formats.specs.Slots.{SlotsOf, fileNames}
+use Rattle.formats.specs.Turns.{Asked, Holding, argumentsIn, resultsIn}
+use Rattle.formats.specs.Turns.{InferIs}
+use Rattle.formats.specs.declared.infer.Inference.{Inference}
+use Rattle.formats.specs.declared.infer.Inference.the-variants.{TooWide, Ran}
+use Rattle.formats.proofs.CallLaws.{outcome-over}
+use Rattle.formats.proofs.StateLaws.{read-past, store-length}
+use Rattle.formats.proofs.SizeLaws.{infer-storable}
+use Rattle.formats.proofs.SentenceLaws.{arguments-said, results-said}
+use Rattle.shapes.specs.Written.{written}
+use Rattle.lints.specs.Finding.{Finding}
+use Rattle.lints.specs.Recognition.{argumentsOver}
+use Rattle.lints.specs.Levels.{Settings, shown, listingWords}
+use Rattle.lints.specs.Findings.{findingsOf, Listing, listing}
+use Rattle.lints.specs.Records.{Prepared, formatsIn}
+use Rattle.findings.specs.declared.Tally.{Tally}
+use Rattle.findings.specs.declared.Tally.the-variants.{Over, Full, Upto}
+use Rattle.findings.specs.Events.{Sink, sinkOf, collect}
+use Rattle.findings.specs.All.{allEvents}
+use Rattle.listing.specs.declared.gather.Gathered.{Gathered}
+use Rattle.listing.specs.declared.gather.Gathered.the-variants as gathered
+use Rattle.listing.specs.Outcome.{storeAfter}
+use Rattle.listing.specs.Gather.{Prepares, Filled, Fitted, GatheredIs, GatherIs, shownIn, Collected}
+use Rattle.listing.proofs.PromiseLaws.{words-length, start-taken}
+use Rattle.listing.proofs.GatherLaws.{same-findings, same-over, Wide, Narrow, comes-to, Left, all-left}
+
+module _ {limit : ℕ} {bytes index store : List ℕ} (p : Prepares limit bytes index store) {slots : List ℕ} (s : SlotsOf (fileOf bytes) slots) where
+  few : length (treeOf (fileOf bytes)) ≤ 64
+  few = omega (arith, tree-length (fileOf bytes), functions-limit bytes index (p .indexed))
+
+  -- a store with what was inferred
+  holds : (i : Inferred) (tail after : List ℕ) → infer limit (treeOf (fileOf bytes)) ≡ given i → after ≡ storeWords limit i ++ tail
+      → StoreHolds limit (fileNames (fileOf bytes)) (i .arguments) (i .results) tail after
+  holds i tail after inferred words = record { entries = infer-storable limit (treeOf (fileOf bytes)) i few inferred; words = words }
+
+  pub ready : (i : Inferred) (tail after : List ℕ) → infer limit (treeOf (fileOf bytes)) ≡ given i → after ≡ storeWords limit i ++ tail
+      → Prepared bytes index slots after limit
+  ready i tail after inferred words = record {
+    accepted = p .accepted;
+    asked = record {
+      indexed = p .indexed;
+      readable = accepted-readable bytes (p .accepted);
+      places = s;
+      names = refl;
+      small = p .small;
+    };
+    holding = record { arguments = i .arguments; results = i .results; tail = tail; holds = holds i tail after inferred words };
+  }
+
+  -- what the store says is what was inferred, but for the rounds
+  pub said : (i : Inferred) (tail after : List ℕ) → infer limit (treeOf (fileOf bytes)) ≡ given i → after ≡ storeWords limit i ++ tail
+      → formatsIn (fileOf bytes) limit after ≡ record { arguments = i .arguments; results = i .results; rounds = 0; settled = false }
+  said i tail after inferred words =
+      rw (arguments-said (holds i tail after inferred words) (omega (arith, p .small)), results-said (holds i tail after inferred words) (omega (arith, p .small)))
+
+-- ---- tallies differ
+
+over-full : Over ≡ Full → ⊥
+over-full e = let z : _≡_ {A = ℕ} 0 1 = cc in omega arith
+
+over-upto : (n : ℕ) → Over ≡ Upto n → ⊥
+over-upto n e = let z : _≡_ {A = ℕ} 0 1 = cc in omega arith
+
+full-upto : (n : ℕ) → Full ≡ Upto n → ⊥
+full-upto n e = let z : _≡_ {A = ℕ} 0 1 = cc in omega arith
+
+upto-same : (m n : ℕ) → Upto m ≡ Upto n → m ≡ n
+upto-same m n e = cc
+
+-- ---- findings of a law whose formats are in the store
+
+module _ {limit rounds : ℕ} {settled : Bool} (room : ℕ) (settings : Settings) {bytes index slots store : List ℕ} {tally : Tally} (out now : List ℕ)
+    (p : Prepares limit bytes index store) (s : SlotsOf (fileOf bytes) slots) (f : Filled limit (fileOf bytes) store rounds settled)
+    (e : sinkOf tally now
+    ≡ collect room (sinkOf (Upto 0) out) (allEvents (treeOf (fileOf bytes)) (formatsIn (fileOf bytes) limit store) settings room limit)) where
+  abbrev law : Law
+  law = treeOf (fileOf bytes)
+
+  abbrev fs : List Finding
+  fs = shown settings (findingsOf law (f .formats))
+
+  came : Wide limit settings law (sinkOf tally now) ⊎ Narrow limit settings room law (f .formats) out (sinkOf tally now)
+  came =
+      comes-to limit settings room law (f .formats) out (sinkOf tally now) (f .inferred)
+      (rw (said p s (f .formats) (drop (storeSize limit) store) store (f .inferred) (f .words)) at e)
+
+  -- the store is as it was
+  kept : Narrow limit settings room law (f .formats) out (sinkOf tally now) → store ≡ storeAfter limit store (listing limit settings law)
+  kept n = rw (n .says) (f .words)
+
+  pub gather-wide : (after : List ℕ) → tally ≡ Over → after ≡ replicate (storeSize limit) 0 ++ drop (storeSize limit) store
+      → GatherIs limit settings room bytes store after out now gathered.TooWide
+  gather-wide after is words = go came
+    where
+      go : Wide limit settings law (sinkOf tally now) ⊎ Narrow limit settings room law (f .formats) out (sinkOf tally now)
+          → GatherIs limit settings room bytes store after out now gathered.TooWide
+      go (inl w) = record { store = rw (w .says) words; gathered = rw (w .says) (refl, refl) }
+      go (inr n) = absurd (fits (decLe (length fs) room))
+        where
+          fits : Dec (length fs ≤ room) → ⊥
+          fits (yes l) = over-upto (length fs) (sym is ∙ n .left .counted l)
+          fits (no l) = over-full (sym is ∙ n .left .over (omega (arith, l)))
+
+  pub gather-full : tally ≡ Full → GatherIs limit settings room bytes store store out now gathered.Full
+  gather-full is = go came
+    where
+      go : Wide limit settings law (sinkOf tally now) ⊎ Narrow limit settings room law (f .formats) out (sinkOf tally now)
+          → GatherIs limit settings room bytes store store out now gathered.Full
+      go (inl w) = absurd (over-full (sym (w .tally) ∙ is))
+      go (inr n) = record {
+        store = kept n;
+        gathered = rw (n .says) (record {
+          counted = λ l. absurd (full-upto (length fs) (sym is ∙ n .left .counted l));
+          placed = λ l m. absurd (full-upto (length fs) (sym is ∙ n .left .counted l));
+          over = λ l. refl;
+        });
+      }
+
+  pub gather-upto : (count : ℕ) → tally ≡ Upto count → GatherIs limit settings room bytes store store out now (gathered.Upto count rounds settled)
+  gather-upto count is = go came
+    where
+      go : Wide limit settings law (sinkOf tally now) ⊎ Narrow limit settings room law (f .formats) out (sinkOf tally now)
+          → GatherIs limit settings room bytes store store out now (gathered.Upto count rounds settled)
+      go (inl w) = absurd (over-upto count (sym (w .tally) ∙ is))
+      go (inr n) = record {
+        store = kept n;
+        gathered = rw (n .says) (record {
+          counted = λ l. rw (upto-same count (length fs) (sym is ∙ n .left .counted l), f .ran .0, f .ran .1);
+          placed = n .left .placed;
+          over = λ l. absurd (full-upto count (sym (n .left .over l) ∙ is));
+        });
+      }
+
+-- ---- formats first
+
+listing-over : (limit : ℕ) (settings : Settings) (law : Law) (n : ℕ) → infer limit law ≡ refused n → listing limit settings law ≡ refused n
+unfolding listing
+listing-over limit settings law n e = rw e
+
+ran-wide : (rounds : ℕ) (settled : Bool) → Ran rounds settled ≡ TooWide → ⊥
+ran-wide rounds settled e = let z : _≡_ {A = ℕ} 0 1 = cc in omega arith
+
+module _ {limit : ℕ} (room : ℕ) (settings : Settings) {bytes index before slots : List ℕ} (after : List ℕ) (r : Inference)
+    (p : Prepares limit bytes index before) (s : SlotsOf (fileOf bytes) slots)
+    (h : InferIs limit (infer limit (treeOf (fileOf bytes))) before after r) where
+  abbrev tree : Law
+  tree = treeOf (fileOf bytes)
+
+  -- a format has too many shapes
+  pub infer-wide : (out : List ℕ) → r ≡ TooWide → GatherIs limit settings room bytes before after out out gathered.TooWide
+  infer-wide out is = go (infer limit tree) refl h
+    where
+      ten : (n : ℕ) → infer limit tree ≡ refused n → n ≡ 10
+      ten n e =
+          let same = ap (λ o. o .answer) (outcome-over limit tree before after (p .room) r h is) in
+          let here : refused 10 ≡ refused n = rw (le-ltb (length before) (storeSize limit) (p .room), e) at same in
+          cc
+
+      go : (a : Answer Inferred) → infer limit tree ≡ a → InferIs limit a before after r → GatherIs limit settings room bytes before after out out gathered.TooWide
+      go (given i) e k = absurd (ran-wide (i .rounds) (i .settled) (sym (k .1) ∙ is))
+      go (refused n) e k = record {
+        store = rw (listing-over limit settings tree n e) (k .0);
+        gathered = rw (listing-over limit settings tree n e) (ten n e, refl);
+      }
+
+  module _ (rounds : ℕ) (settled : Bool) (is : r ≡ Ran rounds settled) where
+    abbrev Formed : Type 0
+    Formed = (i : Inferred) × (infer limit tree ≡ given i) × (after ≡ storeWords limit i ++ drop (storeSize limit) before) × (Ran rounds settled ≡ Ran (i .rounds) (i .settled))
+
+    formed : Formed
+    formed = go (infer limit tree) refl h
+      where
+        go : (a : Answer Inferred) → infer limit tree ≡ a → InferIs limit a before after r → Formed
+        go (given i) e k = (i, e, k .0, sym is ∙ k .1)
+        go (refused n) e k = absurd (ran-wide rounds settled (sym is ∙ k .1))
+
+    held : StoreHolds limit (fileNames (fileOf bytes)) (formed .0 .arguments) (formed .0 .results) (drop (storeSize limit) before) after
+    held = holds p s (formed .0) (drop (storeSize limit) before) after (formed .1) (formed .2)
+
+    past : drop (storeSize limit) after ≡ drop (storeSize limit) before
+    past =
+        let none : storeSize limit + 0 ≡ storeSize limit = omega arith in
+        rw none at (read-past held 0)
+
+    -- the store holds them
+    pub filled-store : Filled limit (fileOf bytes) after rounds settled
+    filled-store = record {
+      formats = formed .0;
+      inferred = formed .1;
+      words = formed .2 ∙ ap (λ tail. storeWords limit (formed .0) ++ tail) (sym past);
+      ran = (ran-rounds (formed .3), ran-settled (formed .3));
+    }
+      where
+        ran-rounds : {a b : ℕ} {x y : Bool} → Ran a x ≡ Ran b y → a ≡ b
+        ran-rounds e = cc
+
+        ran-settled : {a b : ℕ} {x y : Bool} → Ran a x ≡ Ran b y → x ≡ y
+        ran-settled e = cc
+
+    pub filled-prepares : Prepares limit bytes index after
+    filled-prepares = record {
+      indexed = p .indexed;
+      accepted = p .accepted;
+      small = p .small;
+      room = rw (formed .2) (omega (arith, length-append (storeWords limit (formed .0)) (drop (storeSize limit) before), store-length (held .entries)));
+    }
+
+    -- and then its findings are gathered
+    pub gather-both : (end start now : List ℕ) (g : Gathered) → GatherIs limit settings room bytes after end start now g
+        → GatherIs limit settings room bytes before end start now g
+    gather-both end start now g k = record { store = k .store ∙ same-past (listing limit settings tree); gathered = k .gathered }
+      where
+        same-past : (a : Answer Listing) → storeAfter limit after a ≡ storeAfter limit before a
+        same-past (refused n) = rw past
+        same-past (given l) = rw past
+
+-- ---- findings to be handed over
+
+listing-parts : (limit : ℕ) (settings : Settings) (law : Law) (l : Listing) → listing limit settings law ≡ given l
+    → (infer limit law ≡ given (l .formats)) × (argumentsOver limit law (l .formats) ≡ false) × (l .findings ≡ shown settings (findingsOf law (l .formats)))
+unfolding listing
+listing-parts limit settings law l h =
+    let (formats, inferred, rest) = taken (infer limit law) _ l h in
+    let (few, same) = passed 10 (argumentsOver limit law formats) _ l rest in
+    let it : record { formats = formats; findings = shown settings (findingsOf law formats) } ≡ l = cc in
+    rw (← it) (inferred, few, refl)
+
+module _ {limit : ℕ} (settings : Settings) {bytes index before after slots : List ℕ} (p : Prepares limit bytes index before) (s : SlotsOf (fileOf bytes) slots)
+    (l : Listing) (is : listing limit settings (treeOf (fileOf bytes)) ≡ given l) (words : after ≡ storeWords limit (l .formats) ++ drop (storeSize limit) before) where
+  abbrev read : Inferred
+  read = record { arguments = l .formats .arguments; results = l .formats .results; rounds = 0; settled = false }
+
+  says : formatsIn (fileOf bytes) limit after ≡ read
+  says = said p s (l .formats) (drop (storeSize limit) before) after (listing-parts limit settings (treeOf (fileOf bytes)) l is .0) words
+
+  -- the findings by the store are those of the listing
+  pub shown-are : shownIn limit settings bytes after ≡ l .findings
+  shown-are =
+      ap (λ i. shown settings (findingsOf (treeOf (fileOf bytes)) i)) says
+      ∙ ap (shown settings) (same-findings (treeOf (fileOf bytes)) (l .formats .arguments) (l .formats .results) 0 (l .formats .rounds) false (l .formats .settled))
+      ∙ sym (listing-parts limit settings (treeOf (fileOf bytes)) l is .2)
+
+  pub within : argumentsOver limit (treeOf (fileOf bytes)) (formatsIn (fileOf bytes) limit after) ≡ false
+  within =
+      ap (argumentsOver limit (treeOf (fileOf bytes))) says
+      ∙ same-over (treeOf (fileOf bytes)) (l .formats .arguments) (l .formats .results) 0 (l .formats .rounds) false (l .formats .settled) limit
+      ∙ listing-parts limit settings (treeOf (fileOf bytes)) l is .1
+
+  pub collected : (room count : ℕ) (own start : List ℕ) (rounds : ℕ) (settled : Bool) → length start ≡ 2048 → length own ≡ 2048
+      → Fitted settings room l start own (gathered.Upto count rounds settled) → length (l .findings) ≤ room
+      → Collected limit settings bytes index slots after own count
+  collected room count own start rounds settled long kept f fits =
+      let number : count ≡ length (l .findings) = upto-count (f .counted fits) in
+      record {
+        prepared = ready p s (l .formats) (drop (storeSize limit) before) after (listing-parts limit settings (treeOf (fileOf bytes)) l is .0) words;
+        within = within;
+        counted = number ∙ ap length (sym shown-are);
+        long = kept;
+        placed = λ few.
+            rw (shown-are, f .placed fits (omega (arith, number, few, long)), number)
+            (start-taken start (listingWords settings (l .findings)) (8 * length (l .findings)) (words-length settings (l .findings)));
+      }
+    where
+      upto-count : {a b c d : ℕ} {x y : Bool} → gathered.Upto a c x ≡ gathered.Upto b d y → a ≡ b
+      upto-count e = cc

@@ -1,0 +1,60 @@
+-- The front that both calls share, one law for each way through it.
+use Prim.Native.Nat.{ℕ, _≤_, _<_}
+use mathlib.Core.Bool.{Bool, true, false}
+use mathlib.Core.List.{List}
+use mathlib.Core.Path.{_≡_, refl, sym, ap, _∙_}
+use native.Mathlib.Omega.{arith}
+use borrow.Author.Tests.{lt-ltb, le-ltb}
+use lib.ListN.{length}
+use Rattle.file.specs.Answer.{Answer, refused, given}
+use Rattle.file.specs.Sections.{fileOf, numberOf}
+use Rattle.file.specs.declared.Refusal.{Refusal}
+use Rattle.file.proofs.Answers.{map-refused, map-given}
+use Rattle.law.specs.Tree.{Law}
+use Rattle.law.specs.Reading.{treeOf}
+use Rattle.law.specs.Index.{Indexed}
+use Rattle.law.specs.Law.{lawOf, checkAnswer, verdictOf, IndexAfter, Accepted}
+use Rattle.law.specs.declared.Check.{Check}
+use Rattle.law.specs.declared.Check.the-variants as checks
+use Rattle.law.proofs.Accepted.{law-accepted}
+use Rattle.lints.specs.Levels.{Settings, settingsAllowed}
+use Rattle.listing.specs.declared.Turned.the-variants as turned
+use Rattle.listing.specs.declared.front.Front.{Front}
+use Rattle.listing.specs.declared.front.Front.the-variants.{Refused, Ready}
+use Rattle.listing.specs.Outcome.{front}
+use Rattle.listing.specs.Gather.{Prepares, FrontIs}
+
+module _ (settings : Settings) (bytes : List ℕ) (words : ℕ) where
+  abbrev Says : Front → List ℕ → Type 0
+  Says answer index = (store : List ℕ) → length store ≡ words → FrontIs 64 settings bytes store answer index
+
+  -- 14
+  pub turned-settings : {answer : Front} (index : List ℕ) {allowed : Bool} → allowed ≡ settingsAllowed settings → allowed ≡ false → answer ≡ Refused turned.Settings → Says answer index
+  unfolding front
+  turned-settings index e q is store l = rw is (rw (← e, q) refl)
+
+  module _ {allowed : Bool} (e : allowed ≡ settingsAllowed settings) (q : allowed ≡ true) {check : Check} (checked : List ℕ)
+      (verdict : checkAnswer check ≡ verdictOf bytes) (indexed : IndexAfter check bytes checked) where
+    -- 1 to 9
+    pub turned-file : {answer : Front} (index : List ℕ) (why : Refusal) → check ≡ checks.Refused why → answer ≡ Refused (turned.File why) → Says answer index
+    unfolding front
+    turned-file index why r is store l =
+        let law : lawOf bytes ≡ refused (numberOf why) = map-refused (λ _. tt) (lawOf bytes) (numberOf why) (rw r at verdict) in
+        rw is (rw (← e, q, law) refl)
+
+    accepted : check ≡ checks.Accepted → Accepted bytes × (lawOf bytes ≡ given (treeOf (fileOf bytes)))
+    accepted r =
+        map-given (λ _. tt) (lawOf bytes) tt (rw r at verdict)
+        (λ law is same. let (ok, tree) = law-accepted bytes law is in (ok, is ∙ ap given tree))
+
+    -- 15
+    pub turned-store : {answer : Front} (index : List ℕ) → check ≡ checks.Accepted → words < 8320 → answer ≡ Refused turned.Store → Says answer index
+    unfolding front
+    turned-store index r short is store l = rw is (rw (← e, q, accepted r .1, l, lt-ltb words 8320 short) refl)
+
+    pub goes-on : {answer : Front} (index : List ℕ) → check ≡ checks.Accepted → 8320 ≤ words → answer ≡ Ready → index ≡ checked → Says answer index
+    unfolding front
+    goes-on index r enough is same store l = rw is (
+      rw (← e, q, accepted r .1, l, le-ltb words 8320 enough) refl,
+      record { indexed = rw (← same, r) at indexed; accepted = accepted r .0; small = omega arith; room = omega (arith, l, enough) },
+    )

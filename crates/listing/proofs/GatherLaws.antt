@@ -1,0 +1,116 @@
+-- What collecting all lints comes to is what the listing says.
+use Prim.Native.Nat.{ℕ, zero, suc, _+_, _*_, _≤_, _<_}
+use mathlib.Core.Bool.{Bool, true, false}
+use mathlib.Core.List.{List, [], _∷_, _++_, map}
+use mathlib.Core.Logic.{_⊎_, inl, inr}
+use mathlib.Core.Path.{_≡_, refl, sym, ap, _∙_}
+use native.Mathlib.Omega.{arith}
+use native.Mathlib.Decide.{decLe}
+use native.Mathlib.Nat.{zero-add}
+use lib.ListN.{length, drop, replicate}
+use Rattle.file.specs.Answer.{Answer, refused, given}
+use Rattle.file.specs.Sections.{File, fileOf}
+use Rattle.law.specs.Tree.{Law}
+use Rattle.law.specs.Reading.{treeOf}
+use Rattle.formats.specs.Infer.{Entry, Inferred, infer}
+use Rattle.shapes.specs.Written.{written}
+use Rattle.matching.specs.Match.{each}
+use Rattle.lints.specs.Finding.{Finding, lintOf, findingWords}
+use Rattle.lints.specs.Recognition.{judged, recognitionRemarks, recognitionFindings, someOver, argumentsOver}
+use Rattle.lints.specs.Levels.{Settings, severityOf, shown, listingWords}
+use Rattle.lints.specs.Findings.{findingsOf, Listing, listing}
+use Rattle.findings.specs.declared.Tally.{Tally}
+use Rattle.findings.specs.declared.Tally.the-variants.{Over, Full, Upto}
+use Rattle.findings.specs.Events.{Sink, sinkOf, collect}
+use Rattle.findings.specs.All.{allEvents}
+use Rattle.findings.proofs.FitLaws.{collect-fits, collect-counts, collect-full}
+use Rattle.findings.proofs.EventLaws.{wordsUnder, eventOf, all-found}
+use Rattle.findings.proofs.OverLaws.{all-ends}
+
+-- rounds do not matter to findings
+module _ (law : Law) (arguments results : List Entry) (rounds other : ℕ) (settled quiet : Bool) where
+  abbrev first : Inferred
+  first = record { arguments = arguments; results = results; rounds = rounds; settled = settled }
+
+  abbrev second : Inferred
+  second = record { arguments = arguments; results = results; rounds = other; settled = quiet }
+
+  pub same-findings : findingsOf law first ≡ findingsOf law second
+  unfolding findingsOf recognitionFindings recognitionRemarks judged
+  same-findings = refl
+
+  over-calls : (limit : ℕ) (cs : List _) → someOver limit law first cs ≡ someOver limit law second cs
+  unfolding someOver
+  over-calls limit [] = refl
+  over-calls limit (c ∷ cs) = rw (over-calls limit cs)
+
+  pub same-over : (limit : ℕ) → argumentsOver limit law first ≡ argumentsOver limit law second
+  unfolding argumentsOver
+  same-over limit = over-calls limit _
+
+-- a finding has eight words
+eight : (settings : Settings) (f : Finding) → length (wordsUnder settings f) ≡ 8
+unfolding findingWords
+eight settings f = refl
+
+-- what is left in tally and buffer, where the findings are these
+pub record Left (settings : Settings) (room : ℕ) (fs : List Finding) (before : List ℕ) (s : Sink) : Type 0 where
+  pub counted : length fs ≤ room → s .tally ≡ Upto (length fs)
+  pub placed : length fs ≤ room → 8 * length fs ≤ length before → s .words ≡ written before 0 (listingWords settings fs)
+  pub over : room < length fs → s .tally ≡ Full
+
+pub all-left : (settings : Settings) (room : ℕ) (fs : List Finding) (before : List ℕ) (s : Sink)
+    → s ≡ collect room (sinkOf (Upto 0) before) (map (eventOf settings) fs) → Left settings room fs before s
+unfolding listingWords
+all-left settings room fs before s e = record {
+  counted = λ fits. rw e (collect-counts (wordsUnder settings) (eight settings) room 0 before fs (omega (arith, fits)) ∙ ap Upto (zero-add (length fs)));
+  placed = λ fits holds. rw e (ap (λ (t : Sink). t .words) (collect-fits (wordsUnder settings) (eight settings) room 0 before fs (omega (arith, fits)) (omega (arith, holds))));
+  over = λ more. rw e (collect-full (wordsUnder settings) (eight settings) room 0 before fs (omega arith) (omega (arith, more)));
+}
+
+-- the listing, by the formats that were inferred
+listing-wide : (limit : ℕ) (settings : Settings) (law : Law) (i : Inferred) → infer limit law ≡ given i → argumentsOver limit law i ≡ true
+    → listing limit settings law ≡ refused 10
+unfolding listing
+listing-wide limit settings law i e w = rw (e, w)
+
+listing-fits : (limit : ℕ) (settings : Settings) (law : Law) (i : Inferred) → infer limit law ≡ given i → argumentsOver limit law i ≡ false
+    → listing limit settings law ≡ given (record { formats = i; findings = shown settings (findingsOf law i) })
+unfolding listing
+listing-fits limit settings law i e w = rw (e, w)
+
+-- either an argument is too wide, or the findings are collected
+pub record Wide (limit : ℕ) (settings : Settings) (law : Law) (s : Sink) : Type 0 where
+  pub says : listing limit settings law ≡ refused 10
+  pub tally : s .tally ≡ Over
+
+pub record Narrow (limit : ℕ) (settings : Settings) (room : ℕ) (law : Law) (i : Inferred) (before : List ℕ) (s : Sink) : Type 0 where
+  pub within : argumentsOver limit law i ≡ false
+  pub says : listing limit settings law ≡ given (record { formats = i; findings = shown settings (findingsOf law i) })
+  pub left : Left settings room (shown settings (findingsOf law i)) before s
+
+pub comes-to : (limit : ℕ) (settings : Settings) (room : ℕ) (law : Law) (i : Inferred) (before : List ℕ) (s : Sink) → infer limit law ≡ given i
+    → s ≡ collect room (sinkOf (Upto 0) before) (allEvents law (record { arguments = i .arguments; results = i .results; rounds = 0; settled = false }) settings room limit)
+    → Wide limit settings law s ⊎ Narrow limit settings room law i before s
+comes-to limit settings room law i before s inferred e = go (argumentsOver limit law i) refl
+  where
+    read : Inferred
+    read = record { arguments = i .arguments; results = i .results; rounds = 0; settled = false }
+
+    over-same : argumentsOver limit law read ≡ argumentsOver limit law i
+    over-same = same-over law (i .arguments) (i .results) 0 (i .rounds) false (i .settled) limit
+
+    go : (b : Bool) → argumentsOver limit law i ≡ b → Wide limit settings law s ⊎ Narrow limit settings room law i before s
+    go true w = inl (record {
+      says = listing-wide limit settings law i inferred w;
+      tally = rw e (all-ends law read settings room limit (over-same ∙ w) (sinkOf (Upto 0) before));
+    })
+    go false w = inr (record {
+      within = w;
+      says = listing-fits limit settings law i inferred w;
+      left =
+          all-left settings room (shown settings (findingsOf law i)) before s
+          (e ∙ ap (λ es. collect room (sinkOf (Upto 0) before) es)
+          (all-found settings room limit law read (over-same ∙ w)
+          ∙ ap (λ fs. map (eventOf settings) (shown settings fs)) (same-findings law (i .arguments) (i .results) 0 (i .rounds) false (i .settled))));
+    })

@@ -1,0 +1,26 @@
+use native.Mathlib.Omega.{arith}
+use mathlib.Core.Path.{refl, sym, _∙_}
+use Rattle.findings.specs.All.{settingsFrom}
+use Rattle.listing.proofs.CallLaws.{again, own-part, words-part, handed}
+use borrow.Author.Needs.{needs}
+use Rattle.listing.proofs.hand_over.Statement.{statement}
+use Rattle.listing.proofs.hand_over.Tie as tie
+use Rattle.listing.proofs.hand_over.Reads as reads
+use Rattle.listing.proofs.hand_over.Lts as lts
+use Rattle.findings.proofs.all.lint_all.Reads as lint-all-reads
+use Rattle.shapes.proofs.copy_words.Reads as copy-words-reads
+
+pub hand-over-spec : {M : Type 1} → statement M
+hand-over-spec =
+    tie.close
+    (tie.spec
+    (λ c κs. search needs)
+    (λ c. search needs)
+    (λ c. again (settingsFrom (c .before .before .before .before .before .before .before .before .before .before .args .mode) (c .before .before .before .before .before .before .before .before .before .before .args .overrides .now)) (c .before .before .before .before .before .before .before .before .before .before .pre .0) (c .before .before .before .before .before .before .before .before .before .before .args .words .now) (c .before .before .before .before .before .before .before .before .before .before .pre .1) _ _ _ refl (c .before .before .lint-all .ensures))
+    (λ c. search needs)
+    (λ c. own-part (settingsFrom (c .before .before .before .before .before .before .before .args .mode) (c .before .before .before .before .before .before .before .args .overrides .now)) (c .before .before .before .before .before .before .before .pre .0) (c .before .before .before .before .before .before .before .args .words .now) (c .before .before .before .before .before .before .before .pre .1) (c .before .if1 .left))
+    (λ c. search needs)
+    (λ c. words-part (settingsFrom (c .before .before .before .before .before .before .before .before .args .mode) (c .before .before .before .before .before .before .before .before .args .overrides .now)) (c .before .before .before .before .before .before .before .before .pre .0) (c .before .before .before .before .before .before .before .before .args .words .now) (c .before .before .before .before .before .before .before .before .pre .1))
+    (λ c κs. sym (own-part (settingsFrom (c .before .before .before .before .before .before .before .before .args .mode) (c .before .before .before .before .before .before .before .before .args .overrides .now)) (c .before .before .before .before .before .before .before .before .pre .0) (c .before .before .before .before .before .before .before .before .args .words .now) (c .before .before .before .before .before .before .before .before .pre .1) (c .before .before .if1 .left)) ∙ words-part (settingsFrom (c .before .before .before .before .before .before .before .before .args .mode) (c .before .before .before .before .before .before .before .before .args .overrides .now)) (c .before .before .before .before .before .before .before .before .pre .0) (c .before .before .before .before .before .before .before .before .args .words .now) (c .before .before .before .before .before .before .before .before .pre .1))
+    (λ c. search needs)
+    (λ c. handed (settingsFrom (c .before .before .before .before .before .before .before .before .before .before .before .args .mode) (c .before .before .before .before .before .before .before .before .before .before .before .args .overrides .now)) (c .before .before .before .before .before .before .before .before .before .before .before .pre .0) (c .before .before .before .before .before .before .before .before .before .before .before .args .words .now) (c .before .before .before .before .before .before .before .before .before .before .before .pre .1) _ (c .before .before .before .before .before .if1 .left) (c .before .before .copy-words .ensures)))

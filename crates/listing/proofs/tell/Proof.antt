@@ -1,0 +1,27 @@
+use Rattle.listing.proofs.TellLaws.{tell-none, spoken, tell-short, tell-written}
+use borrow.Author.Needs.{needs}
+use Rattle.listing.proofs.tell.Statement.{statement}
+use Rattle.listing.proofs.tell.Tie as tie
+use Rattle.listing.proofs.tell.Reads as reads
+use Rattle.listing.proofs.tell.Lts as lts
+use Rattle.messages.proofs.put_message.Reads as put-message-reads
+
+pub tell-spec : {M : Type 1} → statement M
+tell-spec =
+    tie.close
+    (tie.spec
+    (λ c. λ settings held. tell-none settings held (c .before .before .before .before .before .args .position) (c .before .before .before .before .before .args .text .now) (c .if1 .taken))
+    (λ c. search needs)
+    (λ c. search needs)
+    (λ c. search needs)
+    (λ c. search needs)
+    (λ c. search needs)
+    (λ c. search needs)
+    (λ c. search needs)
+    (λ c. search needs)
+    (λ c κs. (c .before .before .before .before .before .before .before .pre .0 .1 .prepared, spoken (c .before .before .before .before .before .before .before .pre .0 .0) (c .before .before .before .before .before .before .before .pre .0 .1) (c .before .before .before .before .before .before .before .pre .1) (c .before .before .before .before .before .before .before .args .position) (c .before .before .if1 .left)))
+    (λ c. search needs)
+    (λ c. λ settings held. tell-short settings held (c .before .before .before .before .before .before .before .before .before .before .before .pre .1) (c .before .before .before .before .before .before .before .before .before .before .before .args .position) (c .before .before .before .before .before .before .if1 .left) (c .before .before .before .before .before .before .before .before .before .before .before .args .text .now) (c .before .before .before .put-message .kept .1 .1 .1 .1 .1 .1 .0) (c .before .before .before .put-message .ensures) (c .if2 .taken))
+    (λ c κs. (c .before .before .before .before .before .before .before .before .before .before .before .before .pre .0 .1 .prepared, spoken (c .before .before .before .before .before .before .before .before .before .before .before .before .pre .0 .0) (c .before .before .before .before .before .before .before .before .before .before .before .before .pre .0 .1) (c .before .before .before .before .before .before .before .before .before .before .before .before .pre .1) (c .before .before .before .before .before .before .before .before .before .before .before .before .args .position) (c .before .before .before .before .before .before .before .if1 .left)))
+    (λ c. search needs)
+    (λ c. λ settings held. tell-written settings held (c .before .before .before .before .before .before .before .before .before .before .before .before .before .before .before .pre .1) (c .before .before .before .before .before .before .before .before .before .before .before .before .before .before .before .args .position) (c .before .before .before .before .before .before .before .before .before .before .if1 .left) (c .before .before .before .before .before .before .before .before .before .before .before .before .before .before .before .args .text .now) _ (c .before .before .before .before .before .before .before .put-message .kept .1 .1 .1 .1 .1 .1 .0) (c .before .before .before .before .before .before .before .put-message .ensures) (c .before .before .before .before .if2 .left) (c .before .before .put-message2 .ensures)))

@@ -1,0 +1,31 @@
+use mathlib.Core.Path.{refl}
+use Rattle.findings.specs.All.{settingsFrom}
+use Rattle.listing.proofs.ReadyLaws.{text-wide, text-full, text-told, findings-collected, count-fits}
+use borrow.Author.Needs.{needs}
+use Rattle.listing.proofs.text_ready.Statement.{statement}
+use Rattle.listing.proofs.text_ready.Tie as tie
+use Rattle.listing.proofs.text_ready.Reads as reads
+use Rattle.listing.proofs.text_ready.Lts as lts
+use Rattle.formats.proofs.slots.slots_of.Reads as slots-of-reads
+use Rattle.listing.proofs.gather.gather.Reads as gather-reads
+use Rattle.listing.proofs.tell.Reads as tell-reads
+
+pub text-ready-spec : {M : Type 1} → statement M
+text-ready-spec =
+    tie.close
+    (tie.spec
+    (λ c κs. search needs)
+    (λ c. search needs)
+    (λ c κs. search needs)
+    (λ c. search needs)
+    (λ c. search needs)
+    (λ c. search needs)
+    (λ c. search needs)
+    (λ c κs. ((settingsFrom (c .before .before .before .before .before .before .before .before .before .before .before .before .before .before .before .before .before .before .before .args .mode) (c .before .before .before .before .before .before .before .before .before .before .before .before .before .before .before .before .before .before .before .args .overrides .now), findings-collected (settingsFrom (c .before .before .before .before .before .before .before .before .before .before .before .before .before .before .before .before .before .before .before .args .mode) (c .before .before .before .before .before .before .before .before .before .before .before .before .before .before .before .before .before .before .before .args .overrides .now)) (c .before .before .before .before .before .before .before .before .before .before .gather .ensures) (c .before .before .before .before .before .before .before .before .before .before .before .before .before .before .before .before .before .before .before .pre) (c .before .before .before .before .before .before .before .before .before .before .before .before .before .before .slots-of .ensures) _ _ _ (c .before .before .before .before .before .count .given .1) refl (c .before .before .before .before .before .before .before .before .before .before .gather .kept .1 .1 .1 .1 .1 .1 .1 .1 .0)), count-fits (settingsFrom (c .before .before .before .before .before .before .before .before .before .before .before .before .before .before .before .before .before .before .before .args .mode) (c .before .before .before .before .before .before .before .before .before .before .before .before .before .before .before .before .before .before .before .args .overrides .now)) (c .before .before .before .before .before .before .before .before .before .before .gather .ensures) (c .before .before .before .before .before .before .before .before .before .before .before .before .before .before .before .before .before .before .before .pre) (c .before .before .before .before .before .before .before .before .before .before .before .before .before .before .slots-of .ensures) _ _ _ (c .before .before .before .before .before .count .given .1)))
+    (λ c. search needs)
+    (λ c. text-wide (settingsFrom (c .before .before .before .before .before .before .before .before .before .before .before .before .before .before .args .mode) (c .before .before .before .before .before .before .before .before .before .before .before .before .before .before .args .overrides .now)) (c .before .before .before .before .before .gather .ensures) _ _ (c .enum-told .given .1))
+    (λ c. search needs)
+    (λ c. text-full (settingsFrom (c .before .before .before .before .before .before .before .before .before .before .before .before .before .before .args .mode) (c .before .before .before .before .before .before .before .before .before .before .before .before .before .before .args .overrides .now)) (c .before .before .before .before .before .gather .ensures) _ _ refl (c .enum-told2 .given .1))
+    (λ c. search needs)
+    (λ c. search needs)
+    (λ c. text-told (settingsFrom (c .before .before .before .before .before .before .before .before .before .before .before .before .before .before .before .before .before .before .before .before .before .before .args .mode) (c .before .before .before .before .before .before .before .before .before .before .before .before .before .before .before .before .before .before .before .before .before .before .args .overrides .now)) (c .before .before .before .before .before .before .before .before .before .before .before .before .before .gather .ensures) (c .before .before .before .before .before .before .before .before .before .before .before .before .before .before .before .before .before .before .before .before .before .before .pre) (c .before .before .before .before .before .before .before .before .before .before .before .before .before .before .before .before .before .slots-of .ensures) _ _ _ (c .before .before .before .before .before .before .before .before .count .given .1) _ _ _ (c .before .before .tell .result) refl (c .before .before .tell .ensures (settingsFrom (c .before .before .before .before .before .before .before .before .before .before .before .before .before .before .before .before .before .before .before .before .before .before .args .mode) (c .before .before .before .before .before .before .before .before .before .before .before .before .before .before .before .before .before .before .before .before .before .before .args .overrides .now)) (findings-collected (settingsFrom (c .before .before .before .before .before .before .before .before .before .before .before .before .before .before .before .before .before .before .before .before .before .before .args .mode) (c .before .before .before .before .before .before .before .before .before .before .before .before .before .before .before .before .before .before .before .before .before .before .args .overrides .now)) (c .before .before .before .before .before .before .before .before .before .before .before .before .before .gather .ensures) (c .before .before .before .before .before .before .before .before .before .before .before .before .before .before .before .before .before .before .before .before .before .before .pre) (c .before .before .before .before .before .before .before .before .before .before .before .before .before .before .before .before .before .slots-of .ensures) _ _ _ (c .before .before .before .before .before .before .before .before .count .given .1) refl (c .before .before .before .before .before .before .before .before .before .before .before .before .before .gather .kept .1 .1 .1 .1 .1 .1 .1 .1 .0)))))

@@ -1,0 +1,134 @@
+-- What the two calls answer, and every lent word after them. Document 01, "Where a call is turned back": "A refusal is its number only; the first in this
+-- table's order is given."
+use Prim.Native.Nat.{ℕ, zero, suc, _+_, _*_}
+use mathlib.Core.Bool.{Bool, not, cond}
+use mathlib.Core.List.{List, [], _∷_, _++_}
+use mathlib.Core.Option.{Option, none, some}
+use lib.ListN.{length, drop, replicate}
+use lib.Dec.{ltb, leb}
+use Rattle.file.specs.Answer.{Answer, refused, given, refuseIf, _>>=_, _>>_}
+use Rattle.file.specs.Sections.{numberOf}
+use Rattle.law.specs.Tree.{Law}
+use Rattle.law.specs.Law.{lawOf}
+use Rattle.formats.specs.Store.{storeSize, storeWords}
+use Rattle.shapes.specs.Written.{written}
+use Rattle.lints.specs.Finding.{Finding}
+use Rattle.lints.specs.Levels.{Settings, settingsAllowed, listingWords}
+use Rattle.lints.specs.Findings.{Listing, listing}
+use Rattle.lints.specs.Message.{message}
+use Rattle.listing.specs.declared.Turned.{Turned}
+use Rattle.listing.specs.declared.Turned.the-variants as turned
+use Rattle.listing.specs.declared.Found.{Found}
+use Rattle.listing.specs.declared.Found.the-variants as found
+use Rattle.listing.specs.declared.Told.{Told}
+use Rattle.listing.specs.declared.Told.the-variants as told
+
+-- ---- the code's answers, by document 01's numbers and values
+
+abbrev pub turnedNumber : Turned → ℕ
+turnedNumber turned.Settings = 14
+turnedNumber (turned.File why) = numberOf why
+turnedNumber turned.Store = 15
+turnedNumber turned.Shapes = 10
+turnedNumber turned.Findings = 11
+turnedNumber turned.NoFinding = 12
+turnedNumber turned.Text = 13
+
+-- "The findings call answers count, rounds and settled"
+pub record Count : Type 0 where
+  pub findings : ℕ
+  pub rounds : ℕ
+  pub settled : Bool
+
+abbrev pub foundAnswer : Found → Answer Count
+foundAnswer (found.Refused why) = refused (turnedNumber why)
+foundAnswer (found.Listed findings rounds settled) = given (record { findings = findings; rounds = rounds; settled = settled })
+
+-- "the text call [..] answers the bytes written"
+abbrev pub toldAnswer : Told → Answer ℕ
+toldAnswer (told.Refused why) = refused (turnedNumber why)
+toldAnswer (told.Written bytes) = given bytes
+
+-- ---- the front that both calls share: 14; 1 to 9; 15
+
+unfoldable pub front : ℕ → Settings → List ℕ → List ℕ → Answer Law
+front limit settings bytes store = do
+  refuseIf 14 (not (settingsAllowed settings))
+  law ← lawOf bytes
+  refuseIf 15 (ltb (length store) (storeSize limit))
+  given law
+
+-- ---- the store: "8,320 store words zero" with 10, else "store filled"; "Store words past 8,320 always" keep their values
+
+abbrev pub storeAfter : ℕ → List ℕ → Answer Listing → List ℕ
+storeAfter limit store (refused n) = replicate (storeSize limit) 0 ++ drop (storeSize limit) store
+storeAfter limit store (given l) = storeWords limit (l .formats) ++ drop (storeSize limit) store
+
+-- ---- the findings call
+
+pub record FindingsOutcome : Type 0 where
+  pub answer : Answer Count
+  pub store : List ℕ
+  pub findings : List ℕ
+
+-- 11, "they do not fit": "They fit if 8 × count is at most the lent words"; "words past the last finding [..] keep their values"
+abbrev pub listed : Settings → List ℕ → Listing → Answer Count × List ℕ
+listed settings words l =
+    cond (leb (8 * length (l .findings)) (length words)) (
+      given (record { findings = length (l .findings); rounds = l .formats .rounds; settled = l .formats .settled }),
+      written words 0 (listingWords settings (l .findings)),
+    )
+    (refused 11, words)
+
+abbrev pub listedBy : Settings → List ℕ → Answer Listing → Answer Count × List ℕ
+listedBy settings words (refused n) = (refused n, words)
+listedBy settings words (given l) = listed settings words l
+
+abbrev pub findingsFront : ℕ → Settings → List ℕ → List ℕ → Answer Law → FindingsOutcome
+findingsFront limit settings store words (refused n) = record { answer = refused n; store = store; findings = words }
+findingsFront limit settings store words (given law) =
+    let made : Answer Listing = listing limit settings law in
+    record {
+      answer = listedBy settings words made .0;
+      store = storeAfter limit store made;
+      findings = listedBy settings words made .1;
+    }
+
+unfoldable pub findingsOutcome : ℕ → Settings → List ℕ → List ℕ → List ℕ → FindingsOutcome
+findingsOutcome limit settings bytes store words = findingsFront limit settings store words (front limit settings bytes store)
+
+-- ---- the text call
+
+pub record TextOutcome : Type 0 where
+  pub answer : Answer ℕ
+  pub store : List ℕ
+  pub text : List ℕ
+
+-- the finding at a position, from 0
+unfoldable pub findingAt : List Finding → ℕ → Option Finding
+findingAt [] n = none
+findingAt (f ∷ fs) zero = some f
+findingAt (f ∷ fs) (suc n) = findingAt fs n
+
+-- "The text call has its own findings of 256 places; more is 11."
+abbrev pub ownPlaces : ℕ
+ownPlaces = 256
+
+-- 12, "no such finding", and 13, "the text does not fit"
+abbrev pub textOf : List ℕ → Option Finding → Answer ℕ × List ℕ
+textOf text none = (refused 12, text)
+textOf text (some f) =
+    cond (leb (length (message f)) (length text)) (given (length (message f)), written text 0 (message f)) (refused 13, text)
+
+abbrev pub textBy : List ℕ → ℕ → Answer Listing → Answer ℕ × List ℕ
+textBy text position (refused n) = (refused n, text)
+textBy text position (given l) = cond (ltb ownPlaces (length (l .findings))) (refused 11, text) (textOf text (findingAt (l .findings) position))
+
+abbrev pub textFront : ℕ → Settings → List ℕ → List ℕ → ℕ → Answer Law → TextOutcome
+textFront limit settings store text position (refused n) = record { answer = refused n; store = store; text = text }
+textFront limit settings store text position (given law) =
+    let made : Answer Listing = listing limit settings law in
+    record { answer = textBy text position made .0; store = storeAfter limit store made; text = textBy text position made .1 }
+
+unfoldable pub textOutcome : ℕ → Settings → List ℕ → List ℕ → ℕ → List ℕ → TextOutcome
+textOutcome limit settings bytes store position text = textFront limit settings store text position (front limit settings bytes store)

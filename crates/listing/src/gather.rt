@@ -1,0 +1,81 @@
+// A law's formats into a store, and its findings into a buffer.
+use findings::Tally;
+use findings::all::lint_all;
+use formats::call::clear_store;
+use formats::call::infer_store;
+use formats::infer::Inference;
+ghost use mathlib.Core.Path.{_≡_};
+ghost use Rattle.file.specs.Sections.{fileOf};
+ghost use Rattle.law.specs.Reading.{treeOf};
+ghost use Rattle.formats.specs.Infer.{Inferred, infer};
+ghost use Rattle.formats.specs.Slots.{SlotsOf};
+ghost use Rattle.findings.specs.All.{settingsFrom};
+ghost use Rattle.listing.specs.Gather.{Prepares, GatherIs, Filled};
+
+// What a law comes to: a format has too many shapes, there are more findings than there is room for, or the number of findings, the rounds and whether the
+// last of them changed nothing.
+pub enum Gathered {
+    TooWide,
+    Full,
+    Upto(usize, usize, bool),
+}
+
+// The findings of a law whose formats are in the store.
+fn gather_findings(
+    law: &[u8],
+    index: &[u16; 972],
+    slots: &[u8; 577],
+    store: &mut [u32],
+    limit: usize,
+    mode: u32,
+    overrides: &[u32],
+    room: usize,
+    out: &mut [u32],
+    rounds: usize,
+    settled: bool,
+) -> Gathered
+    requires { ⌜ Prepares limit (now law) (now index) (now store) × SlotsOf (fileOf (now law)) (now slots) × Filled limit (fileOf (now law)) (now store) rounds settled ⌝ }
+    ensures { λ r. ⌜ GatherIs limit (settingsFrom mode (now (overrides .entry))) room (now (law .entry)) (now (store .entry)) (now (store .exit)) (now (out .entry)) (now (out .exit)) r ⌝ }
+{
+    match lint_all(law, index, slots, store, mode, overrides, room, limit, out) {
+        Tally::Over => {
+            clear_store(store, limit);
+            Gathered::TooWide
+        }
+        Tally::Full => Gathered::Full,
+        Tally::Upto(count) => Gathered::Upto(count, rounds, settled),
+    }
+}
+
+// The formats of a law, and its findings under given settings, counted up to the room that there is.
+pub fn gather(
+    law: &[u8],
+    index: &[u16; 972],
+    slots: &[u8; 577],
+    store: &mut [u32],
+    limit: usize,
+    mode: u32,
+    overrides: &[u32],
+    room: usize,
+    out: &mut [u32],
+) -> Gathered
+    requires { ⌜ Prepares limit (now law) (now index) (now store) × SlotsOf (fileOf (now law)) (now slots) ⌝ }
+    ensures { λ r. ⌜ GatherIs limit (settingsFrom mode (now (overrides .entry))) room (now (law .entry)) (now (store .entry)) (now (store .exit)) (now (out .entry)) (now (out .exit)) r ⌝ }
+{
+    match infer_store(law, index, store, limit) {
+        Inference::TooWide => Gathered::TooWide,
+        Inference::Ran(rounds, settled) => gather_findings(
+            law,
+            index,
+            slots,
+            store,
+            limit,
+            mode,
+            overrides,
+            room,
+            out,
+            rounds,
+            settled,
+        ),
+    }
+}

@@ -1,0 +1,249 @@
+// The two calls: the findings of a law, and the text of one of them.
+use crate::front::Front;
+use crate::front::check_front;
+use crate::gather::Gathered;
+use crate::gather::gather;
+use file::Refusal;
+use findings::all::lint_all;
+use formats::slots::slots_of;
+use messages::put_message;
+use shapes::copy_words;
+ghost use mathlib.Core.Path.{_≡_};
+ghost use Prim.Native.Nat.{_*_, _≤_};
+ghost use lib.ListN.{length};
+ghost use Rattle.file.specs.Answer.{given};
+ghost use Rattle.file.specs.Sections.{fileOf};
+ghost use Rattle.law.specs.Reading.{treeOf};
+ghost use Rattle.shapes.specs.Written.{written};
+ghost use Rattle.lints.specs.Levels.{Settings, listingWords};
+ghost use Rattle.findings.specs.All.{settingsFrom};
+ghost use Rattle.listing.specs.Outcome.{findingsFront, textFront, textOf, findingAt, textOutcome};
+ghost use Rattle.listing.specs.Gather.{Prepares, shownIn, Collected};
+ghost use Rattle.listing.specs.Promise.{findingsAfter, textAfter, toldPair, FindingsPromise};
+
+pub mod front;
+pub mod gather;
+
+// Why a call is turned back. `turnedNumber` of specs/Outcome.antt gives document 01's number.
+pub enum Turned {
+    Settings,
+    File(Refusal),
+    Store,
+    Shapes,
+    Findings,
+    NoFinding,
+    Text,
+}
+
+// What the findings call answers: a refusal, or how many findings there are, how many rounds ran, and whether the last of these changed nothing.
+pub enum Found {
+    Refused(Turned),
+    Listed(usize, usize, bool),
+}
+
+// What the text call answers: a refusal, or how many bytes were written.
+pub enum Told {
+    Refused(Turned),
+    Written(usize),
+}
+
+// The most shapes in a format.
+const SHAPES: usize = 64;
+
+// The places of a call's own findings, and their words.
+const PLACES: usize = 256;
+
+const OWN: usize = 2048;
+
+// Hands over findings: those of the call's own buffer, or, where that had no place for all, they are collected again.
+fn hand_over(
+    law: &[u8],
+    index: &[u16; 972],
+    slots: &[u8; 577],
+    store: &[u32],
+    mode: u32,
+    overrides: &[u32],
+    own: &[u32],
+    count: usize,
+    words: &mut [u32],
+)
+    requires { ⌜ Collected 64 (settingsFrom mode (now overrides)) (now law) (now index) (now slots) (now store) (now own) count × (8 * count ≤ length (now words)) ⌝ }
+    ensures { λ _. ⌜ now (words .exit) ≡ written (now (words .entry)) 0 (listingWords (settingsFrom mode (now (overrides .entry)))
+        (shownIn 64 (settingsFrom mode (now (overrides .entry))) (now (law .entry)) (now (store .entry)))) ⌝ }
+{
+    if PLACES < count {
+        let room = words.len() / 8;
+        lint_all(
+            law,
+            index,
+            slots,
+            store,
+            mode,
+            overrides,
+            room,
+            SHAPES,
+            words,
+        );
+        return;
+    }
+    let end = 8 * count;
+    copy_words(&own[..end], &mut words[..end]);
+}
+
+// The findings call, of a law that is ready.
+fn findings_ready(
+    law: &[u8],
+    index: &[u16; 972],
+    mode: u32,
+    overrides: &[u32],
+    store: &mut [u32],
+    words: &mut [u32],
+) -> Found
+    requires { ⌜ Prepares 64 (now law) (now index) (now store) ⌝ }
+    ensures { λ r. ⌜ findingsAfter r (now (store .exit)) (now (words .exit))
+        ≡ findingsFront 64 (settingsFrom mode (now (overrides .entry))) (now (store .entry)) (now (words .entry)) (given (treeOf (fileOf (now (law .entry))))) ⌝ }
+{
+    let slots = slots_of(law, index);
+    let room = words.len() / 8;
+    let mut own = [0u32; OWN];
+    match gather(
+        law,
+        index,
+        &slots,
+        store,
+        SHAPES,
+        mode,
+        overrides,
+        room,
+        &mut own[..OWN],
+    ) {
+        Gathered::TooWide => Found::Refused(Turned::Shapes),
+        Gathered::Full => Found::Refused(Turned::Findings),
+        Gathered::Upto(count, rounds, settled) => {
+            hand_over(
+                law,
+                index,
+                &slots,
+                store,
+                mode,
+                overrides,
+                &own[..OWN],
+                count,
+                words,
+            );
+            Found::Listed(count, rounds, settled)
+        }
+    }
+}
+
+// Lists the findings of a law under settings: their number, eight words each, and the formats in the store.
+pub fn findings(
+    mode: u32,
+    overrides: &[u32],
+    law: &[u8],
+    store: &mut [u32],
+    words: &mut [u32],
+) -> Found
+    ensures { λ r. ⌜ FindingsPromise 64 (settingsFrom mode (now (overrides .entry))) (now (law .entry)) (now (store .entry)) (now (words .entry)) (now (store .exit)) (now (words .exit)) r ⌝ }
+{
+    let checked = check_front(mode, overrides, law, store.len());
+    let front = checked.front;
+    let index = checked.index;
+    match front {
+        Front::Refused(why) => Found::Refused(why),
+        Front::Ready => findings_ready(law, &index, mode, overrides, store, words),
+    }
+}
+
+// Writes the text of the finding at a position among the call's own.
+fn tell(
+    law: &[u8],
+    index: &[u16; 972],
+    slots: &[u8; 577],
+    store: &[u32],
+    own: &[u32],
+    count: usize,
+    position: usize,
+    text: &mut [u8],
+) -> Told
+    requires { ⌜ ((settings : Settings) × Collected 64 settings (now law) (now index) (now slots) (now store) (now own) count) × (count ≤ 256) ⌝ }
+    ensures { λ r. ⌜ ((settings : Settings) → Collected 64 settings (now (law .entry)) (now (index .entry)) (now (slots .entry)) (now (store .entry)) (now (own .entry)) count
+        → toldPair r (now (text .exit)) ≡ textOf (now (text .entry)) (findingAt (shownIn 64 settings (now (law .entry)) (now (store .entry))) position)) ⌝ }
+{
+    if count <= position {
+        return Told::Refused(Turned::NoFinding);
+    }
+    let room = text.len();
+    let at = 8 * position;
+    let end = at + 8;
+    let words = &own[at..end];
+    let length = put_message(law, index, slots, store, SHAPES, words, &mut text[..0]); // no byte fits: only the length is found
+    if room < length {
+        return Told::Refused(Turned::Text);
+    }
+    put_message(law, index, slots, store, SHAPES, words, text);
+    Told::Written(length)
+}
+
+// The text call, of a law that is ready.
+fn text_ready(
+    law: &[u8],
+    index: &[u16; 972],
+    mode: u32,
+    overrides: &[u32],
+    store: &mut [u32],
+    position: usize,
+    text: &mut [u8],
+) -> Told
+    requires { ⌜ Prepares 64 (now law) (now index) (now store) ⌝ }
+    ensures { λ r. ⌜ textAfter r (now (store .exit)) (now (text .exit))
+        ≡ textFront 64 (settingsFrom mode (now (overrides .entry))) (now (store .entry)) (now (text .entry)) position (given (treeOf (fileOf (now (law .entry))))) ⌝ }
+{
+    let slots = slots_of(law, index);
+    let mut own = [0u32; OWN];
+    match gather(
+        law,
+        index,
+        &slots,
+        store,
+        SHAPES,
+        mode,
+        overrides,
+        PLACES,
+        &mut own[..OWN],
+    ) {
+        Gathered::TooWide => Told::Refused(Turned::Shapes),
+        Gathered::Full => Told::Refused(Turned::Findings),
+        Gathered::Upto(count, _, _) => tell(
+            law,
+            index,
+            &slots,
+            store,
+            &own[..OWN],
+            count,
+            position,
+            text,
+        ),
+    }
+}
+
+// Writes the text of the finding at a position among those that the settings show.
+pub fn text(
+    mode: u32,
+    overrides: &[u32],
+    law: &[u8],
+    store: &mut [u32],
+    position: usize,
+    text: &mut [u8],
+) -> Told
+    ensures { λ r. ⌜ textAfter r (now (store .exit)) (now (text .exit))
+        ≡ textOutcome 64 (settingsFrom mode (now (overrides .entry))) (now (law .entry)) (now (store .entry)) position (now (text .entry)) ⌝ }
+{
+    let checked = check_front(mode, overrides, law, store.len());
+    let front = checked.front;
+    let index = checked.index;
+    match front {
+        Front::Refused(why) => Told::Refused(why),
+        Front::Ready => text_ready(law, &index, mode, overrides, store, position, text),
+    }
+}

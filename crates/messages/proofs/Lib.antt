@@ -1,0 +1,4 @@
+pub mod FoundLaws
+pub mod WordLaws
+pub mod NameLaws
+pub mod FormatLaws
