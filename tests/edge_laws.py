@@ -77,18 +77,33 @@ TOKEN = re.compile(
 )
 
 
+class Spanned(tuple):
+    """A function, sentence, condition or term, with the start and the end of its spelling in the source."""
+    span = (0, 0)
+
+
 class Reader:
     """Reads Refal. A term is (kind, spelling or scalar value, terms inside, sentences)."""
 
     def __init__(self, source):
-        source = source.strip()
         self.tokens = []
+        self.places = []
+        self.at = 0
+        self.cut(source.strip())
+
+    def cut(self, source):
         at = 0
         while at < len(source):
             found = TOKEN.match(source, at)
             self.tokens.append((found.lastgroup, found[found.lastgroup]))
             at = found.end()
-        self.at = 0
+            self.places.append((at - len(found[0].lstrip()), at))
+
+    def stood(self, first, thing):
+        """The thing that was read from a token on, with its span."""
+        spanned = Spanned(thing)
+        spanned.span = (self.places[first][0], self.places[max(first, self.at - 1)][1])
+        return spanned
 
     def next_is(self, mark):
         return self.tokens[self.at] == ("mark", mark)
@@ -103,23 +118,26 @@ class Reader:
     def functions(self):
         found = []
         while self.at < len(self.tokens):
+            first = self.at
             name = self.take()[1]
             self.skip("{")
-            found.append((name, self.sentences("}")))
+            found.append(self.stood(first, (name, self.sentences("}"))))
         return found
 
     def sentences(self, end):
         found = []
         while not self.next_is(end):
+            first = self.at
             pattern = self.run()
             conditions = []
             while self.next_is(","):
                 self.skip(",")
+                start = self.at
                 result = self.run()
                 self.skip(":")
-                conditions.append((result, self.run()))
+                conditions.append(self.stood(start, (result, self.run())))
             self.skip("=")
-            found.append((pattern, conditions, self.run()))
+            found.append(self.stood(first, (pattern, conditions, self.run())))
             self.skip(";")
         self.skip(end)
         return found
@@ -130,8 +148,9 @@ class Reader:
             group, value = self.tokens[self.at]
             if group == "mark" and value not in "([":
                 return terms
+            first = self.at
             self.take()
-            terms.append(self.term(group, value))
+            terms.append(self.stood(first, self.term(group, value)))
 
     def term(self, group, value):
         if group == "character":
@@ -155,6 +174,11 @@ class Reader:
 
 def law(source):
     """The records of a law that is written as Refal. Each spelling stands once in the text."""
+    return records(Reader(source).functions())
+
+
+def records(functions, spans=False):
+    """The records of a law that was read, with its spans or without."""
     made = Law()
     places = {}
 
@@ -164,10 +188,14 @@ def law(source):
             made.text += spelling.encode("ascii")
         return [places[spelling], len(spelling)]
 
+    def span(thing):
+        return list(thing.span) if spans else []
+
     def put(run, waiting):
         first = len(made.terms)
-        for kind, value, inside, sentences in run:
-            record = [kind, 0, 0, 0]
+        for term in run:
+            kind, value, inside, sentences = term
+            record = [kind, 0, 0, 0] + span(term)
             if kind == CHARACTER:
                 record[1] = value
             elif kind == BLOCK:
@@ -180,15 +208,17 @@ def law(source):
         return len(made.terms) - first
 
     waiting = []
-    for name, sentences in Reader(source).functions():
-        made.functions.append(spell(name) + [len(sentences)])
+    for function in functions:
+        name, sentences = function
+        made.functions.append(spell(name) + [len(sentences)] + span(function))
         waiting += sentences
     # A block's sentences go to the end of the list that is gone through: block by block in record order.
-    for pattern, conditions, result in waiting:
-        counts = [put(pattern, waiting), len(conditions), 0]
-        for condition_result, condition_pattern in conditions:
-            result_records = put(condition_result, waiting)
-            made.conditions.append([result_records, put(condition_pattern, waiting)])
+    for sentence in waiting:
+        pattern, conditions, result = sentence
+        counts = [put(pattern, waiting), len(conditions), 0] + span(sentence)
+        for condition in conditions:
+            result_records = put(condition[0], waiting)
+            made.conditions.append([result_records, put(condition[1], waiting)] + span(condition))
         counts[2] = put(result, waiting)
         made.sentences.append(counts)
     return made

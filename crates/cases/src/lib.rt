@@ -46,7 +46,7 @@ pub fn read_label(label: &mut [u8]) -> usize
 }
 
 // The next word of standard input, with zeros for the bytes that are missing.
-fn read_word() -> u32 {
+pub fn read_word() -> u32 {
     let mut word = [0u8; 4];
     io::read_full(STDIN_FILENO, &mut word);
     file::word_at(&word, 0)

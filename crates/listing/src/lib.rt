@@ -72,7 +72,7 @@ fn hand_over(
         (shownIn 64 (settingsFrom mode (now (overrides .entry))) (now (law .entry)) (now (store .entry)))) ⌝ }
 {
     if PLACES < count {
-        let room = words.len() / 8;
+        let lent = words.len() / 8;
         lint_all(
             law,
             index,
@@ -80,7 +80,7 @@ fn hand_over(
             store,
             mode,
             overrides,
-            room,
+            lent,
             SHAPES,
             words,
         );

@@ -1,0 +1,81 @@
+-- What the exported calls return, from what the two calls of `listing` answer.
+use Prim.Native.Nat.{ℕ, _*_}
+use mathlib.Core.Bool.{Bool, true, false, cond}
+use mathlib.Core.List.{List, [], _∷_}
+use mathlib.Core.Path.{_≡_, refl}
+use native.Mathlib.Omega.{arith}
+use lib.ListN.{take, getD}
+use Rattle.file.specs.declared.Refusal.{Refusal}
+use Rattle.file.specs.declared.Refusal.the-variants as file
+use Rattle.file.specs.Answer.{given}
+use Rattle.file.specs.Sections.{numberOf}
+use Rattle.law.specs.Tree.{Law}
+use Rattle.law.specs.Law.{lawOf}
+use Rattle.lints.specs.Levels.{Settings}
+use Rattle.runs.specs.Numbers.{noNeedlessZeros}
+use Rattle.runs.specs.Claim.{NoFalseFinding}
+use Rattle.listing.specs.declared.Turned.{Turned}
+use Rattle.listing.specs.declared.Turned.the-variants as turned
+use Rattle.listing.specs.declared.Found.{Found}
+use Rattle.listing.specs.declared.Found.the-variants as found
+use Rattle.listing.specs.declared.Told.{Told}
+use Rattle.listing.specs.declared.Told.the-variants as told
+use Rattle.listing.specs.Outcome.{turnedNumber, TextOutcome}
+use Rattle.listing.specs.Promise.{textAfter, FindingsPromise}
+use Rattle.bilzarko.specs.Exported.{countWords, FindingsExit, FindingsExported, TextExit, textExit}
+
+-- no refusal's number is 0
+file-number-some : (why : Refusal) → numberOf why ≡ 0 → ⊥
+file-number-some file.FileOver e = omega (arith, e)
+file-number-some file.CutOff e = omega (arith, e)
+file-number-some file.LeftOver e = omega (arith, e)
+file-number-some file.CountOver e = omega (arith, e)
+file-number-some file.Fields e = omega (arith, e)
+file-number-some file.Runs e = omega (arith, e)
+file-number-some file.Blocks e = omega (arith, e)
+file-number-some file.Depth e = omega (arith, e)
+file-number-some file.Patterns e = omega (arith, e)
+
+turned-number-some : (why : Turned) → turnedNumber why ≡ 0 → ⊥
+turned-number-some turned.Settings e = omega (arith, e)
+turned-number-some (turned.File why) e = file-number-some why e
+turned-number-some turned.Store e = omega (arith, e)
+turned-number-some turned.Shapes e = omega (arith, e)
+turned-number-some turned.Findings e = omega (arith, e)
+turned-number-some turned.NoFinding e = omega (arith, e)
+turned-number-some turned.Text e = omega (arith, e)
+
+-- a word that is 1 says settled
+settled-by-word : (settled : Bool) → _≡_ {A = ℕ} (cond settled 1 0) 1 → settled ≡ true
+settled-by-word true e = refl
+settled-by-word false e = absurd (omega (arith, e))
+
+module _ {limit : ℕ} {settings : Settings} {bytes store words filled listed : List ℕ} (answer : List ℕ) {r : Found}
+    (promise : FindingsPromise limit settings bytes store words filled listed r) where
+  -- the findings call is refused: the answer keeps its words
+  pub findings-refused : (why : Turned) {number : ℕ} → r ≡ found.Refused why → number ≡ turnedNumber why
+      → FindingsExported limit settings bytes store words answer (record { number = number; store = filled; findings = listed; answer = answer })
+  findings-refused why is number-is = record {
+    outcome = rw (← promise .outcome, is, number-is) refl;
+    no-false-finding = λ law law-is none. absurd (turned-number-some why (rw (← number-is) none));
+  }
+
+  -- the findings call lists
+  pub findings-listed : (count rounds : ℕ) (settled : Bool) {word : ℕ} → r ≡ found.Listed count rounds settled → word ≡ cond settled 1 0
+      → FindingsExported limit settings bytes store words answer (record { number = 0; store = filled; findings = listed; answer = count ∷ rounds ∷ word ∷ [] })
+  findings-listed count rounds settled is word-is = record {
+    outcome = rw (← promise .outcome, is, word-is) refl;
+    no-false-finding = λ law law-is none one zeros.
+        promise .no-false-finding law (record { findings = count; rounds = rounds; settled = settled }) law-is (rw is refl) (settled-by-word settled (rw (← word-is) one)) zeros;
+  }
+
+module _ {filled after : List ℕ} (answer : ℕ) {o : TextOutcome} {r : Told} (outcome : textAfter r filled after ≡ o) where
+  -- the text call is refused: the answer keeps its word
+  pub text-refused : (why : Turned) {number : ℕ} → r ≡ told.Refused why → number ≡ turnedNumber why
+      → _≡_ {A = TextExit} (record { number = number; store = filled; text = after; answer = answer }) (textExit answer o)
+  text-refused why is number-is = rw (← outcome, is, number-is) refl
+
+  -- the text call writes
+  pub text-written : (bytes : ℕ) → r ≡ told.Written bytes
+      → _≡_ {A = TextExit} (record { number = 0; store = filled; text = after; answer = bytes }) (textExit answer o)
+  text-written bytes is = rw (← outcome, is) refl

@@ -1,0 +1,96 @@
+// The two calls for programs in other languages, as functions of C. A slice crosses as a pointer and a number of elements. Each call returns 0 or a refusal's
+// number; what it answers stands in lent words, which keep their values where it is refused.
+use file::Refusal;
+use listing::Found;
+use listing::Told;
+use listing::Turned;
+ghost use mathlib.Core.Path.{_≡_};
+ghost use mathlib.Core.Bool.{cond};
+ghost use Rattle.file.specs.Sections.{numberOf};
+ghost use Rattle.findings.specs.All.{settingsFrom};
+ghost use Rattle.listing.specs.Outcome.{turnedNumber, textOutcome};
+ghost use Rattle.bilzarko.specs.Exported.{FindingsExported, FindingsExit, TextExit, textExit};
+
+// Document 01's number of a file's refusal.
+fn file_number(why: Refusal) -> u32
+    ensures { λ r. ⌜ r ≡ numberOf why ⌝ }
+{
+    match why {
+        Refusal::FileOver => 1,
+        Refusal::CutOff => 2,
+        Refusal::LeftOver => 3,
+        Refusal::CountOver => 4,
+        Refusal::Fields => 5,
+        Refusal::Runs => 6,
+        Refusal::Blocks => 7,
+        Refusal::Depth => 8,
+        Refusal::Patterns => 9,
+    }
+}
+
+// Document 01's number of a refusal.
+fn turned_number(why: Turned) -> u32
+    ensures { λ r. ⌜ r ≡ turnedNumber why ⌝ }
+{
+    match why {
+        Turned::Settings => 14,
+        Turned::File(of_file) => file_number(of_file),
+        Turned::Store => 15,
+        Turned::Shapes => 10,
+        Turned::Findings => 11,
+        Turned::NoFinding => 12,
+        Turned::Text => 13,
+    }
+}
+
+// 1 for settled, 0 for not.
+fn settled_word(settled: bool) -> u64
+    ensures { λ r. ⌜ r ≡ cond settled 1 0 ⌝ }
+{
+    if settled { 1 } else { 0 }
+}
+
+// Lists the findings of a law, eight words each, and its formats in the store. `answer` is the number of findings, the rounds, and 1 for settled or 0.
+#[no_mangle]
+pub extern "C" fn bilzarko_findings(
+    mode: u32,
+    overrides: &[u32],
+    law: &[u8],
+    store: &mut [u32],
+    words: &mut [u32],
+    answer: &mut [u64; 3],
+) -> u32
+    ensures { λ r. ⌜ FindingsExported 64 (settingsFrom mode (now (overrides .entry))) (now (law .entry)) (now (store .entry)) (now (words .entry)) (now (answer .entry))
+        (record { number = r; store = now (store .exit); findings = now (words .exit); answer = now (answer .exit) }) ⌝ }
+{
+    match listing::findings(mode, overrides, law, store, words) {
+        Found::Refused(why) => turned_number(why),
+        Found::Listed(count, rounds, settled) => {
+            *answer = [count as u64, rounds as u64, settled_word(settled)];
+            0
+        }
+    }
+}
+
+// Writes the text of the finding at a position, and the law's formats in the store. `answer` is the number of bytes written.
+#[no_mangle]
+pub extern "C" fn bilzarko_text(
+    mode: u32,
+    overrides: &[u32],
+    law: &[u8],
+    store: &mut [u32],
+    position: usize,
+    text: &mut [u8],
+    answer: &mut u64,
+) -> u32
+    ensures { λ r. ⌜ _≡_ {A = TextExit} (record { number = r; store = now (store .exit); text = now (text .exit); answer = now (answer .exit) })
+        (textExit (now (answer .entry)) (textOutcome 64 (settingsFrom mode (now (overrides .entry))) (now (law .entry)) (now (store .entry)) position (now (text .entry)))) ⌝ }
+{
+    match listing::text(mode, overrides, law, store, position, text) {
+        Told::Refused(why) => turned_number(why),
+        Told::Written(bytes) => {
+            *answer = bytes as u64;
+            0
+        }
+    }
+}
