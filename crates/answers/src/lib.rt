@@ -1,6 +1,6 @@
-// What the programs over the two calls share: the number of a refusal, and words on a line.
-use libc::STDOUT_FILENO;
+// What the programs over the two calls share: answers as numbers.
 use listing::Turned;
+ghost use mathlib.Core.Bool.{cond};
 ghost use mathlib.Core.Path.{_≡_};
 ghost use Rattle.listing.specs.Outcome.{turnedNumber};
 
@@ -19,24 +19,9 @@ pub fn number(why: Turned) -> u64
     }
 }
 
-// Writes `refused` and the number.
-pub fn print_refused(why: Turned) {
-    io::write_all(STDOUT_FILENO, b"refused ");
-    io::print_decimal(STDOUT_FILENO, number(why));
-    io::write_all(STDOUT_FILENO, b"\n");
-}
-
-// The number that stands for an answer of yes or no.
-fn digit(yes: bool) -> u64 {
+// 1 for yes, 0 for no.
+pub fn digit(yes: bool) -> u64
+    ensures { λ r. ⌜ r ≡ cond yes 1 0 ⌝ }
+{
     if yes { 1 } else { 0 }
-}
-
-// Writes how many findings there are, how many rounds ran, and whether the last of these changed nothing.
-pub fn print_counts(count: usize, rounds: usize, settled: bool) {
-    io::print_decimal(STDOUT_FILENO, count as u64);
-    io::write_all(STDOUT_FILENO, b" ");
-    io::print_decimal(STDOUT_FILENO, rounds as u64);
-    io::write_all(STDOUT_FILENO, b" ");
-    io::print_decimal(STDOUT_FILENO, digit(settled));
-    io::write_all(STDOUT_FILENO, b"\n");
 }

@@ -5,7 +5,7 @@
 use file::Refusal;
 use libc::STDIN_FILENO;
 ghost use mathlib.Core.Path.{_≡_};
-ghost use Prim.Native.Nat.{_≤_};
+ghost use Prim.Native.Nat.{_≤_, _<_};
 ghost use lib.ListN.{length};
 ghost use Rattle.io.specs.Counts.{Counts};
 ghost use Rattle.file.specs.Sections.{numberOf};
@@ -46,7 +46,9 @@ pub fn read_label(label: &mut [u8]) -> usize
 }
 
 // The next word of standard input, with zeros for the bytes that are missing.
-pub fn read_word() -> u32 {
+pub fn read_word() -> u32
+    ensures { λ r. ⌜ r < 4294967296 ⌝ }
+{
     let mut word = [0u8; 4];
     io::read_full(STDIN_FILENO, &mut word);
     file::word_at(&word, 0)

@@ -3,11 +3,12 @@
 // It writes a line with the number of findings, the rounds that ran, and 1 where the last of them changed nothing, else 0.
 // A line with its eight words follows for each finding. A law that is refused gives one line: `refused` and document 01's
 // number.
-use answers::print_counts;
-use answers::print_refused;
+use answers::digit;
+use answers::number;
 use libc::STDIN_FILENO;
 use libc::STDOUT_FILENO;
 use listing::Found;
+use listing::Turned;
 use listing::findings;
 
 // One byte more than a law file may have, so that a longer input is seen to be too long, and no more of it is read.
@@ -43,6 +44,23 @@ fn print_findings(words: &[u32], count: usize) {
         print_word(i, words[i]);
         i += 1;
     }
+}
+
+// Writes `refused` and the number.
+fn print_refused(why: Turned) {
+    io::write_all(STDOUT_FILENO, b"refused ");
+    io::print_decimal(STDOUT_FILENO, number(why));
+    io::write_all(STDOUT_FILENO, b"\n");
+}
+
+// Writes how many findings there are, how many rounds ran, and whether the last of these changed nothing.
+fn print_counts(count: usize, rounds: usize, settled: bool) {
+    io::print_decimal(STDOUT_FILENO, count as u64);
+    io::write_all(STDOUT_FILENO, b" ");
+    io::print_decimal(STDOUT_FILENO, rounds as u64);
+    io::write_all(STDOUT_FILENO, b" ");
+    io::print_decimal(STDOUT_FILENO, digit(settled));
+    io::write_all(STDOUT_FILENO, b"\n");
 }
 
 // Writes the answer of the findings call.

@@ -5,8 +5,8 @@
 //
 // Before each call every lent word and byte is given a value of its own, which no call writes. After the answer come all
 // words in order, as numbers and as `kept` where a word has its value still, with `*` and a number for so many in a row.
-use answers::print_counts;
-use answers::print_refused;
+use answers::digit;
+use answers::number;
 use cases::LABEL;
 use cases::LAW;
 use cases::read_label;
@@ -15,6 +15,7 @@ use cases::read_word;
 use libc::STDOUT_FILENO;
 use listing::Found;
 use listing::Told;
+use listing::Turned;
 use listing::findings;
 use listing::text;
 use std::num::wrapping_add_u32;
@@ -167,6 +168,23 @@ fn print_bytes(bytes: &[u8]) {
         value: KEPT,
         count: (bytes.len() - end) as u64,
     });
+    io::write_all(STDOUT_FILENO, b"\n");
+}
+
+// Writes `refused` and the number.
+fn print_refused(why: Turned) {
+    io::write_all(STDOUT_FILENO, b"refused ");
+    io::print_decimal(STDOUT_FILENO, number(why));
+    io::write_all(STDOUT_FILENO, b"\n");
+}
+
+// Writes how many findings there are, how many rounds ran, and whether the last of these changed nothing.
+fn print_counts(count: usize, rounds: usize, settled: bool) {
+    io::print_decimal(STDOUT_FILENO, count as u64);
+    io::write_all(STDOUT_FILENO, b" ");
+    io::print_decimal(STDOUT_FILENO, rounds as u64);
+    io::write_all(STDOUT_FILENO, b" ");
+    io::print_decimal(STDOUT_FILENO, digit(settled));
     io::write_all(STDOUT_FILENO, b"\n");
 }
 
