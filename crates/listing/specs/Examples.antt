@@ -1,0 +1,118 @@
+-- The two calls on small files, by computation, every lent word included. Formats have at most one shape here, so that a store has 256 words.
+use Prim.Native.Nat.{ℕ, zero, suc}
+use mathlib.Core.Bool.{true, false}
+use mathlib.Core.List.{List, [], _∷_, _++_, flatMap}
+use mathlib.Core.Path.{_≡_, refl}
+use lib.ListN.{length, take, drop, replicate}
+use Rattle.names.specs.Name.{everyByte, sameBytes, orderBytes}
+use Rattle.file.specs.Answer.{Answer, refused, given}
+use Rattle.file.specs.Word.{wordAt}
+use Rattle.file.specs.Below.{every, total}
+use Rattle.file.specs.Sections.{section, sectionsOf}
+use Rattle.file.specs.Fields.{fieldsAllowed, termAllowed, spelled}
+use Rattle.file.specs.Forest.{decode, forestOf}
+use Rattle.file.specs.Head.{termAt, termFrom}
+unfoldable pub use Rattle.law.specs.Text.{bytesOf}
+use Rattle.law.specs.Tree.{keep, skip}
+use Rattle.law.specs.Definition.{definition}
+use Rattle.law.specs.Places.{firstSentence, blockFirst, firstCondition, patternAt, askedAt, resultAt, patternPart, resultPart, askedPart, wantedPart}
+use Rattle.law.specs.Runs.{endOf, fits, usedUp, runsAllowed, blocksAllowed}
+use Rattle.law.specs.Reading.{forestRun, conditionsFrom, sentencesFrom, functionsFrom, treeOf}
+use Rattle.law.specs.Depth.{deepest, depthOf}
+use Rattle.law.specs.Variables.{distinct, occurs, variablesFrom, patternsAllowed}
+use Rattle.law.specs.Law.{lawOf}
+use Rattle.law.specs.Examples.{listed}
+use Rattle.shapes.specs.Format.{size}
+use Rattle.shapes.specs.Join.{joinShapes}
+use Rattle.shapes.specs.Disjoint.{disjointShapes}
+use Rattle.shapes.specs.Same.{sameShapes}
+use Rattle.shapes.specs.Display.{spaced, display}
+use Rattle.shapes.specs.Words.{shapeWords}
+use Rattle.shapes.specs.Written.{written}
+use Rattle.formats.specs.FormatOf.{patternShapes, chain, resultShapes}
+use Rattle.formats.specs.Infer.{insertName, namesOf, find, renew, allAt, joinResults, joinPatterns, round, roundsFrom, arguments, inferWithin, infer}
+use Rattle.formats.specs.Store.{entryWords, storeOf}
+use Rattle.matching.specs.Pattern.{patternOf}
+use Rattle.matching.specs.Match.{valueIn, splits, sameTerms, after, choices, matches}
+use Rattle.matching.specs.Literal.{isLiteral, literalTerms}
+use Rattle.matching.specs.Shadow.{ownValues, shadowsWith}
+use Rattle.lints.specs.Finding.{findingWords, findingsFrom}
+use Rattle.lints.specs.Calls.{calls}
+use Rattle.lints.specs.Dead.{earliest, deadAfter, blocks, deadRemarks, deadFindings}
+use Rattle.lints.specs.Recognition.{someMatches, compared, judged, recognitionRemarks, recognitionFindings, someOver, argumentsOver}
+use Rattle.lints.specs.Builtin.{macrodigits, unsigned, allZero, firstFails, charactersOf, domainIn, builtinOn, builtinRemarks, builtinFindings}
+use Rattle.lints.specs.Open.{eOccurrences, openIn, openRemarks, openFindings}
+use Rattle.lints.specs.Levels.{overridesAllowed, settingsAllowed, overrideOf, severityOf, isShown, shown, listingWords}
+use Rattle.lints.specs.Findings.{findingsOf, listing}
+use Rattle.lints.specs.Message.{digitsWithin, claimText, message}
+use Rattle.findings.specs.All.{settingsFrom}
+use Rattle.listing.specs.Outcome.{front, findingsOutcome, findingAt, textOutcome}
+
+-- a file without text, functions, sentences, conditions and terms
+abbrev noFunctions : List ℕ
+noFunctions = replicate 20 0
+
+-- what is lent: a store with one word more than it needs, or one word less
+abbrev lent : List ℕ
+lent = replicate 257 7
+
+abbrev short : List ℕ
+short = replicate 255 7
+
+-- document 01's example, strict: two findings, two rounds, settled; of 17 words the last is kept
+abbrev pub FindingsCalls : Type 0
+FindingsCalls =
+    (findingsOutcome 1 (settingsFrom 1 []) listed lent (replicate 17 9) .answer ≡ given (record { findings = 2; rounds = 2; settled = true }))
+    × (findingsOutcome 1 (settingsFrom 1 []) listed lent (replicate 17 9) .findings
+    ≡ 1 ∷ 1 ∷ 15 ∷ 26 ∷ 2 ∷ 1 ∷ 0 ∷ 1 ∷ 2 ∷ 1 ∷ 40 ∷ 45 ∷ 1 ∷ 0 ∷ 1 ∷ 6 ∷ 9 ∷ [])
+    -- one word short: 11, and the store is filled
+    × (findingsOutcome 1 (settingsFrom 1 []) listed lent (replicate 15 9) .answer ≡ refused 11)
+    × (findingsOutcome 1 (settingsFrom 1 []) listed lent (replicate 15 9) .findings ≡ replicate 15 9)
+    × (findingsOutcome 1 (settingsFrom 1 []) listed lent (replicate 15 9) .store ≡ findingsOutcome 1 (settingsFrom 1 []) listed lent (replicate 17 9) .store)
+    -- lint 1 hidden by an override of 3, lint 2 given the severity 2
+    × (findingsOutcome 1 (settingsFrom 1 (259 ∷ 514 ∷ [])) listed lent (replicate 8 9) .findings ≡ 2 ∷ 2 ∷ 40 ∷ 45 ∷ 1 ∷ 0 ∷ 1 ∷ 6 ∷ [])
+    -- no functions: no findings, one round, settled
+    × (findingsOutcome 1 (settingsFrom 0 []) noFunctions lent (9 ∷ [])
+    ≡ record {
+      answer = given (record { findings = 0; rounds = 1; settled = true });
+      store = replicate 256 0 ++ 7 ∷ [];
+      findings = 9 ∷ [];
+    })
+
+-- 14 comes before 2, 2 before 15, 15 before 10; an argument over one shape is 10 also where lint 2 is hidden
+abbrev pub Refusals : Type 0
+Refusals =
+    (findingsOutcome 1 (settingsFrom 2 []) [] short [] ≡ record { answer = refused 14; store = short; findings = [] })
+    × (findingsOutcome 1 (settingsFrom 1 []) [] short [] ≡ record { answer = refused 2; store = short; findings = [] })
+    × (findingsOutcome 1 (settingsFrom 1 []) listed short [] ≡ record { answer = refused 15; store = short; findings = [] })
+    × (findingsOutcome 0 (settingsFrom 1 (515 ∷ [])) listed lent (9 ∷ []) ≡ record { answer = refused 10; store = replicate 128 0 ++ replicate 129 7; findings = 9 ∷ [] })
+
+abbrev pub TextCalls : Type 0
+TextCalls =
+    (textOutcome 1 (settingsFrom 1 []) listed lent 1 (replicate 66 9) .answer ≡ given 65)
+    × (textOutcome 1 (settingsFrom 1 []) listed lent 1 (replicate 66 9) .text
+    ≡ bytesOf "`<H ...>` always fails: `H` accepts [C], but this call passes [N]" ++ 9 ∷ [])
+    × (textOutcome 1 (settingsFrom 1 []) listed lent 2 [] .answer ≡ refused 12)
+    × (textOutcome 1 (settingsFrom 1 []) listed lent 1 (replicate 64 9) .answer ≡ refused 13)
+    × (textOutcome 1 (settingsFrom 1 []) listed lent 1 (replicate 64 9) .text ≡ replicate 64 9)
+
+pub examples : FindingsCalls × Refusals × TextCalls
+unfolding
+    bytesOf flatMap sameBytes orderBytes everyByte definition
+    lawOf sectionsOf section wordAt every total fieldsAllowed termAllowed spelled
+    runsAllowed usedUp fits blocksAllowed patternsAllowed distinct occurs variablesFrom
+    firstSentence blockFirst firstCondition patternAt askedAt resultAt patternPart resultPart askedPart wantedPart
+    decode forestOf endOf termAt termFrom treeOf functionsFrom sentencesFrom conditionsFrom forestRun keep skip deepest depthOf
+    joinShapes disjointShapes size patternShapes chain resultShapes sameShapes insertName namesOf find renew allAt joinResults joinPatterns round roundsFrom
+    arguments inferWithin infer patternOf valueIn splits sameTerms after choices matches isLiteral literalTerms ownValues shadowsWith spaced display
+    findingWords findingsFrom calls earliest deadAfter blocks deadRemarks deadFindings
+    someMatches compared judged recognitionRemarks recognitionFindings someOver argumentsOver
+    macrodigits unsigned allZero firstFails charactersOf domainIn builtinOn builtinRemarks builtinFindings
+    eOccurrences openIn openRemarks openFindings overridesAllowed settingsAllowed overrideOf severityOf isShown shown listingWords findingsOf listing
+    digitsWithin claimText message shapeWords written entryWords storeOf
+    front findingsOutcome findingAt textOutcome
+examples = (
+  (refl, refl, refl, refl, refl, refl, refl),
+  (refl, refl, refl, refl),
+  (refl, refl, refl, refl, refl),
+)
