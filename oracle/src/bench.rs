@@ -1,0 +1,124 @@
+//! How long the findings call takes, over how long the Rust takes for the same law, in one process.
+//!
+//! Neither parses. Ours reads the law file, and fills all words of the store itself; the caller clears nothing between
+//! calls. The Rust gets the `Program`, and its time has `Checker`'s errors, which ours has no counterpart of, and the
+//! freeing of what it answers.
+use std::hint::black_box;
+use std::process::ExitCode;
+use std::time::Instant;
+
+use refal_semantics::check_program_with_levels;
+
+use crate::compare::is_compared;
+use crate::encode::encode;
+use crate::generate;
+use crate::ours::Buffers;
+use crate::random::Random;
+use crate::settings::Settings;
+
+/// Each time is the least of so many, taken in turns.
+const TURNS: usize = 9;
+/// The sizes, in term records, that are told apart: from each up to the next.
+const SIZES: [usize; 6] = [0, 16, 48, 96, 192, 384];
+
+struct Time {
+    /// The law, for `oracle show`.
+    number: u64,
+    terms: usize,
+    ours: f64,
+    rust: f64,
+}
+
+impl Time {
+    fn ratio(&self) -> f64 {
+        self.ours / self.rust
+    }
+}
+
+pub fn run(laws: u64, seed: u64) -> ExitCode {
+    let mut buffers = Buffers::new();
+    let times: Vec<Time> = (0..laws)
+        .filter_map(|number| time(seed, number, &mut buffers))
+        .collect();
+    println!("{}", row("all sizes", times.iter().collect()));
+    for (place, start) in SIZES.iter().enumerate() {
+        let end = SIZES.get(place + 1).copied().unwrap_or(usize::MAX);
+        let some: Vec<&Time> = times
+            .iter()
+            .filter(|time| (*start..end).contains(&time.terms))
+            .collect();
+        if !some.is_empty() {
+            println!("{}", row(&format!("from {start} terms"), some));
+        }
+    }
+    ExitCode::SUCCESS
+}
+
+/// Only laws that are compared are timed: refused ones have no time in the Rust.
+fn time(seed: u64, number: u64, buffers: &mut Buffers) -> Option<Time> {
+    let mut random = Random::of(seed, number);
+    let law = generate::law(&mut random);
+    let encoded = encode(&law.program, law.layout, &mut random);
+    if !is_compared(&law.program, &encoded) {
+        return None;
+    }
+    let settings = Settings {
+        strict: true,
+        overrides: Vec::new(),
+    };
+    let (ours, levels) = (settings.ours(), settings.levels());
+    let mut time = Time {
+        number,
+        terms: encoded.terms.len(),
+        ours: f64::MAX,
+        rust: f64::MAX,
+    };
+    for _ in 0..TURNS {
+        let start = Instant::now();
+        let answer = bilzarko::findings(
+            &ours,
+            black_box(&encoded.bytes),
+            &mut buffers.store,
+            &mut buffers.words,
+        );
+        time.ours = time.ours.min(start.elapsed().as_secs_f64());
+        black_box(&answer).ok()?;
+        let start = Instant::now();
+        drop(black_box(check_program_with_levels(
+            black_box(&law.program),
+            settings.mode(),
+            &levels,
+        )));
+        time.rust = time.rust.min(start.elapsed().as_secs_f64());
+    }
+    Some(time)
+}
+
+fn row(name: &str, times: Vec<&Time>) -> String {
+    let ratio = sorted(times.iter().map(|time| time.ratio()));
+    let worst = times
+        .iter()
+        .max_by(|left, right| left.ratio().total_cmp(&right.ratio()));
+    let ours = sorted(times.iter().map(|time| time.ours * 1e6));
+    let rust = sorted(times.iter().map(|time| time.rust * 1e6));
+    let middle = ratio.len() / 2;
+    format!(
+        "{name:>16}: {:5} laws, ours over the Rust: median {:.2}, worst {:.2} (law {}), least {:.2}; \
+         median microseconds: ours {:.1}, the Rust {:.1}; most: ours {:.1}, the Rust {:.1}",
+        ratio.len(),
+        ratio[middle],
+        ratio[ratio.len() - 1],
+        worst.map_or(0, |time| time.number),
+        ratio[0],
+        ours[middle],
+        rust[middle],
+        ours[ours.len() - 1],
+        rust[rust.len() - 1]
+    )
+}
+
+fn sorted(all: impl Iterator<Item = f64>) -> Vec<f64> {
+    let mut all: Vec<f64> = all.collect();
+    all.sort_by(f64::total_cmp);
+    all
+}

@@ -1,0 +1,52 @@
+//! What the last line counts.
+use crate::differences::KINDS;
+
+#[derive(Default)]
+pub struct Counts {
+    /// Laws that were listed alike.
+    pub laws: usize,
+    /// By lint.
+    pub findings: [usize; 4],
+    pub texts: usize,
+    pub formats: usize,
+    pub unsettled: usize,
+    /// Laws with more findings than the text call has places for.
+    pub without_texts: usize,
+    /// By the places in `KINDS`.
+    pub differences: [usize; KINDS.len()],
+    /// Literal arguments that match only by going back into a bracket.
+    pub went_back: usize,
+    /// By the refusal's number.
+    pub refused: [usize; 16],
+    pub too_long: usize,
+}
+
+impl Counts {
+    pub fn summary(&self, seed: u64) -> String {
+        let differences: Vec<String> = KINDS
+            .iter()
+            .zip(self.differences)
+            .map(|(kind, count)| format!("{kind} {count}"))
+            .collect();
+        let refused: Vec<String> = (1..16)
+            .filter(|number| self.refused[*number] > 0)
+            .map(|number| format!("{number}: {}", self.refused[number]))
+            .collect();
+        format!(
+            "seed {seed}: {} laws agree, {} findings {:?}, {} texts, {} formats; named differences: {}; \
+             {} unsettled, {} with over 256 findings, {} arguments matched by going back; \
+             refused as expected {{{}}}; left out, matching too long: {}",
+            self.laws,
+            self.findings.iter().sum::<usize>(),
+            self.findings,
+            self.texts,
+            self.formats,
+            differences.join(", "),
+            self.unsettled,
+            self.without_texts,
+            self.went_back,
+            refused.join(", "),
+            self.too_long
+        )
+    }
+}

@@ -1,0 +1,72 @@
+//! Compares libbilzarko.a with the Rust that it is a rewriting of, over random laws.
+extern crate refal_ast;
+extern crate refal_semantics;
+
+mod bench;
+mod compare;
+mod counts;
+mod damage;
+mod decode;
+mod differences;
+mod encode;
+mod generate;
+mod limits;
+mod matching;
+mod ours;
+mod parse;
+mod random;
+mod refal;
+mod rounds;
+mod settings;
+mod small;
+mod store;
+
+use std::env;
+use std::process::ExitCode;
+
+const QUICK_LAWS: u64 = 8_000;
+const QUICK_FILES: u64 = 8_000;
+
+const USAGE: &str = "usage:
+  oracle compare LAWS SEED    random laws through both
+  oracle show SEED LAW        one of these laws again, with its file
+  oracle damage FILES SEED    damaged law files
+  oracle small                document 01's small laws
+  oracle law NOTATION         one law, such as 'F { s.A = <F 1>; }'
+  oracle quick                a few seconds of all these
+  oracle bench LAWS SEED      how long both take";
+
+fn main() -> ExitCode {
+    let arguments: Vec<String> = env::args().skip(1).collect();
+    let numbers: Vec<u64> = arguments
+        .iter()
+        .skip(1)
+        .filter_map(|one| one.parse().ok())
+        .collect();
+    match (arguments.first().map(String::as_str), numbers.as_slice()) {
+        (Some("compare"), [laws, seed]) => compare::run(*laws, *seed),
+        (Some("show"), [seed, law]) => compare::show(*seed, *law),
+        (Some("damage"), [files, seed]) => damage::run(*files, *seed),
+        (Some("bench"), [laws, seed]) => bench::run(*laws, *seed),
+        (Some("quick"), []) => quick(),
+        (Some("small"), []) => small::run(),
+        (Some("law"), []) if arguments.len() == 2 => small::show(&arguments[1]),
+        _ => {
+            eprintln!("{USAGE}");
+            ExitCode::from(2)
+        }
+    }
+}
+
+/// For the gate: all of them, the first that fails ends it.
+fn quick() -> ExitCode {
+    let all: [fn() -> ExitCode; 3] = [
+        small::run,
+        || compare::run(QUICK_LAWS, 1),
+        || damage::run(QUICK_FILES, 1),
+    ];
+    all.iter()
+        .map(|one| one())
+        .find(|code| *code != ExitCode::SUCCESS)
+        .unwrap_or(ExitCode::SUCCESS)
+}
