@@ -256,7 +256,7 @@ impl Walk<'_> {
 }
 
 /// No variable, call or block at any depth.
-fn is_literal(terms: &[Term]) -> bool {
+pub fn is_literal(terms: &[Term]) -> bool {
     terms.iter().all(|term| match &term.kind {
         TermKind::Symbol(_) => true,
         TermKind::Bracket(inside) => is_literal(inside),

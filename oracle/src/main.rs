@@ -2,6 +2,7 @@
 extern crate refal_ast;
 extern crate refal_semantics;
 
+mod arguments;
 mod bench;
 mod compare;
 mod counts;
@@ -9,32 +10,46 @@ mod damage;
 mod decode;
 mod differences;
 mod encode;
+mod examples;
+mod expression;
 mod generate;
 mod limits;
+mod listed;
+mod machine;
 mod matching;
 mod ours;
 mod parse;
 mod random;
+mod records;
 mod refal;
 mod rounds;
+mod run_counts;
+mod run_laws;
+mod runs;
 mod settings;
 mod small;
+mod stack;
 mod store;
+mod watch;
 
 use std::env;
 use std::process::ExitCode;
 
 const QUICK_LAWS: u64 = 8_000;
 const QUICK_FILES: u64 = 8_000;
+const QUICK_RUN_LAWS: u64 = 6_000;
 
 const USAGE: &str = "usage:
   oracle compare LAWS SEED    random laws through both
   oracle show SEED LAW        one of these laws again, with its file
   oracle damage FILES SEED    damaged law files
+  oracle runs LAWS SEED       random laws run on random arguments: no finding is false
+  oracle rerun SEED LAW       one of these laws again, with what is listed and its runs
   oracle small                document 01's small laws
   oracle law NOTATION         one law, such as 'F { s.A = <F 1>; }'
   oracle quick                a few seconds of all these
-  oracle bench LAWS SEED      how long both take";
+  oracle bench LAWS SEED      how long both take
+  oracle stack LAWS SEED      how much stack the two calls take";
 
 fn main() -> ExitCode {
     let arguments: Vec<String> = env::args().skip(1).collect();
@@ -47,7 +62,10 @@ fn main() -> ExitCode {
         (Some("compare"), [laws, seed]) => compare::run(*laws, *seed),
         (Some("show"), [seed, law]) => compare::show(*seed, *law),
         (Some("damage"), [files, seed]) => damage::run(*files, *seed),
+        (Some("runs"), [laws, seed]) => runs::run(*laws, *seed),
+        (Some("rerun"), [seed, law]) => runs::show(*seed, *law),
         (Some("bench"), [laws, seed]) => bench::run(*laws, *seed),
+        (Some("stack"), [laws, seed]) => stack::run(*laws, *seed),
         (Some("quick"), []) => quick(),
         (Some("small"), []) => small::run(),
         (Some("law"), []) if arguments.len() == 2 => small::show(&arguments[1]),
@@ -60,10 +78,11 @@ fn main() -> ExitCode {
 
 /// For the gate: all of them, the first that fails ends it.
 fn quick() -> ExitCode {
-    let all: [fn() -> ExitCode; 3] = [
+    let all: [fn() -> ExitCode; 4] = [
         small::run,
         || compare::run(QUICK_LAWS, 1),
         || damage::run(QUICK_FILES, 1),
+        || runs::run(QUICK_RUN_LAWS, 1),
     ];
     all.iter()
         .map(|one| one())

@@ -15,7 +15,7 @@ pub struct Steps(pub u64);
 pub struct TooLong;
 
 impl Steps {
-    fn take(&mut self) -> Result<(), TooLong> {
+    pub fn take(&mut self) -> Result<(), TooLong> {
         self.0 = self.0.checked_sub(1).ok_or(TooLong)?;
         Ok(())
     }
