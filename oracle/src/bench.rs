@@ -62,10 +62,7 @@ fn time(seed: u64, number: u64, buffers: &mut Buffers) -> Option<Time> {
     if !is_compared(&law.program, &encoded) {
         return None;
     }
-    let settings = Settings {
-        strict: true,
-        overrides: Vec::new(),
-    };
+    let settings = Settings::strict();
     let (ours, levels) = (settings.ours(), settings.levels());
     let mut time = Time {
         number,

@@ -23,12 +23,12 @@ use crate::store::compare_store;
 const STEPS: u64 = 30_000;
 /// A finding, as far as the Rust has it.
 #[derive(Clone, Debug, PartialEq)]
-struct Line {
-    lint: u32,
-    severity: u32,
-    start: u32,
-    end: u32,
-    text: String,
+pub struct Line {
+    pub lint: u32,
+    pub severity: u32,
+    pub start: u32,
+    pub end: u32,
+    pub text: String,
 }
 
 pub fn run(laws: u64, seed: u64) -> ExitCode {
@@ -129,6 +129,37 @@ fn answer(program: &Program, encoded: &Encoded) -> Answer {
     }
 }
 
+/// A law's listings, worked out without a call of the library.
+pub struct Listings {
+    /// What the Rust lists.
+    pub rust: Vec<Line>,
+    /// What it lists but for the named differences.
+    pub named: Vec<Line>,
+    pub remarks: Remarks,
+    pub formats: Formats,
+    pub settled: bool,
+}
+
+/// The listings of a law that is compared; of others there are none.
+pub fn listings(
+    program: &Program,
+    encoded: &Encoded,
+    settings: &Settings,
+) -> Result<Option<Listings>, String> {
+    let Answer::Listed(listed) = answer(program, encoded) else {
+        return Ok(None);
+    };
+    let rust = rust_lines(program, settings);
+    let named = with_differences(&rust, &listed.remarks.all, settings)?;
+    Ok(Some(Listings {
+        rust,
+        named,
+        remarks: listed.remarks,
+        formats: listed.formats,
+        settled: listed.rounds.settled,
+    }))
+}
+
 /// Whether a law is within the limits and does not take too long.
 pub fn is_compared(program: &Program, encoded: &Encoded) -> bool {
     matches!(answer(program, encoded), Answer::Listed(_))
@@ -226,7 +257,7 @@ pub fn same<T: PartialEq + std::fmt::Debug>(
 }
 
 /// What the Rust lists, `Checker`'s errors left out: they are of no lint.
-fn rust_lines(program: &Program, settings: &Settings) -> Vec<Line> {
+pub fn rust_lines(program: &Program, settings: &Settings) -> Vec<Line> {
     check_program_with_levels(program, settings.mode(), &settings.levels())
         .into_iter()
         .filter_map(|one| {
@@ -268,7 +299,7 @@ fn with_differences(
     Ok(expected)
 }
 
-fn line(remark: &Remark, text: &Option<String>, settings: &Settings) -> Option<Line> {
+pub fn line(remark: &Remark, text: &Option<String>, settings: &Settings) -> Option<Line> {
     Some(Line {
         lint: remark.lint,
         severity: settings.severity(remark.lint)?,
@@ -291,7 +322,7 @@ fn compare_words(expected: &[Line], found: &[Words], encoded: &Encoded) -> Resul
 }
 
 /// Lint, severity, span, a and b. The Rust has a and b in its text alone.
-fn six_words(line: &Line) -> [u32; 6] {
+pub fn six_words(line: &Line) -> [u32; 6] {
     let number_after = |mark: &str| -> u32 {
         let rest = line.text.split_once(mark).expect("the text has its mark").1;
         rest.split(' ')

@@ -12,21 +12,27 @@ mod differences;
 mod encode;
 mod examples;
 mod expression;
+mod features;
 mod generate;
 mod limits;
 mod listed;
 mod machine;
 mod matching;
 mod ours;
+mod pairs;
 mod parse;
+mod places;
 mod random;
 mod records;
+mod reduce;
 mod refal;
 mod rounds;
 mod run_counts;
 mod run_laws;
 mod runs;
+mod sample;
 mod settings;
+mod shape;
 mod small;
 mod stack;
 mod store;
@@ -49,7 +55,10 @@ const USAGE: &str = "usage:
   oracle law NOTATION         one law, such as 'F { s.A = <F 1>; }'
   oracle quick                a few seconds of all these
   oracle bench LAWS SEED      how long both take
-  oracle stack LAWS SEED      how much stack the two calls take";
+  oracle stack LAWS SEED      how much stack the two calls take
+  oracle sample               writes the stored sample of the Rust's answers
+  oracle sample --check       whether the stored sample is what would be written
+  oracle sample --show        its laws in Refal notation";
 
 fn main() -> ExitCode {
     let arguments: Vec<String> = env::args().skip(1).collect();
@@ -69,10 +78,22 @@ fn main() -> ExitCode {
         (Some("quick"), []) => quick(),
         (Some("small"), []) => small::run(),
         (Some("law"), []) if arguments.len() == 2 => small::show(&arguments[1]),
-        _ => {
-            eprintln!("{USAGE}");
-            ExitCode::from(2)
-        }
+        (Some("sample"), []) if arguments.len() < 3 => sample(arguments.get(1)),
+        _ => usage(),
+    }
+}
+
+fn usage() -> ExitCode {
+    eprintln!("{USAGE}");
+    ExitCode::from(2)
+}
+
+fn sample(what: Option<&String>) -> ExitCode {
+    match what.map(String::as_str) {
+        None => sample::write(),
+        Some("--check") => sample::check(),
+        Some("--show") => sample::show(),
+        Some(_) => usage(),
     }
 }
 

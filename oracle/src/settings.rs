@@ -14,6 +14,14 @@ pub struct Settings {
 }
 
 impl Settings {
+    /// Strict mode, no overrides.
+    pub fn strict() -> Settings {
+        Settings {
+            strict: true,
+            overrides: Vec::new(),
+        }
+    }
+
     pub fn random(random: &mut Random) -> Settings {
         let strict = random.chance(80);
         let count = if random.chance(50) {

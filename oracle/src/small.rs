@@ -61,6 +61,11 @@ const EXAMPLE: (&str, &str) = (
     "2 2 1\n1 1 15 26 2 1 0 1\n2 1 40 45 1 0 1 6\n",
 );
 
+/// The laws in Refal notation. The example is among them.
+pub fn notations() -> Vec<&'static str> {
+    LAWS.iter().map(|(law, _)| *law).collect()
+}
+
 pub fn run() -> ExitCode {
     let short = LAWS
         .iter()
@@ -116,10 +121,7 @@ impl Listing {
             bytes: None,
         };
         let encoded = encode(&program, layout, &mut Random::of(0, 0));
-        let settings = Settings {
-            strict: true,
-            overrides: Vec::new(),
-        };
+        let settings = Settings::strict();
         let mut buffers = Buffers::new();
         compare(
             &program,

@@ -1,7 +1,8 @@
 // Reads the cases of the test programs from standard input.
 //
 // A case is a label, one line of at most 80 bytes; the law's length, a 32-bit word with its least byte first; and the
-// law. The input ends where a label is empty.
+// law. Where a program asks for more, such as settings, their words stand after the label. The input ends where a label is
+// empty.
 use file::Refusal;
 use libc::STDIN_FILENO;
 ghost use mathlib.Core.Path.{_≡_};
@@ -52,6 +53,27 @@ pub fn read_word() -> u32
     let mut word = [0u8; 4];
     io::read_full(STDIN_FILENO, &mut word);
     file::word_at(&word, 0)
+}
+
+// Reads a number, at most so many.
+pub fn read_at_most(most: usize) -> usize
+    ensures { λ r. ⌜ r ≤ most ⌝ }
+{
+    let asked = read_word() as usize;
+    if asked < most { asked } else { most }
+}
+
+// Reads the number of overrides and the overrides, and answers how many there are.
+pub fn read_overrides(overrides: &mut [u32]) -> usize
+    ensures { λ r. ⌜ r ≤ length (now (overrides .exit)) ⌝ }
+{
+    let count = read_at_most(overrides.len());
+    let mut i = 0;
+    while i < count {
+        overrides[i] = read_word();
+        i += 1;
+    }
+    count
 }
 
 // Reads a law of so many bytes.

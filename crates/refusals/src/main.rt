@@ -9,8 +9,10 @@ use answers::digit;
 use answers::number;
 use cases::LABEL;
 use cases::LAW;
+use cases::read_at_most;
 use cases::read_label;
 use cases::read_law;
+use cases::read_overrides;
 use cases::read_word;
 use libc::STDOUT_FILENO;
 use listing::Found;
@@ -252,27 +254,6 @@ fn make_calls(
     call_text(mode, overrides, law, store, position, bytes);
 }
 
-// Reads a number of words or bytes to lend, at most so many.
-fn read_lent(most: usize) -> usize
-    ensures { λ r. ⌜ r ≤ most ⌝ }
-{
-    let asked = read_word() as usize;
-    if asked < most { asked } else { most }
-}
-
-// Reads overrides and answers how many there are.
-fn read_overrides(overrides: &mut [u32]) -> usize
-    ensures { λ r. ⌜ r ≤ length (now (overrides .exit)) ⌝ }
-{
-    let count = read_lent(overrides.len());
-    let mut i = 0;
-    while i < count {
-        overrides[i] = read_word();
-        i += 1;
-    }
-    count
-}
-
 // Makes both calls with parts of the space that is there, as a case asks. A law that does not fit or is cut short is left
 // without an answer.
 fn answer_law(
@@ -283,9 +264,9 @@ fn answer_law(
     words: &mut [u32],
     bytes: &mut [u8],
 ) -> bool {
-    let lent_store = read_lent(store.len());
-    let lent_words = read_lent(words.len());
-    let lent_bytes = read_lent(bytes.len());
+    let lent_store = read_at_most(store.len());
+    let lent_words = read_at_most(words.len());
+    let lent_bytes = read_at_most(bytes.len());
     let position = read_word() as usize;
     let found = read_law(space);
     let end = found.bytes;

@@ -1,12 +1,12 @@
--- `refusals::read_overrides` meets its contract. The loop's invariant: the position stays within the overrides that are read, whose length stays.
+-- `cases::read_overrides` meets its contract. The loop's invariant: the position stays within the overrides that are read, whose length stays.
 -- The measure is the number of overrides that are left.
 use mathlib.Core.Path.{_≡_}
 use Prim.Native.Nat.{_≤_, _-_}
 use borrow.Author.Needs.{needs}
 use native.Mathlib.Omega.{arith}
 use lib.ListN.{length, length-set}
-use Rattle.refusals.proofs.read_overrides.Statement.{statement}
-use Rattle.refusals.proofs.read_overrides.Tie as tie
+use Rattle.cases.proofs.read_overrides.Statement.{statement}
+use Rattle.cases.proofs.read_overrides.Tie as tie
 
 abbrev Inv-loop : tie.InvT-loop
 Inv-loop overrides₀ count i₀ overrides i = (count ≤ length overrides) × (length overrides ≡ length overrides₀)
