@@ -1,8 +1,8 @@
 -- Laws of the way through a law (specs/Walk.antt and Tasks.antt) on trees: the size of a tree, what is met at a term record, and the words of dead
 -- sentences.
-use Prim.Native.Nat.{ℕ, zero, suc, _+_}
+use Prim.Native.Nat.{ℕ, zero, suc, _+_, _<_}
 use mathlib.Core.Bool.{Bool, true, false}
-use mathlib.Core.List.{List, [], _∷_, _++_, map, append-nil}
+use mathlib.Core.List.{List, [], _∷_, _++_, map, append-nil, append-assoc}
 use mathlib.Core.Option.{Option, none, some}
 use mathlib.Core.Path.{_≡_, refl, sym, ap, _∙_}
 use native.Mathlib.Omega.{arith}
@@ -21,7 +21,7 @@ use Rattle.lints.specs.Calls.{Call as CallOf}
 use Rattle.lints.specs.Dead.{Earlier, unconditional, earliest, deadBy, deadAfter, ownDead, blockDead}
 use Rattle.findings.specs.declared.Task.{Task}
 use Rattle.findings.specs.Events.{Event, Sink, collect}
-use Rattle.findings.specs.Walk.{walked, walkedSentences}
+use Rattle.findings.specs.Walk.{walked, walkedTerm, walkedSentences}
 use Rattle.findings.specs.Tasks.{remarkEvent, remarkEvents, blockEvents}
 use Rattle.findings.proofs.CollectLaws.{collect-none}
 
@@ -85,16 +85,28 @@ words-calls text mark a b inside (suc (suc (suc (suc (suc (suc (suc (suc kind)))
     rw (ne-eqb (suc (suc (suc (suc (suc (suc (suc (suc kind)))))))) 7 (λ e. omega (arith, e)))
 
 module _ (onCall : CallOf → List Event) (onBlock : Sentences → List Event) (patterns : Bool) where
-  -- a term of any kind: the call, what is inside it, its own sentences, what is inside them, and what is after it
+  -- a run is its first term and what is after it
+  pub run-walked : (text : List ℕ) (give : ℕ → ℕ → Sentences) (at : ℕ) (mark : Mark) (x : Term) (inside after : Run)
+      → walked onCall onBlock patterns (termRun text give at mark x inside after)
+      ≡ walkedTerm onCall onBlock patterns (termRun text give at mark x inside after) ++ walked onCall onBlock patterns after
+  unfolding walked walkedTerm
+  run-walked text give at mark (Symbolic x) inside after = refl
+  run-walked text give at mark (SVariable x y) inside after = refl
+  run-walked text give at mark (TVariable x y) inside after = refl
+  run-walked text give at mark (EVariable x y) inside after = refl
+  run-walked text give at mark Bracket inside after = refl
+  run-walked text give at mark (Call x y) inside after = simp append-assoc
+  run-walked text give at mark (Block m) inside after = simp append-assoc
+
+  -- a term of any kind: the call, what is inside it, its own sentences, and what is inside them
   pub term-walked : (text : List ℕ) (give : ℕ → ℕ → Sentences) (at : ℕ) (mark : Mark) (x : Term) (n : ℕ) (inside after : Run)
       → InsideAllowed x n → (n ≡ 0 → inside ≡ empty) → give at 0 ≡ noSentence → onBlock noSentence ≡ []
-      → walked onCall onBlock patterns (termRun text give at mark x inside after)
+      → walkedTerm onCall onBlock patterns (termRun text give at mark x inside after)
       ≡ each onCall (callsOf text mark x inside)
       ++ walked onCall onBlock patterns inside
       ++ onBlock (give at (sentencesIn x))
       ++ walkedSentences onCall onBlock patterns (give at (sentencesIn x))
-      ++ walked onCall onBlock patterns after
-  unfolding walked
+  unfolding walked walkedTerm
   term-walked text give at mark (Symbolic x) n inside after a e o z = rw (e a, o, z)
   term-walked text give at mark (SVariable x y) n inside after a e o z = rw (e a, o, z)
   term-walked text give at mark (TVariable x y) n inside after a e o z = rw (e a, o, z)
@@ -102,6 +114,18 @@ module _ (onCall : CallOf → List Event) (onBlock : Sentences → List Event) (
   term-walked text give at mark Bracket n inside after a e o z = rw (o, z) (simp append-nil)
   term-walked text give at mark (Call x y) n inside after a e o z = rw (o, z) (simp append-nil)
   term-walked text give at mark (Block m) n inside after a e o z = refl
+
+  -- nothing is met in a symbol or a variable, whose kinds are below 6
+  pub leaf-walked : (text : List ℕ) (give : ℕ → ℕ → Sentences) (at : ℕ) (mark : Mark) (a b : ℕ) (inside after : Run) (kind : ℕ) → kind < 6
+      → walkedTerm onCall onBlock patterns (termRun text give at mark (termFrom kind a b) inside after) ≡ []
+  unfolding termFrom walkedTerm
+  leaf-walked text give at mark a b inside after zero h = refl
+  leaf-walked text give at mark a b inside after (suc zero) h = refl
+  leaf-walked text give at mark a b inside after (suc (suc zero)) h = refl
+  leaf-walked text give at mark a b inside after (suc (suc (suc zero))) h = refl
+  leaf-walked text give at mark a b inside after (suc (suc (suc (suc zero)))) h = refl
+  leaf-walked text give at mark a b inside after (suc (suc (suc (suc (suc zero))))) h = refl
+  leaf-walked text give at mark a b inside after (suc (suc (suc (suc (suc (suc kind)))))) h = absurd (omega arith)
 
 -- ---- dead sentences
 

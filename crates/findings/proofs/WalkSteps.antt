@@ -1,6 +1,6 @@
 -- What is met in a part of the term records, in sentences, in conditions and in functions, one at a time; how each step leaves what is collected; and
 -- that each step goes to something smaller.
-use Prim.Native.Nat.{ℕ, zero, suc, _+_, _*_, _-_, _≤_, _<_}
+use Prim.Native.Nat.{ℕ, zero, suc, _+_, _*_, _-_, _≤_, _<_, _/_}
 use mathlib.Core.Bool.{Bool}
 use mathlib.Core.List.{List, [], _++_, append-nil}
 use mathlib.Core.Path.{_≡_, refl, sym, ap, _∙_}
@@ -19,23 +19,25 @@ use Rattle.law.specs.Places.{blockFirst, sentencesOf, firstSentence, conditions
 use Rattle.law.specs.Runs.{endOf}
 use Rattle.law.specs.Reading.{markAt, runOf, own, sentencesAt, sentencesIn, conditionsFrom, treeOf}
 use Rattle.law.specs.Index.{Indexed, Readable, PartAt}
-use Rattle.law.proofs.Parts.{terms-word, terms-contents}
-use Rattle.law.proofs.RunLaws.{run-empty, run-node, fits-first}
+use Rattle.law.proofs.Parts.{terms-word, terms-end, terms-contents}
+use Rattle.law.proofs.RunLaws.{end-high, run-empty, run-node, fits-first}
 use Rattle.law.proofs.Functions.{functionsAt, tree-functions, function-reads, functions-end as functions-over, kept-reads}
-use Rattle.law.proofs.PartLaws.{part-length, part-at, part-inside, part-sentences, contents-part, rest-part, pattern-part, result-part, asked-part, wanted-part}
+use Rattle.law.proofs.PartLaws.{part-length, part-at, part-inside, part-leaf, part-end, part-sentences, contents-part, rest-part, part-small, pattern-part, result-part, asked-part, wanted-part}
 use Rattle.law.proofs.PlaceLaws.{function-inside}
 use Rattle.law.proofs.IndexLaws.{functions-limit, sentences-limit, conditions-limit, terms-limit, sentences-before, conditions-before, owns, owned, asked-fits}
 use Rattle.formats.specs.Infer.{Inferred}
 use Rattle.matching.specs.Match.{when, each}
 use Rattle.matching.specs.Entry.{argumentPart, argumentIn}
+use Rattle.matching.specs.Part.{from}
+use Rattle.matching.proofs.CutLaws.{from-length, from-from, from-all}
 use Rattle.lints.specs.Open.{openIn}
 use Rattle.lints.specs.Records.{Prepared}
 use Rattle.findings.specs.declared.Task.{Task}
 use Rattle.findings.specs.Events.{Event, Sink, collect}
 use Rattle.findings.specs.Walk.{walked}
-use Rattle.findings.specs.Tasks.{callEvents, blockEvents, callsAt, runEvents, insideEvents, conditionEvents, functionEvents, functionsEvents, lintEvents, atPosition, remarkEvents}
+use Rattle.findings.specs.Tasks.{callEvents, blockEvents, callsAt, runEvents, termEvents, insideEvents, conditionEvents, functionEvents, functionsEvents, lintEvents, atPosition, remarkEvents}
 use Rattle.findings.proofs.CollectLaws.{collect-append, collect-none, collect-then}
-use Rattle.findings.proofs.WalkLaws.{runSize, sentencesSize, conditionsSize, term-size, callsOf, words-calls, term-walked, block-none, own-block}
+use Rattle.findings.proofs.WalkLaws.{runSize, sentencesSize, conditionsSize, term-size, callsOf, words-calls, run-walked, term-walked, leaf-walked, block-none, own-block}
 
 module _ (file : File) where
   own-none : (t : ℕ) → own file t 0 ≡ noSentence
@@ -69,12 +71,19 @@ module _ (file : File) where
       )
       (words-calls (file .text .records) (markAt at (file .terms .records) (24 * at + 16)) (wordAt (file .terms .records) (24 * at + 4)) (wordAt (file .terms .records) (24 * at + 8)) (argumentIn file at) (wordAt (file .terms .records) (24 * at)))
 
+  -- a symbol or a variable is one record
+  leaf-end : Readable file → (at : ℕ) (p : List ℕ) → PartAt file at p → 24 ≤ length p → wordAt p 0 < 6 → 24 ≡ endOf p
+  leaf-end readable at p part some h = omega (arith, part-end file readable at p part some, part-leaf file readable at p part some h)
+
 -- ---- what is met
 
 module _ (file : File) (formats : Inferred) (task : Task) where
-  -- in a part of the term records whose first record is number `at`, as a run and as a pattern
+  -- in a part of the term records whose first record is number `at`, as a run, in its first term, and as a pattern
   abbrev pub runMet : ℕ → List ℕ → List Event
   runMet at p = runEvents (treeOf file) formats task (runOf file (own file) at p)
+
+  abbrev pub termMet : ℕ → List ℕ → List Event
+  termMet at p = termEvents (treeOf file) formats task (runOf file (own file) at p)
 
   abbrev pub patternMet : ℕ → List ℕ → List Event
   patternMet at p = when (eqb (task .lint) 1) (runMet at p)
@@ -105,17 +114,29 @@ module _ (file : File) (formats : Inferred) (task : Task) where
   unfolding walked
   run-none at p h = rw (run-empty file (own file) at p h)
 
+  -- the first term of a part, and the records after it
+  run-first : (at : ℕ) (p : List ℕ) → 24 ≤ length p → runMet at p ≡ termMet at p ++ runMet (at + 1 + wordAt p 12) (rest 24 endOf p)
+  run-first at p some =
+      rw (run-node file (own file) at p some)
+      (run-walked (callEvents (treeOf file) formats task) (blockEvents task) (eqb (task .lint) 1) (file .text .records) (own file) at (markAt at p 16) (termAt p 0) (runOf file (own file) (at + 1) (contents 24 endOf p)) (runOf file (own file) (at + 1 + wordAt p 12) (rest 24 endOf p)))
+
+  -- nothing is met in a symbol or a variable
+  leaf-none : (at : ℕ) (p : List ℕ) → 24 ≤ length p → wordAt p 0 < 6 → termMet at p ≡ []
+  unfolding termAt
+  leaf-none at p some h =
+      rw (run-node file (own file) at p some)
+      (leaf-walked (callEvents (treeOf file) formats task) (blockEvents task) (eqb (task .lint) 1) (file .text .records) (own file) at (markAt at p 16) (wordAt p 4) (wordAt p 8) (runOf file (own file) (at + 1) (contents 24 endOf p)) (runOf file (own file) (at + 1 + wordAt p 12) (rest 24 endOf p)) (wordAt p 0) h)
+
   module _ (readable : Readable file) where
-    -- the first record of a part; e is where its contents end
-    run-first : (at e : ℕ) (p : List ℕ) → PartAt file at p → 24 ≤ length p → e ≡ endOf p
-        → runMet at p
+    -- what is met in it; e is where its contents end
+    term-first : (at e : ℕ) (p : List ℕ) → PartAt file at p → 24 ≤ length p → e ≡ endOf p
+        → termMet at p
         ≡ callsMet at
         ++ runMet (at + 1) (take (e - 24) (drop 24 p))
         ++ ownMet (sentencesIn (termAt p 0)) (blockFirst file at)
         ++ sentencesMet (sentencesIn (termAt p 0)) (blockFirst file at)
-        ++ runMet (at + 1 + wordAt p 12) (take (length p - e) (drop e p))
     unfolding own
-    run-first at e p part some end =
+    term-first at e p part some end =
         rw (end, run-node file (own file) at p some, calls-at file readable at p part some)
         (term-walked (callEvents (treeOf file) formats task) (blockEvents task) (eqb (task .lint) 1) (file .text .records) (own file) at (markAt at p 16) (termAt p 0) (wordAt p 12) (runOf file (own file) (at + 1) (contents 24 endOf p)) (runOf file (own file) (at + 1 + wordAt p 12) (rest 24 endOf p))
         (part-inside file readable at p part some)
@@ -146,6 +167,10 @@ module _ (file : File) (formats : Inferred) (task : Task) where
   unfolding walked conditionsFrom
   conditions-first s n c = refl
 
+  own-met-none : (s : ℕ) → ownMet 0 s ≡ []
+  unfolding keep
+  own-met-none s = block-none task
+
   sentences-none : (s : ℕ) → sentencesMet 0 s ≡ []
   unfolding walked keep
   sentences-none s = refl
@@ -169,10 +194,6 @@ module _ (file : File) (formats : Inferred) (task : Task) where
   abbrev pub after : Sink → List Event → Sink
   after s es = collect (task .room) s es
 
-  -- no records
-  pub run-ends : (at : ℕ) (p : List ℕ) (s : Sink) → length p < 24 → s ≡ after s (runMet file formats task at p)
-  run-ends at p s h = rw (run-none file formats task at p h) (collect-none (task .room) s)
-
   -- a pattern is gone through in lint 1 only
   pub pattern-passed : (at : ℕ) (p : List ℕ) (s : Sink) → (task .lint ≡ 1 → ⊥) → s ≡ after s (patternMet file formats task at p)
   pattern-passed at p s h = rw (ne-eqb (task .lint) 1 h) (collect-none (task .room) s)
@@ -182,20 +203,30 @@ module _ (file : File) (formats : Inferred) (task : Task) where
   pattern-walked at p s t h q = q ∙ ap (λ (b : Bool). after s (when b (runMet file formats task at p))) (sym (eq-eqb (task .lint) 1 h))
 
   module _ (readable : Readable file) where
-    -- the first record of a part, with all that is inside it and the records after it
-    pub run-steps : (at e n count first : ℕ) (p : List ℕ) (s called inside noted entered t : Sink) → PartAt file at p → 24 ≤ length p → e ≡ endOf p
-        → count ≡ sentencesIn (termAt p 0) → first ≡ blockFirst file at → n ≡ wordAt p 12
+    -- the first term of a part, with all that is inside it
+    pub term-steps : (at e count first : ℕ) (p : List ℕ) (s called inside noted t : Sink) → PartAt file at p → 24 ≤ length p → e ≡ endOf p
+        → count ≡ sentencesIn (termAt p 0) → first ≡ blockFirst file at
         → called ≡ after s (callsMet file formats task at)
         → inside ≡ after called (runMet file formats task (at + 1) (take (e - 24) (drop 24 p)))
         → noted ≡ after inside (ownMet file formats task count first)
-        → entered ≡ after noted (sentencesMet file formats task count first)
-        → t ≡ after entered (runMet file formats task (at + 1 + n) (take (length p - e) (drop e p)))
-        → t ≡ after s (runMet file formats task at p)
-    run-steps at e n count first p s called inside noted entered t part some end c f w h i j k l =
-        rw (run-first file formats task readable at e p part some end, ← c, ← f, ← w)
-        (collect-then (task .room) s entered t _ _
-        (collect-then (task .room) s noted entered _ _
-        (collect-then (task .room) s inside noted _ _ (collect-then (task .room) s called inside _ _ h i) j) k) l)
+        → t ≡ after noted (sentencesMet file formats task count first)
+        → t ≡ after s (termMet file formats task at p)
+    term-steps at e count first p s called inside noted t part some end c f h i j k =
+        rw (term-first file formats task readable at e p part some end, ← c, ← f)
+        (collect-then (task .room) s noted t _ _
+        (collect-then (task .room) s inside noted _ _ (collect-then (task .room) s called inside _ _ h i) j) k)
+
+    -- a term without sentences
+    pub term-ends : (at e count : ℕ) (p : List ℕ) (s called inside : Sink) → PartAt file at p → 24 ≤ length p → e ≡ endOf p
+        → count ≡ sentencesIn (termAt p 0) → count ≡ 0
+        → called ≡ after s (callsMet file formats task at)
+        → inside ≡ after called (runMet file formats task (at + 1) (take (e - 24) (drop 24 p)))
+        → inside ≡ after s (termMet file formats task at p)
+    term-ends at e count p s called inside part some end c z h i =
+        let none = collect-none (task .room) inside in
+        term-steps at e 0 (blockFirst file at) p s called inside inside inside part some end (sym z ∙ c) refl h i
+        (rw (own-met-none file formats task (blockFirst file at)) none)
+        (rw (sentences-none file formats task (blockFirst file at)) none)
 
     -- a sentence
     pub sentence-steps : (s at next : ℕ) (p r : List ℕ) (start left asked t : Sink) → s < file .sentences .count
@@ -293,7 +324,11 @@ module _ (file : File) (formats : Inferred) (task : Task) where
 -- ---- what is smaller
 
 module _ (file : File) where
-  -- how much there is to go through in a part, as a run and as a pattern, in sentences, in one sentence and in its conditions
+  -- how much there is to go through in a part, for its first term, as a run and as a pattern, in sentences, in one sentence and in its conditions; a part
+  -- counts whole also where only its first term is gone through
+  abbrev pub termWork : ℕ → List ℕ → ℕ
+  termWork at p = 8 * runSize (runOf file (own file) at p)
+
   abbrev pub runWork : ℕ → List ℕ → ℕ
   runWork at p = 8 * runSize (runOf file (own file) at p) + 1
 
@@ -323,18 +358,18 @@ module _ (file : File) where
         (contents-none file (at + 1) p)
         (own-none file at))
 
-    -- what is inside the first record of a part, its sentences, and what is after it
-    pub inside-less : (at e t : ℕ) (p : List ℕ) → PartAt file at p → 24 ≤ length p → e ≡ endOf p → runWork at p ≡ t
+    -- what is inside the first term of a part, its sentences, and what is after it
+    pub inside-less : (at e t : ℕ) (p : List ℕ) → PartAt file at p → 24 ≤ length p → e ≡ endOf p → termWork at p ≡ t
         → runWork (at + 1) (take (e - 24) (drop 24 p)) < t
     inside-less at e t p part some end m = omega (arith, run-size at e p part some end, m)
 
     pub entered-less : (at count first t : ℕ) (p : List ℕ) → PartAt file at p → 24 ≤ length p → count ≡ sentencesIn (termAt p 0) → first ≡ blockFirst file at
-        → runWork at p ≡ t → sentencesWork count first < t
+        → termWork at p ≡ t → sentencesWork count first < t
     entered-less at count first t p part some c f m = rw (c, f) (omega (arith, run-size at (endOf p) p part some refl, m))
 
-    pub after-less : (at e n t : ℕ) (p : List ℕ) → PartAt file at p → 24 ≤ length p → e ≡ endOf p → n ≡ wordAt p 12 → runWork at p ≡ t
-        → runWork (at + 1 + n) (take (length p - e) (drop e p)) < t
-    after-less at e n t p part some end w m = rw w (omega (arith, run-size at e p part some end, m))
+    after-less : (at : ℕ) (p : List ℕ) → PartAt file at p → 24 ≤ length p
+        → runSize (runOf file (own file) (at + 1 + wordAt p 12) (rest 24 endOf p)) ≤ runSize (runOf file (own file) at p)
+    after-less at p part some = omega (arith, run-size at (endOf p) p part some refl)
 
     sentences-size : (n s : ℕ) → s < file .sentences .count
         → sentencesSize (keep (suc n) (sentencesAt file s)) ≡ sentencesSize (keep 1 (sentencesAt file s)) + sentencesSize (keep n (sentencesAt file (suc s)))
@@ -409,6 +444,70 @@ module _ (file : File) where
   pub run-less : (at t : ℕ) (p : List ℕ) → patternWork at p ≡ t → runWork at p < t
   run-less at t p m = omega (arith, m)
 
+-- ---- a loop over the records of a part
+
+module _ (file : File) (formats : Inferred) (task : Task) where
+  -- what it has left from the byte i on is a part too, and no larger; what is met there, collected from now on, is what is met in the whole part
+  pub record Left (at : ℕ) (p : List ℕ) (start now : Sink) (i : ℕ) : Type 0 where
+    pub within : i ≤ length p
+    pub part : PartAt file (at + i / 24) (from i p)
+    pub smaller : runSize (runOf file (own file) (at + i / 24) (from i p)) ≤ runSize (runOf file (own file) at p)
+    pub met : after file formats task start (runMet file formats task at p) ≡ after file formats task now (runMet file formats task (at + i / 24) (from i p))
+
+  pub left-start : (at : ℕ) (p : List ℕ) (start : Sink) → PartAt file at p → Left at p start start 0
+  left-start at p start part =
+      let place : at + 0 / 24 ≡ at = omega arith in
+      record {
+        within = omega arith;
+        part = rw (place, from-all p) part;
+        smaller = rw (place, from-all p) (omega arith);
+        met = rw (place, from-all p);
+      }
+
+module _ {file : File} {formats : Inferred} {task : Task} {at i : ℕ} {p : List ℕ} {start now : Sink} (left : Left file formats task at p start now i) where
+  -- no record is left
+  pub left-end : length p < i + 24 → now ≡ after file formats task start (runMet file formats task at p)
+  left-end h =
+      collect-none (task .room) now
+      ∙ sym (rw (run-none file formats task (at + i / 24) (from i p) (omega (arith, from-length i p))) at (left .met))
+
+  pub next-within : {e : ℕ} → e ≤ length (from i p) → i + e ≤ length p
+  next-within h = omega (arith, from-length i p, left .within)
+
+  module _ (more : i + 24 ≤ length p) where
+    pub left-some : 24 ≤ length (from i p)
+    left-some = omega (arith, from-length i p)
+
+    -- the first term that is left
+    pub first-less : (t : ℕ) → runWork file at p ≡ t → termWork file (at + i / 24) (from i p) < t
+    first-less t m = omega (arith, left .smaller, m)
+
+    -- the records after it; e is where its contents end
+    pub left-next : Readable file → PartAt file at p → (e : ℕ) (next : Sink) → e ≡ endOf (from i p)
+        → next ≡ after file formats task now (termMet file formats task (at + i / 24) (from i p)) → Left file formats task at p start next (i + e)
+    left-next readable whole e next end first =
+        let n : ℕ = wordAt (from i p) 12 in
+        let size : e ≡ 24 + 24 * n = end ∙ part-end file readable (at + i / 24) (from i p) (left .part) left-some in
+        let place : at + (i + e) / 24 ≡ at + i / 24 + 1 + n =
+        omega (arith, size, from-length i p, left .within, part-length file readable at p whole, part-length file readable (at + i / 24) (from i p) (left .part)) in
+        let rest-is : from (i + e) p ≡ rest 24 endOf (from i p) = sym (from-from e i p) ∙ ap (λ k. from k (from i p)) end in
+        let rest-here = rest-part file readable (at + i / 24) (from i p) (left .part) left-some in
+        record {
+          within = next-within (rw end (end-high (from i p)));
+          part = rw (place, rest-is) rest-here;
+          smaller = rw (place, rest-is) (omega (arith, after-less file readable (at + i / 24) (from i p) (left .part) left-some, left .smaller));
+          met =
+              left .met
+              ∙ rw (place, rest-is, run-first file formats task (at + i / 24) (from i p) left-some, collect-append (task .room) now, ← first) refl;
+        }
+
+    -- the records after a symbol or a variable
+    pub leaf-next : Readable file → PartAt file at p → (kind : ℕ) → kind ≡ wordAt (from i p) 0 → kind < 6 → Left file formats task at p start now (i + 24)
+    leaf-next readable whole kind k h =
+        let leaf : wordAt (from i p) 0 < 6 = omega (arith, k) in
+        left-next readable whole 24 now (leaf-end file readable (at + i / 24) (from i p) (left .part) left-some leaf)
+        (rw (leaf-none file formats task (at + i / 24) (from i p) left-some leaf) (collect-none (task .room) now))
+
 -- ---- what is read of a prepared law
 
 module _ {bytes index slots store : List ℕ} {limit : ℕ} (prepared : Prepared bytes index slots store limit) where
@@ -417,6 +516,10 @@ module _ {bytes index slots store : List ℕ} {limit : ℕ} (prepared : Prepared
 
   readable : Readable (fileOf bytes)
   readable = prepared .asked .readable
+
+  -- a part's length
+  pub run-small : (at : ℕ) (p : List ℕ) → PartAt (fileOf bytes) at p → length p ≤ 12288
+  run-small at p part = part-small bytes index indexed readable at p part
 
   -- the first record of a part
   module _ (at : ℕ) (p : List ℕ) (part : PartAt (fileOf bytes) at p) (some : 24 ≤ length p) where
@@ -434,15 +537,9 @@ module _ {bytes index slots store : List ℕ} {limit : ℕ} (prepared : Prepared
         → first + count ≤ fileOf bytes .sentences .count
     block-inside first count f c = rw (block-reads first f, c) (part-sentences (fileOf bytes) readable at p part some)
 
-    -- what is inside it, and what is after it
+    -- what is inside it
     pub inside-part : (e : ℕ) → e ≡ endOf p → PartAt (fileOf bytes) (at + 1) (take (e - 24) (drop 24 p))
     inside-part e q = rw q (contents-part (fileOf bytes) readable at p part some)
-
-    pub after-part : (e n : ℕ) → e ≡ endOf p → n ≡ wordAt p 12 → PartAt (fileOf bytes) (at + 1 + n) (take (length p - e) (drop e p))
-    after-part e n q w = rw (q, w) (rest-part (fileOf bytes) readable at p part some)
-
-    pub after-small : (n : ℕ) → n ≡ wordAt p 12 → at + 1 + n ≤ 512
-    after-small n w = rw w (omega (arith, rest-part (fileOf bytes) readable at p part some .inside, terms-limit bytes index indexed))
 
   pub sentences-small : fileOf bytes .sentences .count ≤ 128
   sentences-small = sentences-limit bytes index indexed

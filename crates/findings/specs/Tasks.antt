@@ -20,7 +20,7 @@ use Rattle.lints.specs.Records.{callAt}
 use Rattle.findings.specs.declared.Task.{Task}
 use Rattle.findings.specs.declared.Note.{Note}
 use Rattle.findings.specs.Events.{Event, found, tooWide}
-use Rattle.findings.specs.Walk.{walked, walkedSentences, walkedConditions}
+use Rattle.findings.specs.Walk.{walked, walkedTerm, walkedSentences, walkedConditions}
 
 -- the eight words of a finding
 abbrev pub noteWords : Task → Note → List ℕ
@@ -57,9 +57,12 @@ callsAt file t = when (eqb (wordAt (file .terms .records) (24 * t)) 7) (callAt f
 
 -- ---- in the law
 
--- in a run, and in sentences
+-- in a run, in its first term, and in sentences
 abbrev pub runEvents : Law → Inferred → Task → Run → List Event
 runEvents law formats task r = walked (callEvents law formats task) (blockEvents task) (eqb (task .lint) 1) r
+
+abbrev pub termEvents : Law → Inferred → Task → Run → List Event
+termEvents law formats task r = walkedTerm (callEvents law formats task) (blockEvents task) (eqb (task .lint) 1) r
 
 abbrev pub insideEvents : Law → Inferred → Task → Sentences → List Event
 insideEvents law formats task ss = walkedSentences (callEvents law formats task) (blockEvents task) (eqb (task .lint) 1) ss

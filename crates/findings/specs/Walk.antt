@@ -25,3 +25,12 @@ module _ (onCall : Call → List Event) (onBlock : Sentences → List Event) (pa
     pub walkedConditions : Conditions → List Event
     walkedConditions noCondition = []
     walkedConditions (condition r p cs) = walked r ++ when patterns (walked p) ++ walkedConditions cs
+
+  -- the first term of a run, with all that is inside it
+  unfoldable pub walkedTerm : Run → List Event
+  walkedTerm empty = []
+  walkedTerm (symbol a after) = []
+  walkedTerm (variable k i after) = []
+  walkedTerm (bracket inside after) = walked inside
+  walkedTerm (call m f inside after) = onCall (record { mark = m; name = f; argument = inside }) ++ walked inside
+  walkedTerm (block m inside ss after) = walked inside ++ onBlock ss ++ walkedSentences ss

@@ -22,8 +22,9 @@ use law::places::wanted;
 use law::runs::end_of;
 ghost use mathlib.Core.Path.{_≡_};
 ghost use Prim.Native.Nat.{_+_, _≤_, _<_};
-ghost use Rattle.file.specs.Sections.{fileOf};
+ghost use lib.ListN.{length};
 ghost use lib.Dec.{eqb};
+ghost use Rattle.file.specs.Sections.{fileOf};
 ghost use Rattle.law.specs.Tree.{keep};
 ghost use Rattle.law.specs.Places.{sentencesOf, firstSentence};
 ghost use Rattle.matching.specs.Match.{when};
@@ -32,7 +33,7 @@ ghost use Rattle.law.specs.Index.{Indexed, PartAt};
 ghost use Rattle.law.specs.Law.{Accepted};
 ghost use Rattle.lints.specs.Records.{Prepared, formatsIn, conditionsAt};
 ghost use Rattle.findings.specs.Events.{sinkOf, collect};
-ghost use Rattle.findings.specs.Tasks.{blockEvents, runEvents, insideEvents, conditionEvents, functionEvents, lintEvents};
+ghost use Rattle.findings.specs.Tasks.{blockEvents, termEvents, runEvents, insideEvents, conditionEvents, functionEvents, lintEvents};
 
 // Notes the dead ones of a block's own sentences, where the task is lint 1.
 fn note_block(
@@ -54,7 +55,37 @@ fn note_block(
     note_dead(law, index, task, first, count, out, tally)
 }
 
-// Goes through a part of the term records, the first of which is number `at`.
+// Goes through the first term of a part of the term records, whose record is number `at`.
+fn walk_term(
+    law: &[u8],
+    index: &[u16; 972],
+    slots: &[u8; 577],
+    store: &[u32],
+    task: Task,
+    part: &[u8],
+    at: usize,
+    out: &mut [u32],
+    tally: Tally,
+) -> Tally
+    requires { ⌜ Prepared (now law) (now index) (now slots) (now store) (task .limit) × PartAt (fileOf (now law)) at (now part) × (24 ≤ length (now part)) ⌝ }
+    ensures { λ r. ⌜ sinkOf r (now (out .exit)) ≡ collect (task .room) (sinkOf tally (now (out .entry)))
+        (termEvents (treeOf (fileOf (now (law .entry)))) (formatsIn (fileOf (now (law .entry))) (task .limit) (now (store .entry))) task
+        (runOf (fileOf (now (law .entry))) (own (fileOf (now (law .entry)))) at (now (part .entry)))) ⌝ }
+{
+    let called = note_call(law, index, slots, store, task, at, out, tally);
+    let inside = &part[24..end_of(part)];
+    let walked = walk_run(law, index, slots, store, task, inside, at + 1, out, called);
+    let count = sentences_in(term_at(part, 0));
+    if count == 0 {
+        return walked;
+    }
+    let first = block_first(index, at);
+    let own = note_block(law, index, task, first, count, out, walked);
+    walk_sentences(law, index, slots, store, task, first, count, out, own)
+}
+
+// Goes through a part of the term records, the first of which is number `at`. Kinds below 6 are symbols and variables, in
+// which nothing is met. Their n is 0 (refusal 5), so that the step is constant and the next record does not wait for n.
 fn walk_run(
     law: &[u8],
     index: &[u16; 972],
@@ -71,39 +102,19 @@ fn walk_run(
         (runEvents (treeOf (fileOf (now (law .entry)))) (formatsIn (fileOf (now (law .entry))) (task .limit) (now (store .entry))) task
         (runOf (fileOf (now (law .entry))) (own (fileOf (now (law .entry)))) at (now (part .entry)))) ⌝ }
 {
-    if part.len() < 24 {
-        return tally;
+    let mut so_far = tally;
+    let mut i = 0;
+    while i + 24 <= part.len() {
+        let left = &part[i..];
+        if word_at(left, 0) < 6 {
+            i += 24;
+        } else {
+            let t = at + i / 24;
+            so_far = walk_term(law, index, slots, store, task, left, t, out, so_far);
+            i += end_of(left);
+        }
     }
-    let end = end_of(part);
-    let called = note_call(law, index, slots, store, task, at, out, tally);
-    let contents = &part[24..end];
-    let inside = walk_run(
-        law,
-        index,
-        slots,
-        store,
-        task,
-        contents,
-        at + 1,
-        out,
-        called,
-    );
-    let first = block_first(index, at);
-    let count = sentences_in(term_at(part, 0));
-    let own = note_block(law, index, task, first, count, out, inside);
-    let entered = walk_sentences(law, index, slots, store, task, first, count, out, own);
-    let next = at + 1 + word_at(part, 12) as usize;
-    walk_run(
-        law,
-        index,
-        slots,
-        store,
-        task,
-        &part[end..],
-        next,
-        out,
-        entered,
-    )
+    so_far
 }
 
 // Goes through so many sentences from one on.

@@ -2,7 +2,6 @@
 use crate::infer::Inference;
 use crate::infer::infer_arguments;
 use crate::infer::infer_rounds;
-use crate::slots::slots_of;
 use crate::slots::wide;
 use shapes::clear_words;
 ghost use mathlib.Core.List.{List, _++_};
@@ -15,7 +14,7 @@ ghost use Rattle.law.specs.Reading.{treeOf};
 ghost use Rattle.shapes.specs.Format.{Format};
 ghost use Rattle.formats.specs.Infer.{allAt, infer};
 ghost use Rattle.formats.specs.Store.{StoreHolds, storeSize, startOf};
-ghost use Rattle.formats.specs.Slots.{fileNames};
+ghost use Rattle.formats.specs.Slots.{fileNames, SlotsOf};
 ghost use Rattle.formats.specs.Turns.{Asked, StartedIs, InferIs};
 
 // Sets a store's words to zero; words past it are kept.
@@ -71,14 +70,19 @@ fn infer_started(
 }
 
 // The formats of a law in a store, or zeros where a row has too many shapes.
-pub fn infer_store(law: &[u8], index: &[u16; 972], store: &mut [u32], limit: usize) -> Inference
-    requires { ⌜ Indexed (now law) (now index) × Readable (fileOf (now law)) × (limit ≤ 64) × (storeSize limit ≤ length (now store)) ⌝ }
+pub fn infer_store(
+    law: &[u8],
+    index: &[u16; 972],
+    slots: &[u8; 577],
+    store: &mut [u32],
+    limit: usize,
+) -> Inference
+    requires { ⌜ Indexed (now law) (now index) × Readable (fileOf (now law)) × (limit ≤ 64) × (storeSize limit ≤ length (now store)) × SlotsOf (fileOf (now law)) (now slots) ⌝ }
     ensures { λ r. ⌜ InferIs limit (infer limit (treeOf (fileOf (now (law .entry))))) (now (store .entry)) (now (store .exit)) r ⌝ }
 {
-    let slots = slots_of(law, index);
     let count = wide(slots[576]);
     start_store(store, limit, 2 * count);
-    match infer_started(law, index, &slots, store, limit, count) {
+    match infer_started(law, index, slots, store, limit, count) {
         Inference::TooWide => {
             clear_store(store, limit);
             Inference::TooWide

@@ -1,6 +1,7 @@
 // Formats of a law, inferred by rounds.
 use crate::call::infer_store;
 use crate::infer::Inference;
+use crate::slots::slots_of;
 use file::Refusal;
 use law::Check;
 use law::read_law;
@@ -44,7 +45,8 @@ fn infer_accepted(law: &[u8], index: &[u16; 972], store: &mut [u32]) -> Answered
     if store.len() < STORE {
         return Answered::StoreShort;
     }
-    match infer_store(law, index, store, SHAPES) {
+    let slots = slots_of(law, index);
+    match infer_store(law, index, &slots, store, SHAPES) {
         Inference::TooWide => Answered::ShapesOver,
         Inference::Ran(rounds, settled) => Answered::Formed(rounds, settled),
     }
@@ -54,10 +56,8 @@ fn infer_accepted(law: &[u8], index: &[u16; 972], store: &mut [u32]) -> Answered
 pub fn infer_formats(law: &[u8], store: &mut [u32]) -> Answered
     ensures { λ r. ⌜ outcomeOf r (now (store .exit)) ≡ callOutcome 64 (now (law .entry)) (now (store .entry)) ⌝ }
 {
-    let checked = read_law(law);
-    let check = checked.check;
-    let index = checked.index;
-    match check {
+    let mut index: [u16; 972] = [0; 972];
+    match read_law(law, &mut index) {
         Check::Refused(why) => Answered::Refused(why),
         Check::Accepted => infer_accepted(law, &index, store),
     }

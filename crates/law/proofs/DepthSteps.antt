@@ -1,9 +1,10 @@
 -- Whether a run, sentences and conditions stay within a depth, a record, a sentence and a condition at a time.
-use Prim.Native.Nat.{ℕ, zero, suc, _+_, _-_, _≤_, _<_, max}
+use Prim.Native.Nat.{ℕ, zero, suc, _+_, _*_, _-_, _≤_, _<_, max}
 use mathlib.Core.List.{List}
 use mathlib.Core.Bool.{Bool, true, false, _&&_}
 use mathlib.Core.Path.{_≡_, refl, sym, ap, _∙_}
 use native.Mathlib.Omega.{arith}
+use native.Mathlib.Nat.{add-zero}
 use native.Mathlib.Numerals.{add-one}
 use native.Mathlib.Decide.{decLe}
 use lib.ListN.{length, take, drop, length-take}
@@ -11,11 +12,11 @@ use lib.Dec.{leb}
 use borrow.Author.Tests.{le-leb, lt-leb}
 use Rattle.file.specs.Word.{wordAt}
 use Rattle.file.specs.Forest.{contents, rest}
-use Rattle.file.specs.Head.{termAt}
+use Rattle.file.specs.Head.{termFrom, termAt}
 use Rattle.file.specs.Sections.{File}
 use Rattle.file.specs.declared.Term.{Term}
 use Rattle.file.specs.declared.Term.the-variants.{Symbolic, SVariable, TVariable, EVariable, Bracket, Call, Block}
-use Rattle.law.specs.Tree.{Mark, Run, empty, Sentences, noSentence, sentence, Conditions, noCondition, condition, keep}
+use Rattle.law.specs.Tree.{Mark, Run, empty, Sentences, noSentence, sentence, Conditions, noCondition, condition, keep, firstTerm}
 use Rattle.law.specs.Places.{blockFirst, sentencesOf, firstSentence, conditionsOf, firstCondition, patternAt, resultAt, patternPart, resultPart, askedAt, askedSize, askedPart, wantedPart}
 use Rattle.law.specs.Runs.{endOf}
 use Rattle.law.specs.Reading.{markAt, termRun, runOf, own, sentencesAt, sentencesIn, conditionsFrom, treeOf}
@@ -24,7 +25,8 @@ use Rattle.law.specs.Index.{Readable, PartAt}
 use Rattle.law.proofs.RunLaws.{run-empty, run-node}
 use Rattle.law.proofs.Terms.{InsideAllowed}
 use Rattle.law.proofs.Functions.{functionsAt, functionAt, tree-functions, function-reads, functions-end, kept-reads}
-use Rattle.law.proofs.PartLaws.{part-inside}
+use Rattle.law.proofs.Parts.{from, from-all, from-length, from-from}
+use Rattle.law.proofs.PartLaws.{part-length, part-inside, part-end, part-within, rest-part, part-leaf}
 
 -- two numbers are within a bound exactly when the larger is
 pub max-within : (a b bound : ℕ) → leb (max a b) bound ≡ (leb a bound && leb b bound)
@@ -64,38 +66,58 @@ last-within a b c e bound =
     go true false y z = refl
     go false x y z = refl
 
--- what a term's three parts say together, where the term itself is within the bound: those inside it, a block's sentences, those after it
-abbrev pub three : Run → Sentences → Run → ℕ → ℕ → Bool
-three inside ss after d bound = leb (deepest inside (suc d)) bound && leb (deepestSentences ss (suc d)) bound && leb (deepest after d) bound
+max-assoc : (a b c : ℕ) → max a (max b c) ≡ max (max a b) c
+max-assoc a b c = omega arith
 
-term-leaf : (after : Run) (d bound : ℕ) → d ≤ bound → leb (max d (deepest after d)) bound ≡ three empty noSentence after d bound
+-- the last of four apart
+last-apart : (a b c e : ℕ) → max a (max b (max c e)) ≡ max (max a (max b (max c 0))) e
+last-apart a b c e =
+    let same : max c 0 ≡ c = omega arith in
+    rw (same, max-assoc b c e) (max-assoc a (max b c) e)
+
+-- what a term's parts say together, where the term itself is within the bound: those inside it, and a block's sentences
+abbrev two : Run → Sentences → ℕ → ℕ → Bool
+two inside ss d bound = leb (deepest inside (suc d)) bound && leb (deepestSentences ss (suc d)) bound
+
+term-leaf : (d bound : ℕ) → d ≤ bound → leb (max d 0) bound ≡ two empty noSentence d bound
 unfolding deepest
-term-leaf after d bound h = rw (max-within d (deepest after d) bound, le-leb d bound h, le-leb 0 bound (omega arith))
+term-leaf d bound h = rw (max-within d 0 bound, le-leb d bound h, le-leb 0 bound (omega arith))
 
-term-holds : (inside after : Run) (d bound : ℕ) → d ≤ bound
-    → leb (max d (max (deepest inside (suc d)) (deepest after d))) bound ≡ three inside noSentence after d bound
+term-holds : (inside : Run) (d bound : ℕ) → d ≤ bound → leb (max d (max (deepest inside (suc d)) 0)) bound ≡ two inside noSentence d bound
 unfolding deepest
-term-holds inside after d bound h =
-    let same : max (deepest inside (suc d)) (deepest after d) ≡ max (deepest inside (suc d)) (max 0 (deepest after d)) = omega arith in
-    rw (same, max-within d _ bound, three-within (deepest inside (suc d)) 0 (deepest after d) bound, le-leb d bound h)
+term-holds inside d bound h = rw (max-within d _ bound, max-within (deepest inside (suc d)) 0 bound, le-leb d bound h)
 
-term-block : (inside after : Run) (ss : Sentences) (d bound : ℕ) → d ≤ bound
-    → leb (max d (max (deepest inside (suc d)) (max (deepestSentences ss (suc d)) (deepest after d)))) bound ≡ three inside ss after d bound
-term-block inside after ss d bound h =
-    rw (max-within d _ bound, three-within (deepest inside (suc d)) (deepestSentences ss (suc d)) (deepest after d) bound, le-leb d bound h)
+term-block : (inside : Run) (ss : Sentences) (d bound : ℕ) → d ≤ bound
+    → leb (max d (max (deepest inside (suc d)) (max (deepestSentences ss (suc d)) 0))) bound ≡ two inside ss d bound
+term-block inside ss d bound h =
+    let same : max (deepestSentences ss (suc d)) 0 ≡ deepestSentences ss (suc d) = omega arith in
+    rw (same, max-within d _ bound, max-within (deepest inside (suc d)) (deepestSentences ss (suc d)) bound, le-leb d bound h)
 
--- a term of any kind: nothing is inside a symbol or a variable, and only a block has sentences
+-- a run's first term, of any kind: nothing is inside a symbol or a variable, and only a block has sentences
 term-within : (text : List ℕ) (give : ℕ → ℕ → Sentences) (at : ℕ) (mark : Mark) (x : Term) (n : ℕ) (inside after : Run) (d bound : ℕ) → d ≤ bound
     → InsideAllowed x n → (n ≡ 0 → inside ≡ empty) → give at 0 ≡ noSentence
-    → leb (deepest (termRun text give at mark x inside after) d) bound ≡ three inside (give at (sentencesIn x)) after d bound
-unfolding deepest
-term-within text give at mark (Symbolic x) n inside after d bound h a e o = rw (e a, o) (term-leaf after d bound h)
-term-within text give at mark (SVariable x y) n inside after d bound h a e o = rw (e a, o) (term-leaf after d bound h)
-term-within text give at mark (TVariable x y) n inside after d bound h a e o = rw (e a, o) (term-leaf after d bound h)
-term-within text give at mark (EVariable x y) n inside after d bound h a e o = rw (e a, o) (term-leaf after d bound h)
-term-within text give at mark Bracket n inside after d bound h a e o = rw o (term-holds inside after d bound h)
-term-within text give at mark (Call x y) n inside after d bound h a e o = rw o (term-holds inside after d bound h)
-term-within text give at mark (Block m) n inside after d bound h a e o = term-block inside after (give at m) d bound h
+    → leb (deepest (firstTerm (termRun text give at mark x inside after)) d) bound ≡ two inside (give at (sentencesIn x)) d bound
+unfolding deepest firstTerm
+term-within text give at mark (Symbolic x) n inside after d bound h a e o = rw (e a, o) (term-leaf d bound h)
+term-within text give at mark (SVariable x y) n inside after d bound h a e o = rw (e a, o) (term-leaf d bound h)
+term-within text give at mark (TVariable x y) n inside after d bound h a e o = rw (e a, o) (term-leaf d bound h)
+term-within text give at mark (EVariable x y) n inside after d bound h a e o = rw (e a, o) (term-leaf d bound h)
+term-within text give at mark Bracket n inside after d bound h a e o = rw o (term-holds inside d bound h)
+term-within text give at mark (Call x y) n inside after d bound h a e o = rw o (term-holds inside d bound h)
+term-within text give at mark (Block m) n inside after d bound h a e o = term-block inside (give at m) d bound h
+
+-- a run is as deep as its first term and the terms after it
+term-and-rest : (text : List ℕ) (give : ℕ → ℕ → Sentences) (at : ℕ) (mark : Mark) (x : Term) (inside after : Run) (d : ℕ)
+    → deepest (termRun text give at mark x inside after) d
+    ≡ max (deepest (firstTerm (termRun text give at mark x inside after)) d) (deepest after d)
+unfolding deepest firstTerm
+term-and-rest text give at mark (Symbolic x) inside after d = omega arith
+term-and-rest text give at mark (SVariable x y) inside after d = omega arith
+term-and-rest text give at mark (TVariable x y) inside after d = omega arith
+term-and-rest text give at mark (EVariable x y) inside after d = omega arith
+term-and-rest text give at mark Bracket inside after d = omega arith
+term-and-rest text give at mark (Call x y) inside after d = omega arith
+term-and-rest text give at mark (Block m) inside after d = last-apart d (deepest inside (suc d)) (deepestSentences (give at m) (suc d)) (deepest after d)
 
 -- a term is as deep as the run that it stands in
 term-deep : (text : List ℕ) (give : ℕ → ℕ → Sentences) (at : ℕ) (mark : Mark) (x : Term) (inside after : Run) (d : ℕ)
@@ -109,10 +131,26 @@ term-deep text give at mark Bracket inside after d = omega arith
 term-deep text give at mark (Call x y) inside after d = omega arith
 term-deep text give at mark (Block m) inside after d = omega arith
 
+-- a record of a kind below 6 is a symbol or a variable, which is no deeper than the run
+leaf-deep : (text : List ℕ) (give : ℕ → ℕ → Sentences) (at : ℕ) (mark : Mark) (kind a b : ℕ) (inside after : Run) (d : ℕ) → kind < 6
+    → deepest (firstTerm (termRun text give at mark (termFrom kind a b) inside after)) d ≡ d
+unfolding deepest firstTerm termFrom
+leaf-deep text give at mark zero a b inside after d h = omega arith
+leaf-deep text give at mark (suc zero) a b inside after d h = omega arith
+leaf-deep text give at mark (suc (suc zero)) a b inside after d h = omega arith
+leaf-deep text give at mark (suc (suc (suc zero))) a b inside after d h = omega arith
+leaf-deep text give at mark (suc (suc (suc (suc zero)))) a b inside after d h = omega arith
+leaf-deep text give at mark (suc (suc (suc (suc (suc zero))))) a b inside after d h = omega arith
+leaf-deep text give at mark (suc (suc (suc (suc (suc (suc kind)))))) a b inside after d h = absurd (omega arith)
+
 module _ (file : File) where
   -- a part of the term records, of which d brackets, calls and blocks are around
   abbrev pub runWithin : ℕ → List ℕ → ℕ → Bool
   runWithin at p d = leb (deepest (runOf file (own file) at p) d) 32
+
+  -- its first term
+  abbrev pub firstWithin : ℕ → List ℕ → ℕ → Bool
+  firstWithin at p d = leb (deepest (firstTerm (runOf file (own file) at p)) d) 32
 
   -- n sentences from s on
   abbrev pub sentencesWithin : ℕ → ℕ → ℕ → Bool
@@ -135,6 +173,23 @@ module _ (file : File) where
       let low = term-deep (file .text .records) (own file) at (markAt at p 16) (termAt p 0) inside after d in
       rw (run-node file (own file) at p h) (lt-leb (deepest (termRun (file .text .records) (own file) at (markAt at p 16) (termAt p 0) inside after) d) 32 (omega arith))
 
+  pub sentences-none : (s d : ℕ) → sentencesWithin 0 s d ≡ true
+  unfolding deepest keep
+  sentences-none s d = refl
+
+  -- the first term of some records, and the terms after it
+  run-step : (at d : ℕ) (p : List ℕ) → 24 ≤ length p
+      → runWithin at p d ≡ (firstWithin at p d && runWithin (at + 1 + wordAt p 12) (rest 24 endOf p) d)
+  run-step at d p h =
+      rw (run-node file (own file) at p h) (
+      rw (term-and-rest (file .text .records) (own file) at (markAt at p 16) (termAt p 0) (runOf file (own file) (at + 1) (contents 24 endOf p)) (runOf file (own file) (at + 1 + wordAt p 12) (rest 24 endOf p)) d)
+      (max-within _ (deepest (runOf file (own file) (at + 1 + wordAt p 12) (rest 24 endOf p)) d) 32))
+
+  -- a first term that is a symbol or a variable
+  leaf-within : (at d : ℕ) (p : List ℕ) → 24 ≤ length p → d ≤ 32 → wordAt p 0 < 6 → firstWithin at p d ≡ true
+  unfolding termAt
+  leaf-within at d p h l kind = rw (run-node file (own file) at p h, leaf-deep (file .text .records) (own file) at (markAt at p 16) (wordAt p 0) (wordAt p 4) (wordAt p 8) _ _ d kind) (le-leb d 32 l)
+
   own-none : (t : ℕ) → own file t 0 ≡ noSentence
   unfolding own keep
   own-none t = refl
@@ -143,20 +198,90 @@ module _ (file : File) where
   unfolding endOf
   contents-none at p z = run-empty file (own file) at (contents 24 endOf p) (omega (arith, length-take (endOf p - 24) (drop 24 p), z))
 
+  -- whether a part is within the bound is decided by what is left of it after its first k records, which is a part too
+  pub record LeftWithin (at d : ℕ) (p : List ℕ) (k : ℕ) : Type 0 where
+    pub part : PartAt file (at + k) (from (24 * k) p)
+    pub within : 24 * k ≤ length p
+    pub left : runWithin at p d ≡ runWithin (at + k) (from (24 * k) p) d
+
+  -- nothing is decided yet
+  pub left-whole : (at d : ℕ) (p : List ℕ) → PartAt file at p → LeftWithin at d p 0
+  left-whole at d p part = record {
+    part = rw (from-all p, add-zero at) part;
+    within = omega arith;
+    left = rw (from-all p, add-zero at);
+  }
+
   module _ (readable : Readable file) where
-    -- the first record of a part: what is inside it, its sentences, and what is after it; e is where its contents end
-    pub run-step : (at d e : ℕ) (p : List ℕ) → PartAt file at p → 24 ≤ length p → e ≡ endOf p → d ≤ 32
-        → runWithin at p d
-        ≡ (runWithin (at + 1) (take (e - 24) (drop 24 p)) (d + 1)
-        && sentencesWithin (sentencesIn (termAt p 0)) (blockFirst file at) (d + 1)
-        && runWithin (at + 1 + wordAt p 12) (take (length p - e) (drop e p)) d)
+    -- the first term of a part: what is inside it, and its sentences; e is where its contents end
+    first-step : (at d e : ℕ) (p : List ℕ) → PartAt file at p → 24 ≤ length p → e ≡ endOf p → d ≤ 32
+        → firstWithin at p d
+        ≡ (runWithin (at + 1) (take (e - 24) (drop 24 p)) (d + 1) && sentencesWithin (sentencesIn (termAt p 0)) (blockFirst file at) (d + 1))
     unfolding own
-    run-step at d e p part some end h =
+    first-step at d e p part some end h =
         rw (end, add-one d, run-node file (own file) at p some)
         (term-within (file .text .records) (own file) at _ (termAt p 0) (wordAt p 12) _ _ d 32 h
         (part-inside file readable at p part some)
         (contents-none (at + 1) p)
         (own-none at))
+
+    -- the returns of `term_depth`: inner is what was said of what is inside the term
+    module _ {at d e : ℕ} {p : List ℕ} (part : PartAt file at p) (some : 24 ≤ length p) (h : d ≤ 32) (end : e ≡ endOf p)
+        {inner : Bool} (told : inner ≡ runWithin (at + 1) (take (e - 24) (drop 24 p)) (d + 1)) where
+      -- something inside it is too deep
+      pub term-over : inner ≡ false → false ≡ firstWithin at p d
+      term-over q = sym (first-step at d e p part some end h ∙ rw (← told, q))
+
+      module _ {count : ℕ} (inside : inner ≡ true) (counted : count ≡ sentencesIn (termAt p 0)) where
+        decides : firstWithin at p d ≡ sentencesWithin count (blockFirst file at) (d + 1)
+        decides = first-step at d e p part some end h ∙ rw (← told, inside, counted)
+
+        -- it has no sentences
+        pub term-alone : count ≡ 0 → true ≡ firstWithin at p d
+        term-alone z = sym (decides ∙ rw z (sentences-none (blockFirst file at) (d + 1)))
+
+        -- else its sentences decide
+        pub term-sentences : {first : ℕ} {r : Bool} → first ≡ blockFirst file at → r ≡ sentencesWithin count first (d + 1) → r ≡ firstWithin at p d
+        term-sentences f q = q ∙ sym (decides ∙ rw f)
+
+    module _ {at d k : ℕ} {p : List ℕ} (so-far : LeftWithin at d p k) where
+      -- no record is left
+      pub left-none : length p ≤ 24 * k → true ≡ runWithin at p d
+      left-none h = sym (so-far .left ∙ run-none (at + k) d (from (24 * k) p) (omega (arith, from-length (24 * k) p)))
+
+      module _ (more : 24 * k < length p) where
+        -- a whole record is left
+        pub left-some : 24 ≤ length (from (24 * k) p)
+        left-some = omega (arith, from-length (24 * k) p, part-length file readable (at + k) (from (24 * k) p) (so-far .part))
+
+        -- its contents end inside the part
+        pub left-end : {n : ℕ} → n ≡ wordAt (from (24 * k) p) 12 → 24 * (k + (1 + n)) ≤ length p
+        left-end told = omega (arith, told, from-length (24 * k) p, part-within file readable (at + k) (from (24 * k) p) (so-far .part) left-some)
+
+        -- the first term that is left is too deep
+        pub left-over : firstWithin (at + k) (from (24 * k) p) d ≡ false → false ≡ runWithin at p d
+        left-over h = sym (so-far .left ∙ run-step (at + k) d (from (24 * k) p) left-some ∙ rw h)
+
+        -- it is not
+        pub left-after : {n : ℕ} → n ≡ wordAt (from (24 * k) p) 12 → firstWithin (at + k) (from (24 * k) p) d ≡ true → LeftWithin at d p (k + (1 + n))
+        left-after {n} told h =
+            let q : List ℕ = from (24 * k) p in
+            let end : endOf q ≡ 24 + 24 * n = part-end file readable (at + k) q (so-far .part) left-some ∙ ap (λ w. 24 + 24 * w) (sym told) in
+            let bytes : 24 * k + (24 + 24 * n) ≡ 24 * (k + (1 + n)) = omega arith in
+            let same : rest 24 endOf q ≡ from (24 * (k + (1 + n))) p =
+            ap (λ e. from e q) end ∙ from-from (24 + 24 * n) (24 * k) p ∙ ap (λ m. from m p) bytes in
+            let place : at + k + 1 + wordAt q 12 ≡ at + (k + (1 + n)) = omega (arith, told) in
+            record {
+              part = rw (place, same) at (rest-part file readable (at + k) q (so-far .part) left-some);
+              within = left-end told;
+              left = so-far .left ∙ run-step (at + k) d q left-some ∙ rw (h, place, same);
+            }
+
+        -- it is a symbol or a variable
+        pub left-leaf : d ≤ 32 → wordAt (from (24 * k) p) 0 < 6 → LeftWithin at d p (k + 1)
+        left-leaf l h =
+            let none : wordAt (from (24 * k) p) 12 ≡ 0 = part-leaf file readable (at + k) (from (24 * k) p) (so-far .part) left-some h in
+            left-after {n = 0} (sym none) (leaf-within (at + k) d (from (24 * k) p) left-some l h)
 
     -- one sentence, and the sentences after it
     pub sentences-step : (n s d : ℕ) → s < file .sentences .count → sentencesWithin (suc n) s d ≡ (sentencesWithin 1 s d && sentencesWithin n (suc s) d)
@@ -187,10 +312,6 @@ module _ (file : File) where
       && conditionsWithin s n (suc c) d)
   unfolding deepest conditionsFrom
   conditions-step s n c d = three-within (deepest (runOf file (own file) (askedAt file s c) (askedPart file s c)) d) (deepest (runOf file (own file) (askedAt file s c + askedSize file c) (wantedPart file s c)) d) _ 32
-
-  pub sentences-none : (s d : ℕ) → sentencesWithin 0 s d ≡ true
-  unfolding deepest keep
-  sentences-none s d = refl
 
   pub conditions-none : (s c d : ℕ) → conditionsWithin s 0 c d ≡ true
   unfolding deepest conditionsFrom

@@ -1,5 +1,5 @@
 -- A part of the term records that is a run or the rest of one (`PartAt`, specs/Index.antt): its first record, its contents and its rest.
-use Prim.Native.Nat.{ℕ, suc, _+_, _*_, _-_, _≤_, _<_}
+use Prim.Native.Nat.{ℕ, zero, suc, _+_, _*_, _-_, _≤_, _<_}
 use mathlib.Core.List.{List}
 use mathlib.Core.Bool.{true}
 use mathlib.Core.Path.{_≡_, refl, sym, ap, _∙_}
@@ -7,18 +7,29 @@ use native.Mathlib.Omega.{arith}
 use lib.ListN.{length}
 use Rattle.file.specs.Word.{wordAt}
 use Rattle.file.specs.Forest.{contents, rest}
-use Rattle.file.specs.Head.{termAt}
+use Rattle.file.specs.Head.{termFrom, termAt}
 use Rattle.file.specs.Sections.{File, fileOf}
 use Rattle.law.specs.Places.{blockSize, blockFirst, termsAt, patternAt, patternSize, patternPart, resultAt, resultSize, resultPart, askedAt, askedSize, askedPart, wantedSize, wantedPart, Owns}
 use Rattle.law.specs.Runs.{endOf, runFits}
 use Rattle.law.specs.Reading.{sentencesIn}
 use Rattle.law.specs.Index.{Indexed, Readable, PartAt}
-use Rattle.law.proofs.Parts.{terms-length, terms-word, terms-contents, terms-rest}
+use Rattle.law.proofs.Parts.{terms-length, terms-word, terms-end, terms-contents, terms-rest}
 use Rattle.law.proofs.RunLaws.{fits-first}
 use Rattle.law.proofs.Terms.{InsideAllowed, inside-allowed, block-size}
 use Rattle.law.proofs.PlaceLaws.{block-inside, pattern-inside, result-inside, asked-inside}
 use Rattle.law.proofs.IndexLaws.{terms-limit}
 use Rattle.law.proofs.Allowed.{all-used, pattern-fits, result-fits, asked-fits, wanted-fits}
+
+-- nothing is inside a record of a kind below 6
+leaf-none : (kind a b n : ℕ) → kind < 6 → InsideAllowed (termFrom kind a b) n → n ≡ 0
+unfolding termFrom
+leaf-none zero a b n h none = none
+leaf-none (suc zero) a b n h none = none
+leaf-none (suc (suc zero)) a b n h none = none
+leaf-none (suc (suc (suc zero))) a b n h none = none
+leaf-none (suc (suc (suc (suc zero)))) a b n h none = none
+leaf-none (suc (suc (suc (suc (suc zero))))) a b n h none = none
+leaf-none (suc (suc (suc (suc (suc (suc kind)))))) a b n h none = absurd (omega arith)
 
 module _ (file : File) (readable : Readable file) (at : ℕ) (p : List ℕ) (part : PartAt file at p) where
   -- its length
@@ -50,6 +61,10 @@ module _ (file : File) (readable : Readable file) (at : ℕ) (p : List ℕ) (par
     pub part-inside : InsideAllowed (termAt p 0) (wordAt p 12)
     part-inside = rw (part-term, word 12 (omega arith)) (inside-allowed file (readable .fields) at part-at)
 
+    pub part-leaf : wordAt p 0 < 6 → wordAt p 12 ≡ 0
+    unfolding termAt
+    part-leaf h = leaf-none (wordAt p 0) (wordAt p 4) (wordAt p 8) (wordAt p 12) h part-inside
+
     -- the sentences of a block are records of section 3
     pub part-sentences : blockFirst file at + sentencesIn (termAt p 0) ≤ file .sentences .count
     part-sentences =
@@ -62,6 +77,13 @@ module _ (file : File) (readable : Readable file) (at : ℕ) (p : List ℕ) (par
 
     first : wordAt (termsAt file at (part .count)) 12 ≡ wordAt p 12
     first = ap (λ s. wordAt s 12) (sym (part .same))
+
+    -- the contents of its first record end inside it
+    pub part-end : endOf p ≡ 24 + 24 * wordAt p 12
+    part-end = ap endOf (part .same) ∙ terms-end file (readable .whole) at (part .count) (part .inside) (wordAt p 12) first (fits .0)
+
+    pub part-within : 24 + 24 * wordAt p 12 ≤ length p
+    part-within = omega (arith, part-length, fits .0)
 
     contents-same : contents 24 endOf p ≡ termsAt file (at + 1) (wordAt p 12)
     contents-same = ap (contents 24 endOf) (part .same) ∙ terms-contents file (readable .whole) at (part .count) (part .inside) (wordAt p 12) first (fits .0)

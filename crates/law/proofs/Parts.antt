@@ -1,11 +1,11 @@
 -- A part of the term records, as a run: how long it is, the words in it, and that its contents and its rest are parts too.
 use Prim.Native.Nat.{ℕ, zero, suc, _+_, _*_, _-_, _≤_}
 use mathlib.Core.List.{List, [], _∷_}
-use mathlib.Core.Path.{_≡_}
+use mathlib.Core.Path.{_≡_, sym, ap, _∙_}
 use native.Mathlib.Omega.{arith}
 use native.Mathlib.Nat.{sub-zero, zero-sub, suc-sub-suc, add-assoc}
 use lib.ListN.{length, take, drop, length-take, length-drop}
-use lib.Seq.{getD-take, getD-drop, take-nil, take-take, drop-drop}
+use lib.Seq.{getD-take, getD-drop, take-all, take-nil, take-take, drop-drop}
 use Rattle.file.specs.Word.{wordAt}
 use Rattle.file.specs.Sections.{File}
 use Rattle.file.specs.Forest.{contents, rest}
@@ -34,6 +34,22 @@ part-word a n k l h =
       getD-take n (drop a l) (k + 3) 0 (omega arith),
     )
     (simp (getD-drop, add-assoc))
+
+-- what is left of a part from a position on
+abbrev pub from : ℕ → List ℕ → List ℕ
+from n s = take (length s - n) (drop n s)
+
+from-drop : (n : ℕ) (s : List ℕ) → from n s ≡ drop n s
+from-drop n s = take-all (length s - n) (drop n s) (omega (arith, length-drop n s))
+
+pub from-all : (s : List ℕ) → from 0 s ≡ s
+from-all s = from-drop 0 s
+
+pub from-length : (n : ℕ) (s : List ℕ) → length (from n s) ≡ length s - n
+from-length n s = rw (from-drop n s) (length-drop n s)
+
+pub from-from : (m n : ℕ) (s : List ℕ) → from m (from n s) ≡ from (n + m) s
+from-from m n s = from-drop m (from n s) ∙ ap (drop m) (from-drop n s) ∙ drop-drop m n s ∙ sym (from-drop (n + m) s)
 
 module _ (file : File) (whole : length (file .terms .records) ≡ 24 * file .terms .count) (at count : ℕ) (inside : at + count ≤ file .terms .count) where
   -- a part's length

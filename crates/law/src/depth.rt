@@ -18,8 +18,9 @@ use file::word_at;
 ghost use mathlib.Core.Path.{_≡_};
 ghost use Prim.Native.Nat.{_+_, _≤_, _<_};
 ghost use lib.Dec.{leb};
+ghost use lib.ListN.{length};
 ghost use Rattle.file.specs.Sections.{fileOf};
-ghost use Rattle.law.specs.Tree.{keep};
+ghost use Rattle.law.specs.Tree.{keep, firstTerm};
 ghost use Rattle.law.specs.Places.{conditionsOf, firstCondition};
 ghost use Rattle.law.specs.Reading.{runOf, own, sentencesAt, sentencesIn, conditionsFrom, treeOf};
 ghost use Rattle.law.specs.Depth.{deepest, deepestSentences, deepestConditions, depthOf};
@@ -41,7 +42,7 @@ pub fn sentences_in(term: Term) -> usize
 }
 
 // Whether no term of a part of the term records has over 32 brackets, calls and blocks around it, of which `depth` are around the part.
-// The part's first record is number `at`.
+// The part's first record is number `at`. Symbols and variables hold no term, so that only records of kind 6 to 8 are entered.
 fn run_depth(law: &[u8], index: &[u16; 972], part: &[u8], at: usize, depth: usize) -> bool
     requires { ⌜ Indexed (now law) (now index) × Readable (fileOf (now law)) × PartAt (fileOf (now law)) at (now part) × (depth ≤ 33) ⌝ }
     ensures { λ r. ⌜ r ≡ leb (deepest (runOf (fileOf (now (law .entry))) (own (fileOf (now (law .entry)))) at (now (part .entry))) depth) 32 ⌝ }
@@ -52,16 +53,35 @@ fn run_depth(law: &[u8], index: &[u16; 972], part: &[u8], at: usize, depth: usiz
     if 32 < depth {
         return false;
     }
+    let mut k = 0;
+    while 24 * k < part.len() {
+        let rest = &part[24 * k..];
+        if word_at(rest, 0) < 6 {
+            k += 1;
+        } else {
+            if !term_depth(law, index, rest, at + k, depth) {
+                return false;
+            }
+            k += 1 + word_at(rest, 12) as usize;
+        }
+    }
+    true
+}
+
+// The same of a part's first term alone: what is inside it and, where it is a block, its sentences.
+fn term_depth(law: &[u8], index: &[u16; 972], part: &[u8], at: usize, depth: usize) -> bool
+    requires { ⌜ Indexed (now law) (now index) × Readable (fileOf (now law)) × PartAt (fileOf (now law)) at (now part) × (24 ≤ length (now part)) × (depth ≤ 32) ⌝ }
+    ensures { λ r. ⌜ r ≡ leb (deepest (firstTerm (runOf (fileOf (now (law .entry))) (own (fileOf (now (law .entry)))) at (now (part .entry)))) depth) 32 ⌝ }
+{
     let end = end_of(part);
     if !run_depth(law, index, &part[24..end], at + 1, depth + 1) {
         return false;
     }
     let count = sentences_in(term_at(part, 0));
-    if !sentences_depth(law, index, block_first(index, at), count, depth + 1) {
-        return false;
+    if count == 0 {
+        return true;
     }
-    let n = word_at(part, 12) as usize;
-    run_depth(law, index, &part[end..], at + 1 + n, depth)
+    sentences_depth(law, index, block_first(index, at), count, depth + 1)
 }
 
 // The same of so many sentences from one on.

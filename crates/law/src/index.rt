@@ -13,12 +13,6 @@ ghost use Rattle.law.specs.Runs.{usedUp};
 ghost use Rattle.law.specs.Index.{Indexed};
 ghost use Rattle.law.specs.Filling.{Table, wordSum, pairSum, blockWord, blockSum, asWord, TablesOf, Limits, fileLength, header};
 
-// An index, and whether sections 3 to 5 are used up exactly. Sums past 65,535 are cut in the index, and then they are not.
-pub struct Placed {
-    pub exact: bool,
-    pub index: [u16; 972],
-}
-
 // An array's length is known only where it is made, so the functions below ask for it and say it again.
 
 // Writes the sums of one word of each record, from no record to all of them, and answers the last.
@@ -160,13 +154,13 @@ fn fill_header(index: &mut [u16; 972], sections: Sections)
     index[7] = sections.terms as u16;
 }
 
-// The index of a file that is cut into its sections.
-pub fn place_records(law: &[u8], sections: Sections) -> Placed
-    requires { ⌜ (sectionsOf (now law) ≡ given (fileOf (now law))) × (countsOf (fileOf (now law)) ≡ sections) ⌝ }
-    ensures { λ r. ⌜ (r .exact ≡ usedUp (fileOf (now (law .entry)))) × (r .exact ≡ true → Indexed (now (law .entry)) (r .index)) ⌝ }
+// Fills the index of a file that is cut into its sections, and answers whether sections 3 to 5 are used up exactly.
+// Sums past 65,535 are cut in the index, and then they are not.
+pub fn place_records(law: &[u8], sections: Sections, index: &mut [u16; 972]) -> bool
+    requires { ⌜ (sectionsOf (now law) ≡ given (fileOf (now law))) × (countsOf (fileOf (now law)) ≡ sections) × (length (now index) ≡ 972) ⌝ }
+    ensures { λ r. ⌜ (r ≡ usedUp (fileOf (now (law .entry)))) × (r ≡ true → Indexed (now (law .entry)) (now (index .exit))) ⌝ }
 {
-    let mut index: [u16; 972] = [0; 972];
-    let exact = fill_tables(&mut index, law, sections);
-    fill_header(&mut index, sections);
-    Placed { exact, index }
+    let exact = fill_tables(index, law, sections);
+    fill_header(index, sections);
+    exact
 }

@@ -12,7 +12,7 @@ use file::sections_of;
 use file::terms_allowed;
 ghost use mathlib.Core.Path.{_≡_};
 ghost use mathlib.Core.Bool.{true};
-ghost use lib.ListN.{replicate};
+ghost use lib.ListN.{length};
 ghost use Rattle.file.specs.Answer.{given};
 ghost use Rattle.file.specs.Sections.{sectionsOf, fileOf, countsOf};
 ghost use Rattle.file.specs.Fields.{fieldsAllowed};
@@ -30,12 +30,6 @@ pub mod runs;
 pub enum Check {
     Accepted,
     Refused(Refusal),
-}
-
-// The check of a file, and the index of an accepted one.
-pub struct Checked {
-    pub check: Check,
-    pub index: [u16; 972],
 }
 
 // Whether every field of the functions and terms is allowed (refusal 5).
@@ -81,43 +75,44 @@ fn check_placed(law: &[u8], index: &[u16; 972]) -> Check
     Check::Accepted
 }
 
-// What a refused file is answered: no word of the index is filled.
-fn refused(why: Refusal) -> Checked
-    ensures { λ r. ⌜ (r .check ≡ Check.Refused why) × (r .index ≡ replicate 972 0) ⌝ }
+// The check of a file that is cut into its sections. The index of an accepted one is filled.
+fn check_sections(law: &[u8], sections: Sections, index: &mut [u16; 972]) -> Check
+    requires { ⌜ (sectionsOf (now law) ≡ given (fileOf (now law))) × (countsOf (fileOf (now law)) ≡ sections) × (length (now index) ≡ 972) ⌝ }
+    ensures { λ r. ⌜ (checkAnswer r ≡ verdictOf (now (law .entry))) × (r ≡ Check.Accepted → Indexed (now (law .entry)) (now (index .exit))) ⌝ }
 {
-    Checked {
-        check: Check::Refused(why),
-        index: [0; 972],
+    if !fields_allowed(law, sections) {
+        return Check::Refused(Refusal::Fields);
+    }
+    if place_records(law, sections, index) {
+        check_placed(law, index)
+    } else {
+        Check::Refused(Refusal::Runs)
     }
 }
 
-// The check of a file that is cut into its sections, and its index.
-fn check_sections(law: &[u8], sections: Sections) -> Checked
-    requires { ⌜ (sectionsOf (now law) ≡ given (fileOf (now law))) × (countsOf (fileOf (now law)) ≡ sections) ⌝ }
-    ensures { λ r. ⌜ (checkAnswer (r .check) ≡ verdictOf (now (law .entry))) × IndexAfter (r .check) (now (law .entry)) (r .index) ⌝ }
+// The check of any bytes. The index of a law is filled.
+fn check_bytes(law: &[u8], index: &mut [u16; 972]) -> Check
+    requires { ⌜ length (now index) ≡ 972 ⌝ }
+    ensures { λ r. ⌜ (checkAnswer r ≡ verdictOf (now (law .entry))) × (r ≡ Check.Accepted → Indexed (now (law .entry)) (now (index .exit))) ⌝ }
 {
-    if !fields_allowed(law, sections) {
-        return refused(Refusal::Fields);
-    }
-    let placed = place_records(law, sections);
-    if !placed.exact {
-        return refused(Refusal::Runs);
-    }
-    let index = placed.index;
-    let check = check_placed(law, &index);
-    match check {
-        Check::Accepted => Checked { check, index },
-        Check::Refused(why) => refused(why),
+    match sections_of(law) {
+        Cut::Refused(why) => Check::Refused(why),
+        Cut::Whole(sections) => check_sections(law, sections, index),
     }
 }
 
 // Whether any bytes are a law, with the index of an accepted one.
-pub fn read_law(law: &[u8]) -> Checked
-    ensures { λ r. ⌜ (checkAnswer (r .check) ≡ verdictOf (now (law .entry))) × IndexAfter (r .check) (now (law .entry)) (r .index) ⌝ }
+pub fn read_law(law: &[u8], index: &mut [u16; 972]) -> Check
+    requires { ⌜ length (now index) ≡ 972 ⌝ }
+    ensures { λ r. ⌜ (checkAnswer r ≡ verdictOf (now (law .entry))) × IndexAfter r (now (law .entry)) (now (index .exit)) ⌝ }
 {
-    match sections_of(law) {
-        Cut::Refused(why) => refused(why),
-        Cut::Whole(sections) => check_sections(law, sections),
+    let check = check_bytes(law, index);
+    match check {
+        Check::Accepted => check,
+        Check::Refused(why) => {
+            *index = [0; 972];
+            Check::Refused(why)
+        }
     }
 }
 
@@ -125,5 +120,6 @@ pub fn read_law(law: &[u8]) -> Checked
 pub fn check_law(law: &[u8]) -> Check
     ensures { λ r. ⌜ checkAnswer r ≡ verdictOf (now (law .entry)) ⌝ }
 {
-    read_law(law).check
+    let mut index: [u16; 972] = [0; 972];
+    read_law(law, &mut index)
 }

@@ -24,21 +24,27 @@ pub fn end_of(part: &[u8]) -> usize
     if end < part.len() { end } else { part.len() }
 }
 
-// Whether no record's n passes the run that the record stands in.
+// Whether no record's n passes the run that the record stands in. A record with nothing inside it needs no call.
 pub fn run_fits(part: &[u8]) -> bool
     ensures { λ r. ⌜ r ≡ runFits (now (part .entry)) ⌝ }
 {
-    if part.len() < 24 {
-        return true;
+    let mut i = 0;
+    while 24 <= part.len() - i {
+        let n = word_at(part, i + 12) as usize;
+        if n == 0 {
+            i += 24;
+        } else {
+            let size = 24 + 24 * n;
+            if part.len() - i < size {
+                return false;
+            }
+            if !run_fits(&part[i + 24..i + size]) {
+                return false;
+            }
+            i += size;
+        }
     }
-    let end = 24 + 24 * (word_at(part, 12) as usize);
-    if part.len() < end {
-        return false;
-    }
-    if !run_fits(&part[24..end]) {
-        return false;
-    }
-    run_fits(&part[end..])
+    true
 }
 
 // Whether the runs of a sentence's conditions fit.

@@ -1,17 +1,18 @@
 -- Laws of a part of the term records as an argument (specs/Part.antt): what its first record adds to what the rest says, and that neither records'
 -- numbers nor blocks' sentences matter.
-use Prim.Native.Nat.{ℕ, _+_, _-_, _≤_, _<_}
+use Prim.Native.Nat.{ℕ, zero, suc, _+_, _*_, _-_, _≤_, _<_}
 use mathlib.Core.Bool.{Bool, true, false, cond, _&&_}
 use mathlib.Core.List.{List, _∷_}
 use mathlib.Core.Option.{Option, none, some}
 use mathlib.Core.Path.{_≡_, refl, sym, ap, _∙_}
 use native.Mathlib.Omega.{arith}
-use lib.ListN.{length, take, drop, length-take, length-drop}
+use lib.ListN.{length, take, drop, length-take}
 use lib.Dec.{eqb}
+use borrow.Author.Tests.{eq-eqb, ne-eqb}
 use Rattle.names.specs.Name.{digitByte, everyByte}
 use Rattle.file.specs.Word.{wordAt}
 use Rattle.file.specs.Forest.{Forest, end, node, contents, rest}
-use Rattle.file.specs.Head.{termAt}
+use Rattle.file.specs.Head.{termFrom, termAt}
 use Rattle.file.specs.declared.Symbol.{Symbol}
 use Rattle.file.specs.declared.Symbol.the-variants.{Character, Identifier, Number}
 use Rattle.file.specs.declared.Term.{Term}
@@ -21,12 +22,12 @@ use Rattle.law.specs.Tree as tree
 use Rattle.law.specs.Expression.{valueOf}
 use Rattle.law.specs.Runs.{endOf, termForest}
 use Rattle.law.specs.Reading.{markAt, symbolOf, termRun, forestRun}
-use Rattle.law.proofs.RunLaws.{terms-none, terms-node}
+use Rattle.law.proofs.RunLaws.{end-low, end-high, terms-none, terms-node}
+use Rattle.matching.proofs.CutLaws.{from-length, from-from, from-all}
 use Rattle.lints.specs.Finding.{Failure, twoIntegersWanted, divisionByZero, digitsWanted}
 use Rattle.lints.specs.Builtin.{isMacrodigit, isSign, consFound, macrodigits, unsigned, allZero, secondFails, firstFails, integersFail, charactersOf, digitsFail, Domain, integers, digits, anything, failure}
 use Rattle.lints.specs.Open.{eOccurrences}
-use Rattle.lints.specs.Part.{argumentOf, addsOf, SignTaken, operandOf, decidedBy, allOf, both, zeroOf, digitOf}
-use Rattle.lints.specs.declared.open.Adds as adds
+use Rattle.lints.specs.Part.{argumentOf, SignTaken, operandOf, decidedBy, allOf, both, zeroOf, digitOf}
 use Rattle.lints.specs.declared.builtin.Operand.{Operand}
 use Rattle.lints.specs.declared.builtin.Operand.the-variants.{Sign, Macrodigit, Other}
 use Rattle.lints.specs.declared.builtin.All.{All}
@@ -41,11 +42,15 @@ insideTo part e = take (e - 24) (drop 24 part)
 
 -- ---- a term before what is after it
 
--- the e. occurrences that a term adds, by those inside it
-abbrev pub added : adds.Adds → ℕ → ℕ
-added adds.the-variants.Nothing n = 0
-added adds.the-variants.One n = 1
-added adds.the-variants.Inside n = n
+-- the e. occurrences of a term, by those inside it
+abbrev pub occurring : Term → ℕ → ℕ
+occurring (Symbolic x) inside = 0
+occurring (SVariable a b) inside = 0
+occurring (TVariable a b) inside = 0
+occurring (EVariable a b) inside = 1
+occurring Bracket inside = inside
+occurring (Call a b) inside = 0
+occurring (Block n) inside = 0
 
 -- the macrodigits of an operand before those of the rest
 abbrev pub digitsFirst : Operand → Option (List ℕ) → Option (List ℕ)
@@ -84,7 +89,7 @@ sign-ap g (Macrodigit n) after whole = refl
 sign-ap g Other after whole = refl
 
 module _ (text : List ℕ) (own : ℕ → ℕ → Sentences) (at : ℕ) (mark : Mark) (inside after : Run) where
-  e-term : (x : Term) → eOccurrences (termRun text own at mark x inside after) ≡ added (addsOf x) (eOccurrences inside) + eOccurrences after
+  e-term : (x : Term) → eOccurrences (termRun text own at mark x inside after) ≡ occurring x (eOccurrences inside) + eOccurrences after
   unfolding eOccurrences
   e-term (Symbolic x) = omega arith
   e-term (SVariable a b) = refl
@@ -261,7 +266,7 @@ integers-law text divides own at mark inside after x =
 
 module _ (text : List ℕ) (own : ℕ → ℕ → Sentences) (at : ℕ) (part : List ℕ) where
   pub e-same : eOccurrences (forestRun text own at (termForest part)) ≡ eOccurrences (argumentOf text part)
-  e-same = part-same text eOccurrences (λ x i a. added (addsOf x) i + a) (e-term text) own at part
+  e-same = part-same text eOccurrences (λ x i a. occurring x i + a) (e-term text) own at part
 
   pub integers-same : (divides : Bool) → integersFail divides (forestRun text own at (termForest part)) ≡ integersFail divides (argumentOf text part)
   unfolding integersIn
@@ -277,38 +282,121 @@ module _ (text : List ℕ) (own : ℕ → ℕ → Sentences) (at : ℕ) (part : 
   failure-same digits = ap digitsFail characters-same
   failure-same anything = refl
 
--- ---- the lengths of the parts that the code goes on with; the contents of the first record end at e
+-- ---- e. occurrences, counted record by record
 
-pub after-length : (part : List ℕ) (e : ℕ) → e ≤ length part → length (leftFrom part e) ≡ length part - e
-after-length part e h = simp (length-take, length-drop) (omega arith)
+-- those that a record of a kind is itself, and those inside it that count
+abbrev pub selfCounts : ℕ → ℕ
+selfCounts kind = cond (eqb kind 5) 1 0
 
-pub inside-length : (part : List ℕ) (e : ℕ) → 24 ≤ e → e ≤ length part → length (insideTo part e) ≡ e - 24
-inside-length part e h k = simp (length-take, length-drop) (omega arith)
+abbrev pub insideCounts : ℕ → ℕ → ℕ
+insideCounts kind inside = cond (eqb kind 6) inside 0
 
--- ---- e. occurrences
+kind-counts : (a b inside kind : ℕ) → occurring (termFrom kind a b) inside ≡ selfCounts kind + insideCounts kind inside
+unfolding termFrom
+kind-counts a b inside zero = refl
+kind-counts a b inside (suc zero) = refl
+kind-counts a b inside (suc (suc zero)) = refl
+kind-counts a b inside (suc (suc (suc zero))) = refl
+kind-counts a b inside (suc (suc (suc (suc zero)))) = refl
+kind-counts a b inside (suc (suc (suc (suc (suc zero))))) = refl
+kind-counts a b inside (suc (suc (suc (suc (suc (suc zero)))))) = omega arith
+kind-counts a b inside (suc (suc (suc (suc (suc (suc (suc zero))))))) = refl
+kind-counts a b inside (suc (suc (suc (suc (suc (suc (suc (suc kind)))))))) =
+    rw (
+      ne-eqb (suc (suc (suc (suc (suc (suc (suc (suc kind)))))))) 5 (λ e. omega (arith, e)),
+      ne-eqb (suc (suc (suc (suc (suc (suc (suc (suc kind)))))))) 6 (λ e. omega (arith, e)),
+    )
 
-pub e-none : (part : List ℕ) → length part < 24 → (text : List ℕ) → 0 ≡ eOccurrences (argumentOf text part)
+inside-none : (kind : ℕ) → insideCounts kind 0 ≡ 0
+inside-none kind = go (eqb kind 6)
+  where
+    go : (t : Bool) → _≡_ {A = ℕ} (cond t 0 0) 0
+    go true = refl
+    go false = refl
+
+-- what is found once a record of a kind is counted itself: an e. variable, and another
+pub record SelfCounted (kind found now : ℕ) : Type 0 where
+  pub sum : now ≡ found + selfCounts kind
+  pub few : now ≤ found + 1
+
+pub e-self : {kind found now : ℕ} → kind ≡ 5 → now ≡ found + 1 → SelfCounted kind found now
+e-self {kind} k n = record { sum = rw (eq-eqb kind 5 k) n; few = omega (arith, n) }
+
+pub e-not-self : {kind found now : ℕ} → (kind ≡ 5 → ⊥) → now ≡ found → SelfCounted kind found now
+e-not-self {kind} k n = record { sum = rw (ne-eqb kind 5 k) (omega (arith, n)); few = omega (arith, n) }
+
+e-none : (part : List ℕ) → length part < 24 → (text : List ℕ) → eOccurrences (argumentOf text part) ≡ 0
 unfolding eOccurrences
 e-none part h text = rw (part-empty text part h)
 
-module _ (part : List ℕ) {e : ℕ} {term : Term} {what : adds.Adds} (some : 24 ≤ length part)
-    (q : e ≡ endOf part) (t : term ≡ termAt part 0) (a : what ≡ addsOf term) where
-  e-node : (text : List ℕ)
-      → eOccurrences (argumentOf text part)
-      ≡ added what (eOccurrences (argumentOf text (insideTo part e))) + eOccurrences (argumentOf text (leftFrom part e))
-  e-node text = rw (a, t, q) (part-node text eOccurrences (λ x i a. added (addsOf x) i + a) (e-term text) part some)
+-- so many are found before the byte i of a part, and the others are in what is left
+pub record Counted (part : List ℕ) (i found : ℕ) : Type 0 where
+  pub within : i ≤ length part
+  pub few : 24 * found ≤ i
+  pub counted : (text : List ℕ) → found + eOccurrences (argumentOf text (leftFrom part i)) ≡ eOccurrences (argumentOf text part)
 
-  pub e-nothing : {n : ℕ} → what ≡ adds.the-variants.Nothing → ((text : List ℕ) → n ≡ eOccurrences (argumentOf text (leftFrom part e)))
-      → (text : List ℕ) → n ≡ eOccurrences (argumentOf text part)
-  e-nothing k h text = sym (e-node text ∙ rw k (omega (arith, h text)))
+pub e-start : (part : List ℕ) → Counted part 0 0
+e-start part = record { within = omega arith; few = omega arith; counted = λ text. rw (from-all part) (omega arith) }
 
-  pub e-one : {n : ℕ} → what ≡ adds.the-variants.One → ((text : List ℕ) → n ≡ eOccurrences (argumentOf text (leftFrom part e)))
-      → (text : List ℕ) → 1 + n ≡ eOccurrences (argumentOf text part)
-  e-one k h text = sym (e-node text ∙ rw k (omega (arith, h text)))
+module _ {part : List ℕ} {i found : ℕ} (so-far : Counted part i found) where
+  -- no record is left
+  pub e-end : length part < i + 24 → ((text : List ℕ) → found ≡ eOccurrences (argumentOf text part)) × (24 * found ≤ length part)
+  e-end h = (
+    λ text. omega (arith, so-far .counted text, e-none (leftFrom part i) (omega (arith, from-length i part)) text),
+    omega (arith, so-far .few, so-far .within),
+  )
 
-  pub e-inside : {m n : ℕ} → what ≡ adds.the-variants.Inside → ((text : List ℕ) → m ≡ eOccurrences (argumentOf text (insideTo part e)))
-      → ((text : List ℕ) → n ≡ eOccurrences (argumentOf text (leftFrom part e))) → (text : List ℕ) → m + n ≡ eOccurrences (argumentOf text part)
-  e-inside k h l text = sym (e-node text ∙ rw k (omega (arith, h text, l text)))
+  -- the first record that is left, and what is found once it is looked at itself
+  module _ {kind now : ℕ} (more : i + 24 ≤ length part) (word : kind ≡ wordAt (leftFrom part i) 0) (own : SelfCounted kind found now) where
+    left-some : 24 ≤ length (leftFrom part i)
+    left-some = omega (arith, from-length i part)
+
+    e-node : (text : List ℕ) {e : ℕ} → e ≡ endOf (leftFrom part i)
+        → eOccurrences (argumentOf text (leftFrom part i))
+        ≡ selfCounts kind + insideCounts kind (eOccurrences (argumentOf text (insideTo (leftFrom part i) e)))
+        + eOccurrences (argumentOf text (leftFrom part (i + e)))
+    unfolding termAt
+    e-node text {e} q =
+        let left : List ℕ = leftFrom part i in
+        rw (
+          word,
+          ← from-from e i part,
+          q,
+          ← kind-counts (wordAt left 4) (wordAt left 8) (eOccurrences (argumentOf text (contents 24 endOf left))) (wordAt left 0),
+        )
+        (part-node text eOccurrences (λ x i a. occurring x i + a) (e-term text) left left-some)
+
+    -- m that count are inside it; its contents end at e, inside what is left
+    e-next : (m : ℕ) {e later : ℕ} → e ≡ endOf (leftFrom part i)
+        → ((text : List ℕ) → m ≡ insideCounts kind (eOccurrences (argumentOf text (insideTo (leftFrom part i) e))))
+        → 24 + 24 * m ≤ e → later ≡ now + m → Counted part (i + e) later
+    e-next m q h low n = record {
+      within = omega (arith, so-far .within, from-length i part, end-high (leftFrom part i), q);
+      few = omega (arith, so-far .few, own .few, n);
+      counted = λ text. omega (arith, so-far .counted text, e-node text q, h text, own .sum, n);
+    }
+
+    -- nothing is inside
+    pub e-empty : {n : ℕ} → n ≡ wordAt (leftFrom part i) 12 → n ≡ 0 → Counted part (i + 24) now
+    unfolding endOf
+    e-empty w z =
+        let left : List ℕ = leftFrom part i in
+        e-next 0 (omega (arith, w, z, left-some))
+        (λ text. rw (e-none (insideTo left 24) (omega (arith, length-take (24 - 24) (drop 24 left))) text) (sym (inside-none kind)))
+        (omega arith)
+        (omega arith)
+
+    -- a bracket, and another term
+    pub e-bracket : {m e later : ℕ} → e ≡ endOf (leftFrom part i) → kind ≡ 6
+        → ((text : List ℕ) → m ≡ eOccurrences (argumentOf text (insideTo (leftFrom part i) e))) × (24 * m ≤ length (insideTo (leftFrom part i) e))
+        → later ≡ now + m → Counted part (i + e) later
+    e-bracket {m} {e} q k h n =
+        e-next m q (λ text. rw (eq-eqb kind 6 k) (h .0 text))
+        (omega (arith, h .1, q, end-low (leftFrom part i) left-some, length-take (e - 24) (drop 24 (leftFrom part i)))) n
+
+    pub e-other : {e later : ℕ} → e ≡ endOf (leftFrom part i) → (kind ≡ 6 → ⊥) → later ≡ now → Counted part (i + e) later
+    e-other q k n =
+        e-next 0 q (λ text. rw (ne-eqb kind 6 k)) (omega (arith, q, end-low (leftFrom part i) left-some)) (omega (arith, n))
 
 -- ---- tests of all symbols
 

@@ -17,7 +17,6 @@ use Rattle.law.specs.Runs.{termForest}
 use Rattle.law.specs.Reading.{forestRun}
 use Rattle.lints.specs.Finding.{Failure, twoIntegersWanted, divisionByZero, digitsWanted}
 use Rattle.lints.specs.Builtin.{isMacrodigit, macrodigits, isSign, unsigned, firstFails, Domain, integers, digits, anything}
-use Rattle.lints.specs.declared.open.Adds as adds
 use Rattle.lints.specs.declared.builtin.Fails as answers
 use Rattle.lints.specs.declared.builtin.Domain as domains
 use Rattle.lints.specs.declared.builtin.Operand as operands
@@ -27,18 +26,6 @@ use Rattle.lints.specs.declared.builtin.All as tests
 -- and blocks have no sentences.
 abbrev pub argumentOf : List ℕ → List ℕ → Run
 argumentOf text part = forestRun text (λ t n. noSentence) 0 (termForest part)
-
--- ---- lint 4
-
--- what a term adds to the number of e. occurrences
-abbrev pub addsOf : Term → adds.Adds
-addsOf (Symbolic x) = adds.the-variants.Nothing
-addsOf (SVariable a b) = adds.the-variants.Nothing
-addsOf (TVariable a b) = adds.the-variants.Nothing
-addsOf (EVariable a b) = adds.the-variants.One
-addsOf Bracket = adds.the-variants.Inside
-addsOf (Call a b) = adds.the-variants.Nothing
-addsOf (Block n) = adds.the-variants.Nothing
 
 -- ---- lint 3
 

@@ -29,18 +29,18 @@ module _ (settings : Settings) (bytes : List ℕ) (words : ℕ) where
   Says answer index = (store : List ℕ) → length store ≡ words → FrontIs 64 settings bytes store answer index
 
   -- 14
-  pub turned-settings : {answer : Front} (index : List ℕ) {allowed : Bool} → allowed ≡ settingsAllowed settings → allowed ≡ false → answer ≡ Refused turned.Settings → Says answer index
+  pub turned-settings : (index : List ℕ) {allowed : Bool} → allowed ≡ settingsAllowed settings → allowed ≡ false → Says (Refused turned.Settings) index
   unfolding front
-  turned-settings index e q is store l = rw is (rw (← e, q) refl)
+  turned-settings index e q store l = rw (← e, q) refl
 
-  module _ {allowed : Bool} (e : allowed ≡ settingsAllowed settings) (q : allowed ≡ true) {check : Check} (checked : List ℕ)
-      (verdict : checkAnswer check ≡ verdictOf bytes) (indexed : IndexAfter check bytes checked) where
+  module _ {allowed : Bool} (e : allowed ≡ settingsAllowed settings) (q : allowed ≡ true) {check : Check} (index : List ℕ)
+      (verdict : checkAnswer check ≡ verdictOf bytes) (indexed : IndexAfter check bytes index) where
     -- 1 to 9
-    pub turned-file : {answer : Front} (index : List ℕ) (why : Refusal) → check ≡ checks.Refused why → answer ≡ Refused (turned.File why) → Says answer index
+    pub turned-file : (why : Refusal) → check ≡ checks.Refused why → Says (Refused (turned.File why)) index
     unfolding front
-    turned-file index why r is store l =
+    turned-file why r store l =
         let law : lawOf bytes ≡ refused (numberOf why) = map-refused (λ _. tt) (lawOf bytes) (numberOf why) (rw r at verdict) in
-        rw is (rw (← e, q, law) refl)
+        rw (← e, q, law) refl
 
     accepted : check ≡ checks.Accepted → Accepted bytes × (lawOf bytes ≡ given (treeOf (fileOf bytes)))
     accepted r =
@@ -48,13 +48,13 @@ module _ (settings : Settings) (bytes : List ℕ) (words : ℕ) where
         (λ law is same. let (ok, tree) = law-accepted bytes law is in (ok, is ∙ ap given tree))
 
     -- 15
-    pub turned-store : {answer : Front} (index : List ℕ) → check ≡ checks.Accepted → words < 8320 → answer ≡ Refused turned.Store → Says answer index
+    pub turned-store : check ≡ checks.Accepted → words < 8320 → Says (Refused turned.Store) index
     unfolding front
-    turned-store index r short is store l = rw is (rw (← e, q, accepted r .1, l, lt-ltb words 8320 short) refl)
+    turned-store r short store l = rw (← e, q, accepted r .1, l, lt-ltb words 8320 short) refl
 
-    pub goes-on : {answer : Front} (index : List ℕ) → check ≡ checks.Accepted → 8320 ≤ words → answer ≡ Ready → index ≡ checked → Says answer index
+    pub goes-on : check ≡ checks.Accepted → 8320 ≤ words → Says Ready index
     unfolding front
-    goes-on index r enough is same store l = rw is (
+    goes-on r enough store l = (
       rw (← e, q, accepted r .1, l, le-ltb words 8320 enough) refl,
-      record { indexed = rw (← same, r) at indexed; accepted = accepted r .0; small = omega arith; room = omega (arith, l, enough) },
+      record { indexed = rw r at indexed; accepted = accepted r .0; small = omega arith; room = omega (arith, l, enough) },
     )

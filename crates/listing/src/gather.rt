@@ -62,7 +62,7 @@ pub fn gather(
     requires { ⌜ Prepares limit (now law) (now index) (now store) × SlotsOf (fileOf (now law)) (now slots) ⌝ }
     ensures { λ r. ⌜ GatherIs limit (settingsFrom mode (now (overrides .entry))) room (now (law .entry)) (now (store .entry)) (now (store .exit)) (now (out .entry)) (now (out .exit)) r ⌝ }
 {
-    match infer_store(law, index, store, limit) {
+    match infer_store(law, index, slots, store, limit) {
         Inference::TooWide => Gathered::TooWide,
         Inference::Ran(rounds, settled) => gather_findings(
             law,

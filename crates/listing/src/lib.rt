@@ -146,10 +146,8 @@ pub fn findings(
 ) -> Found
     ensures { λ r. ⌜ FindingsPromise 64 (settingsFrom mode (now (overrides .entry))) (now (law .entry)) (now (store .entry)) (now (words .entry)) (now (store .exit)) (now (words .exit)) r ⌝ }
 {
-    let checked = check_front(mode, overrides, law, store.len());
-    let front = checked.front;
-    let index = checked.index;
-    match front {
+    let mut index: [u16; 972] = [0; 972];
+    match check_front(mode, overrides, law, store.len(), &mut index) {
         Front::Refused(why) => Found::Refused(why),
         Front::Ready => findings_ready(law, &index, mode, overrides, store, words),
     }
@@ -239,10 +237,8 @@ pub fn text(
     ensures { λ r. ⌜ textAfter r (now (store .exit)) (now (text .exit))
         ≡ textOutcome 64 (settingsFrom mode (now (overrides .entry))) (now (law .entry)) (now (store .entry)) position (now (text .entry)) ⌝ }
 {
-    let checked = check_front(mode, overrides, law, store.len());
-    let front = checked.front;
-    let index = checked.index;
-    match front {
+    let mut index: [u16; 972] = [0; 972];
+    match check_front(mode, overrides, law, store.len(), &mut index) {
         Front::Refused(why) => Told::Refused(why),
         Front::Ready => text_ready(law, &index, mode, overrides, store, position, text),
     }

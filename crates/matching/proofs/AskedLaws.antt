@@ -16,14 +16,14 @@ use Rattle.law.specs.Variables.{Variable, occurs}
 use Rattle.law.proofs.RunLaws.{end-low, end-high}
 use Rattle.matching.specs.Pattern.{Atom, literal, variable, other, Pattern}
 use Rattle.matching.specs.Match.{Values, bound, valueIn}
-use Rattle.matching.specs.Part.{rowOf, from, Stands, atomOf, termRow}
+use Rattle.matching.specs.Part.{rowOf, from, Begin, at-start, one-on, Stands, atomOf, termRow}
 use Rattle.matching.specs.Bound.{variableIn, valuesOf, Kept, Bound}
 use Rattle.matching.specs.Step.{found, Free, Facing, firstVariable}
 use Rattle.matching.specs.Capacity.{variablesIn, Capacity}
 use Rattle.matching.specs.Asked.{firstIn, Asked}
 use Rattle.matching.specs.declared.Bindings.{Bindings}
 use Rattle.matching.proofs.PartLaws.{row-node}
-use Rattle.matching.proofs.CutLaws.{stands-part, stands-from, stands-term, stands-take}
+use Rattle.matching.proofs.CutLaws.{from-all, from-from, stands-part, stands-from, stands-term, stands-take, begin-inside}
 use Rattle.matching.proofs.VariableLaws.{occurs-first, occurs-later, occurs-left, occurs-right}
 use Rattle.matching.proofs.CapacityLaws.{capacity-fewer, capacity-left, capacity-bound, capacity-first, bindings-left}
 use Rattle.matching.proofs.BoundLaws.{bound-values, bound-kept}
@@ -84,10 +84,6 @@ module _ {text terms pattern : List ℕ} {at : ℕ} {row : List ℕ} {start : �
       kept = kept;
       capacity = rw same capacity;
     }
-
-  -- the rest of the pattern, from a position of the row on
-  pub asked-rest : (e n : ℕ) → e ≡ endOf pattern → n ≤ length row → Asked text terms (from e pattern) (at + e) (from n row) (start + n) coming b
-  asked-rest = rest-with b (asked .kept) (rest-capacity (asked .capacity))
 
   -- a variable without a value stands first
   module _ (free : Free (rowOf text pattern) (firstVariable text pattern) (valuesOf text terms b)) where
@@ -152,6 +148,29 @@ module _ {text terms pattern : List ℕ} {at : ℕ} {row : List ℕ} {start : �
         rest-with c kept
         (capacity-first false (rowOf text (contents 24 endOf pattern)) (rowOf text (contents 24 endOf row)) (valuesOf text terms b) (valuesOf text terms c)
         (variablesIn (rowOf text (rest 24 endOf pattern)) ++ coming) first inside-capacity)
+
+-- the variables of what follows a term of the pattern are variables of the pattern
+later-variables : (text pattern : List ℕ) {m : ℕ} (coming : List Variable) (v : Variable) → Begin pattern m
+    → occurs v (variablesIn (rowOf text (from m pattern)) ++ coming) ≡ true → occurs v (variablesIn (rowOf text pattern) ++ coming) ≡ true
+later-variables text pattern coming v at-start h = rw (from-all pattern) at h
+later-variables text pattern coming v (one-on {n} some-left b) h =
+    let part : List ℕ = from n pattern in
+    let here : occurs v (variablesIn (rowOf text (rest 24 endOf part)) ++ coming) ≡ true = rw (← from-from (endOf part) n pattern) at h in
+    let first : occurs v (variablesIn (rowOf text part) ++ coming) ≡ true =
+    rw (row-node text part some-left) (after-first text (termAt part 0) (rowOf text (contents 24 endOf part)) (rowOf text (rest 24 endOf part)) coming v here) in
+    later-variables text pattern coming v b first
+
+-- what follows a term of the pattern, from a position of the row on
+pub asked-later : {text terms pattern : List ℕ} {at : ℕ} {row : List ℕ} {start : ℕ} {coming : List Variable} {b : Bindings}
+    → Asked text terms pattern at row start coming b → (m n : ℕ) → Begin pattern m → n ≤ length row
+    → Asked text terms (from m pattern) (at + m) (from n row) (start + n) coming b
+asked-later {text} {terms} {pattern} {at} {row} {start} {coming} asked m n begins inside = record {
+  small = asked .small;
+  pattern-stands = stands-from terms pattern at m (asked .pattern-stands) (begin-inside begins);
+  row-stands = stands-from terms row start n (asked .row-stands) inside;
+  kept = asked .kept;
+  capacity = capacity-fewer (λ v. later-variables text pattern coming v begins) (asked .capacity);
+}
 
 -- nothing need come after
 pub asked-alone : {text terms pattern : List ℕ} {at : ℕ} {row : List ℕ} {start : ℕ} {coming : List Variable} {b : Bindings}

@@ -16,7 +16,7 @@ use Rattle.law.specs.Runs.{endOf}
 use Rattle.law.proofs.Parts.{drop-take, part-part, part-word}
 use Rattle.law.proofs.RunLaws.{end-low, end-high}
 use Rattle.matching.specs.Pattern.{Pattern}
-use Rattle.matching.specs.Part.{rowOf, from, Stands, termRow}
+use Rattle.matching.specs.Part.{rowOf, from, Begin, at-start, one-on, Stands, termRow}
 use Rattle.matching.proofs.PartLaws.{row-empty, row-node}
 
 -- ---- what is left from a position on
@@ -100,11 +100,7 @@ row-join text Bracket c y z = refl
 row-join text (Call a b) c y z = refl
 row-join text (Block n) c y z = refl
 
--- a term of the part begins at the position
-pub data Begin (part : List ℕ) : ℕ → Type 0 where
-  at-start : Begin part 0
-  one-on : {n : ℕ} → 24 ≤ length (from n part) → Begin part n → Begin part (n + endOf (from n part))
-
+-- where a term begins
 pub begin-inside : {part : List ℕ} {n : ℕ} → Begin part n → n ≤ length part
 begin-inside at-start = omega arith
 begin-inside {part} (one-on {n} some b) = omega (arith, end-high (from n part), from-length n part, begin-inside b)

@@ -15,11 +15,11 @@ use Rattle.law.specs.Runs.{endOf}
 use Rattle.law.specs.Variables.{Variable}
 use Rattle.matching.specs.Pattern.{Atom, Pattern}
 use Rattle.matching.specs.Match.{Values, bound, splits, each}
-use Rattle.matching.specs.Part.{rowOf, from, termRow}
+use Rattle.matching.specs.Part.{rowOf, from, Begin, at-start, one-on, termRow}
 use Rattle.matching.specs.Step.{found, firstVariable, eachLength}
 use Rattle.matching.proofs.PartLaws.{row-empty, row-node}
 use Rattle.matching.proofs.RowLaws.{row-assoc, row-nothing}
-use Rattle.matching.proofs.CutLaws.{Begin, at-start, one-on, from-all, from-from, alone, one-more}
+use Rattle.matching.proofs.CutLaws.{from-all, from-from, alone, one-more}
 
 module _ (back : Bool) (p : Pattern) (v : Variable) (vs : Values Atom) where
   -- the lengths from a position on: `before` is the row up to it, `left` the row from it on

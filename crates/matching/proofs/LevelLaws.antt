@@ -17,7 +17,7 @@ use Rattle.law.specs.Runs.{endOf}
 use Rattle.law.proofs.RunLaws.{end-low, end-high}
 use Rattle.matching.specs.Pattern.{Atom, Pattern}
 use Rattle.matching.specs.Match.{Values, each}
-use Rattle.matching.specs.Part.{rowOf, from, Stands, termRow}
+use Rattle.matching.specs.Part.{rowOf, from, Begin, at-start, one-on, Stands, termRow}
 use Rattle.matching.specs.Bound.{valuesOf, Kept, Bound}
 use Rattle.matching.specs.Step.{found, Free, Facing, firstVariable, eachLength, eachInside}
 use Rattle.matching.specs.Capacity.{variablesIn, Capacity}
@@ -25,10 +25,10 @@ use Rattle.matching.specs.Asked.{someHolds, Asked, nesting, resume, comi
 use Rattle.matching.specs.declared.Bindings.{Bindings}
 use Rattle.matching.specs.declared.literal.Pending.{Pending}
 use Rattle.matching.proofs.PartLaws.{row-empty, row-node}
-use Rattle.matching.proofs.CutLaws.{from-length, stands-from, Begin, begin-inside}
+use Rattle.matching.proofs.CutLaws.{from-length, from-all, from-from, stands-from, begin-inside}
 use Rattle.matching.proofs.LengthLaws.{leftAt, lengthAt, left-first, left-last, left-more, length-search}
 use Rattle.matching.proofs.CapacityLaws.{capacity-right}
-use Rattle.matching.proofs.AskedLaws.{asked-rest, asked-more, asked-inside, row-brackets, values-more}
+use Rattle.matching.proofs.AskedLaws.{asked-later, asked-more, asked-inside, row-brackets, values-more}
 use Rattle.matching.proofs.ShadowSteps.{end-both}
 
 -- ---- a test that holds of one of a list
@@ -72,6 +72,12 @@ rest-nesting text (Block n) c p = omega arith
 after-nesting : (text pattern : List ℕ) → 24 ≤ length pattern → nesting (rowOf text (rest 24 endOf pattern)) ≤ nesting (rowOf text pattern)
 after-nesting text pattern h =
     rw (row-node text pattern h) (rest-nesting text (termAt pattern 0) (rowOf text (contents 24 endOf pattern)) (rowOf text (rest 24 endOf pattern)))
+
+-- what follows a term of the pattern is no deeper
+later-nesting : (text pattern : List ℕ) {m : ℕ} → Begin pattern m → nesting (rowOf text (from m pattern)) ≤ nesting (rowOf text pattern)
+later-nesting text pattern at-start = rw (from-all pattern) (omega arith)
+later-nesting text pattern (one-on {n} some b) =
+    rw (← from-from (endOf (from n pattern)) n pattern) (omega (arith, after-nesting text (from n pattern) some, later-nesting text pattern b))
 
 -- ---- levels
 
@@ -127,29 +133,31 @@ module _ {text terms pattern : List ℕ} {at : ℕ} {row : List ℕ} {start : �
   pub out-capacity : length pattern < 24 → Capacity (comingIn (levelsOf text terms p (at + length pattern) (start + length row))) (valuesOf text terms b)
   out-capacity h = capacity-right (variablesIn (rowOf text pattern)) _ (asked .asked .capacity)
 
+  module _ {c : Bindings} (m n : ℕ) (within : m ≤ length pattern) (shallow : nesting (rowOf text (from m pattern)) ≤ nesting (rowOf text pattern)) (inside : n ≤ length row)
+      (ready : Asked text terms (from m pattern) (at + m) (from n row) (start + n) (comingIn (levelsOf text terms p (at + length pattern) (start + length row))) c) where
+    literal-with : LiteralAsked text terms (from m pattern) (at + m) (from n row) (start + n) p c
+    literal-with =
+        let ends : at + m + length (from m pattern) ≡ at + length pattern = same-end pattern at m within in
+        let row-ends : start + n + length (from n row) ≡ start + length row = same-end row start n inside in
+        record {
+          asked = rw (ends, row-ends) ready;
+          around = rw (ends, row-ends) (asked .around);
+          deep = omega (arith, asked .deep);
+        }
+
+  -- what follows a term of the pattern, from a position of the row on
+  pub literal-later : (m n : ℕ) → Begin pattern m → n ≤ length row → LiteralAsked text terms (from m pattern) (at + m) (from n row) (start + n) p b
+  literal-later m n begins inside =
+      literal-with m n (begin-inside begins) (later-nesting text pattern begins) inside (asked-later (asked .asked) m n begins inside)
+
   module _ (some : 24 ≤ length pattern) where
-    module _ {c : Bindings} (e n : ℕ) (same : e ≡ endOf pattern) (inside : n ≤ length row)
-        (ready : Asked text terms (from e pattern) (at + e) (from n row) (start + n) (comingIn (levelsOf text terms p (at + length pattern) (start + length row))) c) where
-      literal-with : LiteralAsked text terms (from e pattern) (at + e) (from n row) (start + n) p c
-      literal-with =
-          let ends : at + e + length (from e pattern) ≡ at + length pattern = same-end pattern at e (omega (arith, end-high pattern)) in
-          let row-ends : start + n + length (from n row) ≡ start + length row = same-end row start n inside in
-          let shallow : nesting (rowOf text (from e pattern)) ≤ nesting (rowOf text pattern) = rw same (after-nesting text pattern some) in
-          record {
-            asked = rw (ends, row-ends) ready;
-            around = rw (ends, row-ends) (asked .around);
-            deep = omega (arith, asked .deep);
-          }
-
-    -- the rest of the pattern, from a position of the row on
-    pub literal-rest : (e n : ℕ) → e ≡ endOf pattern → n ≤ length row → LiteralAsked text terms (from e pattern) (at + e) (from n row) (start + n) p b
-    literal-rest e n same inside = literal-with e n same inside (asked-rest (asked .asked) some e n same inside)
-
-    -- the same, after a variable got a value
+    -- the rest of the pattern, after a variable got a value
     pub literal-more : Free (rowOf text pattern) (firstVariable text pattern) (valuesOf text terms b) → {size : ℕ} → size ≤ length row
         → {c : Bindings} → Bound b at start size c → (e n : ℕ) → e ≡ endOf pattern → n ≤ length row
         → LiteralAsked text terms (from e pattern) (at + e) (from n row) (start + n) p c
-    literal-more free within {c} more e n same inside = literal-with {c = c} e n same inside (asked-more (asked .asked) some free within more e n same inside)
+    literal-more free within {c} more e n same inside =
+        literal-with {c = c} e n (omega (arith, end-high pattern)) (rw same (after-nesting text pattern some)) inside
+        (asked-more (asked .asked) some free within more e n same inside)
 
     -- brackets stand first
     module _ (facing : Facing (rowOf text pattern) row) (m n : ℕ) (p-end : m ≡ endOf pattern) (r-end : n ≡ endOf row) where
@@ -399,12 +407,12 @@ module _ {text terms pattern : List ℕ} {at : ℕ} {row : List ℕ} {start : �
   run-same x l e same = e ∙ ap answered (sym same)
 
   -- the rest answers
-  pub run-rest : (x : Bool) (e n : ℕ) (c : Bindings) → e ≡ endOf pattern → n ≤ length row
+  pub run-rest : (x : Bool) (e n : ℕ) (c : Bindings) → e ≤ length pattern → n ≤ length row
       → wanted ≡ found true (rowOf text (from e pattern)) (rowOf text (from n row)) (valuesOf text terms c)
       → x ≡ someHolds (resume (levelsOf text terms p (at + e + length (from e pattern)) (start + n + length (from n row))))
       (found true (rowOf text (from e pattern)) (rowOf text (from n row)) (valuesOf text terms c))
       → x ≡ answered wanted
-  run-rest x e n c same inside search answer =
-      let pattern-end : at + e + length (from e pattern) ≡ at + length pattern = omega (arith, from-length e pattern, end-high pattern) in
+  run-rest x e n c within inside search answer =
+      let pattern-end : at + e + length (from e pattern) ≡ at + length pattern = omega (arith, from-length e pattern) in
       let row-end : start + n + length (from n row) ≡ start + length row = omega (arith, from-length n row) in
       (rw (pattern-end, row-end) at answer) ∙ ap answered (sym search)

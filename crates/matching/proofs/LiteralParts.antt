@@ -1,25 +1,27 @@
 -- Literal parts of the term records (specs/Part.antt), record by record, and literal matching of them.
-use Prim.Native.Nat.{ℕ, _+_, _-_, _≤_, _<_}
+use Prim.Native.Nat.{ℕ, zero, suc, _+_, _-_, _≤_, _<_}
 use mathlib.Core.Bool.{Bool, true, false, _&&_}
 use mathlib.Core.List.{List, []}
-use mathlib.Core.Path.{_≡_, refl, _∙_}
+use mathlib.Core.Path.{_≡_, refl, sym, ap, _∙_}
+use native.Mathlib.Omega.{arith}
 use lib.ListN.{length, take, drop}
 use Rattle.file.specs.Word.{wordAt}
 use Rattle.file.specs.Forest.{Forest, end, node, contents, rest}
-use Rattle.file.specs.Head.{termAt}
+use Rattle.file.specs.Head.{termFrom, termAt}
 use Rattle.file.specs.declared.Term.{Term}
 use Rattle.file.specs.declared.Term.the-variants.{Symbolic, SVariable, TVariable, EVariable, Bracket, Call, Block}
 use Rattle.law.specs.Tree.{Mark, Run, Sentences, noSentence}
 use Rattle.law.specs.Expression.{Terms, symbol, brackets}
 use Rattle.law.specs.Runs.{endOf, termForest}
 use Rattle.law.specs.Reading.{markAt, termRun, forestRun}
-use Rattle.law.proofs.RunLaws.{terms-none, terms-node}
+use Rattle.law.proofs.RunLaws.{end-high, terms-none, terms-node}
 use Rattle.matching.specs.Pattern.{Symbol, Pattern}
 use Rattle.matching.specs.Match.{none-bound}
 use Rattle.matching.specs.Literal.{isLiteral, literalTerms, literalMatches}
-use Rattle.matching.specs.Part.{rowOf, literalPart, symbolsOf, symbolAt}
+use Rattle.matching.specs.Part.{rowOf, literalPart, symbolsOf, from, symbolAt}
 use Rattle.matching.specs.Step.{found}
 use Rattle.matching.specs.Asked.{someHolds, resume}
+use Rattle.matching.proofs.CutLaws.{from-all, from-length, from-from}
 use Rattle.matching.proofs.LiteralSearch.{literal-search}
 
 -- a term before the runs inside and after it: a symbol is literal, brackets are if their contents are
@@ -116,11 +118,91 @@ literal-node part h =
       part-literal [] own (0 + 1 + wordAt part 12) (rest 24 endOf part),
     )
 
--- by its term; e is where the contents end
-module _ (part : List ℕ) (h : 24 ≤ length part) where
-  pub literal-by : (x : Term) (e : ℕ) → x ≡ termAt part 0 → e ≡ endOf part
-      → literalPart part ≡ literalTerm x (literalPart (take (e - 24) (drop 24 part))) (literalPart (take (length part - e) (drop e part)))
-  literal-by x e p q = rw (p, q) (literal-node part h)
+-- a term by its kind
+symbol-literal : (kind a b : ℕ) (inside after : Bool) → kind ≤ 2 → literalTerm (termFrom kind a b) inside after ≡ after
+unfolding termFrom
+symbol-literal zero a b inside after h = refl
+symbol-literal (suc zero) a b inside after h = refl
+symbol-literal (suc (suc zero)) a b inside after h = refl
+symbol-literal (suc (suc (suc k))) a b inside after h = absurd (omega arith)
+
+other-literal : (kind a b : ℕ) (inside after : Bool) → 2 < kind → (kind ≡ 6 → ⊥) → literalTerm (termFrom kind a b) inside after ≡ false
+unfolding termFrom
+other-literal zero a b inside after h n = absurd (omega arith)
+other-literal (suc zero) a b inside after h n = absurd (omega arith)
+other-literal (suc (suc zero)) a b inside after h n = absurd (omega arith)
+other-literal (suc (suc (suc zero))) a b inside after h n = refl
+other-literal (suc (suc (suc (suc zero)))) a b inside after h n = refl
+other-literal (suc (suc (suc (suc (suc zero))))) a b inside after h n = refl
+other-literal (suc (suc (suc (suc (suc (suc zero)))))) a b inside after h n = absurd (n refl)
+other-literal (suc (suc (suc (suc (suc (suc (suc zero))))))) a b inside after h n = refl
+other-literal (suc (suc (suc (suc (suc (suc (suc (suc k)))))))) a b inside after h n = refl
+
+-- by its kind; e is where the contents end
+module _ (part : List ℕ) (some : 24 ≤ length part) {kind e : ℕ} (told : kind ≡ wordAt part 0) (ends : e ≡ endOf part) where
+  abbrev inside-literal : Bool
+  inside-literal = literalPart (take (e - 24) (drop 24 part))
+
+  abbrev rest-literal : Bool
+  rest-literal = literalPart (from e part)
+
+  by-kind : literalPart part ≡ literalTerm (termFrom kind (wordAt part 4) (wordAt part 8)) inside-literal rest-literal
+  unfolding termAt
+  by-kind = rw (told, ends) (literal-node part some)
+
+  -- a symbol
+  literal-symbol : kind ≤ 2 → literalPart part ≡ rest-literal
+  literal-symbol h = by-kind ∙ symbol-literal kind (wordAt part 4) (wordAt part 8) inside-literal rest-literal h
+
+  -- a bracket
+  literal-bracket : kind ≡ 6 → literalPart part ≡ (inside-literal && rest-literal)
+  unfolding termFrom
+  literal-bracket h = by-kind ∙ rw h
+
+  -- a variable, a call or a block
+  literal-other : 2 < kind → (kind ≡ 6 → ⊥) → literalPart part ≡ false
+  literal-other h n = by-kind ∙ other-literal kind (wordAt part 4) (wordAt part 8) inside-literal rest-literal h n
+
+-- ---- what `is_literal` has gone through: what is left is literal exactly when the part is
+
+pub record SoFar (part : List ℕ) (i : ℕ) : Type 0 where
+  pub within : i ≤ length part
+  pub left : literalPart part ≡ literalPart (from i part)
+
+pub literal-begun : (part : List ℕ) → SoFar part 0
+literal-begun part = record { within = omega arith; left = rw (from-all part) }
+
+module _ {part : List ℕ} {i : ℕ} (so-far : SoFar part i) where
+  -- nothing is left
+  pub literal-all : length (from i part) < 24 → true ≡ literalPart part
+  literal-all h = sym (so-far .left ∙ literal-none (from i part) h)
+
+  module _ (some : 24 ≤ length (from i part)) {kind e : ℕ} (told : kind ≡ wordAt (from i part) 0) (ends : e ≡ endOf (from i part)) where
+    go-on : literalPart (from i part) ≡ literalPart (from e (from i part)) → SoFar part (i + e)
+    go-on same = record {
+      within = omega (arith, from-length i part, so-far .within, end-high (from i part));
+      left = so-far .left ∙ same ∙ ap literalPart (from-from e i part);
+    }
+
+    -- a symbol
+    pub after-symbol : kind ≤ 2 → SoFar part (i + e)
+    after-symbol h = go-on (literal-symbol (from i part) some told ends h)
+
+    -- a variable, a call or a block
+    pub literal-no : 2 < kind → (kind ≡ 6 → ⊥) → false ≡ literalPart part
+    literal-no h n = sym (so-far .left ∙ literal-other (from i part) some told ends h n)
+
+    module _ (bracket : kind ≡ 6) {t : Bool} (inside : t ≡ literalPart (take (e - 24) (drop 24 (from i part)))) where
+      by-inside : literalPart (from i part) ≡ (t && literalPart (from e (from i part)))
+      by-inside = rw inside (literal-bracket (from i part) some told ends bracket)
+
+      -- a bracket whose contents are not literal
+      pub inside-no : t ≡ false → false ≡ literalPart part
+      inside-no h = sym (so-far .left ∙ by-inside ∙ rw h)
+
+      -- one whose contents are
+      pub after-bracket : t ≡ true → SoFar part (i + e)
+      after-bracket h = go-on (by-inside ∙ rw h)
 
 -- ---- matching
 

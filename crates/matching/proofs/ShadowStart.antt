@@ -43,3 +43,8 @@ module _ (text terms : List ℕ) (b : Bindings) (unbound : valuesOf text terms b
   unfolding shadowsWith ownValues
   shadow-answer pattern row m e =
       first-some-in (m .ok) (valuesOf text terms (m .bindings)) (found false (rowOf text pattern) (rowOf text row) none-bound) (rw unbound at e)
+
+-- where the first record shows that there is no match
+pub shadow-apart : (text pattern row : List ℕ) → found false (rowOf text pattern) (rowOf text row) none-bound ≡ [] → false ≡ shadows (rowOf text pattern) (rowOf text row)
+unfolding shadowsWith ownValues
+shadow-apart text pattern row e = sym (ap some-in e)

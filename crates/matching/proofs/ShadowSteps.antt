@@ -7,8 +7,8 @@ use mathlib.Core.Path.{_≡_, refl, sym, ap, _∙_}
 use native.Mathlib.Omega.{arith}
 use native.Mathlib.Decide.{decLt}
 use lib.ListN.{length, take, drop}
-use lib.Dec.{ltb}
-use borrow.Author.Tests.{lt-ltb, le-ltb}
+use lib.Dec.{ltb, leb}
+use borrow.Author.Tests.{lt-ltb, le-ltb, lt-leb}
 use Rattle.file.specs.Forest.{contents, rest}
 use Rattle.file.specs.Head.{termAt}
 use Rattle.file.specs.declared.Term.{Term}
@@ -17,7 +17,7 @@ use Rattle.law.specs.Expression.{nothing, symbol, brackets}
 use Rattle.law.specs.Runs.{endOf}
 use Rattle.matching.specs.Pattern.{Atom, Pattern}
 use Rattle.matching.specs.Match.{Values, bound, each, all-or-first, matches}
-use Rattle.matching.specs.Part.{rowOf, from, termRow}
+use Rattle.matching.specs.Part.{rowOf, from, Begin, termRow}
 use Rattle.matching.specs.Bound.{valuesOf, Bound}
 use Rattle.matching.specs.Step.{found, leaves, eachLength, eachInside, Leaves, Free, Facing, firstVariable}
 use Rattle.matching.specs.Asked.{firstIn, Asked, matchedValues}
@@ -25,8 +25,9 @@ use Rattle.matching.specs.declared.Bindings.{Bindings}
 use Rattle.matching.specs.declared.shadow.Matched.{Matched}
 use Rattle.matching.specs.declared.First.{First}
 use Rattle.matching.specs.declared.First.the-variants.{Fails, Goes, Binds, Tries, Inside}
+use Rattle.matching.proofs.SameLaws.{false-not-true}
 use Rattle.matching.proofs.PartLaws.{row-empty, row-node}
-use Rattle.matching.proofs.CutLaws.{Begin, begin-inside}
+use Rattle.matching.proofs.CutLaws.{from-length, begin-inside}
 use Rattle.matching.proofs.LengthLaws.{leftAt, lengthAt, left-first, left-last, left-more, length-search}
 use Rattle.matching.proofs.AskedLaws.{values-more}
 
@@ -48,9 +49,9 @@ module _ {text pattern row : List ℕ} {vs : Values Atom} {r : First} (l : Leave
   pub step-fails : r ≡ Fails → found back (rowOf text pattern) (rowOf text row) vs ≡ []
   step-fails e = l .search back ∙ ap (leaves text back pattern row vs) e
 
-  pub step-goes : (n e : ℕ) → r ≡ Goes n → e ≡ endOf pattern
-      → found back (rowOf text pattern) (rowOf text row) vs ≡ found back (rowOf text (from e pattern)) (rowOf text (from n row)) vs
-  step-goes n e k same = rw same (l .search back ∙ ap (leaves text back pattern row vs) k)
+  pub step-goes : (m n : ℕ) → r ≡ Goes m n
+      → found back (rowOf text pattern) (rowOf text row) vs ≡ found back (rowOf text (from m pattern)) (rowOf text (from n row)) vs
+  step-goes m n e = l .search back ∙ ap (leaves text back pattern row vs) e
 
   pub step-binds : (n e : ℕ) (us : Values Atom) → r ≡ Binds n → e ≡ endOf pattern → us ≡ bound (firstVariable text pattern) (rowOf text (take n row)) vs
       → found back (rowOf text pattern) (rowOf text row) vs ≡ found back (rowOf text (from e pattern)) (rowOf text (from n row)) us
@@ -63,8 +64,15 @@ module _ {text pattern row : List ℕ} {vs : Values Atom} {r : First} (l : Leave
   step-inside e = l .search back ∙ ap (leaves text back pattern row vs) e
 
   -- what is known besides
-  pub goes-within : (n : ℕ) → r ≡ Goes n → n ≤ length row
-  goes-within n e = rw e at (l .within)
+  pub goes-within : (m n : ℕ) → r ≡ Goes m n → Begin pattern m × (1 ≤ m) × (n ≤ length row)
+  goes-within m n e = rw e at (l .within)
+
+  -- what is left of the pattern is shorter
+  pub goes-falls : (m n : ℕ) → r ≡ Goes m n → (m ≤ length pattern) × (length (from m pattern) < length pattern)
+  goes-falls m n e =
+      let (begins, positive, inside) = goes-within m n e in
+      let within : m ≤ length pattern = begin-inside begins in
+      (within, omega (arith, from-length m pattern))
 
   pub binds-within : (n : ℕ) → r ≡ Binds n → (n ≤ length row) × Free (rowOf text pattern) (firstVariable text pattern) vs
   binds-within n e = rw e at (l .within)
@@ -94,6 +102,14 @@ module _ (text pattern row : List ℕ) (back : Bool) (vs : Values Atom) (short :
 
   pub end-one : 24 ≤ length row → found back (rowOf text pattern) (rowOf text row) vs ≡ []
   end-one h = rw (row-empty text pattern short, row-node text row h) (nothing-row text back vs (termAt row 0) _ _)
+
+  -- as `apart` tells it
+  pub end-apart : leb 24 (length row) ≡ true → found back (rowOf text pattern) (rowOf text row) vs ≡ []
+  end-apart e = go (decLt (length row) 24)
+    where
+      go : Dec (length row < 24) → found back (rowOf text pattern) (rowOf text row) vs ≡ []
+      go (yes h) = absurd (false-not-true (sym (lt-leb 24 (length row) h) ∙ e))
+      go (no h) = end-one (omega arith)
 
 -- ---- the returns of `shadow_run`
 

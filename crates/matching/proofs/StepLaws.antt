@@ -1,17 +1,19 @@
 -- What the first record of a pattern leaves of the search (`Leaves`, specs/Step.antt), for each kind of record and each return of the code.
-use Prim.Native.Nat.{ℕ, _+_, _*_, _-_, _≤_, _<_, min}
+use Prim.Native.Nat.{ℕ, zero, suc, _+_, _*_, _-_, _≤_, _<_, min}
 use mathlib.Core.Bool.{Bool, true, false}
 use mathlib.Core.List.{List, [], _∷_, append-nil}
 use mathlib.Core.Option.{Option, none, some}
 use mathlib.Core.Path.{_≡_, refl, sym, ap, ap₂, _∙_}
 use native.Mathlib.Omega.{arith}
+use native.Mathlib.Decide.{decLt}
 use lib.ListN.{length, take, drop, length-take}
 use lib.Seq.{length-take-le, take-take}
 use Rattle.file.specs.Word.{wordAt}
 use Rattle.file.specs.Forest.{contents, rest}
-use Rattle.file.specs.Head.{termAt}
+use Rattle.file.specs.Head.{termFrom, termAt}
 use Rattle.file.proofs.Words.{word-part}
 use Rattle.file.specs.declared.Symbol.{Symbol}
+use Rattle.file.specs.declared.Symbol.the-variants.{Character, Identifier, Number}
 use Rattle.file.specs.declared.Term.{Term}
 use Rattle.file.specs.declared.Term.the-variants.{Symbolic, SVariable, TVariable, EVariable, Bracket, Call, Block}
 use Rattle.law.specs.Tree.{Kind, symbolKind, termKind, expressionKind}
@@ -22,16 +24,17 @@ use Rattle.law.proofs.RunLaws.{end-low, end-high}
 use Rattle.law.proofs.Parts.{drop-take}
 use Rattle.matching.specs.Pattern as pattern
 use Rattle.matching.specs.Pattern.{Atom, literal, variable, other, Pattern}
-use Rattle.matching.specs.Match.{Values, bound, when, each, valueIn, after, choices, matches}
+use Rattle.matching.specs.Match.{Values, none-bound, bound, when, each, valueIn, after, choices, matches}
 use Rattle.matching.specs.Shadow.{sameAtom, symbolLike, singleTerm}
 use Rattle.matching.specs.Bound.{variableIn, rowAt}
-use Rattle.matching.specs.Part.{rowOf, from, symbolAt, atomOf, termRow, isBracket}
+use Rattle.matching.specs.Part.{rowOf, from, Begin, at-start, one-on, symbolAt, atomOf, termRow, isBracket}
 use Rattle.matching.specs.Step.{found, Free, beginsWith, BeginsIn, firstVariable, openTerm, symbolTerm, singleOne, mayStand, Leaves}
 use Rattle.matching.specs.declared.Beginning.{Beginning}
 use Rattle.matching.specs.declared.Beginning.the-variants.{After, Differs}
 use Rattle.matching.specs.declared.First.the-variants.{Fails, Goes, Binds, Tries, Inside}
 use Rattle.matching.proofs.SameLaws.{false-not-true}
 use Rattle.matching.proofs.PartLaws.{row-empty, row-node}
+use Rattle.matching.proofs.CutLaws.{from-all, from-length, from-from, begin-inside}
 
 -- ---- the first term of a part
 
@@ -71,6 +74,13 @@ module _ (part : List ℕ) (some : 24 ≤ length part) where
       row-node text (take (endOf part) part) (omega (arith, first-length, end-low part some))
       ∙ rw (first-term, first-contents, row-empty text (rest 24 endOf (take (endOf part) part)) first-rest)
 
+-- the second term begins where the first ends
+second-term : (part : List ℕ) → 24 ≤ length part → Begin part (endOf part)
+second-term part some-left =
+    let later : Begin part (0 + endOf (from 0 part)) = one-on {n = 0} (rw (from-all part) some-left) at-start in
+    let end : 0 + endOf part ≡ endOf part = omega arith in
+    rw (from-all part, end) at later
+
 -- ---- symbols
 
 module _ (text : List ℕ) (back : Bool) where
@@ -108,25 +118,106 @@ is-bracket Bracket e = refl
 is-bracket (Call a b) e = absurd (false-not-true e)
 is-bracket (Block n) e = absurd (false-not-true e)
 
-module _ (text pattern row : List ℕ) (some : 24 ≤ length pattern) (x : Symbol) (vs : Values Atom) (first : termAt pattern 0 ≡ Symbolic x) where
+module _ (text pattern row : List ℕ) (some : 24 ≤ length pattern) (x : Symbol) (first : termAt pattern 0 ≡ Symbolic x) (back : Bool) (vs : Values Atom) where
   -- nothing is left of the row
-  pub symbol-short : length row < 24 → Leaves text pattern row vs Fails
+  symbol-short : length row < 24 → found back (rowOf text pattern) (rowOf text row) vs ≡ []
   unfolding matches
-  symbol-short h = record { within = tt; search = λ back. rw (row-node text pattern some, first, row-empty text row h) }
+  symbol-short h = rw (row-node text pattern some, first, row-empty text row h)
 
-  module _ (more : 24 ≤ length row) {t : Bool} (told : t ≡ sameAtom (atomOf text (termAt pattern 0)) (atomOf text (termAt row 0))) where
-    symbol-told : (back : Bool) → found back (rowOf text pattern) (rowOf text row) vs
-        ≡ when t (found back (rowOf text (rest 24 endOf pattern)) (rowOf text (rest 24 endOf row)) vs)
-    symbol-told back =
-        rw (told, row-node text pattern some, first, row-node text row more) (found-symbol text back x _ (termAt row 0) _ _ vs)
+  -- the symbol, if the row begins with it
+  symbol-told : 24 ≤ length row → {t : Bool} → t ≡ sameAtom (atomOf text (termAt pattern 0)) (atomOf text (termAt row 0))
+      → found back (rowOf text pattern) (rowOf text row) vs
+      ≡ when t (found back (rowOf text (rest 24 endOf pattern)) (rowOf text (rest 24 endOf row)) vs)
+  symbol-told more told =
+      rw (told, row-node text pattern some, first, row-node text row more) (found-symbol text back x _ (termAt row 0) _ _ vs)
 
-    -- another term
-    pub symbol-differs : t ≡ false → Leaves text pattern row vs Fails
-    symbol-differs e = record { within = tt; search = λ back. symbol-told back ∙ rw e }
+-- a record of a symbol, by its kind
+symbol-from : (kind a b : ℕ) → kind ≤ 2 → (x : Symbol) × (termFrom kind a b ≡ Symbolic x)
+unfolding termFrom
+symbol-from zero a b h = (Character a, refl)
+symbol-from (suc zero) a b h = (Identifier a b, refl)
+symbol-from (suc (suc zero)) a b h = (Number a b, refl)
+symbol-from (suc (suc (suc k))) a b h = absurd (omega arith)
 
-    -- the symbol
-    pub symbol-same : {n : ℕ} → t ≡ true → n ≡ endOf row → n ≤ length row → Leaves text pattern row vs (Goes n)
-    symbol-same e q h = record { within = h; search = λ back. symbol-told back ∙ rw (e, q) }
+kind-from : (kind a b : ℕ) (x : Symbol) → termFrom kind a b ≡ Symbolic x → kind ≤ 2
+unfolding termFrom
+kind-from zero a b x e = omega arith
+kind-from (suc zero) a b x e = omega arith
+kind-from (suc (suc zero)) a b x e = omega arith
+kind-from (suc (suc (suc zero))) a b x e = let z : _≡_ {A = ℕ} 0 1 = cc in omega arith
+kind-from (suc (suc (suc (suc zero)))) a b x e = let z : _≡_ {A = ℕ} 0 1 = cc in omega arith
+kind-from (suc (suc (suc (suc (suc zero))))) a b x e = let z : _≡_ {A = ℕ} 0 1 = cc in omega arith
+kind-from (suc (suc (suc (suc (suc (suc zero)))))) a b x e = let z : _≡_ {A = ℕ} 0 1 = cc in omega arith
+kind-from (suc (suc (suc (suc (suc (suc (suc zero))))))) a b x e = let z : _≡_ {A = ℕ} 0 1 = cc in omega arith
+kind-from (suc (suc (suc (suc (suc (suc (suc (suc k)))))))) a b x e = let z : _≡_ {A = ℕ} 0 1 = cc in omega arith
+
+module _ (part : List ℕ) {kind : ℕ} (told : kind ≡ wordAt part 0) where
+  symbol-kind : kind ≤ 2 → (x : Symbol) × (termAt part 0 ≡ Symbolic x)
+  unfolding termAt
+  symbol-kind h = rw (← told) (symbol-from kind (wordAt part 4) (wordAt part 8) h)
+
+  kind-symbol : {x : Symbol} → termAt part 0 ≡ Symbolic x → kind ≤ 2
+  unfolding termAt
+  kind-symbol {x} e = kind-from kind (wordAt part 4) (wordAt part 8) x (rw told e)
+
+-- what `symbols_first` has gone through: the same symbols, up to i in the pattern and j in the row
+pub record Gone (text pattern row : List ℕ) (i j : ℕ) : Type 0 where
+  pub begins : Begin pattern i
+  pub row-within : j ≤ length row
+  pub left : (back : Bool) (vs : Values Atom)
+      → found back (rowOf text pattern) (rowOf text row) vs ≡ found back (rowOf text (from i pattern)) (rowOf text (from j row)) vs
+
+pub gone : (text pattern row : List ℕ) → Gone text pattern row 0 0
+gone text pattern row = record { begins = at-start; row-within = omega arith; left = λ back vs. rw (from-all pattern, from-all row) }
+
+module _ {text pattern row : List ℕ} {i j : ℕ} (so-far : Gone text pattern row i j) where
+  -- the position in the pattern is within it
+  pub gone-within : i ≤ length pattern
+  gone-within = begin-inside (so-far .begins)
+
+  -- there are no more symbols, at the pattern's end or before another term
+  goes : 1 ≤ i → (vs : Values Atom) → Leaves text pattern row vs (Goes i j)
+  goes h vs = record { within = (so-far .begins, h, so-far .row-within); search = λ back. so-far .left back vs }
+
+  pub symbols-end : 24 ≤ length pattern → length (from i pattern) < 24 → (vs : Values Atom) → Leaves text pattern row vs (Goes i j)
+  symbols-end some-left h = goes (omega (arith, from-length i pattern))
+
+  pub symbols-other : {kind : ℕ} {x : Symbol} → kind ≡ wordAt (from i pattern) 0 → 2 < kind → termAt pattern 0 ≡ Symbolic x
+      → (vs : Values Atom) → Leaves text pattern row vs (Goes i j)
+  symbols-other {kind} {x} told h first = go (decLt 0 i)
+    where
+      go : Dec (0 < i) → (vs : Values Atom) → Leaves text pattern row vs (Goes i j)
+      go (yes p) = goes (omega arith)
+      go (no p) =
+          let start : i ≡ 0 = omega arith in
+          let whole : from i pattern ≡ pattern = ap (λ k. from k pattern) start ∙ from-all pattern in
+          absurd (omega (arith, kind-symbol pattern (told ∙ ap (λ s. wordAt s 0) whole) first))
+
+  module _ (some : 24 ≤ length (from i pattern)) {kind : ℕ} (told : kind ≡ wordAt (from i pattern) 0) (is-symbol : kind ≤ 2) where
+    -- nothing is left of the row
+    pub symbols-short : length (from j row) < 24 → (vs : Values Atom) → Leaves text pattern row vs Fails
+    symbols-short h vs =
+        let (x, first) = symbol-kind (from i pattern) told is-symbol in
+        record { within = tt; search = λ back. so-far .left back vs ∙ symbol-short text (from i pattern) (from j row) some x first back vs h }
+
+    module _ (more : 24 ≤ length (from j row)) {t : Bool} (same : t ≡ sameAtom (atomOf text (termAt (from i pattern) 0)) (atomOf text (termAt (from j row) 0))) where
+      next-symbol : (back : Bool) (vs : Values Atom) → found back (rowOf text pattern) (rowOf text row) vs
+          ≡ when t (found back (rowOf text (rest 24 endOf (from i pattern))) (rowOf text (rest 24 endOf (from j row))) vs)
+      next-symbol back vs =
+          let (x, first) = symbol-kind (from i pattern) told is-symbol in
+          so-far .left back vs ∙ symbol-told text (from i pattern) (from j row) some x first back vs more same
+
+      -- another term
+      pub symbols-differ : t ≡ false → (vs : Values Atom) → Leaves text pattern row vs Fails
+      symbols-differ e vs = record { within = tt; search = λ back. next-symbol back vs ∙ rw e }
+
+      -- the same symbol
+      pub symbols-next : {m n : ℕ} → t ≡ true → m ≡ endOf (from i pattern) → n ≡ endOf (from j row) → Gone text pattern row (i + m) (j + n)
+      symbols-next {m} {n} e p q = record {
+        begins = rw p (one-on some (so-far .begins));
+        row-within = omega (arith, from-length j row, so-far .row-within, end-high (from j row));
+        left = λ back vs. next-symbol back vs ∙ rw (e, ← p, ← q, from-from m i pattern, from-from n j row);
+      }
 
 -- ---- brackets
 
@@ -236,6 +327,11 @@ module _ (text : List ℕ) {v : Variable} where
     stands-none (Call a b) e o = absurd (other-no e)
     stands-none (Block n) e o = absurd (other-no e)
 
+-- at first no variable has a value
+pub none-valued : (v : Variable) → valueIn {A = Atom} none-bound v ≡ none
+unfolding valueIn
+none-valued v = refl
+
 -- what the code asks of terms that it read
 pub open-told : {x t : Term} {r : Bool} → x ≡ t → r ≡ openTerm x → r ≡ openTerm t
 open-told e h = h ∙ ap openTerm e
@@ -261,13 +357,14 @@ module _ (text pattern row : List ℕ) (v : Variable) (vs : Values Atom) (some-l
         record { within = tt; search = λ back. rw (begins-variable, ← value, ← known) }
 
     -- it does
-    pub value-begins : {n : ℕ} → r ≡ After n → Leaves text pattern row vs (Goes n)
+    pub value-begins : {m n : ℕ} → r ≡ After n → m ≡ endOf pattern → Leaves text pattern row vs (Goes m n)
     unfolding matches choices
-    value-begins {n} e =
+    value-begins {m} {n} e end =
         let known : (n ≤ length row) × ((rowOf text (from n row) ∷ []) ≡ after sameAtom y (rowOf text row)) = rw e at begins in
         record {
-          within = known .0;
-          search = λ back. rw (begins-variable, ← value, ← known .1) (append-nil (found back (rowOf text (rest 24 endOf pattern)) (rowOf text (from n row)) vs));
+          within = (rw end (second-term pattern some-left), omega (arith, end-low pattern some-left), known .0);
+          search = λ back.
+              rw (begins-variable, ← value, ← known .1, end) (append-nil (found back (rowOf text (rest 24 endOf pattern)) (rowOf text (from n row)) vs));
         }
 
   -- ---- a variable without a value

@@ -36,6 +36,11 @@ symbolsOf text part = literalTerms (reading.forestRun text (λ t n. noSentence) 
 abbrev pub from : ℕ → List ℕ → List ℕ
 from n part = take (length part - n) (drop n part)
 
+-- a term of a part begins at the position, or the part ends there
+pub data Begin (part : List ℕ) : ℕ → Type 0 where
+  at-start : Begin part 0
+  one-on : {n : ℕ} → 24 ≤ length (from n part) → Begin part n → Begin part (n + endOf (from n part))
+
 -- a part stands among the term records, from a position on
 pub record Stands (terms part : List ℕ) (at : ℕ) : Type 0 where
   pub inside : at + length part ≤ length terms

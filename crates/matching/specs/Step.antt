@@ -15,7 +15,7 @@ use Rattle.law.specs.Variables.{Variable}
 use Rattle.matching.specs.Pattern.{Atom, literal, variable, Pattern}
 use Rattle.matching.specs.Match.{Values, bound, valueIn, splits, each, all-or-first, matches}
 use Rattle.matching.specs.Shadow.{sameAtom, symbolLike, singleTerm}
-use Rattle.matching.specs.Part.{rowOf, from, atomOf}
+use Rattle.matching.specs.Part.{rowOf, from, Begin, atomOf}
 use Rattle.matching.specs.Bound.{variableIn}
 use Rattle.matching.specs.declared.Beginning.{Beginning}
 use Rattle.matching.specs.declared.Beginning.the-variants.{After, Differs}
@@ -60,7 +60,7 @@ module _ (text : List ℕ) (back : Bool) (pattern row : List ℕ) (vs : Values A
 
   abbrev pub leaves : First → List (Values Atom)
   leaves Fails = []
-  leaves (Goes n) = found back (rowOf text (rest 24 endOf pattern)) (rowOf text (from n row)) vs
+  leaves (Goes m n) = found back (rowOf text (from m pattern)) (rowOf text (from n row)) vs
   leaves (Binds n) = found back (rowOf text (rest 24 endOf pattern)) (rowOf text (from n row)) (bound (firstVariable text pattern) (rowOf text (take n row)) vs)
   leaves Tries = eachLength
   leaves Inside = eachInside
@@ -72,13 +72,13 @@ pub record Facing (p : Pattern) (row : List ℕ) : Type 0 where
   pub begins : p ≡ brackets inside others
   pub some : 24 ≤ length row
 
--- what is known besides: positions are within the row, and a variable that gets a value had none
-abbrev pub FirstIn : Pattern → Variable → List ℕ → Values Atom → First → Type 0
-FirstIn p v row vs Fails = Unit {0}
-FirstIn p v row vs (Goes n) = n ≤ length row
-FirstIn p v row vs (Binds n) = (n ≤ length row) × Free p v vs
-FirstIn p v row vs Tries = Free p v vs
-FirstIn p v row vs Inside = Facing p row
+-- what is known besides: positions are within the parts, one of the pattern is further on and a term begins there, and a variable that gets a value had none
+abbrev pub FirstIn : List ℕ → List ℕ → List ℕ → Values Atom → First → Type 0
+FirstIn text pattern row vs Fails = Unit {0}
+FirstIn text pattern row vs (Goes m n) = Begin pattern m × (1 ≤ m) × (n ≤ length row)
+FirstIn text pattern row vs (Binds n) = (n ≤ length row) × Free (rowOf text pattern) (firstVariable text pattern) vs
+FirstIn text pattern row vs Tries = Free (rowOf text pattern) (firstVariable text pattern) vs
+FirstIn text pattern row vs Inside = Facing (rowOf text pattern) row
 
 -- kinds of terms, by their records: an e. variable; what an s. variable may stand for; what a t. variable may
 abbrev pub openTerm : Term → Bool
@@ -119,5 +119,5 @@ mayStand (Block n) t = false
 
 -- the first record of a pattern leaves this to do with a row
 pub record Leaves (text pattern row : List ℕ) (vs : Values Atom) (r : First) : Type 0 where
-  pub within : FirstIn (rowOf text pattern) (firstVariable text pattern) row vs r
+  pub within : FirstIn text pattern row vs r
   pub search : (back : Bool) → found back (rowOf text pattern) (rowOf text row) vs ≡ leaves text back pattern row vs r

@@ -7,7 +7,8 @@ use names::indices_equal;
 use names::names_equal;
 use names::numbers_equal;
 ghost use mathlib.Core.Path.{_≡_};
-ghost use mathlib.Core.List.{List};
+ghost use mathlib.Core.Bool.{Bool, true};
+ghost use mathlib.Core.List.{List, []};
 ghost use mathlib.Core.Option.{none};
 ghost use Prim.Native.Nat.{ℕ, _+_, _≤_, _<_, min};
 ghost use lib.ListN.{length, take, drop};
@@ -20,7 +21,7 @@ ghost use Rattle.matching.specs.Match.{Values, none-bound, valueIn, afte
 ghost use Rattle.matching.specs.Shadow.{sameAtom};
 ghost use Rattle.matching.specs.Part.{rowOf, isBracket, atomOf, sameFirst};
 ghost use Rattle.matching.specs.Bound.{valuesOf, placed, Kept, Bound, PlaceIn};
-ghost use Rattle.matching.specs.Step.{beginsWith, BeginsIn, openTerm, symbolTerm, singleOne, mayStand, Leaves};
+ghost use Rattle.matching.specs.Step.{found, beginsWith, BeginsIn, openTerm, symbolTerm, singleOne, mayStand, Leaves};
 
 pub mod literal;
 pub mod sentences;
@@ -46,11 +47,11 @@ pub enum Beginning {
     Differs,
 }
 
-// What the first record of a pattern leaves to do: nothing; the rest, after so many bytes of the row; the same, and the variable has these bytes for
-// its value; the rest, after any length, which an e. variable has for its value; the contents of a bracket and the rest.
+// What the first record of a pattern leaves to do: nothing; the rest, after so many bytes of the pattern and of the row; the rest, where the variable has so
+// many bytes of the row for its value; the rest, after any length, which an e. variable has for its value; the contents of a bracket and the rest.
 pub enum First {
     Fails,
-    Goes(usize),
+    Goes(usize, usize),
     Binds(usize),
     Tries,
     Inside,
@@ -270,18 +271,31 @@ fn may_stand(variable: Term, term: Term) -> bool
     }
 }
 
-// A symbol: the row begins with the same symbol.
-fn symbol_first(text: &[u8], pattern: &[u8], row: &[u8]) -> First
+// Symbols, as many as the pattern begins with: the row begins with the same.
+fn symbols_first(text: &[u8], pattern: &[u8], row: &[u8]) -> First
     requires { ⌜ 24 ≤ length (now pattern) ⌝ }
     ensures { λ r. ⌜ ((x : Symbol) (vs : Values Atom) → termAt (now (pattern .entry)) 0 ≡ Symbolic x → Leaves (now (text .entry)) (now (pattern .entry)) (now (row .entry)) vs r) ⌝ }
 {
-    if row.len() < 24 {
-        return First::Fails;
+    let mut i = 0;
+    let mut j = 0;
+    loop {
+        let left = &pattern[i..];
+        let right = &row[j..];
+        if left.len() < 24 {
+            break First::Goes(i, j);
+        }
+        if 2 < word_at(left, 0) {
+            break First::Goes(i, j);
+        }
+        if right.len() < 24 {
+            break First::Fails;
+        }
+        if !atoms_same(text, left, right) {
+            break First::Fails;
+        }
+        i += end_of(left);
+        j += end_of(right);
     }
-    if !atoms_same(text, pattern, row) {
-        return First::Fails;
-    }
-    First::Goes(end_of(row))
 }
 
 // A bracket: the row begins with a bracket.
@@ -298,15 +312,22 @@ fn bracket_first(row: &[u8]) -> First
 }
 
 // A variable that has a value: the row begins with it.
-fn value_first(text: &[u8], terms: &[u8], row: &[u8], i: usize, b: Bindings) -> First
-    requires { ⌜ Kept (now text) (now terms) b × (i < b .count) ⌝ }
-    ensures { λ r. ⌜ ((pattern : List ℕ) (v : Variable) (vs : Values Atom) → 24 ≤ length pattern → atomOf (now (text .entry)) (termAt pattern 0) ≡ variable v
-        → placed (now (text .entry)) (now (terms .entry)) b (Place.At i) ≡ valueIn vs v → Leaves (now (text .entry)) pattern (now (row .entry)) vs r) ⌝ }
+fn value_first(
+    text: &[u8],
+    terms: &[u8],
+    pattern: &[u8],
+    row: &[u8],
+    i: usize,
+    b: Bindings,
+) -> First
+    requires { ⌜ Kept (now text) (now terms) b × (i < b .count) × (24 ≤ length (now pattern)) ⌝ }
+    ensures { λ r. ⌜ ((v : Variable) (vs : Values Atom) → atomOf (now (text .entry)) (termAt (now (pattern .entry)) 0) ≡ variable v
+        → placed (now (text .entry)) (now (terms .entry)) b (Place.At i) ≡ valueIn vs v → Leaves (now (text .entry)) (now (pattern .entry)) (now (row .entry)) vs r) ⌝ }
 {
     let start = wide(b.starts[i]);
     let end = start + wide(b.sizes[i]);
     match begins(text, &terms[start..end], row) {
-        Beginning::After(n) => First::Goes(n),
+        Beginning::After(n) => First::Goes(end_of(pattern), n),
         Beginning::Differs => First::Fails,
     }
 }
@@ -337,7 +358,7 @@ fn variable_first(text: &[u8], terms: &[u8], pattern: &[u8], row: &[u8], b: Bind
         → Leaves (now (text .entry)) (now (pattern .entry)) (now (row .entry)) (valuesOf (now (text .entry)) (now (terms .entry)) b) r) ⌝ }
 {
     match place_of(text, terms, pattern, b) {
-        Place::At(i) => value_first(text, terms, row, i, b),
+        Place::At(i) => value_first(text, terms, pattern, row, i, b),
         Place::Free => free_first(pattern, row),
     }
 }
@@ -348,12 +369,44 @@ pub fn first_of(text: &[u8], terms: &[u8], pattern: &[u8], row: &[u8], b: Bindin
     ensures { λ r. ⌜ Leaves (now (text .entry)) (now (pattern .entry)) (now (row .entry)) (valuesOf (now (text .entry)) (now (terms .entry)) b) r ⌝ }
 {
     match term_at(pattern, 0) {
-        Term::Symbolic(_) => symbol_first(text, pattern, row),
+        Term::Symbolic(_) => symbols_first(text, pattern, row),
         Term::SVariable(_, _) => variable_first(text, terms, pattern, row, b),
         Term::TVariable(_, _) => variable_first(text, terms, pattern, row, b),
         Term::EVariable(_, _) => variable_first(text, terms, pattern, row, b),
         Term::Bracket => bracket_first(row),
         Term::Call(_, _) => First::Fails,
         Term::Block(_) => First::Fails,
+    }
+}
+
+// The same, where no variable has a value.
+fn bare_first(text: &[u8], pattern: &[u8], row: &[u8]) -> First
+    requires { ⌜ 24 ≤ length (now pattern) ⌝ }
+    ensures { λ r. ⌜ Leaves (now (text .entry)) (now (pattern .entry)) (now (row .entry)) none-bound r ⌝ }
+{
+    match term_at(pattern, 0) {
+        Term::Symbolic(_) => symbols_first(text, pattern, row),
+        Term::SVariable(_, _) => free_first(pattern, row),
+        Term::TVariable(_, _) => free_first(pattern, row),
+        Term::EVariable(_, _) => free_first(pattern, row),
+        Term::Bracket => bracket_first(row),
+        Term::Call(_, _) => First::Fails,
+        Term::Block(_) => First::Fails,
+    }
+}
+
+// Does the first record of a pattern show that there is no match? Then no place for values need be made.
+pub fn apart(text: &[u8], pattern: &[u8], row: &[u8]) -> bool
+    ensures { λ r. ⌜ (r ≡ true → (back : Bool) → found back (rowOf (now (text .entry)) (now (pattern .entry))) (rowOf (now (text .entry)) (now (row .entry))) none-bound ≡ []) ⌝ }
+{
+    if pattern.len() < 24 {
+        return 24 <= row.len();
+    }
+    match bare_first(text, pattern, row) {
+        First::Fails => true,
+        First::Goes(_, _) => false,
+        First::Binds(_) => false,
+        First::Tries => false,
+        First::Inside => false,
     }
 }

@@ -1,13 +1,13 @@
 // Literal matching: does a pattern match a row without variables, calls and blocks? A bracket whose contents matched is gone back into.
 use crate::Bindings;
 use crate::First;
+use crate::apart;
 use crate::bind;
 use crate::first_of;
 use crate::narrow;
 use crate::none;
 use crate::wide;
-use file::Term;
-use file::term_at;
+use file::word_at;
 use law::runs::end_of;
 ghost use mathlib.Core.Path.{_≡_};
 ghost use mathlib.Core.Bool.{true, false};
@@ -15,7 +15,6 @@ ghost use mathlib.Core.List.{[], _++_};
 ghost use mathlib.Core.Option.{none};
 ghost use Prim.Native.Nat.{suc, _+_, _≤_, _<_};
 ghost use lib.ListN.{length, set};
-ghost use Rattle.file.specs.Head.{termAt};
 ghost use Rattle.law.specs.Variables.{distinct};
 ghost use Rattle.matching.specs.Literal.{literalMatches};
 ghost use Rattle.matching.specs.Part.{rowOf, literalPart, symbolsOf, Stands};
@@ -162,19 +161,19 @@ fn literal_run(
         }
         return false;
     }
-    let end = end_of(pattern);
-    let rest = &pattern[end..];
-    let next = at + end;
     match first_of(text, terms, pattern, row, b) {
         First::Fails => false,
-        First::Goes(n) => {
+        First::Goes(m, n) => {
+            let rest = &pattern[m..];
             let left = &row[n..];
-            literal_run(text, terms, rest, next, left, start + n, pending, b)
+            literal_run(text, terms, rest, at + m, left, start + n, pending, b)
         }
         First::Binds(n) => {
+            let end = end_of(pattern);
+            let rest = &pattern[end..];
             let left = &row[n..];
             let more = bind(b, at, start, n);
-            literal_run(text, terms, rest, next, left, start + n, pending, more)
+            literal_run(text, terms, rest, at + end, left, start + n, pending, more)
         }
         First::Tries => literal_lengths(text, terms, pattern, at, row, start, pending, b),
         First::Inside => literal_inside(text, terms, pattern, at, row, start, pending, b),
@@ -185,18 +184,23 @@ fn literal_run(
 pub fn is_literal(part: &[u8]) -> bool
     ensures { λ r. ⌜ r ≡ literalPart (now (part .entry)) ⌝ }
 {
-    if part.len() < 24 {
-        return true;
-    }
-    let end = end_of(part);
-    match term_at(part, 0) {
-        Term::Symbolic(_) => is_literal(&part[end..]),
-        Term::SVariable(_, _) => false,
-        Term::TVariable(_, _) => false,
-        Term::EVariable(_, _) => false,
-        Term::Bracket => is_literal(&part[24..end]) && is_literal(&part[end..]),
-        Term::Call(_, _) => false,
-        Term::Block(_) => false,
+    let mut i = 0;
+    loop {
+        let rest = &part[i..];
+        if rest.len() < 24 {
+            break true;
+        }
+        let kind = word_at(rest, 0);
+        let end = end_of(rest);
+        if 2 < kind {
+            if kind != 6 {
+                break false;
+            }
+            if !is_literal(&rest[24..end]) {
+                break false;
+            }
+        }
+        i += end;
     }
 }
 
@@ -213,5 +217,8 @@ pub fn literal(
     requires { ⌜ (distinct (variablesIn (rowOf (now text) (now pattern))) ≤ 32) × (nesting (rowOf (now text) (now pattern)) ≤ 33) × (literalPart (now row) ≡ true) ⌝ }
     ensures { λ r. ⌜ r ≡ literalMatches (rowOf (now (text .entry)) (now (pattern .entry))) (symbolsOf (now (text .entry)) (now (row .entry))) ⌝ }
 {
+    if apart(text, pattern, row) {
+        return false;
+    }
     literal_run(text, terms, pattern, at, row, start, alone(), none())
 }

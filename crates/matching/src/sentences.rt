@@ -137,10 +137,8 @@ fn recognise_accepted(law: &[u8], index: &[u16; 972], sentence: usize, term: usi
 pub fn shadows_in(law: &[u8], earlier: usize, later: usize) -> Shadowed
     ensures { λ r. ⌜ shadowAnswer r ≡ shadowOutcome (now (law .entry)) earlier later ⌝ }
 {
-    let checked = read_law(law);
-    let check = checked.check;
-    let index = checked.index;
-    match check {
+    let mut index: [u16; 972] = [0; 972];
+    match read_law(law, &mut index) {
         Check::Refused(why) => Shadowed::Refused(why),
         Check::Accepted => shadow_accepted(law, &index, earlier, later),
     }
@@ -150,10 +148,8 @@ pub fn shadows_in(law: &[u8], earlier: usize, later: usize) -> Shadowed
 pub fn matches_in(law: &[u8], sentence: usize, term: usize) -> Recognised
     ensures { λ r. ⌜ recogniseAnswer r ≡ recogniseOutcome (now (law .entry)) sentence term ⌝ }
 {
-    let checked = read_law(law);
-    let check = checked.check;
-    let index = checked.index;
-    match check {
+    let mut index: [u16; 972] = [0; 972];
+    match read_law(law, &mut index) {
         Check::Refused(why) => Recognised::Refused(why),
         Check::Accepted => recognise_accepted(law, &index, sentence, term),
     }

@@ -1,6 +1,7 @@
 // Shadowing: does an earlier pattern match whatever a later one matches? A bracket whose contents matched is not gone back into.
 use crate::Bindings;
 use crate::First;
+use crate::apart;
 use crate::bind;
 use crate::first_of;
 use crate::none;
@@ -107,22 +108,20 @@ fn shadow_run(
             bindings: b,
         };
     }
-    let end = end_of(pattern);
-    let rest = &pattern[end..];
-    let next = at + end;
     match first_of(text, terms, pattern, row, b) {
         First::Fails => Matched {
             ok: false,
             bindings: b,
         },
-        First::Goes(n) => {
-            let left = &row[n..];
-            shadow_run(text, terms, rest, next, left, start + n, b)
+        First::Goes(m, n) => {
+            shadow_run(text, terms, &pattern[m..], at + m, &row[n..], start + n, b)
         }
         First::Binds(n) => {
+            let end = end_of(pattern);
+            let rest = &pattern[end..];
             let left = &row[n..];
             let more = bind(b, at, start, n);
-            shadow_run(text, terms, rest, next, left, start + n, more)
+            shadow_run(text, terms, rest, at + end, left, start + n, more)
         }
         First::Tries => shadow_lengths(text, terms, pattern, at, row, start, b),
         First::Inside => shadow_inside(text, terms, pattern, at, row, start, b),
@@ -142,5 +141,8 @@ pub fn shadow(
     requires { ⌜ distinct (variablesIn (rowOf (now text) (now earlier))) ≤ 32 ⌝ }
     ensures { λ r. ⌜ r ≡ shadows (rowOf (now (text .entry)) (now (earlier .entry))) (rowOf (now (text .entry)) (now (later .entry))) ⌝ }
 {
+    if apart(text, earlier, later) {
+        return false;
+    }
     shadow_run(text, terms, earlier, at, later, start, none()).ok
 }

@@ -96,10 +96,8 @@ fn print_calls(law: &[u8], count: usize, records: usize) {
 
 // Writes the end of a case's line, and the lines after it.
 fn print_answers(law: &[u8]) {
-    let checked = law::read_law(law);
-    let check = checked.check;
-    let index = checked.index;
-    match check {
+    let mut index: [u16; 972] = [0; 972];
+    match law::read_law(law, &mut index) {
         Check::Accepted => {
             io::write_all(STDOUT_FILENO, b" accepted\n");
             print_pairs(law, sentences(&index));

@@ -1,6 +1,5 @@
--- A file that the sections refuse, or the check of one that is cut into its sections.
-use mathlib.Core.Path.{_≡_, refl, sym, ap, _∙_}
-use Rattle.file.proofs.SectionLaws.{cut-whole, cut-refused}
+-- The index of an accepted file as it is filled; zeros for a refused one.
+use mathlib.Core.Path.{_≡_, refl}
 use Rattle.law.proofs.Verdict as verdict
 use borrow.Author.Needs.{needs}
 use Rattle.law.proofs.read_law.Statement.{statement}
@@ -12,15 +11,12 @@ read-law-spec =
     (tie.spec
     (λ c κs. search needs)
     (λ c. search needs)
-    (λ c κs. search needs)
     (λ c. search needs)
-    (λ c κs.
-    let start = c .before .before .before .before .before in
-    let the-sections-of = c .before .before .before .sections-of in
-    (cut-whole (start .args .law .now) _ _ (the-sections-of .ensures) (c .before .sections .given .1) .file, cut-whole (start .args .law .now) _ _ (the-sections-of .ensures) (c .before .sections .given .1) .counts))
     (λ c.
-    let start = c .before .before .before .before .before .before in
-    let the-sections-of = c .before .before .before .before .sections-of in
-    let the-why = c .before .before .why in
-    verdict.refused-checked (start .args .law .now) _ _ _ (c .refused .ensures .0) (c .refused .ensures .1) (verdict.sections-refused (start .args .law .now) _ (cut-refused (start .args .law .now) _ _ (the-sections-of .ensures) (the-why .given .1))))
-    (λ c. search needs))
+    let start = c .before .before .before .before .before in
+    let the-check-bytes = c .before .before .check-bytes in
+    verdict.accepted-checked (start .args .law .now) _ _ (c .enum-told .given .1) (the-check-bytes .ensures .1) (the-check-bytes .ensures .0))
+    (λ c.
+    let start = c .before .before .before .before .before .before .before in
+    let the-check-bytes = c .before .before .before .before .check-bytes in
+    (verdict.refused-checked (start .args .law .now) _ _ (c .before .before .check .given .1) (the-check-bytes .ensures .0), refl)))

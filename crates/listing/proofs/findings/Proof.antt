@@ -1,13 +1,10 @@
+-- A call that its front turns back, or the findings of a law that is ready, with its index.
 use mathlib.Core.Path.{refl}
+use borrow.Author.Needs.{needs}
 use Rattle.findings.specs.All.{settingsFrom}
 use Rattle.listing.proofs.CallLaws.{front-ready, findings-turned, findings-goes}
-use borrow.Author.Needs.{needs}
 use Rattle.listing.proofs.findings.Statement.{statement}
 use Rattle.listing.proofs.findings.Tie as tie
-use Rattle.listing.proofs.findings.Reads as reads
-use Rattle.listing.proofs.findings.Lts as lts
-use Rattle.listing.proofs.findings_ready.Reads as findings-ready-reads
-use Rattle.listing.proofs.front.check_front.Reads as check-front-reads
 
 pub findings-spec : {M : Type 1} → statement M
 findings-spec =
@@ -16,8 +13,21 @@ findings-spec =
     (λ c κs. search needs)
     (λ c. search needs)
     (λ c. search needs)
-    (λ c κs. front-ready (settingsFrom (c .before .before .before .before .before .before .before .before .before .before .before .args .mode) (c .before .before .before .before .before .before .before .before .before .before .before .args .overrides .now)) (c .before .before .before .before .before .before .before .before .before .before .before .args .law .now) (c .before .before .before .before .before .before .before .before .before .before .before .args .store .now) _ _ (c .before .before .before .before .before .before .check-front .ensures _ refl) (c .before .before .before .enum-told .given .1))
-    (λ c. findings-turned (settingsFrom (c .before .before .before .before .before .before .before .before .before .args .mode) (c .before .before .before .before .before .before .before .before .before .args .overrides .now)) (c .before .before .before .before .before .before .before .before .before .args .law .now) (c .before .before .before .before .before .before .before .before .before .args .store .now) _ _ (c .before .before .before .before .check-front .ensures _ refl) _ _ (c .before .front .given .1))
+    (λ c κs.
+    let start = c .before .before .before .before .before .before .before .before .before .before .before in
+    let settings = settingsFrom (start .args .mode) (start .args .overrides .now) in
+    let front = c .before .before .before .before .before .check-front in
+    front-ready settings (start .args .law .now) (start .args .store .now) _ _ (front .ensures _ refl) (c .before .before .before .enum-told .given .1))
+    (λ c.
+    let start = c .before .before .before .before .before .before .before .before .before in
+    let settings = settingsFrom (start .args .mode) (start .args .overrides .now) in
+    let front = c .before .before .before .check-front in
+    findings-turned settings (start .args .law .now) (start .args .store .now) _ _ (front .ensures _ refl) _ _ (c .before .why .given .1))
     (λ c. search needs)
     (λ c. search needs)
-    (λ c. findings-goes (settingsFrom (c .before .before .before .before .before .before .before .before .before .before .before .before .before .before .before .before .args .mode) (c .before .before .before .before .before .before .before .before .before .before .before .before .before .before .before .before .args .overrides .now)) (c .before .before .before .before .before .before .before .before .before .before .before .before .before .before .before .before .args .law .now) (c .before .before .before .before .before .before .before .before .before .before .before .before .before .before .before .before .args .store .now) _ _ (c .before .before .before .before .before .before .before .before .before .before .before .check-front .ensures _ refl) _ _ _ (c .before .before .before .before .findings-ready .result) (c .before .before .before .before .before .before .before .before .enum-told .given .1) (c .before .before .before .before .findings-ready .ensures)))
+    (λ c.
+    let start = c .before .before .before .before .before .before .before .before .before .before .before .before .before .before .before .before in
+    let settings = settingsFrom (start .args .mode) (start .args .overrides .now) in
+    let front = c .before .before .before .before .before .before .before .before .before .before .check-front in
+    let ready = c .before .before .before .before .findings-ready in
+    findings-goes settings (start .args .law .now) (start .args .store .now) _ _ (front .ensures _ refl) _ _ _ (ready .result) (c .before .before .before .before .before .before .before .before .enum-told .given .1) (ready .ensures)))

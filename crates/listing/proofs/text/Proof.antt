@@ -1,13 +1,10 @@
+-- A call that its front turns back, or the text of a law that is ready, with its index.
 use mathlib.Core.Path.{refl}
+use borrow.Author.Needs.{needs}
 use Rattle.findings.specs.All.{settingsFrom}
 use Rattle.listing.proofs.CallLaws.{front-ready, text-turned, text-goes}
-use borrow.Author.Needs.{needs}
 use Rattle.listing.proofs.text.Statement.{statement}
 use Rattle.listing.proofs.text.Tie as tie
-use Rattle.listing.proofs.text.Reads as reads
-use Rattle.listing.proofs.text.Lts as lts
-use Rattle.listing.proofs.front.check_front.Reads as check-front-reads
-use Rattle.listing.proofs.text_ready.Reads as text-ready-reads
 
 pub text-spec : {M : Type 1} → statement M
 text-spec =
@@ -16,8 +13,21 @@ text-spec =
     (λ c κs. search needs)
     (λ c. search needs)
     (λ c. search needs)
-    (λ c κs. front-ready (settingsFrom (c .before .before .before .before .before .before .before .before .before .before .before .args .mode) (c .before .before .before .before .before .before .before .before .before .before .before .args .overrides .now)) (c .before .before .before .before .before .before .before .before .before .before .before .args .law .now) (c .before .before .before .before .before .before .before .before .before .before .before .args .store .now) _ _ (c .before .before .before .before .before .before .check-front .ensures _ refl) (c .before .before .before .enum-told .given .1))
-    (λ c. text-turned (settingsFrom (c .before .before .before .before .before .before .before .before .before .args .mode) (c .before .before .before .before .before .before .before .before .before .args .overrides .now)) (c .before .before .before .before .before .before .before .before .before .args .law .now) (c .before .before .before .before .before .before .before .before .before .args .store .now) _ _ (c .before .before .before .before .check-front .ensures _ refl) _ _ _ (c .before .front .given .1))
+    (λ c κs.
+    let start = c .before .before .before .before .before .before .before .before .before .before .before in
+    let settings = settingsFrom (start .args .mode) (start .args .overrides .now) in
+    let front = c .before .before .before .before .before .check-front in
+    front-ready settings (start .args .law .now) (start .args .store .now) _ _ (front .ensures _ refl) (c .before .before .before .enum-told .given .1))
+    (λ c.
+    let start = c .before .before .before .before .before .before .before .before .before in
+    let settings = settingsFrom (start .args .mode) (start .args .overrides .now) in
+    let front = c .before .before .before .check-front in
+    text-turned settings (start .args .law .now) (start .args .store .now) _ _ (front .ensures _ refl) _ _ _ (c .before .why .given .1))
     (λ c. search needs)
     (λ c. search needs)
-    (λ c. text-goes (settingsFrom (c .before .before .before .before .before .before .before .before .before .before .before .before .before .before .before .before .args .mode) (c .before .before .before .before .before .before .before .before .before .before .before .before .before .before .before .before .args .overrides .now)) (c .before .before .before .before .before .before .before .before .before .before .before .before .before .before .before .before .args .law .now) (c .before .before .before .before .before .before .before .before .before .before .before .before .before .before .before .before .args .store .now) _ _ (c .before .before .before .before .before .before .before .before .before .before .before .check-front .ensures _ refl) _ _ _ _ (c .before .before .before .before .text-ready .result) (c .before .before .before .before .before .before .before .before .enum-told .given .1) (c .before .before .before .before .text-ready .ensures)))
+    (λ c.
+    let start = c .before .before .before .before .before .before .before .before .before .before .before .before .before .before .before .before in
+    let settings = settingsFrom (start .args .mode) (start .args .overrides .now) in
+    let front = c .before .before .before .before .before .before .before .before .before .before .check-front in
+    let ready = c .before .before .before .before .text-ready in
+    text-goes settings (start .args .law .now) (start .args .store .now) _ _ (front .ensures _ refl) _ _ _ _ (ready .result) (c .before .before .before .before .before .before .before .before .enum-told .given .1) (ready .ensures)))

@@ -26,7 +26,7 @@ first-of-spec =
     (λ c. search needs)
     (λ c. let start = c .before .before .before .before .before .before .before .before in
     let term-at = c .before .before .before .term-at in
-    c .symbol-first .ensures _ (valuesOf (start .args .text .now) (start .args .terms .now) (start .args .b))
+    c .symbols-first .ensures _ (valuesOf (start .args .text .now) (start .args .terms .now) (start .args .b))
     (sym (term-at .ensures) ∙ c .before .enum-told .given .1))
     (λ c. let start = c .before .before .before .before .before .before .before .before in
     let term-at = c .before .before .before .term-at in

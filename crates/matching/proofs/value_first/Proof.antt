@@ -18,21 +18,19 @@ value-first-spec =
     (λ c. search needs)
     (λ c. search needs)
     (λ c. search needs)
-    (λ c. let start = c .before .before .before .before .before .before .before in
+    (λ c. let start = c .before .before .before .before .before .before .before .before in
     omega (arith, c .before .before .wide .ensures .0, c .wide2 .ensures .0, start .pre .0 .inside (start .args .i) (start .pre .1)))
     (λ c κs. search needs)
     (λ c. search needs)
+    (λ c κs. search needs)
     (λ c. search needs)
+    (λ c. let start = c .before .before .before .before .before .before .before .before .before .before .before .before .before .before in
+    let a = start .args in
+    λ v vs first value. laws.value-begins (a .text .now) (a .pattern .now) (a .row .now) v vs (start .pre .2) first
+    (laws.value-cut (a .text .now) (a .terms .now) (c .before .before .before .before .before .before .before .before .wide .ensures .0) (c .before .before .before .before .before .before .wide2 .ensures .0) value) (c .before .before .before .before .begins .ensures)
+    (c .before .before .n .given .1) (c .end-of .ensures .0))
     (λ c. let start = c .before .before .before .before .before .before .before .before .before .before .before .before in
-    let wide = c .before .before .before .before .before .before .before .wide in
-    let wide2 = c .before .before .before .before .before .wide2 in
-    let begins = c .before .before .before .begins in
-    λ pattern v vs some first value. laws.value-begins (start .args .text .now) pattern (start .args .row .now) v vs some first
-    (laws.value-cut (start .args .text .now) (start .args .terms .now) (wide .ensures .0) (wide2 .ensures .0) value) (begins .ensures)
-    (c .before .n .given .1))
-    (λ c. let start = c .before .before .before .before .before .before .before .before .before .before .before in
-    let wide = c .before .before .before .before .before .before .wide in
-    let wide2 = c .before .before .before .before .wide2 in
-    λ pattern v vs some first value. laws.value-differs (start .args .text .now) pattern (start .args .row .now) v vs some first
-    (laws.value-cut (start .args .text .now) (start .args .terms .now) (wide .ensures .0) (wide2 .ensures .0) value)
-    (c .before .before .begins .ensures) (c .enum-told .given .1)))
+    let a = start .args in
+    λ v vs first value. laws.value-differs (a .text .now) (a .pattern .now) (a .row .now) v vs (start .pre .2) first
+    (laws.value-cut (a .text .now) (a .terms .now) (c .before .before .before .before .before .before .wide .ensures .0) (c .before .before .before .before .wide2 .ensures .0) value) (c .before .before .begins .ensures)
+    (c .enum-told .given .1)))

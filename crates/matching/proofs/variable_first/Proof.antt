@@ -17,13 +17,13 @@ variable-first-spec =
       start .pre .0,
       places.place-is (start .args .text .now) (start .args .terms .now) (start .args .pattern .now) (start .args .b)
           (c .before .i .given .1) (place-of .ensures) .0,
+      start .pre .1,
     ))
     (λ c. search needs)
     (λ c κs. search needs)
     (λ c. let start = c .before .before .before .before .before .before .before .before .before in
     let place-of = c .before .before .before .before .place-of in
-    λ v first. c .value-first .ensures (start .args .pattern .now) v (valuesOf (start .args .text .now) (start .args .terms .now) (start .args .b))
-    (start .pre .1) first
+    λ v first. c .value-first .ensures v (valuesOf (start .args .text .now) (start .args .terms .now) (start .args .b)) first
     (places.place-is (start .args .text .now) (start .args .terms .now) (start .args .pattern .now) (start .args .b) (c .before .before .i .given .1)
     (place-of .ensures) .1 v first))
     (λ c. let start = c .before .before .before .before .before .before .before .before in

@@ -9,36 +9,34 @@ pub infer-store-spec : {M : Type 1} → statement M
 infer-store-spec =
     tie.close
     (tie.spec
-    (λ c κs. search needs)
     (λ c. search needs)
     (λ c κs. search needs)
     (λ c. search needs)
     (λ c κs.
     let start = c .before .before .before .before .before in
-    (start .pre .2, omega (arith, store-few (start .pre .0) (start .pre .1) (c .before .before .slots-of .ensures) (start .pre .2) (c .before .wide .result) (c .before .wide .ensures .0)), start .pre .3))
+    let names = c .before .wide in
+    (start .pre .2, omega (arith, store-few (start .pre .0) (start .pre .1) (start .pre .4) (start .pre .2) (names .result) (names .ensures .0)), start .pre .3))
     (λ c κs.
-    let start = c .before .before .before .before .before .before .before .before .before .before in
-    let slots = c .before .before .before .before .before .before .before .slots-of in
-    let names = c .before .before .before .before .before .before .wide in
-    (store-asked (start .pre .0) (start .pre .1) (slots .ensures) (start .pre .2) (names .result) (names .ensures .0), (_, store-started (start .pre .0) (start .pre .1) (slots .ensures) (start .pre .2) (names .result) (names .ensures .0) _ _ (c .before .before .before .before .start-store .ensures))))
+    let start = c .before .before .before .before .before .before .before .before .before in
+    let names = c .before .before .before .before .before .wide in
+    let begun = c .before .before .before .start-store in
+    (store-asked (start .pre .0) (start .pre .1) (start .pre .4) (start .pre .2) (names .result) (names .ensures .0), (_, store-started (start .pre .0) (start .pre .1) (start .pre .4) (start .pre .2) (names .result) (names .ensures .0) _ _ (begun .ensures))))
     (λ c. search needs)
     (λ c κs. search needs)
     (λ c. search needs)
     (λ c. search needs)
     (λ c.
-    let start = c .before .before .before .before .before .before .before .before .before .before .before .before .before .before .before .before .before .before .before in
-    let slots = c .before .before .before .before .before .before .before .before .before .before .before .before .before .before .before .before .slots-of in
-    let names = c .before .before .before .before .before .before .before .before .before .before .before .before .before .before .before .wide in
-    let begun = c .before .before .before .before .before .before .before .before .before .before .before .before .before .start-store in
+    let start = c .before .before .before .before .before .before .before .before .before .before .before .before .before .before .before .before .before .before in
+    let names = c .before .before .before .before .before .before .before .before .before .before .before .before .before .before .wide in
+    let begun = c .before .before .before .before .before .before .before .before .before .before .before .before .start-store in
     let started = c .before .before .before .before .before .before .before .before .infer-started in
-    let held = store-started (start .pre .0) (start .pre .1) (slots .ensures) (start .pre .2) (names .result) (names .ensures .0) _ _ (begun .ensures) in
+    let held = store-started (start .pre .0) (start .pre .1) (start .pre .4) (start .pre .2) (names .result) (names .ensures .0) _ _ (begun .ensures) in
     infer-cleared (start .args .limit) _ (start .args .store .now) _ (started .result) (started .ensures _ held) _ (c .before .before .before .before .enum-told .given .1) (c .before .before .clear-store .ensures))
     (λ c. search needs)
     (λ c.
-    let start = c .before .before .before .before .before .before .before .before .before .before .before .before .before .before .before .before in
-    let slots = c .before .before .before .before .before .before .before .before .before .before .before .before .before .slots-of in
-    let names = c .before .before .before .before .before .before .before .before .before .before .before .before .wide in
-    let begun = c .before .before .before .before .before .before .before .before .before .before .start-store in
+    let start = c .before .before .before .before .before .before .before .before .before .before .before .before .before .before .before in
+    let names = c .before .before .before .before .before .before .before .before .before .before .before .wide in
+    let begun = c .before .before .before .before .before .before .before .before .before .start-store in
     let started = c .before .before .before .before .before .infer-started in
-    let held = store-started (start .pre .0) (start .pre .1) (slots .ensures) (start .pre .2) (names .result) (names .ensures .0) _ _ (begun .ensures) in
+    let held = store-started (start .pre .0) (start .pre .1) (start .pre .4) (start .pre .2) (names .result) (names .ensures .0) _ _ (begun .ensures) in
     infer-ran (start .args .limit) _ (start .args .store .now) _ (started .result) (started .ensures _ held) _ _ (c .before .rounds .given .1)))

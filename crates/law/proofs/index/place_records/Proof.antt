@@ -9,7 +9,7 @@ place-records-spec = tie.close (tie.spec
     (λ c κs.
     let p = c .before .before .pre in
     let k = counts-known _ _ (p .0) (p .1) in
-    (p .1, k .0, k .1, refl))
+    (p .1, k .0, k .1, p .2))
     (λ c κs.
     let p = c .before .before .before .before .pre in
     (counts-known _ _ (p .0) (p .1) .0, c .before .fill-tables .ensures .1))

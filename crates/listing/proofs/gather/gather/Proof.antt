@@ -13,7 +13,7 @@ pub gather-spec : {M : Type 1} → statement M
 gather-spec =
     tie.close
     (tie.spec
-    (λ c κs. (c .before .before .before .before .before .pre .0 .indexed, accepted-readable _ (c .before .before .before .before .before .pre .0 .accepted), c .before .before .before .before .before .pre .0 .small, c .before .before .before .before .before .pre .0 .room))
+    (λ c κs. (c .before .before .before .before .before .pre .0 .indexed, accepted-readable _ (c .before .before .before .before .before .pre .0 .accepted), c .before .before .before .before .before .pre .0 .small, c .before .before .before .before .before .pre .0 .room, c .before .before .before .before .before .pre .1))
     (λ c. search needs)
     (λ c. search needs)
     (λ c κs. (filled-prepares (c .before .before .before .before .before .before .before .before .before .before .before .before .before .args .room) (settingsFrom (c .before .before .before .before .before .before .before .before .before .before .before .before .before .args .mode) (c .before .before .before .before .before .before .before .before .before .before .before .before .before .args .overrides .now)) _ (c .before .before .before .before .before .before .before .infer-store .result) (c .before .before .before .before .before .before .before .before .before .before .before .before .before .pre .0) (c .before .before .before .before .before .before .before .before .before .before .before .before .before .pre .1) (c .before .before .before .before .before .before .before .infer-store .ensures) _ _ (c .before .before .before .rounds .given .1), c .before .before .before .before .before .before .before .before .before .before .before .before .before .pre .1, filled-store (c .before .before .before .before .before .before .before .before .before .before .before .before .before .args .room) (settingsFrom (c .before .before .before .before .before .before .before .before .before .before .before .before .before .args .mode) (c .before .before .before .before .before .before .before .before .before .before .before .before .before .args .overrides .now)) _ (c .before .before .before .before .before .before .before .infer-store .result) (c .before .before .before .before .before .before .before .before .before .before .before .before .before .pre .0) (c .before .before .before .before .before .before .before .before .before .before .before .before .before .pre .1) (c .before .before .before .before .before .before .before .infer-store .ensures) _ _ (c .before .before .before .rounds .given .1)))

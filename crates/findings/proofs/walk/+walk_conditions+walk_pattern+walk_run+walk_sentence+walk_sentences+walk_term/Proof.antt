@@ -1,4 +1,6 @@
-use Prim.Native.Nat.{ℕ, _+_, _-_, _≤_, _<_}
+-- The way through a run, its first term, a pattern, sentences, one sentence and its conditions, by a law of proofs/WalkSteps.antt for each return. The
+-- measure is eight times the size of the tree that is left, and up to six more, so that a function may hand all of it on to one further down.
+use Prim.Native.Nat.{ℕ, _+_, _-_, _≤_, _<_, _/_}
 use mathlib.Core.Path.{_≡_, refl, ap, _∙_}
 use native.Mathlib.Omega.{arith}
 use native.Mathlib.Nat.{le-of-lt}
@@ -7,6 +9,7 @@ use lib.ListN.{length}
 use Rattle.file.specs.Sections.{fileOf}
 use Rattle.law.specs.Places.{conditionsOf, firstCondition}
 use Rattle.law.specs.Reading.{sentencesIn}
+use Rattle.matching.specs.Part.{from}
 use Rattle.lints.specs.Records.{formatsIn}
 use Rattle.findings.specs.Events.{sinkOf}
 use Rattle.findings.proofs.WalkSteps as steps
@@ -14,19 +17,22 @@ use borrow.Fn.Kinds.{In}
 use borrow.Fn.PlainCycle.{Measures, is, falls, and}
 use Rattle.findings.proofs.walk.walk_conditions.Reads as walk-conditions
 use Rattle.findings.proofs.walk.walk_conditions.Kinds as walk-conditions-kinds
-use Rattle.findings.proofs.walk.+walk_conditions+walk_pattern+walk_run+walk_sentence+walk_sentences.Lts-walk_conditions as walk-conditions-lts
+use Rattle.findings.proofs.walk.+walk_conditions+walk_pattern+walk_run+walk_sentence+walk_sentences+walk_term.Lts-walk_conditions as walk-conditions-lts
 use Rattle.findings.proofs.walk.walk_pattern.Reads as walk-pattern
 use Rattle.findings.proofs.walk.walk_pattern.Kinds as walk-pattern-kinds
-use Rattle.findings.proofs.walk.+walk_conditions+walk_pattern+walk_run+walk_sentence+walk_sentences.Lts-walk_pattern as walk-pattern-lts
+use Rattle.findings.proofs.walk.+walk_conditions+walk_pattern+walk_run+walk_sentence+walk_sentences+walk_term.Lts-walk_pattern as walk-pattern-lts
 use Rattle.findings.proofs.walk.walk_run.Reads as walk-run
 use Rattle.findings.proofs.walk.walk_run.Kinds as walk-run-kinds
-use Rattle.findings.proofs.walk.+walk_conditions+walk_pattern+walk_run+walk_sentence+walk_sentences.Lts-walk_run as walk-run-lts
+use Rattle.findings.proofs.walk.+walk_conditions+walk_pattern+walk_run+walk_sentence+walk_sentences+walk_term.Lts-walk_run as walk-run-lts
 use Rattle.findings.proofs.walk.walk_sentence.Reads as walk-sentence
 use Rattle.findings.proofs.walk.walk_sentence.Kinds as walk-sentence-kinds
-use Rattle.findings.proofs.walk.+walk_conditions+walk_pattern+walk_run+walk_sentence+walk_sentences.Lts-walk_sentence as walk-sentence-lts
+use Rattle.findings.proofs.walk.+walk_conditions+walk_pattern+walk_run+walk_sentence+walk_sentences+walk_term.Lts-walk_sentence as walk-sentence-lts
 use Rattle.findings.proofs.walk.walk_sentences.Reads as walk-sentences
 use Rattle.findings.proofs.walk.walk_sentences.Kinds as walk-sentences-kinds
-use Rattle.findings.proofs.walk.+walk_conditions+walk_pattern+walk_run+walk_sentence+walk_sentences.Lts-walk_sentences as walk-sentences-lts
+use Rattle.findings.proofs.walk.+walk_conditions+walk_pattern+walk_run+walk_sentence+walk_sentences+walk_term.Lts-walk_sentences as walk-sentences-lts
+use Rattle.findings.proofs.walk.walk_term.Reads as walk-term
+use Rattle.findings.proofs.walk.walk_term.Kinds as walk-term-kinds
+use Rattle.findings.proofs.walk.+walk_conditions+walk_pattern+walk_run+walk_sentence+walk_sentences+walk_term.Lts-walk_term as walk-term-lts
 use Rattle.file.proofs.term_at.Reads as term-at-reads
 use Rattle.file.proofs.word_at.Reads as word-at-reads
 use Rattle.findings.proofs.calls.note_call.Reads as note-call-reads
@@ -43,10 +49,10 @@ use Rattle.law.proofs.places.result.Reads as result-reads
 use Rattle.law.proofs.places.result_at.Reads as result-at-reads
 use Rattle.law.proofs.places.wanted.Reads as wanted-reads
 use Rattle.law.proofs.runs.end_of.Reads as end-of-reads
-use Rattle.findings.proofs.walk.+walk_conditions+walk_pattern+walk_run+walk_sentence+walk_sentences.{
+use Rattle.findings.proofs.walk.+walk_conditions+walk_pattern+walk_run+walk_sentence+walk_sentences+walk_term.{
   statement,
 }
-use Rattle.findings.proofs.walk.+walk_conditions+walk_pattern+walk_run+walk_sentence+walk_sentences.Tie.{
+use Rattle.findings.proofs.walk.+walk_conditions+walk_pattern+walk_run+walk_sentence+walk_sentences+walk_term.Tie.{
   close,
 }
 
@@ -64,6 +70,9 @@ abbrev μ-walk-sentence : Measures 5 walk-sentence-kinds.ps ℕ
 
 abbrev μ-walk-sentences : Measures 5 walk-sentences-kinds.ps ℕ
 μ-walk-sentences κs a = steps.sentencesWork (fileOf (a .0 .now)) (a .1 .1 .1 .1 .1 .1 .0) (a .1 .1 .1 .1 .1 .0)
+
+abbrev μ-walk-term : Measures 6 walk-term-kinds.ps ℕ
+μ-walk-term κs a = steps.termWork (fileOf (a .0 .now)) (a .1 .1 .1 .1 .1 .1 .0) (a .1 .1 .1 .1 .1 .0 .now)
 
 abbrev walk-conditions-at : ℕ → In 5 walk-conditions-kinds.ps
 walk-conditions-at t =
@@ -128,6 +137,13 @@ walk-sentences-below t =
     (falls 5 walk-sentences-kinds.ps _<_ μ-walk-sentences t)
     walk-sentences.Pre
 
+abbrev walk-term-at : ℕ → In 6 walk-term-kinds.ps
+walk-term-at t = and 6 walk-term-kinds.ps (is 6 walk-term-kinds.ps μ-walk-term t) walk-term.Pre
+
+abbrev walk-term-below : ℕ → In 6 walk-term-kinds.ps
+walk-term-below t =
+    and 6 walk-term-kinds.ps (falls 6 walk-term-kinds.ps _<_ μ-walk-term t) walk-term.Pre
+
 abbrev walk-conditions-Inv-loop : walk-conditions-lts.InvT-loop
 walk-conditions-Inv-loop law index slots store task s out₀ first count so-far₀ i₀ out so-far i =
     (first ≡ firstCondition (fileOf law) s)
@@ -140,6 +156,14 @@ walk-conditions-Inv-loop law index slots store task s out₀ first count so-far�
 abbrev walk-conditions-μ-loop : walk-conditions-lts.MeasureT-loop
 walk-conditions-μ-loop law index slots store task s out₀ first count so-far₀ i₀ out so-far i = count - i
 
+abbrev walk-run-Inv-loop : walk-run-lts.InvT-loop
+walk-run-Inv-loop law index slots store task part at out₀ so-far₀ i₀ out so-far i =
+    (length out ≡ length out₀)
+    × steps.Left (fileOf law) (formatsIn (fileOf law) (task .limit) store) task at part (sinkOf so-far₀ out₀) (sinkOf so-far out) i
+
+abbrev walk-run-μ-loop : walk-run-lts.MeasureT-loop
+walk-run-μ-loop law index slots store task part at out₀ so-far₀ i₀ out so-far i = length part - i
+
 abbrev walk-sentences-Inv-loop : walk-sentences-lts.InvT-loop
 walk-sentences-Inv-loop law index slots store task first count out₀ so-far₀ i₀ out so-far i =
     (i ≤ count)
@@ -150,15 +174,16 @@ walk-sentences-Inv-loop law index slots store task first count out₀ so-far₀ 
 abbrev walk-sentences-μ-loop : walk-sentences-lts.MeasureT-loop
 walk-sentences-μ-loop law index slots store task first count out₀ so-far₀ i₀ out so-far i = count - i
 
-pub +walk-conditions+walk-pattern+walk-run+walk-sentence+walk-sentences-spec :
+pub +walk-conditions+walk-pattern+walk-run+walk-sentence+walk-sentences+walk-term-spec :
     {M : Type 1} → statement M
-+walk-conditions+walk-pattern+walk-run+walk-sentence+walk-sentences-spec =
++walk-conditions+walk-pattern+walk-run+walk-sentence+walk-sentences+walk-term-spec =
     close
     μ-walk-conditions
     μ-walk-pattern
     μ-walk-run
     μ-walk-sentence
     μ-walk-sentences
+    μ-walk-term
     (λ t. walk-conditions-lts.spec (
       first-condition-reads.Asked,
       first-condition-reads.Learnt,
@@ -310,127 +335,61 @@ pub +walk-conditions+walk-pattern+walk-run+walk-sentence+walk-sentences-spec :
     let the-if1 = c .before .before .before .before .if1 in
     steps.pattern-walked (fileOf (start .args .law .now)) (formatsIn (fileOf (start .args .law .now)) (start .args .task .limit) (start .args .store .now)) (start .args .task) (start .args .at) (start .args .part .now) (sinkOf (start .args .tally) (start .args .out .now)) (sinkOf (the-walk-run .result) (the-walk-run .last .1 .1 .1 .1 .1 .1 .1 .0)) (the-if1 .left) (the-walk-run .ensures)))
     (λ t. walk-run-lts.spec (
-      end-of-reads.Asked,
-      end-of-reads.Learnt,
-      note-call-reads.Asked,
-      note-call-reads.Learnt,
-      walk-run-below t,
-      walk-run.Post,
-      block-first-reads.Asked,
-      block-first-reads.Learnt,
-      term-at-reads.Asked,
-      term-at-reads.Learnt,
-      sentences-in-reads.Asked,
-      sentences-in-reads.Learnt,
-      note-block-reads.Asked,
-      note-block-reads.Learnt,
-      walk-sentences-below t,
-      walk-sentences.Post,
       word-at-reads.Asked,
       word-at-reads.Learnt,
+      walk-term-below t,
+      walk-term.Post,
+      end-of-reads.Asked,
+      end-of-reads.Learnt,
     )
     (walk-run-at t)
     walk-run.Post
+    walk-run-Inv-loop
+    walk-run-μ-loop
+    (λ c.
+    let start = c .before .before .before .before in
+    let file = fileOf (start .args .law .now) in
+    let formats = formatsIn file (start .args .task .limit) (start .args .store .now) in
+    (refl, steps.left-start file formats (start .args .task) (start .args .at) (start .args .part .now) (sinkOf (start .args .tally) (start .args .out .now)) (start .pre .1 .1)))
     (λ c.
     let start = c .before .before .before .before .before in
-    let the-if1 = c .if1 in
-    steps.run-ends (fileOf (start .args .law .now)) (formatsIn (fileOf (start .args .law .now)) (start .args .task .limit) (start .args .store .now)) (start .args .task) (start .args .at) (start .args .part .now) (sinkOf (start .args .tally) (start .args .out .now)) (the-if1 .taken))
+    omega (arith, c .loop .inv .1 .within, steps.run-small (start .pre .1 .0) (start .args .at) (start .args .part .now) (start .pre .1 .1)))
+    (λ c. c .before .loop .inv .1 .within)
+    (λ c. c .before .loop .inv .1 .within)
+    (λ c. search needs)
     (λ c κs.
-    let the-if1 = c .if1 in
-    the-if1 .left)
+    omega (arith, steps.left-some (c .before .before .loop .inv .1) (c .before .loop-test .taken)))
+    (λ c. omega (arith, c .before .before .before .loop-test .taken, c .before .before .before .before .loop .inv .1 .within))
+    (λ c. omega (arith, c .before .before .before .loop-test .taken))
+    (λ c.
+    let start = c .before .before .before .before .before .before .before .before .before in
+    let the-loop = c .before .before .before .before .loop in
+    let the-word-at = c .before .word-at in
+    (the-loop .inv .0, steps.leaf-next (the-loop .inv .1) (c .before .before .before .loop-test .taken) (start .pre .1 .0 .asked .readable) (start .pre .1 .1) (the-word-at .result) (the-word-at .ensures) (c .if1 .taken)))
+    (λ c.
+    let start = c .before .before .before .before .before .before .before .before .before in
+    let the-left = c .before .before .before .before .loop .inv .1 in
+    omega (arith, steps.at-small (start .pre .1 .0) (start .args .at + c .before .before .before .before .loop .i / 24) (from (c .before .before .before .before .loop .i) (start .args .part .now)) (the-left .part) (steps.left-some the-left (c .before .before .before .loop-test .taken))))
     (λ c κs.
-    let start = c .before .before .before .before .before .before .before in
-    let the-if1 = c .before .before .if1 in
-    ((start .pre .1 .0), steps.at-inside (start .pre .1 .0) (start .args .at) (start .args .part .now) (start .pre .1 .1) (the-if1 .left)))
+    let start = c .before .before .before .before .before .before .before .before .before .before in
+    let the-left = c .before .before .before .before .before .loop .inv .1 in
+    let more = c .before .before .before .before .loop-test .taken in
+    (steps.first-less the-left more t (start .pre .0), (start .pre .1 .0, the-left .part, steps.left-some the-left more)))
+    (λ c κs. steps.left-some (c .before .before .before .before .before .before .before .before .loop .inv .1) (c .before .before .before .before .before .before .before .loop-test .taken))
     (λ c.
-    let the-end-of = c .before .before .before .before .end-of in
-    omega (arith, the-end-of .ensures))
+    let start = c .before .before .before .before .before .before .before .before .before .before .before .before .before .before in
+    let the-left = c .before .before .before .before .before .before .before .before .before .loop .inv .1 in
+    omega (arith, steps.next-within the-left (c .end-of .ensures .2), steps.run-small (start .pre .1 .0) (start .args .at) (start .args .part .now) (start .pre .1 .1)))
+    (λ c. omega (arith, c .end-of .ensures .1, c .before .before .before .before .before .before .before .before .loop-test .taken))
     (λ c.
-    let the-end-of = c .before .before .before .before .end-of in
-    omega (arith, the-end-of .ensures))
-    (λ c.
-    let the-end-of = c .before .before .before .before .end-of in
-    omega (arith, the-end-of .ensures))
-    (λ c.
-    let start = c .before .before .before .before .before .before .before .before .before .before .before in
-    let the-if1 = c .before .before .before .before .before .before .if1 in
-    omega (arith, steps.at-small (start .pre .1 .0) (start .args .at) (start .args .part .now) (start .pre .1 .1) (the-if1 .left)))
-    (λ c κs.
-    let start = c .before .before .before .before .before .before .before .before .before .before .before .before in
-    let the-end-of = c .before .before .before .before .before .before .end-of in
-    let the-if1 = c .before .before .before .before .before .before .before .if1 in
-    (steps.inside-less (fileOf (start .args .law .now)) (start .pre .1 .0 .asked .readable) (start .args .at) (the-end-of .result) t (start .args .part .now) (start .pre .1 .1) (the-if1 .left) (the-end-of .ensures .0) (start .pre .0), ((start .pre .1 .0), steps.inside-part (start .pre .1 .0) (start .args .at) (start .args .part .now) (start .pre .1 .1) (the-if1 .left) (the-end-of .result) (the-end-of .ensures .0))))
-    (λ c κs.
-    let start = c .before .before .before .before .before .before .before .before .before .before .before .before .before .before .before in
-    let the-if1 = c .before .before .before .before .before .before .before .before .before .before .if1 in
-    steps.at-small (start .pre .1 .0) (start .args .at) (start .args .part .now) (start .pre .1 .1) (the-if1 .left))
-    (λ c κs.
-    let the-if1 = c .before .before .before .before .before .before .before .before .before .before .before .if1 in
-    omega (arith, the-if1 .left))
-    (λ c κs. search needs)
-    (λ c κs.
-    let start = c .before .before .before .before .before .before .before .before .before .before .before .before .before .before .before .before .before .before .before in
-    let the-if1 = c .before .before .before .before .before .before .before .before .before .before .before .before .before .before .if1 in
-    let the-block-first = c .before .before .before .block-first in
-    let the-sentences-in = c .before .sentences-in in
-    let the-term-at = c .before .before .term-at in
-    (start .pre .1 .0 .asked .indexed, start .pre .1 .0 .accepted, steps.block-inside (start .pre .1 .0) (start .args .at) (start .args .part .now) (start .pre .1 .1) (the-if1 .left) (the-block-first .result) (the-sentences-in .result) (the-block-first .ensures) (the-sentences-in .ensures ∙ ap sentencesIn (the-term-at .ensures))))
-    (λ c κs.
-    let start = c .before .before .before .before .before .before .before .before .before .before .before .before .before .before .before .before .before .before .before .before .before .before .before in
-    let the-sentences-in = c .before .before .before .before .before .sentences-in in
-    let the-block-first = c .before .before .before .before .before .before .before .block-first in
-    let the-if1 = c .before .before .before .before .before .before .before .before .before .before .before .before .before .before .before .before .before .before .if1 in
-    let the-term-at = c .before .before .before .before .before .before .term-at in
-    (steps.entered-less (fileOf (start .args .law .now)) (start .pre .1 .0 .asked .readable) (start .args .at) (the-sentences-in .result) (the-block-first .result) t (start .args .part .now) (start .pre .1 .1) (the-if1 .left) (the-sentences-in .ensures ∙ ap sentencesIn (the-term-at .ensures)) (steps.block-reads (start .pre .1 .0) (start .args .at) (start .args .part .now) (start .pre .1 .1) (the-if1 .left) (the-block-first .result) (the-block-first .ensures)) (start .pre .0), ((start .pre .1 .0), steps.block-inside (start .pre .1 .0) (start .args .at) (start .args .part .now) (start .pre .1 .1) (the-if1 .left) (the-block-first .result) (the-sentences-in .result) (the-block-first .ensures) (the-sentences-in .ensures ∙ ap sentencesIn (the-term-at .ensures)))))
-    (λ c.
-    let start = c .before .before .before .before .before .before .before .before .before .before .before .before .before .before .before .before .before .before .before .before .before .before .before .before .before .before in
-    let the-if1 = c .before .before .before .before .before .before .before .before .before .before .before .before .before .before .before .before .before .before .before .before .before .if1 in
-    omega (arith, steps.at-small (start .pre .1 .0) (start .args .at) (start .args .part .now) (start .pre .1 .1) (the-if1 .left)))
-    (λ c κs.
-    let the-if1 = c .before .before .before .before .before .before .before .before .before .before .before .before .before .before .before .before .before .before .before .before .before .if1 in
-    omega (arith, the-if1 .left))
-    (λ c. omega arith)
-    (λ c.
-    let start = c .before .before .before .before .before .before .before .before .before .before .before .before .before .before .before .before .before .before .before .before .before .before .before .before .before .before .before in
-    let the-if1 = c .before .before .before .before .before .before .before .before .before .before .before .before .before .before .before .before .before .before .before .before .before .before .if1 in
-    let the-word-at = c .word-at in
-    omega (arith, steps.after-small (start .pre .1 .0) (start .args .at) (start .args .part .now) (start .pre .1 .1) (the-if1 .left) (the-word-at .result) (the-word-at .ensures)))
-    (λ c.
-    let the-end-of = c .before .before .before .before .before .before .before .before .before .before .before .before .before .before .before .before .before .before .before .before .before .end-of in
-    omega (arith, the-end-of .ensures))
-    (λ c.
-    let the-end-of = c .before .before .before .before .before .before .before .before .before .before .before .before .before .before .before .before .before .before .before .before .before .end-of in
-    omega (arith, the-end-of .ensures))
-    (λ c.
-    let the-end-of = c .before .before .before .before .before .before .before .before .before .before .before .before .before .before .before .before .before .before .before .before .before .end-of in
-    omega (arith, the-end-of .ensures))
-    (λ c κs.
-    let start = c .before .before .before .before .before .before .before .before .before .before .before .before .before .before .before .before .before .before .before .before .before .before .before .before .before .before .before .before .before in
-    let the-end-of = c .before .before .before .before .before .before .before .before .before .before .before .before .before .before .before .before .before .before .before .before .before .before .before .end-of in
-    let the-word-at = c .before .before .word-at in
-    let the-if1 = c .before .before .before .before .before .before .before .before .before .before .before .before .before .before .before .before .before .before .before .before .before .before .before .before .if1 in
-    (steps.after-less (fileOf (start .args .law .now)) (start .pre .1 .0 .asked .readable) (start .args .at) (the-end-of .result) (the-word-at .result) t (start .args .part .now) (start .pre .1 .1) (the-if1 .left) (the-end-of .ensures .0) (the-word-at .ensures) (start .pre .0), ((start .pre .1 .0), steps.after-part (start .pre .1 .0) (start .args .at) (start .args .part .now) (start .pre .1 .1) (the-if1 .left) (the-end-of .result) (the-word-at .result) (the-end-of .ensures .0) (the-word-at .ensures))))
-    (λ c.
-    let the-walk-run2 = c .before .before .walk-run2 in
-    let the-walk-sentences = c .before .before .before .before .before .before .before .before .walk-sentences in
-    let the-note-block = c .before .before .before .before .before .before .before .before .before .before .before .before .note-block in
-    let the-walk-run = c .before .before .before .before .before .before .before .before .before .before .before .before .before .before .before .before .before .before .before .walk-run in
-    let the-note-call = c .before .before .before .before .before .before .before .before .before .before .before .before .before .before .before .before .before .before .before .before .before .before .before .before .note-call in
-    the-walk-run2 .kept .1 .1 .1 .1 .1 .1 .1 .0 ∙ the-walk-sentences .kept .1 .1 .1 .1 .1 .1 .1 .0 ∙ the-note-block .kept .1 .1 .1 .1 .1 .0 ∙ the-walk-run .kept .1 .1 .1 .1 .1 .1 .1 .0 ∙ the-note-call .kept .1 .1 .1 .1 .1 .1 .0)
-    (λ c.
-    let start = c .before .before .before .before .before .before .before .before .before .before .before .before .before .before .before .before .before .before .before .before .before .before .before .before .before .before .before .before .before .before .before .before in
-    let the-end-of = c .before .before .before .before .before .before .before .before .before .before .before .before .before .before .before .before .before .before .before .before .before .before .before .before .before .before .end-of in
-    let the-word-at = c .before .before .before .before .before .word-at in
-    let the-sentences-in = c .before .before .before .before .before .before .before .before .before .before .before .before .before .before .sentences-in in
-    let the-block-first = c .before .before .before .before .before .before .before .before .before .before .before .before .before .before .before .before .block-first in
-    let the-note-call = c .before .before .before .before .before .before .before .before .before .before .before .before .before .before .before .before .before .before .before .before .before .before .before .before .note-call in
-    let the-walk-run = c .before .before .before .before .before .before .before .before .before .before .before .before .before .before .before .before .before .before .before .walk-run in
-    let the-note-block = c .before .before .before .before .before .before .before .before .before .before .before .before .note-block in
-    let the-walk-sentences = c .before .before .before .before .before .before .before .before .walk-sentences in
-    let the-walk-run2 = c .before .before .walk-run2 in
-    let the-if1 = c .before .before .before .before .before .before .before .before .before .before .before .before .before .before .before .before .before .before .before .before .before .before .before .before .before .before .before .if1 in
-    let the-term-at = c .before .before .before .before .before .before .before .before .before .before .before .before .before .before .before .term-at in
-    steps.run-steps (fileOf (start .args .law .now)) (formatsIn (fileOf (start .args .law .now)) (start .args .task .limit) (start .args .store .now)) (start .args .task) (start .pre .1 .0 .asked .readable) (start .args .at) (the-end-of .result) (the-word-at .result) (the-sentences-in .result) (the-block-first .result) (start .args .part .now) (sinkOf (start .args .tally) (start .args .out .now)) (sinkOf (the-note-call .result) (the-note-call .last .1 .1 .1 .1 .1 .1 .0)) (sinkOf (the-walk-run .result) (the-walk-run .last .1 .1 .1 .1 .1 .1 .1 .0)) (sinkOf (the-note-block .result) (the-note-block .last .1 .1 .1 .1 .1 .0)) (sinkOf (the-walk-sentences .result) (the-walk-sentences .last .1 .1 .1 .1 .1 .1 .1 .0)) (sinkOf (the-walk-run2 .result) (the-walk-run2 .last .1 .1 .1 .1 .1 .1 .1 .0)) (start .pre .1 .1) (the-if1 .left) (the-end-of .ensures .0) (the-sentences-in .ensures ∙ ap sentencesIn (the-term-at .ensures)) (steps.block-reads (start .pre .1 .0) (start .args .at) (start .args .part .now) (start .pre .1 .1) (the-if1 .left) (the-block-first .result) (the-block-first .ensures)) (the-word-at .ensures) (the-note-call .ensures) (the-walk-run .ensures) (the-note-block .ensures) (the-walk-sentences .ensures) (the-walk-run2 .ensures)))
+    let start = c .before .before .before .before .before .before .before .before .before .before .before .before .before .before in
+    let the-loop = c .before .before .before .before .before .before .before .before .before .loop in
+    let the-walk-term = c .before .before .before .walk-term in (
+      the-walk-term .kept .1 .1 .1 .1 .1 .1 .1 .0 ∙ the-loop .inv .0,
+      steps.left-next (the-loop .inv .1) (c .before .before .before .before .before .before .before .before .loop-test .taken) (start .pre .1 .0 .asked .readable) (start .pre .1 .1) (c .end-of .result) (sinkOf (the-walk-term .result) (the-walk-term .last .1 .1 .1 .1 .1 .1 .1 .0)) (c .end-of .ensures .0) (the-walk-term .ensures),
+    ))
+    (λ c. c .before .loop .inv .0)
+    (λ c. steps.left-end (c .before .loop .inv .1) (c .loop-test .left)))
     (λ t. walk-sentence-lts.spec (
       pattern-at-reads.Asked,
       pattern-at-reads.Learnt,
@@ -489,7 +448,7 @@ pub +walk-conditions+walk-pattern+walk-run+walk-sentence+walk-sentences-spec :
     let the-walk-conditions = c .before .before .before .before .before .before .before .before .walk-conditions in
     let the-walk-run = c .before .before .walk-run in
     steps.sentence-steps (fileOf (start .args .law .now)) (formatsIn (fileOf (start .args .law .now)) (start .args .task .limit) (start .args .store .now)) (start .args .task) (start .pre .1 .0 .asked .readable) (start .args .s) (the-pattern-at .result) (the-result-at .result) (the-pattern .result .now) (the-result .result .now) (sinkOf (start .args .tally) (start .args .out .now)) (sinkOf (the-walk-pattern .result) (the-walk-pattern .last .1 .1 .1 .1 .1 .1 .1 .0)) (sinkOf (the-walk-conditions .result) (the-walk-conditions .last .1 .1 .1 .1 .1 .1 .0)) (sinkOf (the-walk-run .result) (the-walk-run .last .1 .1 .1 .1 .1 .1 .1 .0)) (start .pre .1 .1) (the-pattern-at .ensures) (the-pattern .ensures) (the-result-at .ensures) (the-result .ensures) (the-walk-pattern .ensures) (the-walk-conditions .ensures) (the-walk-run .ensures)))
-    λ t. walk-sentences-lts.spec
+    (λ t. walk-sentences-lts.spec
     (walk-sentence-below t, walk-sentence.Post)
     (walk-sentences-at t)
     walk-sentences.Post
@@ -526,4 +485,84 @@ pub +walk-conditions+walk-pattern+walk-run+walk-sentence+walk-sentences-spec :
     let start = c .before .before .before .before .before in
     let the-loop = c .before .loop in
     let the-loop-test = c .loop-test in
-    steps.sentences-end (fileOf (start .args .law .now)) (formatsIn (fileOf (start .args .law .now)) (start .args .task .limit) (start .args .store .now)) (start .args .task) (start .args .count) (start .args .first) (the-loop .i) (steps.after (fileOf (start .args .law .now)) (formatsIn (fileOf (start .args .law .now)) (start .args .task .limit) (start .args .store .now)) (start .args .task) (sinkOf (start .args .tally) (start .args .out .now)) (steps.sentencesMet (fileOf (start .args .law .now)) (formatsIn (fileOf (start .args .law .now)) (start .args .task .limit) (start .args .store .now)) (start .args .task) (start .args .count) (start .args .first))) (sinkOf (the-loop .so-far) (the-loop .out)) (the-loop-test .left) (the-loop .inv .2))
+    steps.sentences-end (fileOf (start .args .law .now)) (formatsIn (fileOf (start .args .law .now)) (start .args .task .limit) (start .args .store .now)) (start .args .task) (start .args .count) (start .args .first) (the-loop .i) (steps.after (fileOf (start .args .law .now)) (formatsIn (fileOf (start .args .law .now)) (start .args .task .limit) (start .args .store .now)) (start .args .task) (sinkOf (start .args .tally) (start .args .out .now)) (steps.sentencesMet (fileOf (start .args .law .now)) (formatsIn (fileOf (start .args .law .now)) (start .args .task .limit) (start .args .store .now)) (start .args .task) (start .args .count) (start .args .first))) (sinkOf (the-loop .so-far) (the-loop .out)) (the-loop-test .left) (the-loop .inv .2)))
+    λ t. walk-term-lts.spec (
+      note-call-reads.Asked,
+      note-call-reads.Learnt,
+      end-of-reads.Asked,
+      end-of-reads.Learnt,
+      walk-run-below t,
+      walk-run.Post,
+      term-at-reads.Asked,
+      term-at-reads.Learnt,
+      sentences-in-reads.Asked,
+      sentences-in-reads.Learnt,
+      block-first-reads.Asked,
+      block-first-reads.Learnt,
+      note-block-reads.Asked,
+      note-block-reads.Learnt,
+      walk-sentences-below t,
+      walk-sentences.Post,
+    )
+    (walk-term-at t)
+    walk-term.Post
+    (λ c κs.
+    let start = c .before .before .before .before .before in
+    (start .pre .1 .0, steps.at-inside (start .pre .1 .0) (start .args .at) (start .args .part .now) (start .pre .1 .1) (start .pre .1 .2)))
+    (λ c κs. c .before .before .before .before .before .before .before .before .pre .1 .2)
+    (λ c. c .end-of .ensures .1)
+    (λ c. c .end-of .ensures .1)
+    (λ c. c .end-of .ensures .2)
+    (λ c.
+    let start = c .before .before .before .before .before .before .before .before .before .before in
+    omega (arith, steps.at-small (start .pre .1 .0) (start .args .at) (start .args .part .now) (start .pre .1 .1) (start .pre .1 .2)))
+    (λ c κs.
+    let start = c .before .before .before .before .before .before .before .before .before .before .before in
+    let the-end-of = c .before .before .end-of in
+    (steps.inside-less (fileOf (start .args .law .now)) (start .pre .1 .0 .asked .readable) (start .args .at) (the-end-of .result) t (start .args .part .now) (start .pre .1 .1) (start .pre .1 .2) (the-end-of .ensures .0) (start .pre .0), ((start .pre .1 .0), steps.inside-part (start .pre .1 .0) (start .args .at) (start .args .part .now) (start .pre .1 .1) (start .pre .1 .2) (the-end-of .result) (the-end-of .ensures .0))))
+    (λ c κs. omega (arith, c .before .before .before .before .before .before .before .before .before .before .before .before .before .before .pre .1 .2))
+    (λ c κs. search needs)
+    (λ c.
+    let the-walk-run = c .before .before .before .before .before .walk-run in
+    let the-note-call = c .before .before .before .before .before .before .before .before .before .before .before .note-call in
+    the-walk-run .kept .1 .1 .1 .1 .1 .1 .1 .0 ∙ the-note-call .kept .1 .1 .1 .1 .1 .1 .0)
+    (λ c.
+    let start = c .before .before .before .before .before .before .before .before .before .before .before .before .before .before .before .before .before in
+    let the-sentences-in = c .before .sentences-in in
+    let the-term-at = c .before .before .term-at in
+    let the-walk-run = c .before .before .before .before .before .walk-run in
+    let the-end-of = c .before .before .before .before .before .before .before .before .end-of in
+    let the-note-call = c .before .before .before .before .before .before .before .before .before .before .before .note-call in
+    steps.term-ends (fileOf (start .args .law .now)) (formatsIn (fileOf (start .args .law .now)) (start .args .task .limit) (start .args .store .now)) (start .args .task) (start .pre .1 .0 .asked .readable) (start .args .at) (the-end-of .result) (the-sentences-in .result) (start .args .part .now) (sinkOf (start .args .tally) (start .args .out .now)) (sinkOf (the-note-call .result) (the-note-call .last .1 .1 .1 .1 .1 .1 .0)) (sinkOf (the-walk-run .result) (the-walk-run .last .1 .1 .1 .1 .1 .1 .1 .0)) (start .pre .1 .1) (start .pre .1 .2) (the-end-of .ensures .0) (the-sentences-in .ensures ∙ ap sentencesIn (the-term-at .ensures)) (c .if1 .taken) (the-note-call .ensures) (the-walk-run .ensures))
+    (λ c κs.
+    let start = c .before .before .before .before .before .before .before .before .before .before .before .before .before .before .before .before .before in
+    steps.at-small (start .pre .1 .0) (start .args .at) (start .args .part .now) (start .pre .1 .1) (start .pre .1 .2))
+    (λ c κs.
+    let start = c .before .before .before .before .before .before .before .before .before .before .before .before .before .before .before .before .before .before .before in
+    let the-block-first = c .before .block-first in
+    let the-sentences-in = c .before .before .before .sentences-in in
+    let the-term-at = c .before .before .before .before .term-at in
+    (start .pre .1 .0 .asked .indexed, start .pre .1 .0 .accepted, steps.block-inside (start .pre .1 .0) (start .args .at) (start .args .part .now) (start .pre .1 .1) (start .pre .1 .2) (the-block-first .result) (the-sentences-in .result) (the-block-first .ensures) (the-sentences-in .ensures ∙ ap sentencesIn (the-term-at .ensures))))
+    (λ c κs.
+    let start = c .before .before .before .before .before .before .before .before .before .before .before .before .before .before .before .before .before .before .before .before .before .before .before in
+    let the-block-first = c .before .before .before .before .before .block-first in
+    let the-sentences-in = c .before .before .before .before .before .before .before .sentences-in in
+    let the-term-at = c .before .before .before .before .before .before .before .before .term-at in
+    (steps.entered-less (fileOf (start .args .law .now)) (start .pre .1 .0 .asked .readable) (start .args .at) (the-sentences-in .result) (the-block-first .result) t (start .args .part .now) (start .pre .1 .1) (start .pre .1 .2) (the-sentences-in .ensures ∙ ap sentencesIn (the-term-at .ensures)) (steps.block-reads (start .pre .1 .0) (start .args .at) (start .args .part .now) (start .pre .1 .1) (start .pre .1 .2) (the-block-first .result) (the-block-first .ensures)) (start .pre .0), ((start .pre .1 .0), steps.block-inside (start .pre .1 .0) (start .args .at) (start .args .part .now) (start .pre .1 .1) (start .pre .1 .2) (the-block-first .result) (the-sentences-in .result) (the-block-first .ensures) (the-sentences-in .ensures ∙ ap sentencesIn (the-term-at .ensures)))))
+    (λ c.
+    let the-walk-sentences = c .before .before .walk-sentences in
+    let the-note-block = c .before .before .before .before .before .before .note-block in
+    let the-walk-run = c .before .before .before .before .before .before .before .before .before .before .before .before .before .before .walk-run in
+    let the-note-call = c .before .before .before .before .before .before .before .before .before .before .before .before .before .before .before .before .before .before .before .before .note-call in
+    the-walk-sentences .kept .1 .1 .1 .1 .1 .1 .1 .0 ∙ the-note-block .kept .1 .1 .1 .1 .1 .0 ∙ the-walk-run .kept .1 .1 .1 .1 .1 .1 .1 .0 ∙ the-note-call .kept .1 .1 .1 .1 .1 .1 .0)
+    (λ c.
+    let start = c .before .before .before .before .before .before .before .before .before .before .before .before .before .before .before .before .before .before .before .before .before .before .before .before .before .before in
+    let the-walk-sentences = c .before .before .walk-sentences in
+    let the-note-block = c .before .before .before .before .before .before .note-block in
+    let the-block-first = c .before .before .before .before .before .before .before .before .block-first in
+    let the-sentences-in = c .before .before .before .before .before .before .before .before .before .before .sentences-in in
+    let the-term-at = c .before .before .before .before .before .before .before .before .before .before .before .term-at in
+    let the-walk-run = c .before .before .before .before .before .before .before .before .before .before .before .before .before .before .walk-run in
+    let the-end-of = c .before .before .before .before .before .before .before .before .before .before .before .before .before .before .before .before .before .end-of in
+    let the-note-call = c .before .before .before .before .before .before .before .before .before .before .before .before .before .before .before .before .before .before .before .before .note-call in
+    steps.term-steps (fileOf (start .args .law .now)) (formatsIn (fileOf (start .args .law .now)) (start .args .task .limit) (start .args .store .now)) (start .args .task) (start .pre .1 .0 .asked .readable) (start .args .at) (the-end-of .result) (the-sentences-in .result) (the-block-first .result) (start .args .part .now) (sinkOf (start .args .tally) (start .args .out .now)) (sinkOf (the-note-call .result) (the-note-call .last .1 .1 .1 .1 .1 .1 .0)) (sinkOf (the-walk-run .result) (the-walk-run .last .1 .1 .1 .1 .1 .1 .1 .0)) (sinkOf (the-note-block .result) (the-note-block .last .1 .1 .1 .1 .1 .0)) (sinkOf (the-walk-sentences .result) (the-walk-sentences .last .1 .1 .1 .1 .1 .1 .1 .0)) (start .pre .1 .1) (start .pre .1 .2) (the-end-of .ensures .0) (the-sentences-in .ensures ∙ ap sentencesIn (the-term-at .ensures)) (steps.block-reads (start .pre .1 .0) (start .args .at) (start .args .part .now) (start .pre .1 .1) (start .pre .1 .2) (the-block-first .result) (the-block-first .ensures)) (the-note-call .ensures) (the-walk-run .ensures) (the-note-block .ensures) (the-walk-sentences .ensures))

@@ -1,3 +1,5 @@
+-- The five functions of refusal 8. Each call inside a term has one more around it, so that the measure is how many more may be around, and then the order in
+-- which the functions call each other. The loops' invariants say that what is left decides.
 use Prim.Native.Nat.{ℕ, _+_, _*_, _-_, _≤_, _<_}
 use native.Mathlib.Omega.{arith}
 use native.Mathlib.Nat.{le-of-lt}
@@ -7,24 +9,27 @@ use borrow.Author.Tests.{not-true, not-false}
 use lib.ListN.{length}
 use Rattle.file.specs.Sections.{fileOf}
 use Rattle.law.specs.Places.{conditionsOf, firstCondition}
+use Rattle.law.specs.Reading.{sentencesIn}
 use Rattle.law.proofs.IndexLaws as laws
 use Rattle.law.proofs.PartLaws as parts
-use Rattle.law.proofs.Forests.{inside-falls, after-falls}
 use Rattle.law.proofs.DepthSteps as steps
 use borrow.Fn.Kinds.{In}
 use borrow.Fn.PlainCycle.{Measures, is, falls, and}
 use Rattle.law.proofs.depth.conditions_depth.Reads as conditions-depth
 use Rattle.law.proofs.depth.conditions_depth.Kinds as conditions-depth-kinds
-use Rattle.law.proofs.depth.+conditions_depth+run_depth+sentence_depth+sentences_depth.Lts-conditions_depth as conditions-depth-lts
+use Rattle.law.proofs.depth.+conditions_depth+run_depth+sentence_depth+sentences_depth+term_depth.Lts-conditions_depth as conditions-depth-lts
 use Rattle.law.proofs.depth.run_depth.Reads as run-depth
 use Rattle.law.proofs.depth.run_depth.Kinds as run-depth-kinds
-use Rattle.law.proofs.depth.+conditions_depth+run_depth+sentence_depth+sentences_depth.Lts-run_depth as run-depth-lts
+use Rattle.law.proofs.depth.+conditions_depth+run_depth+sentence_depth+sentences_depth+term_depth.Lts-run_depth as run-depth-lts
 use Rattle.law.proofs.depth.sentence_depth.Reads as sentence-depth
 use Rattle.law.proofs.depth.sentence_depth.Kinds as sentence-depth-kinds
-use Rattle.law.proofs.depth.+conditions_depth+run_depth+sentence_depth+sentences_depth.Lts-sentence_depth as sentence-depth-lts
+use Rattle.law.proofs.depth.+conditions_depth+run_depth+sentence_depth+sentences_depth+term_depth.Lts-sentence_depth as sentence-depth-lts
 use Rattle.law.proofs.depth.sentences_depth.Reads as sentences-depth
 use Rattle.law.proofs.depth.sentences_depth.Kinds as sentences-depth-kinds
-use Rattle.law.proofs.depth.+conditions_depth+run_depth+sentence_depth+sentences_depth.Lts-sentences_depth as sentences-depth-lts
+use Rattle.law.proofs.depth.+conditions_depth+run_depth+sentence_depth+sentences_depth+term_depth.Lts-sentences_depth as sentences-depth-lts
+use Rattle.law.proofs.depth.term_depth.Reads as term-depth
+use Rattle.law.proofs.depth.term_depth.Kinds as term-depth-kinds
+use Rattle.law.proofs.depth.+conditions_depth+run_depth+sentence_depth+sentences_depth+term_depth.Lts-term_depth as term-depth-lts
 use Rattle.file.proofs.term_at.Reads as term-at-reads
 use Rattle.file.proofs.word_at.Reads as word-at-reads
 use Rattle.law.proofs.depth.sentences_in.Reads as sentences-in-reads
@@ -39,24 +44,27 @@ use Rattle.law.proofs.places.result.Reads as result-reads
 use Rattle.law.proofs.places.result_at.Reads as result-at-reads
 use Rattle.law.proofs.places.wanted.Reads as wanted-reads
 use Rattle.law.proofs.runs.end_of.Reads as end-of-reads
-use Rattle.law.proofs.depth.+conditions_depth+run_depth+sentence_depth+sentences_depth.{
+use Rattle.law.proofs.depth.+conditions_depth+run_depth+sentence_depth+sentences_depth+term_depth.{
   statement,
 }
-use Rattle.law.proofs.depth.+conditions_depth+run_depth+sentence_depth+sentences_depth.Tie.{
+use Rattle.law.proofs.depth.+conditions_depth+run_depth+sentence_depth+sentences_depth+term_depth.Tie.{
   close,
 }
 
 abbrev μ-conditions-depth : Measures 2 conditions-depth-kinds.ps ℕ
-μ-conditions-depth κs a = (33 - a .1 .1 .1 .0) * 40000 + 15000
+μ-conditions-depth κs a = 5 * (33 - a .1 .1 .1 .0) + 2
 
 abbrev μ-run-depth : Measures 3 run-depth-kinds.ps ℕ
-μ-run-depth κs a = (33 - a .1 .1 .1 .1 .0) * 40000 + length (a .1 .1 .0 .now)
+μ-run-depth κs a = 5 * (33 - a .1 .1 .1 .1 .0) + 1
 
 abbrev μ-sentence-depth : Measures 2 sentence-depth-kinds.ps ℕ
-μ-sentence-depth κs a = (33 - a .1 .1 .1 .0) * 40000 + 20000
+μ-sentence-depth κs a = 5 * (33 - a .1 .1 .1 .0) + 3
 
 abbrev μ-sentences-depth : Measures 2 sentences-depth-kinds.ps ℕ
-μ-sentences-depth κs a = (33 - a .1 .1 .1 .1 .0) * 40000 + 30000
+μ-sentences-depth κs a = 5 * (33 - a .1 .1 .1 .1 .0) + 4
+
+abbrev μ-term-depth : Measures 3 term-depth-kinds.ps ℕ
+μ-term-depth κs a = 5 * (33 - a .1 .1 .1 .1 .0)
 
 abbrev conditions-depth-at : ℕ → In 2 conditions-depth-kinds.ps
 conditions-depth-at t =
@@ -113,6 +121,14 @@ sentences-depth-below t =
     (falls 2 sentences-depth-kinds.ps _<_ μ-sentences-depth t)
     sentences-depth.Pre
 
+abbrev term-depth-at : ℕ → In 3 term-depth-kinds.ps
+term-depth-at t =
+    and 3 term-depth-kinds.ps (is 3 term-depth-kinds.ps μ-term-depth t) term-depth.Pre
+
+abbrev term-depth-below : ℕ → In 3 term-depth-kinds.ps
+term-depth-below t =
+    and 3 term-depth-kinds.ps (falls 3 term-depth-kinds.ps _<_ μ-term-depth t) term-depth.Pre
+
 abbrev conditions-depth-Inv-loop : conditions-depth-lts.InvT-loop
 conditions-depth-Inv-loop law index s depth first count i₀ i =
     (first ≡ firstCondition (fileOf law) s)
@@ -124,6 +140,12 @@ conditions-depth-Inv-loop law index s depth first count i₀ i =
 abbrev conditions-depth-μ-loop : conditions-depth-lts.MeasureT-loop
 conditions-depth-μ-loop law index s depth first count i₀ i = count - i
 
+abbrev run-depth-Inv-loop : run-depth-lts.InvT-loop
+run-depth-Inv-loop law index part at depth k₀ k = steps.LeftWithin (fileOf law) at depth part k
+
+abbrev run-depth-μ-loop : run-depth-lts.MeasureT-loop
+run-depth-μ-loop law index part at depth k₀ k = length part - 24 * k
+
 abbrev sentences-depth-Inv-loop : sentences-depth-lts.InvT-loop
 sentences-depth-Inv-loop law index first count depth i₀ i =
     (i ≤ count)
@@ -132,13 +154,15 @@ sentences-depth-Inv-loop law index first count depth i₀ i =
 abbrev sentences-depth-μ-loop : sentences-depth-lts.MeasureT-loop
 sentences-depth-μ-loop law index first count depth i₀ i = count - i
 
-pub +conditions-depth+run-depth+sentence-depth+sentences-depth-spec : {M : Type 1} → statement M
-+conditions-depth+run-depth+sentence-depth+sentences-depth-spec =
+pub +conditions-depth+run-depth+sentence-depth+sentences-depth+term-depth-spec :
+    {M : Type 1} → statement M
++conditions-depth+run-depth+sentence-depth+sentences-depth+term-depth-spec =
     close
     μ-conditions-depth
     μ-run-depth
     μ-sentence-depth
     μ-sentences-depth
+    μ-term-depth
     (λ t. conditions-depth-lts.spec (
       first-condition-reads.Asked,
       first-condition-reads.Learnt,
@@ -192,7 +216,7 @@ pub +conditions-depth+run-depth+sentence-depth+sentences-depth-spec : {M : Type 
     let start = c .before .before .before .before .before .before .before in
     let loop = c .before .before .before .loop in
     let the-first-condition = c .before .before .before .before .before .first-condition in
-    (omega (arith, parts.part-small (start .args .law .now) (start .args .index .now) (start .pre .1 .0) (start .pre .1 .1) (c .before .asked-at .result) (c .asked .result .now) (rw (c .before .asked-at .ensures, c .asked .ensures) (parts.asked-part (fileOf (start .args .law .now)) (start .pre .1 .1) (start .args .s) (the-first-condition .result + loop .i) (rw (sym (loop .inv .0)) at (laws.owns (start .args .law .now) (start .args .index .now) (start .pre .1 .0) (start .args .s) (loop .i) (start .pre .1 .2) (omega (arith, loop .inv .1)))))), start .pre .0), (start .pre .1 .0, start .pre .1 .1, rw (c .before .asked-at .ensures, c .asked .ensures) (parts.asked-part (fileOf (start .args .law .now)) (start .pre .1 .1) (start .args .s) (the-first-condition .result + loop .i) (rw (sym (loop .inv .0)) at (laws.owns (start .args .law .now) (start .args .index .now) (start .pre .1 .0) (start .args .s) (loop .i) (start .pre .1 .2) (omega (arith, loop .inv .1))))), start .pre .1 .3)))
+    (omega (arith, start .pre .0), (start .pre .1 .0, start .pre .1 .1, rw (c .before .asked-at .ensures, c .asked .ensures) (parts.asked-part (fileOf (start .args .law .now)) (start .pre .1 .1) (start .args .s) (the-first-condition .result + loop .i) (rw (sym (loop .inv .0)) at (laws.owns (start .args .law .now) (start .args .index .now) (start .pre .1 .0) (start .args .s) (loop .i) (start .pre .1 .2) (omega (arith, loop .inv .1))))), start .pre .1 .3)))
     (λ c.
     let start = c .before .before .before .before .before .before .before .before .before in
     let loop = c .before .before .before .before .before .loop in
@@ -228,7 +252,7 @@ pub +conditions-depth+run-depth+sentence-depth+sentences-depth-spec : {M : Type 
     let loop = c .before .before .before .before .before .before .before .loop in
     let the-asked-at = c .before .before .before .before .before .asked-at in
     let the-first-condition = c .before .before .before .before .before .before .before .before .before .first-condition in
-    (omega (arith, parts.part-small (start .args .law .now) (start .args .index .now) (start .pre .1 .0) (start .pre .1 .1) (the-asked-at .result + c .before .asked-size .result) (c .wanted .result .now) (rw (the-asked-at .ensures, c .before .asked-size .ensures, c .wanted .ensures) (parts.wanted-part (fileOf (start .args .law .now)) (start .pre .1 .1) (start .args .s) (the-first-condition .result + loop .i) (rw (sym (loop .inv .0)) at (laws.owns (start .args .law .now) (start .args .index .now) (start .pre .1 .0) (start .args .s) (loop .i) (start .pre .1 .2) (omega (arith, loop .inv .1)))))), start .pre .0), (start .pre .1 .0, start .pre .1 .1, rw (the-asked-at .ensures, c .before .asked-size .ensures, c .wanted .ensures) (parts.wanted-part (fileOf (start .args .law .now)) (start .pre .1 .1) (start .args .s) (the-first-condition .result + loop .i) (rw (sym (loop .inv .0)) at (laws.owns (start .args .law .now) (start .args .index .now) (start .pre .1 .0) (start .args .s) (loop .i) (start .pre .1 .2) (omega (arith, loop .inv .1))))), start .pre .1 .3)))
+    (omega (arith, start .pre .0), (start .pre .1 .0, start .pre .1 .1, rw (the-asked-at .ensures, c .before .asked-size .ensures, c .wanted .ensures) (parts.wanted-part (fileOf (start .args .law .now)) (start .pre .1 .1) (start .args .s) (the-first-condition .result + loop .i) (rw (sym (loop .inv .0)) at (laws.owns (start .args .law .now) (start .args .index .now) (start .pre .1 .0) (start .args .s) (loop .i) (start .pre .1 .2) (omega (arith, loop .inv .1))))), start .pre .1 .3)))
     (λ c.
     let start = c .before .before .before .before .before .before .before .before .before .before .before .before .before in
     let loop = c .before .before .before .before .before .before .before .before .before .loop in
@@ -263,109 +287,37 @@ pub +conditions-depth+run-depth+sentence-depth+sentences-depth-spec : {M : Type 
     let the-first-condition = c .before .before .before .first-condition in
     sym (loop .inv .3 ∙ steps.conditions-same (fileOf (start .args .law .now)) (start .args .s) _ 0 _ (the-first-condition .result + loop .i) (start .args .depth) (omega (arith, c .loop-test .left)) refl ∙ steps.conditions-none (fileOf (start .args .law .now)) (start .args .s) _ (start .args .depth))))
     (λ t. run-depth-lts.spec (
-      end-of-reads.Asked,
-      end-of-reads.Learnt,
-      run-depth-below t,
-      run-depth.Post,
-      term-at-reads.Asked,
-      term-at-reads.Learnt,
-      sentences-in-reads.Asked,
-      sentences-in-reads.Learnt,
-      block-first-reads.Asked,
-      block-first-reads.Learnt,
-      sentences-depth-below t,
-      sentences-depth.Post,
       word-at-reads.Asked,
       word-at-reads.Learnt,
+      term-depth-below t,
+      term-depth.Post,
     )
     (run-depth-at t)
     run-depth.Post
-    (λ c.
-    let start = c .before .before .before in
-    sym (steps.run-none (fileOf (start .args .law .now)) (start .args .at) (start .args .depth) (start .args .part .now) (c .if1 .taken)))
-    (λ c.
-    let start = c .before .before .before .before in
-    sym (steps.run-over (fileOf (start .args .law .now)) (start .args .at) (start .args .depth) (start .args .part .now) (c .before .if1 .left) (c .if2 .taken)))
-    (λ c κs. omega arith)
+    run-depth-Inv-loop
+    run-depth-μ-loop
+    (λ c. sym (steps.run-none (fileOf (c .before .before .before .args .law .now)) (c .before .before .before .args .at) (c .before .before .before .args .depth) (c .before .before .before .args .part .now) (c .if1 .taken)))
+    (λ c. sym (steps.run-over (fileOf (c .before .before .before .before .args .law .now)) (c .before .before .before .before .args .at) (c .before .before .before .before .args .depth) (c .before .before .before .before .args .part .now) (c .before .if1 .left) (omega (arith, c .if2 .taken))))
+    (λ c. steps.left-whole (fileOf (c .before .before .before .before .args .law .now)) (c .before .before .before .before .args .at) (c .before .before .before .before .args .depth) (c .before .before .before .before .args .part .now) (c .before .before .before .before .pre .1 .2))
+    (λ c. omega (arith, c .loop .inv .within))
+    (λ c. omega (arith, c .before .loop .inv .within))
+    (λ c. c .before .loop .inv .within)
+    (λ c. omega (arith, c .before .loop .inv .within))
+    (λ c. search needs)
+    (λ c κs. omega (arith, steps.left-some (fileOf (c .before .before .before .before .before .before .before .args .law .now)) (c .before .before .before .before .before .before .before .pre .1 .1) (c .before .before .loop .inv) (c .before .loop-test .taken)))
+    (λ c. omega (arith, c .before .before .before .before .loop .inv .within))
+    (λ c. omega (arith, c .before .before .before .loop-test .taken))
+    (λ c. steps.left-leaf (fileOf (c .before .before .before .before .before .before .before .before .before .args .law .now)) (c .before .before .before .before .before .before .before .before .before .pre .1 .1) (c .before .before .before .before .loop .inv) (c .before .before .before .loop-test .taken) (omega (arith, c .before .before .before .before .before .if2 .left)) (omega (arith, c .before .word-at .ensures, c .if3 .taken)))
+    (λ c. omega (arith, c .before .before .before .before .loop .inv .part .inside, laws.terms-limit (c .before .before .before .before .before .before .before .before .before .args .law .now) (c .before .before .before .before .before .before .before .before .before .args .index .now) (c .before .before .before .before .before .before .before .before .before .pre .1 .0)))
+    (λ c κs. (omega (arith, c .before .before .before .before .before .before .before .before .before .pre .0), (c .before .before .before .before .before .before .before .before .before .pre .1 .0, c .before .before .before .before .before .before .before .before .before .pre .1 .1, c .before .before .before .before .loop .inv .part, steps.left-some (fileOf (c .before .before .before .before .before .before .before .before .before .args .law .now)) (c .before .before .before .before .before .before .before .before .before .pre .1 .1) (c .before .before .before .before .loop .inv) (c .before .before .before .loop-test .taken), omega (arith, c .before .before .before .before .before .if2 .left))))
+    (λ c. steps.left-over (fileOf (c .before .before .before .before .before .before .before .before .before .before .before .args .law .now)) (c .before .before .before .before .before .before .before .before .before .before .before .pre .1 .1) (c .before .before .before .before .before .before .loop .inv) (c .before .before .before .before .before .loop-test .taken) (sym (c .before .term-depth .ensures) ∙ not-true _ (c .if4 .taken)))
+    (λ c κs. omega (arith, steps.left-some (fileOf (c .before .before .before .before .before .before .before .before .before .before .before .args .law .now)) (c .before .before .before .before .before .before .before .before .before .before .before .pre .1 .1) (c .before .before .before .before .before .before .loop .inv) (c .before .before .before .before .before .loop-test .taken)))
     (λ c. omega arith)
     (λ c. omega arith)
-    (λ c. omega arith)
-    (λ c.
-    let start = c .before .before .before .before .before .before in
-    let the-if1 = c .before .before .before .if1 in
-    omega (arith, parts.part-at (fileOf (start .args .law .now)) (start .pre .1 .1) (start .args .at) (start .args .part .now) (start .pre .1 .2) (the-if1 .left), laws.terms-limit (start .args .law .now) (start .args .index .now) (start .pre .1 .0)))
-    (λ c. omega arith)
-    (λ c κs.
-    let start = c .before .before .before .before .before .before in
-    let the-if1 = c .before .before .before .if1 in
-    let the-if2 = c .before .before .if2 in
-    (omega (arith, inside-falls (start .args .part .now) (c .before .end-of .result) (length (start .args .part .now)) (the-if1 .left) (c .before .end-of .ensures .0) refl, the-if2 .left, start .pre .0), (start .pre .1 .0, start .pre .1 .1, rw (c .before .end-of .ensures .0) (parts.contents-part (fileOf (start .args .law .now)) (start .pre .1 .1) (start .args .at) (start .args .part .now) (start .pre .1 .2) (the-if1 .left)), omega (arith, the-if2 .left))))
-    (λ c.
-    let start = c .before .before .before .before .before .before .before .before in
-    let the-end-of = c .before .before .before .end-of in
-    let the-if1 = c .before .before .before .before .before .if1 in
-    let the-if2 = c .before .before .before .before .if2 in
-    sym (rw ((sym (c .before .run-depth .ensures)) ∙ not-true _ (c .if3 .taken)) at (steps.run-step (fileOf (start .args .law .now)) (start .pre .1 .1) (start .args .at) (start .args .depth) (the-end-of .result) (start .args .part .now) (start .pre .1 .2) (the-if1 .left) (the-end-of .ensures .0) (the-if2 .left))))
-    (λ c κs. omega (arith, (c .before .before .before .before .before .if1 .left)))
-    (λ c κs. search needs)
-    (λ c κs.
-    let start = c .before .before .before .before .before .before .before .before .before .before in
-    let the-if1 = c .before .before .before .before .before .before .before .if1 in
-    omega (arith, parts.part-at (fileOf (start .args .law .now)) (start .pre .1 .1) (start .args .at) (start .args .part .now) (start .pre .1 .2) (the-if1 .left), laws.terms-limit (start .args .law .now) (start .args .index .now) (start .pre .1 .0)))
-    (λ c.
-    let the-if2 = c .before .before .before .before .before .before .before .if2 in
-    omega (arith, the-if2 .left))
-    (λ c κs.
-    let start = c .before .before .before .before .before .before .before .before .before .before .before in
-    let the-if2 = c .before .before .before .before .before .before .before .if2 in
-    let the-if1 = c .before .before .before .before .before .before .before .before .if1 in
-    let the-term-at = c .before .before .term-at in
-    (omega (arith, the-if2 .left, start .pre .0), (start .pre .1 .0, start .pre .1 .1, rw (c .block-first .ensures ∙ (start .pre .1 .0 .words .blocks (start .args .at) (parts.part-at (fileOf (start .args .law .now)) (start .pre .1 .1) (start .args .at) (start .args .part .now) (start .pre .1 .2) (the-if1 .left))), c .before .sentences-in .ensures, the-term-at .ensures) (parts.part-sentences (fileOf (start .args .law .now)) (start .pre .1 .1) (start .args .at) (start .args .part .now) (start .pre .1 .2) (the-if1 .left)), omega (arith, the-if2 .left))))
-    (λ c.
-    let start = c .before .before .before .before .before .before .before .before .before .before .before .before .before in
-    let the-run-depth = c .before .before .before .before .before .before .run-depth in
-    let the-if3 = c .before .before .before .before .before .if3 in
-    let the-sentences-in = c .before .before .before .sentences-in in
-    let the-term-at = c .before .before .before .before .term-at in
-    let the-block-first = c .before .before .block-first in
-    let the-if1 = c .before .before .before .before .before .before .before .before .before .before .if1 in
-    let the-end-of = c .before .before .before .before .before .before .before .before .end-of in
-    let the-if2 = c .before .before .before .before .before .before .before .before .before .if2 in
-    sym (rw ((sym (the-run-depth .ensures)) ∙ not-false _ (the-if3 .left), (sym (rw (the-sentences-in .ensures, the-term-at .ensures, the-block-first .ensures ∙ (start .pre .1 .0 .words .blocks (start .args .at) (parts.part-at (fileOf (start .args .law .now)) (start .pre .1 .1) (start .args .at) (start .args .part .now) (start .pre .1 .2) (the-if1 .left)))) at (c .before .sentences-depth .ensures))) ∙ not-true _ (c .if4 .taken)) at (steps.run-step (fileOf (start .args .law .now)) (start .pre .1 .1) (start .args .at) (start .args .depth) (the-end-of .result) (start .args .part .now) (start .pre .1 .2) (the-if1 .left) (the-end-of .ensures .0) (the-if2 .left))))
-    (λ c κs.
-    let the-if1 = c .before .before .before .before .before .before .before .before .before .before .if1 in
-    omega (arith, (the-if1 .left)))
-    (λ c. omega arith)
-    (λ c. omega arith)
-    (λ c. omega arith)
-    (λ c. omega arith)
-    (λ c.
-    let start = c .before .before .before .before .before .before .before .before .before .before .before .before .before .before .before in
-    let the-if1 = c .before .before .before .before .before .before .before .before .before .before .before .before .if1 in
-    omega (arith, parts.part-at (fileOf (start .args .law .now)) (start .pre .1 .1) (start .args .at) (start .args .part .now) (start .pre .1 .2) (the-if1 .left), laws.terms-limit (start .args .law .now) (start .args .index .now) (start .pre .1 .0)))
-    (λ c.
-    let start = c .before .before .before .before .before .before .before .before .before .before .before .before .before .before .before in
-    let the-if1 = c .before .before .before .before .before .before .before .before .before .before .before .before .if1 in
-    omega (arith, parts.rest-part (fileOf (start .args .law .now)) (start .pre .1 .1) (start .args .at) (start .args .part .now) (start .pre .1 .2) (the-if1 .left) .inside, c .before .word-at .ensures, laws.terms-limit (start .args .law .now) (start .args .index .now) (start .pre .1 .0)))
-    (λ c κs.
-    let start = c .before .before .before .before .before .before .before .before .before .before .before .before .before .before .before in
-    let the-end-of = c .before .before .before .before .before .before .before .before .before .before .end-of in
-    let the-if1 = c .before .before .before .before .before .before .before .before .before .before .before .before .if1 in
-    (omega (arith, after-falls (start .args .part .now) (the-end-of .result) (length (start .args .part .now)) (the-if1 .left) (the-end-of .ensures .0) refl, start .pre .0), (start .pre .1 .0, start .pre .1 .1, rw ((the-end-of .ensures .0), c .before .word-at .ensures) (parts.rest-part (fileOf (start .args .law .now)) (start .pre .1 .1) (start .args .at) (start .args .part .now) (start .pre .1 .2) (the-if1 .left)), start .pre .1 .3)))
-    (λ c.
-    let start = c .before .before .before .before .before .before .before .before .before .before .before .before .before .before .before .before in
-    let the-word-at = c .before .before .word-at in
-    let the-run-depth = c .before .before .before .before .before .before .before .before .before .run-depth in
-    let the-if3 = c .before .before .before .before .before .before .before .before .if3 in
-    let the-sentences-in = c .before .before .before .before .before .before .sentences-in in
-    let the-term-at = c .before .before .before .before .before .before .before .term-at in
-    let the-block-first = c .before .before .before .before .before .block-first in
-    let the-if1 = c .before .before .before .before .before .before .before .before .before .before .before .before .before .if1 in
-    let the-sentences-depth = c .before .before .before .before .sentences-depth in
-    let the-if4 = c .before .before .before .if4 in
-    let the-end-of = c .before .before .before .before .before .before .before .before .before .before .before .end-of in
-    let the-if2 = c .before .before .before .before .before .before .before .before .before .before .before .before .if2 in
-    rw (the-word-at .ensures) at (c .run-depth2 .ensures) ∙ sym (rw ((sym (the-run-depth .ensures)) ∙ not-false _ (the-if3 .left), (sym (rw (the-sentences-in .ensures, the-term-at .ensures, the-block-first .ensures ∙ (start .pre .1 .0 .words .blocks (start .args .at) (parts.part-at (fileOf (start .args .law .now)) (start .pre .1 .1) (start .args .at) (start .args .part .now) (start .pre .1 .2) (the-if1 .left)))) at (the-sentences-depth .ensures))) ∙ not-false _ (the-if4 .left)) at (steps.run-step (fileOf (start .args .law .now)) (start .pre .1 .1) (start .args .at) (start .args .depth) (the-end-of .result) (start .args .part .now) (start .pre .1 .2) (the-if1 .left) (the-end-of .ensures .0) (the-if2 .left)))))
+    (λ c. omega (arith, steps.left-end (fileOf (c .before .before .before .before .before .before .before .before .before .before .before .before .args .law .now)) (c .before .before .before .before .before .before .before .before .before .before .before .before .pre .1 .1) (c .before .before .before .before .before .before .before .loop .inv) (c .before .before .before .before .before .before .loop-test .taken) (c .word-at2 .ensures)))
+    (λ c. omega (arith, c .before .before .before .before .before .before .loop-test .taken))
+    (λ c. steps.left-after (fileOf (c .before .before .before .before .before .before .before .before .before .before .before .before .args .law .now)) (c .before .before .before .before .before .before .before .before .before .before .before .before .pre .1 .1) (c .before .before .before .before .before .before .before .loop .inv) (c .before .before .before .before .before .before .loop-test .taken) (c .word-at2 .ensures) (sym (c .before .before .term-depth .ensures) ∙ not-false _ (c .before .if4 .left)))
+    (λ c. steps.left-none (fileOf (c .before .before .before .before .before .before .args .law .now)) (c .before .before .before .before .before .before .pre .1 .1) (c .before .loop .inv) (c .loop-test .left)))
     (λ t. sentence-depth-lts.spec (
       pattern-reads.Asked,
       pattern-reads.Learnt,
@@ -386,7 +338,7 @@ pub +conditions-depth+run-depth+sentence-depth+sentences-depth-spec : {M : Type 
     (λ c κs. (c .before .before .pre .1 .0, le-of-lt (c .before .before .pre .1 .2)))
     (λ c κs.
     let start = c .before .before .before in
-    (omega (arith, parts.part-small (start .args .law .now) (start .args .index .now) (start .pre .1 .0) (start .pre .1 .1) (c .pattern-at .result) (c .before .pattern .result .now) (rw (c .pattern-at .ensures, c .before .pattern .ensures) (parts.pattern-part (fileOf (start .args .law .now)) (start .pre .1 .1) (start .args .s) (start .pre .1 .2))), start .pre .0), (start .pre .1 .0, start .pre .1 .1, rw (c .pattern-at .ensures, c .before .pattern .ensures) (parts.pattern-part (fileOf (start .args .law .now)) (start .pre .1 .1) (start .args .s) (start .pre .1 .2)), start .pre .1 .3)))
+    (omega (arith, start .pre .0), (start .pre .1 .0, start .pre .1 .1, rw (c .pattern-at .ensures, c .before .pattern .ensures) (parts.pattern-part (fileOf (start .args .law .now)) (start .pre .1 .1) (start .args .s) (start .pre .1 .2)), start .pre .1 .3)))
     (λ c.
     let start = c .before .before .before .before .before in
     let the-pattern-at = c .before .before .pattern-at in
@@ -410,7 +362,7 @@ pub +conditions-depth+run-depth+sentence-depth+sentences-depth-spec : {M : Type 
     (start .pre .1 .0, start .pre .1 .2))
     (λ c κs.
     let start = c .before .before .before .before .before .before .before .before .before in
-    (omega (arith, parts.part-small (start .args .law .now) (start .args .index .now) (start .pre .1 .0) (start .pre .1 .1) (c .result-at .result) (c .before .result .result .now) (rw (c .result-at .ensures, c .before .result .ensures) (parts.result-part (fileOf (start .args .law .now)) (start .pre .1 .1) (start .args .s) (start .pre .1 .2))), start .pre .0), (start .pre .1 .0, start .pre .1 .1, rw (c .result-at .ensures, c .before .result .ensures) (parts.result-part (fileOf (start .args .law .now)) (start .pre .1 .1) (start .args .s) (start .pre .1 .2)), start .pre .1 .3)))
+    (omega (arith, start .pre .0), (start .pre .1 .0, start .pre .1 .1, rw (c .result-at .ensures, c .before .result .ensures) (parts.result-part (fileOf (start .args .law .now)) (start .pre .1 .1) (start .args .s) (start .pre .1 .2)), start .pre .1 .3)))
     (λ c.
     let start = c .before .before .before .before .before .before .before .before .before .before in
     let the-result = c .before .before .result in
@@ -421,7 +373,7 @@ pub +conditions-depth+run-depth+sentence-depth+sentences-depth-spec : {M : Type 
     let the-conditions-depth = c .before .before .before .before .conditions-depth in
     let the-if2 = c .before .before .before .if2 in
     rw (c .before .result-at .ensures, the-result .ensures) at (c .run-depth2 .ensures) ∙ sym (rw (sym (rw (the-pattern-at .ensures, the-pattern .ensures) at (the-run-depth .ensures)) ∙ not-false _ (the-if1 .left), sym (the-conditions-depth .ensures) ∙ not-false _ (the-if2 .left)) at (steps.sentence-step (fileOf (start .args .law .now)) (start .pre .1 .1) (start .args .s) (start .args .depth) (start .pre .1 .2)))))
-    λ t. sentences-depth-lts.spec
+    (λ t. sentences-depth-lts.spec
     (sentence-depth-below t, sentence-depth.Post)
     (sentences-depth-at t)
     sentences-depth.Post
@@ -451,4 +403,65 @@ pub +conditions-depth+run-depth+sentence-depth+sentences-depth-spec : {M : Type 
     (λ c.
     let start = c .before .before .before in
     let loop = c .before .loop in
-    sym (loop .inv .1 ∙ steps.sentences-same (fileOf (start .args .law .now)) _ 0 _ (start .args .first + loop .i) (start .args .depth) (omega (arith, c .loop-test .left)) refl ∙ steps.sentences-none (fileOf (start .args .law .now)) _ (start .args .depth)))
+    sym (loop .inv .1 ∙ steps.sentences-same (fileOf (start .args .law .now)) _ 0 _ (start .args .first + loop .i) (start .args .depth) (omega (arith, c .loop-test .left)) refl ∙ steps.sentences-none (fileOf (start .args .law .now)) _ (start .args .depth))))
+    λ t. term-depth-lts.spec (
+      end-of-reads.Asked,
+      end-of-reads.Learnt,
+      run-depth-below t,
+      run-depth.Post,
+      term-at-reads.Asked,
+      term-at-reads.Learnt,
+      sentences-in-reads.Asked,
+      sentences-in-reads.Learnt,
+      block-first-reads.Asked,
+      block-first-reads.Learnt,
+      sentences-depth-below t,
+      sentences-depth.Post,
+    )
+    (term-depth-at t)
+    term-depth.Post
+    (λ c κs. c .before .before .pre .1 .3)
+    (λ c. omega arith)
+    (λ c. omega arith)
+    (λ c. omega arith)
+    (λ c.
+    let start = c .before .before .before .before in
+    omega (arith, parts.part-at (fileOf (start .args .law .now)) (start .pre .1 .1) (start .args .at) (start .args .part .now) (start .pre .1 .2) (start .pre .1 .3), laws.terms-limit (start .args .law .now) (start .args .index .now) (start .pre .1 .0)))
+    (λ c.
+    let start = c .before .before .before .before in
+    omega (arith, start .pre .1 .4))
+    (λ c κs.
+    let start = c .before .before .before .before in
+    let contents = parts.contents-part (fileOf (start .args .law .now)) (start .pre .1 .1) (start .args .at) (start .args .part .now) (start .pre .1 .2) (start .pre .1 .3) in
+    (omega (arith, start .pre .0, start .pre .1 .4), (start .pre .1 .0, start .pre .1 .1, rw (c .before .end-of .ensures .0) contents, omega (arith, start .pre .1 .4))))
+    (λ c.
+    let start = c .before .before .before .before .before .before in
+    let over = not-true _ (c .if1 .taken) in
+    steps.term-over (fileOf (start .args .law .now)) (start .pre .1 .1) (start .pre .1 .2) (start .pre .1 .3) (start .pre .1 .4) (c .before .before .before .end-of .ensures .0) (c .before .run-depth .ensures) over)
+    (λ c κs.
+    let start = c .before .before .before .before .before .before in
+    omega (arith, start .pre .1 .3))
+    (λ c κs. search needs)
+    (λ c.
+    let start = c .before .before .before .before .before .before .before .before .before in
+    let inside = not-false _ (c .before .before .before .if1 .left) in
+    let counted = c .before .sentences-in .ensures ∙ ap sentencesIn (c .before .before .term-at .ensures) in
+    steps.term-alone (fileOf (start .args .law .now)) (start .pre .1 .1) (start .pre .1 .2) (start .pre .1 .3) (start .pre .1 .4) (c .before .before .before .before .before .before .end-of .ensures .0) (c .before .before .before .before .run-depth .ensures) inside counted (c .if2 .taken))
+    (λ c κs.
+    let start = c .before .before .before .before .before .before .before .before .before in
+    omega (arith, parts.part-at (fileOf (start .args .law .now)) (start .pre .1 .1) (start .args .at) (start .args .part .now) (start .pre .1 .2) (start .pre .1 .3), laws.terms-limit (start .args .law .now) (start .args .index .now) (start .pre .1 .0)))
+    (λ c.
+    let start = c .before .before .before .before .before .before .before .before .before .before in
+    omega (arith, start .pre .1 .4))
+    (λ c κs.
+    let start = c .before .before .before .before .before .before .before .before .before .before in
+    let first = c .block-first .ensures ∙ start .pre .1 .0 .words .blocks (start .args .at) (parts.part-at (fileOf (start .args .law .now)) (start .pre .1 .1) (start .args .at) (start .args .part .now) (start .pre .1 .2) (start .pre .1 .3)) in
+    let counted = c .before .before .sentences-in .ensures ∙ ap sentencesIn (c .before .before .before .term-at .ensures) in
+    let inside = parts.part-sentences (fileOf (start .args .law .now)) (start .pre .1 .1) (start .args .at) (start .args .part .now) (start .pre .1 .2) (start .pre .1 .3) in
+    (omega (arith, start .pre .0, start .pre .1 .4), (start .pre .1 .0, start .pre .1 .1, rw (first, counted) inside, omega (arith, start .pre .1 .4))))
+    (λ c.
+    let start = c .before .before .before .before .before .before .before .before .before .before .before in
+    let first = c .before .block-first .ensures ∙ start .pre .1 .0 .words .blocks (start .args .at) (parts.part-at (fileOf (start .args .law .now)) (start .pre .1 .1) (start .args .at) (start .args .part .now) (start .pre .1 .2) (start .pre .1 .3)) in
+    let inside = not-false _ (c .before .before .before .before .before .if1 .left) in
+    let counted = c .before .before .before .sentences-in .ensures ∙ ap sentencesIn (c .before .before .before .before .term-at .ensures) in
+    steps.term-sentences (fileOf (start .args .law .now)) (start .pre .1 .1) (start .pre .1 .2) (start .pre .1 .3) (start .pre .1 .4) (c .before .before .before .before .before .before .before .before .end-of .ensures .0) (c .before .before .before .before .before .before .run-depth .ensures) inside counted first (c .sentences-depth .ensures))
