@@ -9,7 +9,7 @@ use std::time::Instant;
 
 use refal_semantics::check_program_with_levels;
 
-use crate::compare::is_compared;
+use crate::compare::compared;
 use crate::encode::encode;
 use crate::generate;
 use crate::ours::Buffers;
@@ -18,6 +18,9 @@ use crate::settings::Settings;
 
 /// Each time is the least of so many, taken in turns.
 const TURNS: usize = 9;
+const CLEARINGS: usize = 999;
+/// The ratio that no law shall pass.
+const WISHED: f64 = 2.0;
 /// The sizes, in term records, that are told apart: from each up to the next.
 const SIZES: [usize; 6] = [0, 16, 48, 96, 192, 384];
 
@@ -25,6 +28,8 @@ struct Time {
     /// The law, for `oracle show`.
     number: u64,
     terms: usize,
+    /// It has a literal argument with brackets, which is matched here and not in the Rust.
+    bracketed: bool,
     ours: f64,
     rust: f64,
 }
@@ -40,18 +45,43 @@ pub fn run(laws: u64, seed: u64) -> ExitCode {
     let times: Vec<Time> = (0..laws)
         .filter_map(|number| time(seed, number, &mut buffers))
         .collect();
-    println!("{}", row("all sizes", times.iter().collect()));
+    println!("{}", row("all", times.iter().collect()));
+    let (more, same): (Vec<&Time>, Vec<&Time>) = times.iter().partition(|time| time.bracketed);
+    println!("{}", row("bracketed literals", more));
+    println!("{}", row("the others", same.clone()));
     for (place, start) in SIZES.iter().enumerate() {
         let end = SIZES.get(place + 1).copied().unwrap_or(usize::MAX);
-        let some: Vec<&Time> = times
-            .iter()
-            .filter(|time| (*start..end).contains(&time.terms))
-            .collect();
-        if !some.is_empty() {
-            println!("{}", row(&format!("from {start} terms"), some));
-        }
+        let some = same.iter().copied();
+        let some = some.filter(|time| (*start..end).contains(&time.terms));
+        println!("{}", row(&format!("from {start} terms"), some.collect()));
     }
+    println!("{}", clearing(&mut buffers));
     ExitCode::SUCCESS
+}
+
+/// What writing all words of a store takes, of the findings call of a law without functions.
+fn clearing(buffers: &mut Buffers) -> String {
+    let (settings, law) = (Settings::strict().ours(), [0; 20]);
+    let (mut call, mut store) = (f64::MAX, f64::MAX);
+    for _ in 0..CLEARINGS {
+        let start = Instant::now();
+        black_box(bilzarko::findings(
+            &settings,
+            black_box(&law),
+            &mut buffers.store,
+            &mut buffers.words,
+        ))
+        .ok();
+        call = call.min(start.elapsed().as_secs_f64());
+        let start = Instant::now();
+        black_box(&mut buffers.store[..bilzarko::STORE_WORDS]).fill(black_box(0));
+        store = store.min(start.elapsed().as_secs_f64());
+    }
+    format!(
+        "writing the {} words of a store alone takes {:.2} of the findings call of a law without functions",
+        bilzarko::STORE_WORDS,
+        store / call
+    )
 }
 
 /// Only laws that are compared are timed: refused ones have no time in the Rust.
@@ -59,14 +89,13 @@ fn time(seed: u64, number: u64, buffers: &mut Buffers) -> Option<Time> {
     let mut random = Random::of(seed, number);
     let law = generate::law(&mut random);
     let encoded = encode(&law.program, law.layout, &mut random);
-    if !is_compared(&law.program, &encoded) {
-        return None;
-    }
+    let remarks = compared(&law.program, &encoded)?;
     let settings = Settings::strict();
     let (ours, levels) = (settings.ours(), settings.levels());
     let mut time = Time {
         number,
         terms: encoded.terms.len(),
+        bracketed: remarks.bracketed > 0,
         ours: f64::MAX,
         rust: f64::MAX,
     };
@@ -93,24 +122,19 @@ fn time(seed: u64, number: u64, buffers: &mut Buffers) -> Option<Time> {
 
 fn row(name: &str, times: Vec<&Time>) -> String {
     let ratio = sorted(times.iter().map(|time| time.ratio()));
-    let worst = times
+    let Some(worst) = times
         .iter()
-        .max_by(|left, right| left.ratio().total_cmp(&right.ratio()));
-    let ours = sorted(times.iter().map(|time| time.ours * 1e6));
-    let rust = sorted(times.iter().map(|time| time.rust * 1e6));
-    let middle = ratio.len() / 2;
+        .max_by(|left, right| left.ratio().total_cmp(&right.ratio()))
+    else {
+        return format!("{name:>18}: no laws");
+    };
+    let over = ratio.iter().filter(|ratio| **ratio > WISHED).count();
     format!(
-        "{name:>16}: {:5} laws, ours over the Rust: median {:.2}, worst {:.2} (law {}), least {:.2}; \
-         median microseconds: ours {:.1}, the Rust {:.1}; most: ours {:.1}, the Rust {:.1}",
+        "{name:>18}: {:5} laws, ours over the Rust: median {:.2}, worst {:.2} (law {}), {over} laws over {WISHED:.1}",
         ratio.len(),
-        ratio[middle],
-        ratio[ratio.len() - 1],
-        worst.map_or(0, |time| time.number),
-        ratio[0],
-        ours[middle],
-        rust[middle],
-        ours[ours.len() - 1],
-        rust[rust.len() - 1]
+        ratio[ratio.len() / 2],
+        worst.ratio(),
+        worst.number
     )
 }
 

@@ -160,9 +160,17 @@ pub fn listings(
     }))
 }
 
+/// What lints 1 and 2 say of a law, where it is within the limits and does not take too long.
+pub fn compared(program: &Program, encoded: &Encoded) -> Option<Remarks> {
+    match answer(program, encoded) {
+        Answer::Listed(listed) => Some(listed.remarks),
+        Answer::Refused(_) | Answer::LeftOut => None,
+    }
+}
+
 /// Whether a law is within the limits and does not take too long.
 pub fn is_compared(program: &Program, encoded: &Encoded) -> bool {
-    matches!(answer(program, encoded), Answer::Listed(_))
+    compared(program, encoded).is_some()
 }
 
 pub fn compare(

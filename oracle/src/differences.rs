@@ -35,6 +35,8 @@ pub struct Remarks {
     pub all: Vec<Remark>,
     /// Literal arguments that match only by going back into a bracket.
     pub went_back: usize,
+    /// Literal arguments with brackets, which the Rust does not match at all.
+    pub bracketed: usize,
     /// Refusal 10: an argument that is compared by formats has over 64 shapes.
     pub too_wide: bool,
 }
@@ -54,6 +56,7 @@ pub fn remarks(
         remarks: Remarks {
             all: Vec::new(),
             went_back: 0,
+            bracketed: 0,
             too_wide: false,
         },
     };
@@ -209,6 +212,7 @@ impl Walk<'_> {
             shadows(pattern, args, SingleTerm::Never, steps)
         })?;
         self.remarks.went_back += usize::from(matched && !without_back);
+        self.remarks.bracketed += usize::from(literal && !symbols);
         self.remarks.too_wide |= !matched && narrow(self.formats.format_of(args)).is_err();
 
         let rust = self.verdict(name, args, symbols, matched_rust);
