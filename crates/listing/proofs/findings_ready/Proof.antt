@@ -22,11 +22,19 @@ findings-ready-spec =
     (λ c. search needs)
     (λ c. search needs)
     (λ c. search needs)
-    (λ c κs. (findings-collected (settingsFrom (c .before .before .before .before .before .before .before .before .before .before .before .before .before .before .before .before .before .before .before .args .mode) (c .before .before .before .before .before .before .before .before .before .before .before .before .before .before .before .before .before .before .before .args .overrides .now)) (c .before .before .before .before .before .before .before .before .before .before .gather .ensures) (c .before .before .before .before .before .before .before .before .before .before .before .before .before .before .before .before .before .before .before .pre) (c .before .before .before .before .before .before .before .before .before .before .before .before .before .before .slots-of .ensures) _ _ _ (c .before .before .before .before .before .count .given .1) refl (c .before .before .before .before .before .before .before .before .before .before .gather .kept .1 .1 .1 .1 .1 .1 .1 .1 .0), omega (arith, count-fits (settingsFrom (c .before .before .before .before .before .before .before .before .before .before .before .before .before .before .before .before .before .before .before .args .mode) (c .before .before .before .before .before .before .before .before .before .before .before .before .before .before .before .before .before .before .before .args .overrides .now)) (c .before .before .before .before .before .before .before .before .before .before .gather .ensures) (c .before .before .before .before .before .before .before .before .before .before .before .before .before .before .before .before .before .before .before .pre) (c .before .before .before .before .before .before .before .before .before .before .before .before .before .before .slots-of .ensures) _ _ _ (c .before .before .before .before .before .count .given .1))))
+    (λ c κs.
+    let start = c .before .before .before .before .before .before .before .before .before .before .before .before .before .before .before .before .before .before .before in
+    (findings-collected (settingsFrom (start .args .mode) (start .args .overrides .now)) (c .before .before .before .before .before .before .before .before .before .before .gather .ensures) (start .pre) (c .before .before .before .before .before .before .before .before .before .before .before .before .before .before .slots-of .ensures) _ _ _ (c .before .before .before .before .before .count .given .1) refl (c .before .before .before .before .before .before .before .before .before .before .gather .kept .1 .1 .1 .1 .1 .1 .1 .1 .0), omega (arith, count-fits (settingsFrom (start .args .mode) (start .args .overrides .now)) (c .before .before .before .before .before .before .before .before .before .before .gather .ensures) (start .pre) (c .before .before .before .before .before .before .before .before .before .before .before .before .before .before .slots-of .ensures) _ _ _ (c .before .before .before .before .before .count .given .1))))
     (λ c. search needs)
-    (λ c. findings-wide (settingsFrom (c .before .before .before .before .before .before .before .before .before .before .before .before .before .before .args .mode) (c .before .before .before .before .before .before .before .before .before .before .before .before .before .before .args .overrides .now)) (c .before .before .before .before .before .gather .ensures) _ (c .enum-told .given .1))
+    (λ c.
+    let start = c .before .before .before .before .before .before .before .before .before .before .before .before .before .before in
+    findings-wide (settingsFrom (start .args .mode) (start .args .overrides .now)) (c .before .before .before .before .before .gather .ensures) _ (c .enum-told .given .1))
     (λ c. search needs)
-    (λ c. findings-full (settingsFrom (c .before .before .before .before .before .before .before .before .before .before .before .before .before .before .args .mode) (c .before .before .before .before .before .before .before .before .before .before .before .before .before .before .args .overrides .now)) (c .before .before .before .before .before .gather .ensures) _ refl (c .enum-told2 .given .1))
+    (λ c.
+    let start = c .before .before .before .before .before .before .before .before .before .before .before .before .before .before in
+    findings-full (settingsFrom (start .args .mode) (start .args .overrides .now)) (c .before .before .before .before .before .gather .ensures) _ refl (c .enum-told2 .given .1))
     (λ c. search needs)
     (λ c. search needs)
-    (λ c. findings-listed (settingsFrom (c .before .before .before .before .before .before .before .before .before .before .before .before .before .before .before .before .before .before .before .before .before .before .args .mode) (c .before .before .before .before .before .before .before .before .before .before .before .before .before .before .before .before .before .before .before .before .before .before .args .overrides .now)) (c .before .before .before .before .before .before .before .before .before .before .before .before .before .gather .ensures) (c .before .before .before .before .before .before .before .before .before .before .before .before .before .before .before .before .before .before .before .before .before .before .pre) (c .before .before .before .before .before .before .before .before .before .before .before .before .before .before .before .before .before .slots-of .ensures) _ _ _ (c .before .before .before .before .before .before .before .before .count .given .1) _ _ refl (c .before .before .hand-over .ensures)))
+    (λ c.
+    let start = c .before .before .before .before .before .before .before .before .before .before .before .before .before .before .before .before .before .before .before .before .before .before in
+    findings-listed (settingsFrom (start .args .mode) (start .args .overrides .now)) (c .before .before .before .before .before .before .before .before .before .before .before .before .before .gather .ensures) (start .pre) (c .before .before .before .before .before .before .before .before .before .before .before .before .before .before .before .before .before .slots-of .ensures) _ _ _ (c .before .before .before .before .before .before .before .before .count .given .1) _ _ refl (c .before .before .hand-over .ensures)))

@@ -16,11 +16,21 @@ hand-over-spec =
     (tie.spec
     (λ c κs. search needs)
     (λ c. search needs)
-    (λ c. again (settingsFrom (c .before .before .before .before .before .before .before .before .before .before .args .mode) (c .before .before .before .before .before .before .before .before .before .before .args .overrides .now)) (c .before .before .before .before .before .before .before .before .before .before .pre .0) (c .before .before .before .before .before .before .before .before .before .before .args .words .now) (c .before .before .before .before .before .before .before .before .before .before .pre .1) _ _ _ refl (c .before .before .lint-all .ensures))
+    (λ c.
+    let start = c .before .before .before .before .before .before .before .before .before .before in
+    again (settingsFrom (start .args .mode) (start .args .overrides .now)) (start .pre .0) (start .args .words .now) (start .pre .1) _ _ _ refl (c .before .before .lint-all .ensures))
     (λ c. search needs)
-    (λ c. own-part (settingsFrom (c .before .before .before .before .before .before .before .args .mode) (c .before .before .before .before .before .before .before .args .overrides .now)) (c .before .before .before .before .before .before .before .pre .0) (c .before .before .before .before .before .before .before .args .words .now) (c .before .before .before .before .before .before .before .pre .1) (c .before .if1 .left))
+    (λ c.
+    let start = c .before .before .before .before .before .before .before in
+    own-part (settingsFrom (start .args .mode) (start .args .overrides .now)) (start .pre .0) (start .args .words .now) (start .pre .1) (c .before .if1 .left))
     (λ c. search needs)
-    (λ c. words-part (settingsFrom (c .before .before .before .before .before .before .before .before .args .mode) (c .before .before .before .before .before .before .before .before .args .overrides .now)) (c .before .before .before .before .before .before .before .before .pre .0) (c .before .before .before .before .before .before .before .before .args .words .now) (c .before .before .before .before .before .before .before .before .pre .1))
-    (λ c κs. sym (own-part (settingsFrom (c .before .before .before .before .before .before .before .before .args .mode) (c .before .before .before .before .before .before .before .before .args .overrides .now)) (c .before .before .before .before .before .before .before .before .pre .0) (c .before .before .before .before .before .before .before .before .args .words .now) (c .before .before .before .before .before .before .before .before .pre .1) (c .before .before .if1 .left)) ∙ words-part (settingsFrom (c .before .before .before .before .before .before .before .before .args .mode) (c .before .before .before .before .before .before .before .before .args .overrides .now)) (c .before .before .before .before .before .before .before .before .pre .0) (c .before .before .before .before .before .before .before .before .args .words .now) (c .before .before .before .before .before .before .before .before .pre .1))
+    (λ c.
+    let start = c .before .before .before .before .before .before .before .before in
+    words-part (settingsFrom (start .args .mode) (start .args .overrides .now)) (start .pre .0) (start .args .words .now) (start .pre .1))
+    (λ c κs.
+    let start = c .before .before .before .before .before .before .before .before in
+    sym (own-part (settingsFrom (start .args .mode) (start .args .overrides .now)) (start .pre .0) (start .args .words .now) (start .pre .1) (c .before .before .if1 .left)) ∙ words-part (settingsFrom (start .args .mode) (start .args .overrides .now)) (start .pre .0) (start .args .words .now) (start .pre .1))
     (λ c. search needs)
-    (λ c. handed (settingsFrom (c .before .before .before .before .before .before .before .before .before .before .before .args .mode) (c .before .before .before .before .before .before .before .before .before .before .before .args .overrides .now)) (c .before .before .before .before .before .before .before .before .before .before .before .pre .0) (c .before .before .before .before .before .before .before .before .before .before .before .args .words .now) (c .before .before .before .before .before .before .before .before .before .before .before .pre .1) _ (c .before .before .before .before .before .if1 .left) (c .before .before .copy-words .ensures)))
+    (λ c.
+    let start = c .before .before .before .before .before .before .before .before .before .before .before in
+    handed (settingsFrom (start .args .mode) (start .args .overrides .now)) (start .pre .0) (start .args .words .now) (start .pre .1) _ (c .before .before .before .before .before .if1 .left) (c .before .before .copy-words .ensures)))

@@ -10,7 +10,9 @@ pub tell-spec : {M : Type 1} → statement M
 tell-spec =
     tie.close
     (tie.spec
-    (λ c. λ settings held. tell-none settings held (c .before .before .before .before .before .args .position) (c .before .before .before .before .before .args .text .now) (c .if1 .taken))
+    (λ c.
+    let start = c .before .before .before .before .before in
+    λ settings held. tell-none settings held (start .args .position) (start .args .text .now) (c .if1 .taken))
     (λ c. search needs)
     (λ c. search needs)
     (λ c. search needs)
@@ -19,9 +21,17 @@ tell-spec =
     (λ c. search needs)
     (λ c. search needs)
     (λ c. search needs)
-    (λ c κs. (c .before .before .before .before .before .before .before .pre .0 .1 .prepared, spoken (c .before .before .before .before .before .before .before .pre .0 .0) (c .before .before .before .before .before .before .before .pre .0 .1) (c .before .before .before .before .before .before .before .pre .1) (c .before .before .before .before .before .before .before .args .position) (c .before .before .if1 .left)))
+    (λ c κs.
+    let start = c .before .before .before .before .before .before .before in
+    (start .pre .0 .1 .prepared, spoken (start .pre .0 .0) (start .pre .0 .1) (start .pre .1) (start .args .position) (c .before .before .if1 .left)))
     (λ c. search needs)
-    (λ c. λ settings held. tell-short settings held (c .before .before .before .before .before .before .before .before .before .before .before .pre .1) (c .before .before .before .before .before .before .before .before .before .before .before .args .position) (c .before .before .before .before .before .before .if1 .left) (c .before .before .before .before .before .before .before .before .before .before .before .args .text .now) (c .before .before .before .put-message .kept .1 .1 .1 .1 .1 .1 .0) (c .before .before .before .put-message .ensures) (c .if2 .taken))
-    (λ c κs. (c .before .before .before .before .before .before .before .before .before .before .before .before .pre .0 .1 .prepared, spoken (c .before .before .before .before .before .before .before .before .before .before .before .before .pre .0 .0) (c .before .before .before .before .before .before .before .before .before .before .before .before .pre .0 .1) (c .before .before .before .before .before .before .before .before .before .before .before .before .pre .1) (c .before .before .before .before .before .before .before .before .before .before .before .before .args .position) (c .before .before .before .before .before .before .before .if1 .left)))
+    (λ c.
+    let start = c .before .before .before .before .before .before .before .before .before .before .before in
+    λ settings held. tell-short settings held (start .pre .1) (start .args .position) (c .before .before .before .before .before .before .if1 .left) (start .args .text .now) (c .before .before .before .put-message .kept .1 .1 .1 .1 .1 .1 .0) (c .before .before .before .put-message .ensures) (c .if2 .taken))
+    (λ c κs.
+    let start = c .before .before .before .before .before .before .before .before .before .before .before .before in
+    (start .pre .0 .1 .prepared, spoken (start .pre .0 .0) (start .pre .0 .1) (start .pre .1) (start .args .position) (c .before .before .before .before .before .before .before .if1 .left)))
     (λ c. search needs)
-    (λ c. λ settings held. tell-written settings held (c .before .before .before .before .before .before .before .before .before .before .before .before .before .before .before .pre .1) (c .before .before .before .before .before .before .before .before .before .before .before .before .before .before .before .args .position) (c .before .before .before .before .before .before .before .before .before .before .if1 .left) (c .before .before .before .before .before .before .before .before .before .before .before .before .before .before .before .args .text .now) _ (c .before .before .before .before .before .before .before .put-message .kept .1 .1 .1 .1 .1 .1 .0) (c .before .before .before .before .before .before .before .put-message .ensures) (c .before .before .before .before .if2 .left) (c .before .before .put-message2 .ensures)))
+    (λ c.
+    let start = c .before .before .before .before .before .before .before .before .before .before .before .before .before .before .before in
+    λ settings held. tell-written settings held (start .pre .1) (start .args .position) (c .before .before .before .before .before .before .before .before .before .before .if1 .left) (start .args .text .now) _ (c .before .before .before .before .before .before .before .put-message .kept .1 .1 .1 .1 .1 .1 .0) (c .before .before .before .before .before .before .before .put-message .ensures) (c .before .before .before .before .if2 .left) (c .before .before .put-message2 .ensures)))

@@ -21,11 +21,19 @@ text-ready-spec =
     (λ c. search needs)
     (λ c. search needs)
     (λ c. search needs)
-    (λ c κs. ((settingsFrom (c .before .before .before .before .before .before .before .before .before .before .before .before .before .before .before .before .before .before .before .args .mode) (c .before .before .before .before .before .before .before .before .before .before .before .before .before .before .before .before .before .before .before .args .overrides .now), findings-collected (settingsFrom (c .before .before .before .before .before .before .before .before .before .before .before .before .before .before .before .before .before .before .before .args .mode) (c .before .before .before .before .before .before .before .before .before .before .before .before .before .before .before .before .before .before .before .args .overrides .now)) (c .before .before .before .before .before .before .before .before .before .before .gather .ensures) (c .before .before .before .before .before .before .before .before .before .before .before .before .before .before .before .before .before .before .before .pre) (c .before .before .before .before .before .before .before .before .before .before .before .before .before .before .slots-of .ensures) _ _ _ (c .before .before .before .before .before .count .given .1) refl (c .before .before .before .before .before .before .before .before .before .before .gather .kept .1 .1 .1 .1 .1 .1 .1 .1 .0)), count-fits (settingsFrom (c .before .before .before .before .before .before .before .before .before .before .before .before .before .before .before .before .before .before .before .args .mode) (c .before .before .before .before .before .before .before .before .before .before .before .before .before .before .before .before .before .before .before .args .overrides .now)) (c .before .before .before .before .before .before .before .before .before .before .gather .ensures) (c .before .before .before .before .before .before .before .before .before .before .before .before .before .before .before .before .before .before .before .pre) (c .before .before .before .before .before .before .before .before .before .before .before .before .before .before .slots-of .ensures) _ _ _ (c .before .before .before .before .before .count .given .1)))
+    (λ c κs.
+    let start = c .before .before .before .before .before .before .before .before .before .before .before .before .before .before .before .before .before .before .before in
+    ((settingsFrom (start .args .mode) (start .args .overrides .now), findings-collected (settingsFrom (start .args .mode) (start .args .overrides .now)) (c .before .before .before .before .before .before .before .before .before .before .gather .ensures) (start .pre) (c .before .before .before .before .before .before .before .before .before .before .before .before .before .before .slots-of .ensures) _ _ _ (c .before .before .before .before .before .count .given .1) refl (c .before .before .before .before .before .before .before .before .before .before .gather .kept .1 .1 .1 .1 .1 .1 .1 .1 .0)), count-fits (settingsFrom (start .args .mode) (start .args .overrides .now)) (c .before .before .before .before .before .before .before .before .before .before .gather .ensures) (start .pre) (c .before .before .before .before .before .before .before .before .before .before .before .before .before .before .slots-of .ensures) _ _ _ (c .before .before .before .before .before .count .given .1)))
     (λ c. search needs)
-    (λ c. text-wide (settingsFrom (c .before .before .before .before .before .before .before .before .before .before .before .before .before .before .args .mode) (c .before .before .before .before .before .before .before .before .before .before .before .before .before .before .args .overrides .now)) (c .before .before .before .before .before .gather .ensures) _ _ (c .enum-told .given .1))
+    (λ c.
+    let start = c .before .before .before .before .before .before .before .before .before .before .before .before .before .before in
+    text-wide (settingsFrom (start .args .mode) (start .args .overrides .now)) (c .before .before .before .before .before .gather .ensures) _ _ (c .enum-told .given .1))
     (λ c. search needs)
-    (λ c. text-full (settingsFrom (c .before .before .before .before .before .before .before .before .before .before .before .before .before .before .args .mode) (c .before .before .before .before .before .before .before .before .before .before .before .before .before .before .args .overrides .now)) (c .before .before .before .before .before .gather .ensures) _ _ refl (c .enum-told2 .given .1))
+    (λ c.
+    let start = c .before .before .before .before .before .before .before .before .before .before .before .before .before .before in
+    text-full (settingsFrom (start .args .mode) (start .args .overrides .now)) (c .before .before .before .before .before .gather .ensures) _ _ refl (c .enum-told2 .given .1))
     (λ c. search needs)
     (λ c. search needs)
-    (λ c. text-told (settingsFrom (c .before .before .before .before .before .before .before .before .before .before .before .before .before .before .before .before .before .before .before .before .before .before .args .mode) (c .before .before .before .before .before .before .before .before .before .before .before .before .before .before .before .before .before .before .before .before .before .before .args .overrides .now)) (c .before .before .before .before .before .before .before .before .before .before .before .before .before .gather .ensures) (c .before .before .before .before .before .before .before .before .before .before .before .before .before .before .before .before .before .before .before .before .before .before .pre) (c .before .before .before .before .before .before .before .before .before .before .before .before .before .before .before .before .before .slots-of .ensures) _ _ _ (c .before .before .before .before .before .before .before .before .count .given .1) _ _ _ (c .before .before .tell .result) refl (c .before .before .tell .ensures (settingsFrom (c .before .before .before .before .before .before .before .before .before .before .before .before .before .before .before .before .before .before .before .before .before .before .args .mode) (c .before .before .before .before .before .before .before .before .before .before .before .before .before .before .before .before .before .before .before .before .before .before .args .overrides .now)) (findings-collected (settingsFrom (c .before .before .before .before .before .before .before .before .before .before .before .before .before .before .before .before .before .before .before .before .before .before .args .mode) (c .before .before .before .before .before .before .before .before .before .before .before .before .before .before .before .before .before .before .before .before .before .before .args .overrides .now)) (c .before .before .before .before .before .before .before .before .before .before .before .before .before .gather .ensures) (c .before .before .before .before .before .before .before .before .before .before .before .before .before .before .before .before .before .before .before .before .before .before .pre) (c .before .before .before .before .before .before .before .before .before .before .before .before .before .before .before .before .before .slots-of .ensures) _ _ _ (c .before .before .before .before .before .before .before .before .count .given .1) refl (c .before .before .before .before .before .before .before .before .before .before .before .before .before .gather .kept .1 .1 .1 .1 .1 .1 .1 .1 .0)))))
+    (λ c.
+    let start = c .before .before .before .before .before .before .before .before .before .before .before .before .before .before .before .before .before .before .before .before .before .before in
+    text-told (settingsFrom (start .args .mode) (start .args .overrides .now)) (c .before .before .before .before .before .before .before .before .before .before .before .before .before .gather .ensures) (start .pre) (c .before .before .before .before .before .before .before .before .before .before .before .before .before .before .before .before .before .slots-of .ensures) _ _ _ (c .before .before .before .before .before .before .before .before .count .given .1) _ _ _ (c .before .before .tell .result) refl (c .before .before .tell .ensures (settingsFrom (start .args .mode) (start .args .overrides .now)) (findings-collected (settingsFrom (start .args .mode) (start .args .overrides .now)) (c .before .before .before .before .before .before .before .before .before .before .before .before .before .gather .ensures) (start .pre) (c .before .before .before .before .before .before .before .before .before .before .before .before .before .before .before .before .before .slots-of .ensures) _ _ _ (c .before .before .before .before .before .before .before .before .count .given .1) refl (c .before .before .before .before .before .before .before .before .before .before .before .before .before .gather .kept .1 .1 .1 .1 .1 .1 .1 .1 .0)))))

@@ -20,8 +20,12 @@ indices-equal-spec =
     (tie.spec
     Inv-loop
     μ-loop
-    (λ c. same-longer upperByte (c .before .before .before .args .a .now) (c .before .before .before .args .b .now) (c .if1 .taken))
-    (λ c. same-start upperByte (c .before .before .before .args .a .now) (c .before .before .before .args .b .now) (c .if1 .left))
+    (λ c.
+    let start = c .before .before .before in
+    same-longer upperByte (start .args .a .now) (start .args .b .now) (c .if1 .taken))
+    (λ c.
+    let start = c .before .before .before in
+    same-start upperByte (start .args .a .now) (start .args .b .now) (c .if1 .left))
     (λ c. omega arith)
     (λ c κs. search needs)
     (λ c. omega arith)

@@ -20,8 +20,12 @@ names-equal-spec =
     (tie.spec
     Inv-loop
     μ-loop
-    (λ c. same-longer foldByte (c .before .before .before .args .a .now) (c .before .before .before .args .b .now) (c .if1 .taken))
-    (λ c. same-start foldByte (c .before .before .before .args .a .now) (c .before .before .before .args .b .now) (c .if1 .left))
+    (λ c.
+    let start = c .before .before .before in
+    same-longer foldByte (start .args .a .now) (start .args .b .now) (c .if1 .taken))
+    (λ c.
+    let start = c .before .before .before in
+    same-start foldByte (start .args .a .now) (start .args .b .now) (c .if1 .left))
     (λ c. omega arith)
     (λ c κs. search needs)
     (λ c. omega arith)

@@ -20,7 +20,9 @@ names-order-spec =
     (tie.spec
     Inv-loop
     μ-loop
-    (λ c. order-start foldByte (c .before .before .args .a .now) (c .before .before .args .b .now))
+    (λ c.
+    let start = c .before .before in
+    order-start foldByte (start .args .a .now) (start .args .b .now))
     (λ c. order-longer (c .before .before .loop .inv) (c .before .loop-test .taken) (c .if1 .taken))
     (λ c. omega arith)
     (λ c κs. search needs)

@@ -23,8 +23,12 @@ numbers-equal-spec =
     (λ c. same-start (λ x. x) (c .before .args .a .now) (c .before .args .b .now) (c .if1 .left))
     (λ c. omega arith)
     (λ c. omega arith)
-    (λ c. same-differ (c .before .before .before .before .loop .inv) (omega arith) refl refl (c .if2 .taken) ∙ same-plain (c .before .before .before .before .before .before .args .a .now) (c .before .before .before .before .before .before .args .b .now))
+    (λ c.
+    let start = c .before .before .before .before .before .before in
+    same-differ (c .before .before .before .before .loop .inv) (omega arith) refl refl (c .if2 .taken) ∙ same-plain (start .args .a .now) (start .args .b .now))
     (λ c. omega arith)
     (λ c. omega arith)
     (λ c. same-next (c .before .before .before .before .loop .inv) (omega arith) refl refl (c .if2 .left))
-    (λ c. same-end (c .before .loop .inv) (c .loop-test .left) ∙ same-plain (c .before .before .before .args .a .now) (c .before .before .before .args .b .now)))
+    (λ c.
+    let start = c .before .before .before in
+    same-end (c .before .loop .inv) (c .loop-test .left) ∙ same-plain (start .args .a .now) (start .args .b .now)))

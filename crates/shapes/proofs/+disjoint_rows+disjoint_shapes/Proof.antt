@@ -115,7 +115,9 @@ pub +disjoint-rows+disjoint-shapes-spec : {M : Type 1} → statement M
     (λ c. omega arith)
     (λ c. search needs)
     (λ c κs. search needs)
-    (λ c κs. (omega (arith, shapes-contents-falls (c .before .before .before .before .before .before .before .before .before .before .before .before .before .before .args .a .now) (c .before .before .before .before .before .end-of .result) (c .before .before .before .before .before .before .before .before .before .before .before .before .before .before .pre .1 .0) (c .before .before .before .before .before .end-of .ensures .0)), tt))
+    (λ c κs.
+    let start = c .before .before .before .before .before .before .before .before .before .before .before .before .before .before in
+    (omega (arith, shapes-contents-falls (start .args .a .now) (c .before .before .before .before .before .end-of .result) (start .pre .1 .0) (c .before .before .before .before .before .end-of .ensures .0)), tt))
     (λ c. let x = c .before .before .before .before .before .before .before .before .before .before .before .before .before .before .before .args in apart-brackets (x .a .now) (x .b .now) _ _ (c .before .before .before .before .before .before .before .before .before .before .is-bracket .ensures) (c .before .before .before .before .before .before .before .before .is-bracket2 .ensures) _ _ _ _ _ (c .before .before .before .before .before .before .before .before .before .if1 .taken) (c .before .before .before .before .before .before .before .if2 .taken) (c .before .before .before .before .before .before .end-of .ensures .0) (c .before .before .before .before .before .end-of2 .ensures .0) (c .before .before .before .inside-open .ensures) (c .before .inside-open2 .ensures) (c .disjoint-rows .ensures))
     (λ c κs. search needs)
     (λ c. let x = c .before .before .before .before .before .before .before .before .before .args in apart-bracket-leaf (x .a .now) (x .b .now) _ _ (c .before .before .before .before .is-bracket .ensures) (c .before .before .is-bracket2 .ensures) _ (c .before .before .before .if1 .taken) (c .before .if2 .left) (c .holds-brackets .ensures))

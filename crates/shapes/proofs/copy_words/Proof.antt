@@ -32,4 +32,6 @@ copy-words-spec =
     let x = c .before .before .before .args in
     (omega arith, length-set (now .to) _ _ ∙ now .inv .1, copy-next (x .to .now) (x .from .now) (now .to) (now .i) (omega arith) (omega arith) (now .inv .2)))
     (λ c. omega arith)
-    (λ c. copied (c .before .before .args .to .now) (c .before .before .args .from .now) (c .before .loop .to) (c .before .loop .i) (c .before .before .pre) (omega arith) (c .before .loop .inv .2)))
+    (λ c.
+    let start = c .before .before in
+    copied (start .args .to .now) (start .args .from .now) (c .before .loop .to) (c .before .loop .i) (start .pre) (omega arith) (c .before .loop .inv .2)))

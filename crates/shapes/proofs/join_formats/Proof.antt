@@ -12,18 +12,30 @@ pub join-formats-spec : {M : Type 1} → statement M
 join-formats-spec =
     tie.close
     (tie.spec
-    (λ c. omega (arith, format-in-length (c .before .before .before .before .args .limit) (c .before .before .before .before .args .a .now) (c .before .before .before .before .pre .1)))
-    (λ c. omega (arith, format-in-length (c .before .before .before .before .before .args .limit) (c .before .before .before .before .before .args .b .now) (c .before .before .before .before .before .pre .2)))
+    (λ c.
+    let start = c .before .before .before .before in
+    omega (arith, format-in-length (start .args .limit) (start .args .a .now) (start .pre .1)))
+    (λ c.
+    let start = c .before .before .before .before .before in
+    omega (arith, format-in-length (start .args .limit) (start .args .b .now) (start .pre .2)))
     (λ c κs. search needs)
-    (λ c κs. omega (arith, c .before .before .before .before .before .before .before .before .pre .3, format-in-length (c .before .before .before .before .before .before .before .before .args .limit) (c .before .before .before .before .before .before .before .before .args .b .now) (c .before .before .before .before .before .before .before .before .pre .2)))
+    (λ c κs.
+    let start = c .before .before .before .before .before .before .before .before in
+    omega (arith, start .pre .3, format-in-length (start .args .limit) (start .args .b .now) (start .pre .2)))
     (λ c. search needs)
     (λ c. let x = c .before .before .before .before .before .before .before .before .before .before .before .args in join-never-left (x .limit) (x .a .now) (x .b .now) _ _ (c .before .before .before .before .before .before .before .before .before .before .before .pre .0) (c .before .before .before .before .before .before .before .before .before .before .before .pre .2) (c .before .before .before .before .before .is-never .ensures) (c .before .before .before .before .if1 .taken) (c .before .before .copy-words .ensures))
     (λ c κs. search needs)
-    (λ c κs. omega (arith, c .before .before .before .before .before .before .before .before .before .before .pre .3, format-in-length (c .before .before .before .before .before .before .before .before .before .before .args .limit) (c .before .before .before .before .before .before .before .before .before .before .args .a .now) (c .before .before .before .before .before .before .before .before .before .before .pre .1)))
+    (λ c κs.
+    let start = c .before .before .before .before .before .before .before .before .before .before in
+    omega (arith, start .pre .3, format-in-length (start .args .limit) (start .args .a .now) (start .pre .1)))
     (λ c. search needs)
     (λ c. let x = c .before .before .before .before .before .before .before .before .before .before .before .before .before .args in join-never-right (x .limit) (x .a .now) (x .b .now) _ _ (c .before .before .before .before .before .before .before .before .before .before .before .before .before .pre .0) (c .before .before .before .before .before .before .before .before .before .before .before .before .before .pre .1) (c .before .before .before .before .before .is-never2 .ensures) (c .before .before .before .before .if2 .taken) (c .before .before .copy-words2 .ensures))
-    (λ c κs. omega (arith, format-in-length (c .before .before .before .before .before .before .before .before .before .args .limit) (c .before .before .before .before .before .before .before .before .before .args .a .now) (c .before .before .before .before .before .before .before .before .before .pre .1)))
-    (λ c κs. omega (arith, format-in-length (c .before .before .before .before .before .before .before .before .before .before .args .limit) (c .before .before .before .before .before .before .before .before .before .before .args .b .now) (c .before .before .before .before .before .before .before .before .before .before .pre .2)))
+    (λ c κs.
+    let start = c .before .before .before .before .before .before .before .before .before in
+    omega (arith, format-in-length (start .args .limit) (start .args .a .now) (start .pre .1)))
+    (λ c κs.
+    let start = c .before .before .before .before .before .before .before .before .before .before in
+    omega (arith, format-in-length (start .args .limit) (start .args .b .now) (start .pre .2)))
     (λ c κs. search needs)
     (λ c. search needs)
     (λ c. search needs)
@@ -33,9 +45,13 @@ join-formats-spec =
     (λ c. search needs)
     (λ c. search needs)
     (λ c κs. search needs)
-    (λ c κs. omega (arith, c .before .before .before .before .before .before .before .before .before .before .before .before .before .before .before .before .before .before .before .before .pre, c .before .before .before .before .before .before .before .before .before .before .row-end .ensures, c .before .before .before .before .before .before .before .clear-words .kept, format-in-length (c .before .before .before .before .before .before .before .before .before .before .before .before .before .before .before .before .before .before .before .before .args .limit) (c .before .before .before .before .before .before .before .before .before .before .before .before .before .before .before .before .before .before .before .before .args .a .now) (c .before .before .before .before .before .before .before .before .before .before .before .before .before .before .before .before .before .before .before .before .pre .1)))
+    (λ c κs.
+    let start = c .before .before .before .before .before .before .before .before .before .before .before .before .before .before .before .before .before .before .before .before in
+    omega (arith, start .pre, c .before .before .before .before .before .before .before .before .before .before .row-end .ensures, c .before .before .before .before .before .before .before .clear-words .kept, format-in-length (start .args .limit) (start .args .a .now) (start .pre .1)))
     (λ c. search needs)
-    (λ c κs. omega (arith, c .before .before .before .before .before .before .before .before .before .before .before .before .before .before .before .before .before .before .before .before .before .before .before .before .pre, c .before .before .before .before .before .before .before .before .before .before .before .before .before .before .row-end .ensures, c .before .before .before .join-rows .ensures .0, format-in-length (c .before .before .before .before .before .before .before .before .before .before .before .before .before .before .before .before .before .before .before .before .before .before .before .before .args .limit) (c .before .before .before .before .before .before .before .before .before .before .before .before .before .before .before .before .before .before .before .before .before .before .before .before .args .a .now) (c .before .before .before .before .before .before .before .before .before .before .before .before .before .before .before .before .before .before .before .before .before .before .before .before .pre .1)))
+    (λ c κs.
+    let start = c .before .before .before .before .before .before .before .before .before .before .before .before .before .before .before .before .before .before .before .before .before .before .before .before in
+    omega (arith, start .pre, c .before .before .before .before .before .before .before .before .before .before .before .before .before .before .row-end .ensures, c .before .before .before .join-rows .ensures .0, format-in-length (start .args .limit) (start .args .a .now) (start .pre .1)))
     (λ c. search needs)
     (λ c. simp length-set (omega (arith, c .before .before .before .before .before .before .before .before .before .before .before .before .clear-words .kept, c .before .before .before .before .join-rows .kept)))
     (λ c. let x = c .before .before .before .before .before .before .before .before .before .before .before .before .before .before .before .before .before .before .before .before .before .before .before .before .before .args in let p = c .before .before .before .before .before .before .before .before .before .before .before .before .before .before .before .before .before .before .before .before .before .before .before .before .before .pre in

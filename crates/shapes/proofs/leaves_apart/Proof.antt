@@ -7,5 +7,9 @@ use Rattle.shapes.proofs.leaves_apart.Tie as tie
 pub leaves-apart-spec : {M : Type 1} → statement M
 leaves-apart-spec = tie.close (tie.spec
     (λ c. simp (le-leb _ _ (c .if1 .taken)) at (leaves-apart (c .before .args .x) (c .before .args .y)))
-    (λ c. simp (lt-leb _ _ (c .before .if1 .left), le-leb _ _ (c .if2 .taken)) at (leaves-apart (c .before .before .args .x) (c .before .before .args .y)))
-    (λ c. simp (lt-leb _ _ (c .before .if1 .left), lt-leb _ _ (c .if2 .left)) at (leaves-apart (c .before .before .args .x) (c .before .before .args .y))))
+    (λ c.
+    let start = c .before .before in
+    simp (lt-leb _ _ (c .before .if1 .left), le-leb _ _ (c .if2 .taken)) at (leaves-apart (start .args .x) (start .args .y)))
+    (λ c.
+    let start = c .before .before in
+    simp (lt-leb _ _ (c .before .if1 .left), lt-leb _ _ (c .if2 .left)) at (leaves-apart (start .args .x) (start .args .y))))

@@ -16,7 +16,11 @@ pub lint-task-spec : {M : Type 1} → statement M
 lint-task-spec =
     tie.close (tie.spec
     (λ c κs. search needs)
-    (λ c. not-due (treeOf (fileOf (c .before .before .before .before .before .args .law .now))) (formatsIn (fileOf (c .before .before .before .before .before .args .law .now)) (c .before .before .before .before .before .args .task .limit) (c .before .before .before .before .before .args .store .now)) (c .before .before .before .before .before .args .task) (c .before .before .before .before .before .args .task .room) (sinkOf (c .before .before .before .before .before .args .tally) (c .before .before .before .before .before .args .out .now)) (c .before .is-due .ensures) (not-true _ (c .if1 .taken)))
+    (λ c.
+    let start = c .before .before .before .before .before in
+    not-due (treeOf (fileOf (start .args .law .now))) (formatsIn (fileOf (start .args .law .now)) (start .args .task .limit) (start .args .store .now)) (start .args .task) (start .args .task .room) (sinkOf (start .args .tally) (start .args .out .now)) (c .before .is-due .ensures) (not-true _ (c .if1 .taken)))
     (λ c κs. search needs)
     (λ c. search needs)
-    (λ c. is-due (treeOf (fileOf (c .before .before .before .before .before .before .before .before .before .args .law .now))) (formatsIn (fileOf (c .before .before .before .before .before .before .before .before .before .args .law .now)) (c .before .before .before .before .before .before .before .before .before .args .task .limit) (c .before .before .before .before .before .before .before .before .before .args .store .now)) (c .before .before .before .before .before .before .before .before .before .args .task) (c .before .before .before .before .before .before .before .before .before .args .task .room) (sinkOf (c .before .before .before .before .before .before .before .before .before .args .tally) (c .before .before .before .before .before .before .before .before .before .args .out .now)) (c .before .before .before .before .before .is-due .ensures) (not-false _ (c .before .before .before .before .if1 .left)) (c .before .before .lint-law .ensures)))
+    (λ c.
+    let start = c .before .before .before .before .before .before .before .before .before in
+    is-due (treeOf (fileOf (start .args .law .now))) (formatsIn (fileOf (start .args .law .now)) (start .args .task .limit) (start .args .store .now)) (start .args .task) (start .args .task .room) (sinkOf (start .args .tally) (start .args .out .now)) (c .before .before .before .before .before .is-due .ensures) (not-false _ (c .before .before .before .before .if1 .left)) (c .before .before .lint-law .ensures)))

@@ -15,5 +15,9 @@ is-shown-spec =
     (λ c. search needs)
     (λ c κs. search needs)
     (λ c. search needs)
-    (λ c. shown-own (c .before .before .before .before .before .args .overrides .now) (c .before .before .before .level-of .ensures) (c .before .before .before .before .before .args .mode) (c .before .enum-told .given .1) (c .is-shown-itself .ensures))
-    (λ c. shown-said (c .before .before .before .before .before .args .overrides .now) (c .before .before .before .level-of .ensures) (c .before .before .before .before .before .args .mode) (c .before .severity .given .1)))
+    (λ c.
+    let start = c .before .before .before .before .before in
+    shown-own (start .args .overrides .now) (c .before .before .before .level-of .ensures) (start .args .mode) (c .before .enum-told .given .1) (c .is-shown-itself .ensures))
+    (λ c.
+    let start = c .before .before .before .before .before in
+    shown-said (start .args .overrides .now) (c .before .before .before .level-of .ensures) (start .args .mode) (c .before .severity .given .1)))

@@ -8,7 +8,13 @@ use Rattle.findings.proofs.levels.overrides_allowed.Reads as overrides-
 
 pub settings-allowed-spec : {M : Type 1} → statement M
 settings-allowed-spec = tie.close (tie.spec
-    (λ c. mode-over (c .before .before .args .mode) (c .before .before .args .overrides .now) (c .if1 .taken))
-    (λ c. words-over (c .before .before .before .args .mode) (c .before .before .before .args .overrides .now) (c .before .if1 .left) (c .if2 .taken))
+    (λ c.
+    let start = c .before .before in
+    mode-over (start .args .mode) (start .args .overrides .now) (c .if1 .taken))
+    (λ c.
+    let start = c .before .before .before in
+    words-over (start .args .mode) (start .args .overrides .now) (c .before .if1 .left) (c .if2 .taken))
     (λ c κs. search needs)
-    (λ c. settings-are (c .before .before .before .before .args .mode) (c .before .before .before .before .args .overrides .now) (c .before .before .if1 .left) (c .before .if2 .left) (c .overrides-allowed .ensures)))
+    (λ c.
+    let start = c .before .before .before .before in
+    settings-are (start .args .mode) (start .args .overrides .now) (c .before .before .if1 .left) (c .before .if2 .left) (c .overrides-allowed .ensures)))

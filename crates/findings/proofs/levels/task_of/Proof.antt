@@ -11,4 +11,6 @@ pub task-of-spec : {M : Type 1} → statement M
 task-of-spec = tie.close (tie.spec
     (λ c κs. search needs)
     (λ c κs. search needs)
-    (λ c. task-is (c .before .before .before .args .mode) (c .before .before .before .args .overrides .now) (c .before .before .before .args .room) (c .before .before .before .args .limit) (c .before .severity-of .ensures) (c .is-shown .ensures)))
+    (λ c.
+    let start = c .before .before .before in
+    task-is (start .args .mode) (start .args .overrides .now) (start .args .room) (start .args .limit) (c .before .severity-of .ensures) (c .is-shown .ensures)))

@@ -45,7 +45,9 @@ infer-round-spec =
     round-refused (c .before .before .before .before .before .before .before .before .before .before .loop .inv .0) (turn .last .1 .1 .1 .0) (turn .result) (turn .ensures) (tag-over _ (c .before .match .keys1)) (omega (arith, c .before .before .before .before .before .before .before .before .before .loop-test .taken, functions-read (c .before .before .before .before .before .before .before .before .before .before .before .before .before .before .before .pre .0) (c .before .before .before .before .before .before .before .before .before .before .before .functions .result) (c .before .before .before .before .before .before .before .before .before .before .before .functions .ensures))) (c .before .before .before .before .before .before .before .before .before .before .before .before .before .before .before .pre .0 .small))
     (λ c. c .match .keys2)
     (λ c. c .match .keys3)
-    (λ c. omega (arith, c .before .before .before .before .before .before .before .before .loop-test .taken, functions-read (c .before .before .before .before .before .before .before .before .before .before .before .before .before .before .pre .0) (c .before .before .before .before .before .before .before .before .before .before .functions .result) (c .before .before .before .before .before .before .before .before .before .before .functions .ensures), functions-limit (c .before .before .before .before .before .before .before .before .before .before .before .before .before .before .args .law .now) (c .before .before .before .before .before .before .before .before .before .before .before .before .before .before .args .index .now) (c .before .before .before .before .before .before .before .before .before .before .before .before .before .before .pre .0 .indexed)))
+    (λ c.
+    let start = c .before .before .before .before .before .before .before .before .before .before .before .before .before .before in
+    omega (arith, c .before .before .before .before .before .before .before .before .loop-test .taken, functions-read (start .pre .0) (c .before .before .before .before .before .before .before .before .before .before .functions .result) (c .before .before .before .before .before .before .before .before .before .before .functions .ensures), functions-limit (start .args .law .now) (start .args .index .now) (start .pre .0 .indexed)))
     (λ c. omega (arith, c .before .before .before .before .before .before .before .before .loop-test .taken))
     (λ c.
     let turn = c .before .before .before .before .before .function-turn in

@@ -13,7 +13,9 @@ join-into-spec =
     (tie.spec
     (λ c. search needs)
     (λ c. search needs)
-    (λ c. sym (lent-length (c .before .before .before .before .args .limit) (c .before .before .before .before .pre .0)))
+    (λ c.
+    let start = c .before .before .before .before in
+    sym (lent-length (start .args .limit) (start .pre .0)))
     (λ c κs. let p = c .before .before .before .before .pre in (omega (arith, p .0), p .1, p .2, lent-length (c .before .before .before .before .args .limit) (p .0)))
     (λ c. let joined = c .before .join-formats in back-inside (c .before .before .before .before .before .before .pre .0) (joined .last .1 .1 .1 .0) _ (joined .kept .1 .1 .1 .0))
     (λ c. let joined = c .before .before .join-formats in sym (back-length (c .before .before .before .before .before .before .before .pre .0) (joined .last .1 .1 .1 .0) _ (joined .kept .1 .1 .1 .0)))

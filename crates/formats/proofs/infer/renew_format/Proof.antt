@@ -19,7 +19,9 @@ renew-format-spec =
     (λ c. search needs)
     (λ c. search needs)
     (λ c. search needs)
-    (λ c. sym (lent-length (c .before .before .before .before .before .args .limit) (c .before .before .before .before .before .pre .0)))
+    (λ c.
+    let start = c .before .before .before .before .before in
+    sym (lent-length (start .args .limit) (start .pre .0)))
     (λ c κs.
     let p = c .before .before .before .before .before .pre in
     let a = c .before .before .before .before .before .args in

@@ -24,7 +24,9 @@ fill-calls-spec =
     Inv-loop
     μ-loop
     (λ c κs. tt)
-    (λ c. (c .terms .ensures ∙ c .before .before .pre .0 .words .terms, omega arith, c .before .before .pre .2, c .before .before .pre .3))
+    (λ c.
+    let start = c .before .before in
+    (c .terms .ensures ∙ start .pre .0 .words .terms, omega arith, start .pre .2, start .pre .3))
     (λ c κs. let p = c .before .before .before .before .pre in (p .0, p .1, omega arith))
     (λ c. omega (arith, c .callee-slot .ensures .inside))
     (λ c. omega (arith, terms-limit _ _ (c .before .before .before .before .before .before .pre .0)))

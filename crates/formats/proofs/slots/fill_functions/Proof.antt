@@ -24,7 +24,9 @@ fill-functions-spec =
     Inv-loop
     μ-loop
     (λ c κs. tt)
-    (λ c. (c .functions .ensures ∙ c .before .before .pre .0 .words .functions, omega arith, c .before .before .pre .3, λ i l. absurd (omega arith)))
+    (λ c.
+    let start = c .before .before in
+    (c .functions .ensures ∙ start .pre .0 .words .functions, omega arith, start .pre .3, λ i l. absurd (omega arith)))
     (λ c κs. let p = c .before .before .before .before .pre in (p .0, p .1, p .2, omega arith))
     (λ c. omega (arith, functions-limit _ _ (c .before .before .before .before .before .pre .0)))
     (λ c. omega arith)

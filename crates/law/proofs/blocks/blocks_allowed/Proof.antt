@@ -28,8 +28,12 @@ blocks-allowed-spec =
     (λ c κs. tt)
     (λ c. (omega arith, every-none _))
     (λ c κs. let p = c .before .before .before .before .pre in (p, omega (arith, p .words .sentences, c .before .before .sentences .ensures)))
-    (λ c. sentences-fail _ _ (c .before .before .before .before .before .before .pre) (sentenceBlocks (fileOf (c .before .before .before .before .before .before .args .law .now))) _ _ _ (c .before .before .before .before .sentences .ensures) (c .before .before .loop-test .taken) (c .before .sentence-blocks .ensures) (not-true _ (c .if1 .taken)))
+    (λ c.
+    let start = c .before .before .before .before .before .before in
+    sentences-fail _ _ (start .pre) (sentenceBlocks (fileOf (start .args .law .now))) _ _ _ (c .before .before .before .before .sentences .ensures) (c .before .before .loop-test .taken) (c .before .sentence-blocks .ensures) (not-true _ (c .if1 .taken)))
     (λ c. omega arith)
     (λ c. omega arith)
-    (λ c. (omega arith, every-next (c .before .before .before .loop .s) _ (c .before .before .before .loop .inv .1) (sym (c .before .sentence-blocks .ensures) ∙ not-false _ (c .if1 .left))))
+    (λ c.
+    let the-loop = c .before .before .before .loop in
+    (omega arith, every-next (the-loop .s) _ (the-loop .inv .1) (sym (c .before .sentence-blocks .ensures) ∙ not-false _ (c .if1 .left))))
     (λ c. sentences-hold _ _ (c .before .before .before .before .pre) _ _ _ (c .before .before .sentences .ensures) (c .before .loop .inv .0) (c .loop-test .left) (c .before .loop .inv .1)))

@@ -28,8 +28,12 @@ sentence-blocks-spec =
     Inv-loop
     μ-loop
     (λ c κs. search needs)
-    (λ c. omega (arith, sentences-limit _ _ (c .before .before .pre .0), c .before .before .pre .1))
-    (λ c κs. (c .before .before .pre .0, omega (arith, c .before .before .pre .1)))
+    (λ c.
+    let start = c .before .before in
+    omega (arith, sentences-limit _ _ (start .pre .0), start .pre .1))
+    (λ c κs.
+    let start = c .before .before in
+    (start .pre .0, omega (arith, start .pre .1)))
     (λ c. let s = c .before .before .before .args .s in
     omega (arith, pattern-grows (fileOf (c .before .before .before .args .law .now)) s (s + 1) (omega arith), c .before .pattern-at .ensures, c .pattern-at2 .ensures))
     (λ c. (omega arith, every-none _))
@@ -39,6 +43,8 @@ sentence-blocks-spec =
     sentence-fails (fileOf (a .law .now)) (a .s) _ _ (c .before .before .before .before .before .pattern-at .ensures) (c .before .before .before .before .pattern-at2 .ensures) _ _ (c .before .before .loop-test .taken) (c .before .block-later .ensures) (not-true _ (c .if1 .taken)))
     (λ c. omega arith)
     (λ c. omega arith)
-    (λ c. (omega arith, every-next (c .before .before .before .loop .i) _ (c .before .before .before .loop .inv .1) (sym (c .before .block-later .ensures) ∙ not-false _ (c .if1 .left))))
+    (λ c.
+    let the-loop = c .before .before .before .loop in
+    (omega arith, every-next (the-loop .i) _ (the-loop .inv .1) (sym (c .before .block-later .ensures) ∙ not-false _ (c .if1 .left))))
     (λ c. let a = c .before .before .before .before .before .args in
     sentence-holds (fileOf (a .law .now)) (a .s) _ _ (c .before .before .before .pattern-at .ensures) (c .before .before .pattern-at2 .ensures) (c .before .loop .i) (c .before .loop .inv .0) (c .loop-test .left) (c .before .loop .inv .1)))

@@ -296,28 +296,53 @@ pub +conditions-depth+run-depth+sentence-depth+sentences-depth+term-depth-spec :
     run-depth.Post
     run-depth-Inv-loop
     run-depth-μ-loop
-    (λ c. sym (steps.run-none (fileOf (c .before .before .before .args .law .now)) (c .before .before .before .args .at) (c .before .before .before .args .depth) (c .before .before .before .args .part .now) (c .if1 .taken)))
-    (λ c. sym (steps.run-over (fileOf (c .before .before .before .before .args .law .now)) (c .before .before .before .before .args .at) (c .before .before .before .before .args .depth) (c .before .before .before .before .args .part .now) (c .before .if1 .left) (omega (arith, c .if2 .taken))))
-    (λ c. steps.left-whole (fileOf (c .before .before .before .before .args .law .now)) (c .before .before .before .before .args .at) (c .before .before .before .before .args .depth) (c .before .before .before .before .args .part .now) (c .before .before .before .before .pre .1 .2))
+    (λ c.
+    let start = c .before .before .before in
+    sym (steps.run-none (fileOf (start .args .law .now)) (start .args .at) (start .args .depth) (start .args .part .now) (c .if1 .taken)))
+    (λ c.
+    let start = c .before .before .before .before in
+    sym (steps.run-over (fileOf (start .args .law .now)) (start .args .at) (start .args .depth) (start .args .part .now) (c .before .if1 .left) (omega (arith, c .if2 .taken))))
+    (λ c.
+    let start = c .before .before .before .before in
+    steps.left-whole (fileOf (start .args .law .now)) (start .args .at) (start .args .depth) (start .args .part .now) (start .pre .1 .2))
     (λ c. omega (arith, c .loop .inv .within))
     (λ c. omega (arith, c .before .loop .inv .within))
     (λ c. c .before .loop .inv .within)
     (λ c. omega (arith, c .before .loop .inv .within))
     (λ c. search needs)
-    (λ c κs. omega (arith, steps.left-some (fileOf (c .before .before .before .before .before .before .before .args .law .now)) (c .before .before .before .before .before .before .before .pre .1 .1) (c .before .before .loop .inv) (c .before .loop-test .taken)))
+    (λ c κs.
+    let start = c .before .before .before .before .before .before .before in
+    omega (arith, steps.left-some (fileOf (start .args .law .now)) (start .pre .1 .1) (c .before .before .loop .inv) (c .before .loop-test .taken)))
     (λ c. omega (arith, c .before .before .before .before .loop .inv .within))
     (λ c. omega (arith, c .before .before .before .loop-test .taken))
-    (λ c. steps.left-leaf (fileOf (c .before .before .before .before .before .before .before .before .before .args .law .now)) (c .before .before .before .before .before .before .before .before .before .pre .1 .1) (c .before .before .before .before .loop .inv) (c .before .before .before .loop-test .taken) (omega (arith, c .before .before .before .before .before .if2 .left)) (omega (arith, c .before .word-at .ensures, c .if3 .taken)))
-    (λ c. omega (arith, c .before .before .before .before .loop .inv .part .inside, laws.terms-limit (c .before .before .before .before .before .before .before .before .before .args .law .now) (c .before .before .before .before .before .before .before .before .before .args .index .now) (c .before .before .before .before .before .before .before .before .before .pre .1 .0)))
-    (λ c κs. (omega (arith, c .before .before .before .before .before .before .before .before .before .pre .0), (c .before .before .before .before .before .before .before .before .before .pre .1 .0, c .before .before .before .before .before .before .before .before .before .pre .1 .1, c .before .before .before .before .loop .inv .part, steps.left-some (fileOf (c .before .before .before .before .before .before .before .before .before .args .law .now)) (c .before .before .before .before .before .before .before .before .before .pre .1 .1) (c .before .before .before .before .loop .inv) (c .before .before .before .loop-test .taken), omega (arith, c .before .before .before .before .before .if2 .left))))
-    (λ c. steps.left-over (fileOf (c .before .before .before .before .before .before .before .before .before .before .before .args .law .now)) (c .before .before .before .before .before .before .before .before .before .before .before .pre .1 .1) (c .before .before .before .before .before .before .loop .inv) (c .before .before .before .before .before .loop-test .taken) (sym (c .before .term-depth .ensures) ∙ not-true _ (c .if4 .taken)))
-    (λ c κs. omega (arith, steps.left-some (fileOf (c .before .before .before .before .before .before .before .before .before .before .before .args .law .now)) (c .before .before .before .before .before .before .before .before .before .before .before .pre .1 .1) (c .before .before .before .before .before .before .loop .inv) (c .before .before .before .before .before .loop-test .taken)))
+    (λ c.
+    let start = c .before .before .before .before .before .before .before .before .before in
+    steps.left-leaf (fileOf (start .args .law .now)) (start .pre .1 .1) (c .before .before .before .before .loop .inv) (c .before .before .before .loop-test .taken) (omega (arith, c .before .before .before .before .before .if2 .left)) (omega (arith, c .before .word-at .ensures, c .if3 .taken)))
+    (λ c.
+    let start = c .before .before .before .before .before .before .before .before .before in
+    omega (arith, c .before .before .before .before .loop .inv .part .inside, laws.terms-limit (start .args .law .now) (start .args .index .now) (start .pre .1 .0)))
+    (λ c κs.
+    let start = c .before .before .before .before .before .before .before .before .before in
+    let the-loop = c .before .before .before .before .loop in
+    (omega (arith, start .pre .0), (start .pre .1 .0, start .pre .1 .1, the-loop .inv .part, steps.left-some (fileOf (start .args .law .now)) (start .pre .1 .1) (the-loop .inv) (c .before .before .before .loop-test .taken), omega (arith, c .before .before .before .before .before .if2 .left))))
+    (λ c.
+    let start = c .before .before .before .before .before .before .before .before .before .before .before in
+    steps.left-over (fileOf (start .args .law .now)) (start .pre .1 .1) (c .before .before .before .before .before .before .loop .inv) (c .before .before .before .before .before .loop-test .taken) (sym (c .before .term-depth .ensures) ∙ not-true _ (c .if4 .taken)))
+    (λ c κs.
+    let start = c .before .before .before .before .before .before .before .before .before .before .before in
+    omega (arith, steps.left-some (fileOf (start .args .law .now)) (start .pre .1 .1) (c .before .before .before .before .before .before .loop .inv) (c .before .before .before .before .before .loop-test .taken)))
     (λ c. omega arith)
     (λ c. omega arith)
-    (λ c. omega (arith, steps.left-end (fileOf (c .before .before .before .before .before .before .before .before .before .before .before .before .args .law .now)) (c .before .before .before .before .before .before .before .before .before .before .before .before .pre .1 .1) (c .before .before .before .before .before .before .before .loop .inv) (c .before .before .before .before .before .before .loop-test .taken) (c .word-at2 .ensures)))
+    (λ c.
+    let start = c .before .before .before .before .before .before .before .before .before .before .before .before in
+    omega (arith, steps.left-end (fileOf (start .args .law .now)) (start .pre .1 .1) (c .before .before .before .before .before .before .before .loop .inv) (c .before .before .before .before .before .before .loop-test .taken) (c .word-at2 .ensures)))
     (λ c. omega (arith, c .before .before .before .before .before .before .loop-test .taken))
-    (λ c. steps.left-after (fileOf (c .before .before .before .before .before .before .before .before .before .before .before .before .args .law .now)) (c .before .before .before .before .before .before .before .before .before .before .before .before .pre .1 .1) (c .before .before .before .before .before .before .before .loop .inv) (c .before .before .before .before .before .before .loop-test .taken) (c .word-at2 .ensures) (sym (c .before .before .term-depth .ensures) ∙ not-false _ (c .before .if4 .left)))
-    (λ c. steps.left-none (fileOf (c .before .before .before .before .before .before .args .law .now)) (c .before .before .before .before .before .before .pre .1 .1) (c .before .loop .inv) (c .loop-test .left)))
+    (λ c.
+    let start = c .before .before .before .before .before .before .before .before .before .before .before .before in
+    steps.left-after (fileOf (start .args .law .now)) (start .pre .1 .1) (c .before .before .before .before .before .before .before .loop .inv) (c .before .before .before .before .before .before .loop-test .taken) (c .word-at2 .ensures) (sym (c .before .before .term-depth .ensures) ∙ not-false _ (c .before .if4 .left)))
+    (λ c.
+    let start = c .before .before .before .before .before .before in
+    steps.left-none (fileOf (start .args .law .now)) (start .pre .1 .1) (c .before .loop .inv) (c .loop-test .left)))
     (λ t. sentence-depth-lts.spec (
       pattern-reads.Asked,
       pattern-reads.Learnt,
@@ -335,7 +360,9 @@ pub +conditions-depth+run-depth+sentence-depth+sentences-depth+term-depth-spec :
     (sentence-depth-at t)
     sentence-depth.Post
     (λ c κs. (c .before .pre .1 .0, c .before .pre .1 .2))
-    (λ c κs. (c .before .before .pre .1 .0, le-of-lt (c .before .before .pre .1 .2)))
+    (λ c κs.
+    let start = c .before .before in
+    (start .pre .1 .0, le-of-lt (start .pre .1 .2)))
     (λ c κs.
     let start = c .before .before .before in
     (omega (arith, start .pre .0), (start .pre .1 .0, start .pre .1 .1, rw (c .pattern-at .ensures, c .before .pattern .ensures) (parts.pattern-part (fileOf (start .args .law .now)) (start .pre .1 .1) (start .args .s) (start .pre .1 .2)), start .pre .1 .3)))

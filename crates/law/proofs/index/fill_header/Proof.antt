@@ -41,4 +41,6 @@ fill-header-spec =
     (λ c. search needs)
     (λ c. omega (arith, c .before .before .before .before .before .before .before .before .before .before .before .before .before .before .pre .0))
     (λ c. search needs)
-    (λ c. header-written (c .before .before .before .before .before .before .before .before .before .before .before .before .before .before .args .sections) (c .before .before .before .before .before .before .before .before .before .before .before .before .before .before .args .index .now) (c .before .before .before .before .before .before .before .before .before .before .before .before .before .before .pre .1)))
+    (λ c.
+    let start = c .before .before .before .before .before .before .before .before .before .before .before .before .before .before in
+    header-written (start .args .sections) (start .args .index .now) (start .pre .1)))

@@ -13,12 +13,20 @@ pub gather-spec : {M : Type 1} → statement M
 gather-spec =
     tie.close
     (tie.spec
-    (λ c κs. (c .before .before .before .before .before .pre .0 .indexed, accepted-readable _ (c .before .before .before .before .before .pre .0 .accepted), c .before .before .before .before .before .pre .0 .small, c .before .before .before .before .before .pre .0 .room, c .before .before .before .before .before .pre .1))
+    (λ c κs.
+    let start = c .before .before .before .before .before in
+    (start .pre .0 .indexed, accepted-readable _ (start .pre .0 .accepted), start .pre .0 .small, start .pre .0 .room, start .pre .1))
     (λ c. search needs)
     (λ c. search needs)
-    (λ c κs. (filled-prepares (c .before .before .before .before .before .before .before .before .before .before .before .before .before .args .room) (settingsFrom (c .before .before .before .before .before .before .before .before .before .before .before .before .before .args .mode) (c .before .before .before .before .before .before .before .before .before .before .before .before .before .args .overrides .now)) _ (c .before .before .before .before .before .before .before .infer-store .result) (c .before .before .before .before .before .before .before .before .before .before .before .before .before .pre .0) (c .before .before .before .before .before .before .before .before .before .before .before .before .before .pre .1) (c .before .before .before .before .before .before .before .infer-store .ensures) _ _ (c .before .before .before .rounds .given .1), c .before .before .before .before .before .before .before .before .before .before .before .before .before .pre .1, filled-store (c .before .before .before .before .before .before .before .before .before .before .before .before .before .args .room) (settingsFrom (c .before .before .before .before .before .before .before .before .before .before .before .before .before .args .mode) (c .before .before .before .before .before .before .before .before .before .before .before .before .before .args .overrides .now)) _ (c .before .before .before .before .before .before .before .infer-store .result) (c .before .before .before .before .before .before .before .before .before .before .before .before .before .pre .0) (c .before .before .before .before .before .before .before .before .before .before .before .before .before .pre .1) (c .before .before .before .before .before .before .before .infer-store .ensures) _ _ (c .before .before .before .rounds .given .1)))
+    (λ c κs.
+    let start = c .before .before .before .before .before .before .before .before .before .before .before .before .before in
+    (filled-prepares (start .args .room) (settingsFrom (start .args .mode) (start .args .overrides .now)) _ (c .before .before .before .before .before .before .before .infer-store .result) (start .pre .0) (start .pre .1) (c .before .before .before .before .before .before .before .infer-store .ensures) _ _ (c .before .before .before .rounds .given .1), start .pre .1, filled-store (start .args .room) (settingsFrom (start .args .mode) (start .args .overrides .now)) _ (c .before .before .before .before .before .before .before .infer-store .result) (start .pre .0) (start .pre .1) (c .before .before .before .before .before .before .before .infer-store .ensures) _ _ (c .before .before .before .rounds .given .1)))
     (λ c. search needs)
-    (λ c. infer-wide (c .before .before .before .before .before .before .before .before .before .before .args .room) (settingsFrom (c .before .before .before .before .before .before .before .before .before .before .args .mode) (c .before .before .before .before .before .before .before .before .before .before .args .overrides .now)) _ (c .before .before .before .before .infer-store .result) (c .before .before .before .before .before .before .before .before .before .before .pre .0) (c .before .before .before .before .before .before .before .before .before .before .pre .1) (c .before .before .before .before .infer-store .ensures) _ (c .enum-told .given .1))
+    (λ c.
+    let start = c .before .before .before .before .before .before .before .before .before .before in
+    infer-wide (start .args .room) (settingsFrom (start .args .mode) (start .args .overrides .now)) _ (c .before .before .before .before .infer-store .result) (start .pre .0) (start .pre .1) (c .before .before .before .before .infer-store .ensures) _ (c .enum-told .given .1))
     (λ c. search needs)
     (λ c. search needs)
-    (λ c. gather-both (c .before .before .before .before .before .before .before .before .before .before .before .before .before .before .before .before .before .before .args .room) (settingsFrom (c .before .before .before .before .before .before .before .before .before .before .before .before .before .before .before .before .before .before .args .mode) (c .before .before .before .before .before .before .before .before .before .before .before .before .before .before .before .before .before .before .args .overrides .now)) _ (c .before .before .before .before .before .before .before .before .before .before .before .before .infer-store .result) (c .before .before .before .before .before .before .before .before .before .before .before .before .before .before .before .before .before .before .pre .0) (c .before .before .before .before .before .before .before .before .before .before .before .before .before .before .before .before .before .before .pre .1) (c .before .before .before .before .before .before .before .before .before .before .before .before .infer-store .ensures) _ _ (c .before .before .before .before .before .before .before .before .rounds .given .1) _ _ _ _ (c .before .before .before .before .gather-findings .ensures)))
+    (λ c.
+    let start = c .before .before .before .before .before .before .before .before .before .before .before .before .before .before .before .before .before .before in
+    gather-both (start .args .room) (settingsFrom (start .args .mode) (start .args .overrides .now)) _ (c .before .before .before .before .before .before .before .before .before .before .before .before .infer-store .result) (start .pre .0) (start .pre .1) (c .before .before .before .before .before .before .before .before .before .before .before .before .infer-store .ensures) _ _ (c .before .before .before .before .before .before .before .before .rounds .given .1) _ _ _ _ (c .before .before .before .before .gather-findings .ensures)))

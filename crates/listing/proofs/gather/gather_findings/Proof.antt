@@ -12,17 +12,25 @@ pub gather-findings-spec : {M : Type 1} → statement M
 gather-findings-spec =
     tie.close
     (tie.spec
-    (λ c κs. ready (c .before .before .before .before .before .before .pre .0) (c .before .before .before .before .before .before .pre .1) (c .before .before .before .before .before .before .pre .2 .formats) _ _ (c .before .before .before .before .before .before .pre .2 .inferred) (c .before .before .before .before .before .before .pre .2 .words))
+    (λ c κs.
+    let start = c .before .before .before .before .before .before in
+    ready (start .pre .0) (start .pre .1) (start .pre .2 .formats) _ _ (start .pre .2 .inferred) (start .pre .2 .words))
     (λ c. search needs)
     (λ c κs. search needs)
     (λ c. search needs)
     (λ c. search needs)
     (λ c. search needs)
     (λ c. search needs)
-    (λ c. gather-wide (c .before .before .before .before .before .before .before .before .before .before .before .before .before .before .before .args .room) (settingsFrom (c .before .before .before .before .before .before .before .before .before .before .before .before .before .before .before .args .mode) (c .before .before .before .before .before .before .before .before .before .before .before .before .before .before .before .args .overrides .now)) (c .before .before .before .before .before .before .before .before .before .before .before .before .before .before .before .args .out .now) _ (c .before .before .before .before .before .before .before .before .before .before .before .before .before .before .before .pre .0) (c .before .before .before .before .before .before .before .before .before .before .before .before .before .before .before .pre .1) (c .before .before .before .before .before .before .before .before .before .before .before .before .before .before .before .pre .2) (c .before .before .before .before .before .before .before .before .lint-all .ensures) _ (c .before .before .before .before .enum-told .given .1) (c .before .before .clear-store .ensures))
+    (λ c.
+    let start = c .before .before .before .before .before .before .before .before .before .before .before .before .before .before .before in
+    gather-wide (start .args .room) (settingsFrom (start .args .mode) (start .args .overrides .now)) (start .args .out .now) _ (start .pre .0) (start .pre .1) (start .pre .2) (c .before .before .before .before .before .before .before .before .lint-all .ensures) _ (c .before .before .before .before .enum-told .given .1) (c .before .before .clear-store .ensures))
     (λ c. search needs)
     (λ c. search needs)
-    (λ c. gather-full (c .before .before .before .before .before .before .before .before .before .before .before .args .room) (settingsFrom (c .before .before .before .before .before .before .before .before .before .before .before .args .mode) (c .before .before .before .before .before .before .before .before .before .before .before .args .overrides .now)) (c .before .before .before .before .before .before .before .before .before .before .before .args .out .now) _ (c .before .before .before .before .before .before .before .before .before .before .before .pre .0) (c .before .before .before .before .before .before .before .before .before .before .before .pre .1) (c .before .before .before .before .before .before .before .before .before .before .before .pre .2) (c .before .before .before .before .lint-all .ensures) (c .enum-told2 .given .1))
+    (λ c.
+    let start = c .before .before .before .before .before .before .before .before .before .before .before in
+    gather-full (start .args .room) (settingsFrom (start .args .mode) (start .args .overrides .now)) (start .args .out .now) _ (start .pre .0) (start .pre .1) (start .pre .2) (c .before .before .before .before .lint-all .ensures) (c .enum-told2 .given .1))
     (λ c. search needs)
     (λ c. search needs)
-    (λ c. gather-upto (c .before .before .before .before .before .before .before .before .before .before .before .before .args .room) (settingsFrom (c .before .before .before .before .before .before .before .before .before .before .before .before .args .mode) (c .before .before .before .before .before .before .before .before .before .before .before .before .args .overrides .now)) (c .before .before .before .before .before .before .before .before .before .before .before .before .args .out .now) _ (c .before .before .before .before .before .before .before .before .before .before .before .before .pre .0) (c .before .before .before .before .before .before .before .before .before .before .before .before .pre .1) (c .before .before .before .before .before .before .before .before .before .before .before .before .pre .2) (c .before .before .before .before .before .lint-all .ensures) _ (c .before .count .given .1)))
+    (λ c.
+    let start = c .before .before .before .before .before .before .before .before .before .before .before .before in
+    gather-upto (start .args .room) (settingsFrom (start .args .mode) (start .args .overrides .now)) (start .args .out .now) _ (start .pre .0) (start .pre .1) (start .pre .2) (c .before .before .before .before .before .lint-all .ensures) _ (c .before .count .given .1)))

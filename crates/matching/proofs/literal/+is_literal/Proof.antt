@@ -71,7 +71,9 @@ pub +is-literal-spec : {M : Type 1} → statement M
       ),
       tt,
     ))
-    (λ c. omega (arith, from-length (c .before .before .before .before .before .loop .i) (c .before .before .before .before .before .before .before .args .part .now), c .before .end-of .ensures .2, c .before .before .before .before .before .loop .inv .within))
+    (λ c.
+    let the-loop = c .before .before .before .before .before .loop in
+    omega (arith, from-length (the-loop .i) (c .before .before .before .before .before .before .before .args .part .now), c .before .end-of .ensures .2, the-loop .inv .within))
     (λ c. let ends = c .before .end-of .ensures in
     omega (arith, from-length (c .before .before .before .before .before .loop .i) (c .before .before .before .before .before .before .before .args .part .now), ends .1, ends .2))
     (λ c. let so-far = c .before .before .before .before .before .loop .inv in

@@ -19,4 +19,6 @@ push-spec =
     (λ c. search needs)
     (λ c. search needs)
     (λ c. search needs)
-    (λ c. (omega arith, ap (set (c .before .before .args .pending .patterns) (c .before .before .args .pending .count)) (c .before .narrow .ensures), ap (set (c .before .before .args .pending .rows) (c .before .before .args .pending .count)) (c .narrow2 .ensures))))
+    (λ c.
+    let start = c .before .before in
+    (omega arith, ap (set (start .args .pending .patterns) (start .args .pending .count)) (c .before .narrow .ensures), ap (set (start .args .pending .rows) (start .args .pending .count)) (c .narrow2 .ensures))))

@@ -185,7 +185,9 @@ pub +shadow-inside+shadow-lengths+shadow-run-spec : {M : Type 1} → statement M
     (λ c κs. c .if2 .left)
     (λ c. let asked = c .before .before .before .before .before .before .before .before .before .before .before .before .before .pre .1 .0 .0 in
     omega (arith, asked .row-stands .inside, asked .small, c .end-of2 .ensures .2, from-length (c .before .before .before .before .before .before .loop .n) (c .before .before .before .before .before .before .before .before .before .before .before .before .before .args .row .now), begin-inside (c .before .before .before .before .before .before .loop .inv .0)))
-    (λ c. omega (arith, c .end-of2 .ensures .1, c .end-of2 .ensures .2, from-length (c .before .before .before .before .before .before .loop .n) (c .before .before .before .before .before .before .before .before .before .before .before .before .before .args .row .now), begin-inside (c .before .before .before .before .before .before .loop .inv .0)))
+    (λ c.
+    let the-loop = c .before .before .before .before .before .before .loop in
+    omega (arith, c .end-of2 .ensures .1, c .end-of2 .ensures .2, from-length (the-loop .n) (c .before .before .before .before .before .before .before .before .before .before .before .before .before .args .row .now), begin-inside (the-loop .inv .0)))
     (λ c. let start = c .before .before .before .before .before .before .before .before .before .before .before .before .before .pre in (
       rw (c .end-of2 .ensures .0) (one-on (c .before .if2 .left) (c .before .before .before .before .before .before .loop .inv .0)),
       rw (c .end-of2 .ensures .0) (returns.length-next (start .1 .0 .0) (start .1 .0 .1) (start .1 .1) (c .before .before .before .before .before .before .before .before .end-of .ensures .0) (c .before .before .before .before .before .before .loop .inv .0) (c .before .before .before .before .bind .ensures)

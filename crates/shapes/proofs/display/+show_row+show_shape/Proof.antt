@@ -62,18 +62,24 @@ pub +show-row+show-shape-spec : {M : Type 1} → statement M
     show-row.Post
     (λ c κs. omega arith)
     (λ c. search needs)
-    (λ c κs. omega (arith, c .before .before .before .before .put-space .ensures .end, space-length (c .before .before .before .before .before .before .before .before .before .before .args .first), c .before .before .before .before .before .before .before .before .before .before .pre))
+    (λ c κs.
+    let start = c .before .before .before .before .before .before .before .before .before .before in
+    omega (arith, c .before .before .before .before .put-space .ensures .end, space-length (start .args .first), start .pre))
     (λ c. search needs)
     (λ c. let x = c .before .before .before .before .before .before .before .before .before .before .before .before .before .args in (omega (arith, c .before .before .put .ensures .end, c .before .before .before .before .before .before .before .put-space .ensures .end, space-length (x .first)), show-none-open (x .is-open) (x .first) (x .s .now) (x .out .now) (x .at) _ _ _ _ (c .before .before .before .before .before .before .before .before .before .before .if1 .taken) (c .before .before .before .before .before .before .before .before .before .if2 .taken) (c .before .before .before .before .before .before .before .put-space .kept .1 .0) (c .before .before .before .before .before .before .before .put-space .ensures) (c .before .before .put .ensures)))
     (λ c. let x = c .before .before .before .before .args in (omega arith, show-none-closed (x .is-open) (x .first) (x .s .now) (x .out .now) (x .at) (c .before .if1 .taken) (c .if2 .left)))
     (λ c κs. omega arith)
-    (λ c κs. (omega arith, (omega arith, omega (arith, c .before .before .before .put-space2 .ensures .end, space-length (c .before .before .before .before .before .before .before .before .args .first), c .before .before .before .before .before .before .before .before .pre))))
+    (λ c κs.
+    let start = c .before .before .before .before .before .before .before .before in
+    (omega arith, (omega arith, omega (arith, c .before .before .before .put-space2 .ensures .end, space-length (start .args .first), start .pre))))
     (λ c κs. omega arith)
     (λ c. search needs)
     (λ c. omega arith)
     (λ c. omega arith)
     (λ c. search needs)
-    (λ c κs. (omega (arith, shapes-rest-falls (c .before .before .before .before .before .before .before .before .before .before .before .before .before .before .args .s .now) (c .before .before .end-of .result) (c .before .before .before .before .before .before .before .before .before .before .before .if1 .left) (c .before .before .end-of .ensures .0)), omega (arith, c .before .before .end-of .ensures, c .before .before .before .before .before .show-shape .ensures .0, c .before .before .before .before .before .before .before .before .before .put-space2 .ensures .end, space-length (c .before .before .before .before .before .before .before .before .before .before .before .before .before .before .args .first), c .before .before .before .before .before .before .before .before .before .before .before .before .before .before .pre)))
+    (λ c κs.
+    let start = c .before .before .before .before .before .before .before .before .before .before .before .before .before .before in
+    (omega (arith, shapes-rest-falls (start .args .s .now) (c .before .before .end-of .result) (c .before .before .before .before .before .before .before .before .before .before .before .if1 .left) (c .before .before .end-of .ensures .0)), omega (arith, c .before .before .end-of .ensures, c .before .before .before .before .before .show-shape .ensures .0, c .before .before .before .before .before .before .before .before .before .put-space2 .ensures .end, space-length (start .args .first), start .pre)))
     (λ c. omega arith)
     (λ c. let x = c .before .before .before .before .before .before .before .before .before .before .before .before .before .before .before .before .before .args in (
       omega (arith, c .before .before .show-row .ensures .0, c .before .before .before .before .before .end-of .ensures, c .before .before .before .before .before .before .before .before .show-shape .ensures .0, c .before .before .before .before .before .before .before .before .before .before .before .before .put-space2 .ensures .end, space-length (x .first)),
@@ -106,7 +112,9 @@ pub +show-row+show-shape-spec : {M : Type 1} → statement M
     (λ c. omega arith)
     (λ c. search needs)
     (λ c κs. search needs)
-    (λ c κs. (omega (arith, shapes-contents-falls (c .before .before .before .before .before .before .before .before .before .before .before .before .before .before .args .s .now) (c .before .before .before .before .before .before .before .before .before .before .end-of .result) (c .before .before .before .before .before .before .before .before .before .before .before .before .before .before .pre .1 .0) (c .before .before .before .before .before .before .before .before .before .before .end-of .ensures .0)), omega (arith, c .before .before .before .before .before .before .before .before .before .before .end-of .ensures, c .before .before .before .before .before .put .ensures .end, c .before .before .before .before .before .before .before .before .before .before .before .before .before .before .pre)))
+    (λ c κs.
+    let start = c .before .before .before .before .before .before .before .before .before .before .before .before .before .before in
+    (omega (arith, shapes-contents-falls (start .args .s .now) (c .before .before .before .before .before .before .before .before .before .before .end-of .result) (start .pre .1 .0) (c .before .before .before .before .before .before .before .before .before .before .end-of .ensures .0)), omega (arith, c .before .before .before .before .before .before .before .before .before .before .end-of .ensures, c .before .before .before .before .before .put .ensures .end, start .pre)))
     (λ c. search needs)
     (λ c κs. omega (arith, c .before .before .before .before .show-row .ensures .0, c .before .before .before .before .before .before .before .before .before .before .before .before .before .before .before .end-of .ensures, c .before .before .before .before .before .before .before .before .before .before .put .ensures .end, c .before .before .before .before .before .before .before .before .before .before .before .before .before .before .before .before .before .before .before .pre))
     (λ c. search needs)
