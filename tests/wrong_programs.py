@@ -1,8 +1,9 @@
 #!/usr/bin/env python3
 """Tries the wrong programs of tests/wrong_programs, which the gate leaves out for its time: the prover must refuse each.
 
-Each folder there is a crate's, and its edits are as those of crates/NAME/must-fail. They are put beside these in a copy of the
-crates, and `rt must-fail` tries them all. Words name crates; without any, all that have edits here are tried."""
+Each folder there is a crate's, and its edits are as those of crates/NAME/must-fail. They take the place of these in a copy of
+the crates, and `rt must-fail` tries them; what is proved already, in target, is taken along. Words name crates; without any,
+all that have edits here are tried."""
 import shutil
 import subprocess
 import sys
@@ -18,9 +19,11 @@ def main():
     with tempfile.TemporaryDirectory() as folder:
         copy = Path(folder)
         shutil.copy(ROOT / "crates.txt", copy)
-        shutil.copytree(ROOT / "crates", copy / "crates")
+        for part in ("crates", "target"):
+            if (ROOT / part).is_dir():
+                shutil.copytree(ROOT / part, copy / part, ignore=shutil.ignore_patterns("must-fail"))
         for crate in crates:
-            shutil.copytree(EDITS / crate, copy / "crates" / crate / "must-fail", dirs_exist_ok=True)
+            shutil.copytree(EDITS / crate, copy / "crates" / crate / "must-fail")
         return subprocess.run(["rt", "must-fail", *crates], cwd=copy).returncode
 
 
