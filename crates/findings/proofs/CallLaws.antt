@@ -1,5 +1,5 @@
 -- What lints 2 and 3 note of one call (src/calls.rt): the events of a verdict and of a failure are those of the lint's remarks.
-use Prim.Native.Nat.{ℕ, _+_, _*_, _≤_, _<_}
+use Prim.Native.Nat.{ℕ, zero, suc, _+_, _*_, _≤_, _<_}
 use mathlib.Core.Bool.{Bool, true, false, cond, not}
 use mathlib.Core.List.{List, [], _∷_, append-nil}
 use mathlib.Core.Option.{Option, none, some}
@@ -7,7 +7,7 @@ use mathlib.Core.Path.{_≡_, refl, sym, ap, _∙_}
 use native.Mathlib.Omega.{arith}
 use lib.ListN.{length, take, drop}
 use lib.Dec.{ltb}
-use borrow.Author.Tests.{eq-eqb, ne-eqb, not-true, not-false}
+use borrow.Author.Tests.{eq-eqb, ne-eqb, eqb-true, not-true, not-false}
 use Rattle.names.specs.Name.{folded}
 use Rattle.file.specs.Word.{wordAt}
 use Rattle.file.specs.Sections.{File}
@@ -32,13 +32,11 @@ use Rattle.lints.specs.Builtin.{builtins, domainIn, failure, failed, builtinOn}
 use Rattle.lints.specs.Part.{argumentOf}
 use Rattle.lints.specs.Records.{callAt}
 use Rattle.lints.proofs.PartLaws.{failure-same}
-use Rattle.findings.specs.declared.Tally.{Tally}
-use Rattle.findings.specs.declared.Tally.the-variants.{Over, Full, Upto}
 use Rattle.findings.specs.declared.Task.{Task}
 use Rattle.findings.specs.declared.Note.{Note}
 use Rattle.findings.specs.declared.recognition.Verdict.{Verdict}
 use Rattle.findings.specs.declared.recognition.Verdict.the-variants.{Nothing, TooWide, ByFormats, ByLiterals}
-use Rattle.findings.specs.Events.{Event, found, tooWide, Sink, sinkOf, met, collect}
+use Rattle.findings.specs.Events.{Tally, Over, Event, found, tooWide, Sink, sinkOf, met, collect}
 use Rattle.findings.specs.Tasks.{noteWords, remarkEvents, recognitionEvents, callEvents, callsAt}
 use Rattle.findings.specs.Judging.{callNote, callFound, verdictEvents, failureEvents, isOver}
 use Rattle.findings.specs.Verdicts.{verdictOf}
@@ -57,9 +55,9 @@ met-by f room s e h = rw e h
 -- an argument that is too wide ends the count
 pub collect-wide : (room : ℕ) (tally : Tally) (words : List ℕ) → sinkOf Over words ≡ collect room (sinkOf tally words) (tooWide ∷ [])
 unfolding collect
-collect-wide room Over words = refl
-collect-wide room Full words = refl
-collect-wide room (Upto n) words = refl
+collect-wide room zero words = refl
+collect-wide room (suc zero) words = refl
+collect-wide room (suc (suc n)) words = refl
 
 -- a count that has ended stays
 collect-ended : (room : ℕ) (words : List ℕ) (es : List Event) → sinkOf Over words ≡ collect room (sinkOf Over words) es
@@ -68,9 +66,7 @@ collect-ended room words [] = refl
 collect-ended room words (e ∷ es) = collect-ended room words es
 
 pub collect-over : (room : ℕ) (tally : Tally) (words : List ℕ) (es : List Event) → isOver tally ≡ true → sinkOf tally words ≡ collect room (sinkOf tally words) es
-collect-over room Over words es h = collect-ended room words es
-collect-over room Full words es h = let z : _≡_ {A = ℕ} 0 1 = cc in absurd (omega arith)
-collect-over room (Upto n) words es h = let z : _≡_ {A = ℕ} 0 1 = cc in absurd (omega arith)
+collect-over room tally words es h = rw (eqb-true tally Over h) (collect-ended room words es)
 
 -- ---- a finding about a call
 

@@ -1,15 +1,13 @@
 -- Laws of what is collected in a buffer (specs/Events.antt): a finding's eight words, one finding, and events one after another.
-use Prim.Native.Nat.{ℕ, _+_, _*_, _≤_, _<_, _/_}
+use Prim.Native.Nat.{ℕ, zero, suc, _+_, _*_, _-_, _≤_, _<_, _/_}
 use mathlib.Core.List.{List, [], _∷_, _++_}
 use mathlib.Core.Path.{_≡_, refl}
 use native.Mathlib.Omega.{arith}
 use lib.ListN.{length, set}
-use borrow.Author.Tests.{lt-ltb, le-ltb, le-leb, lt-leb}
+use borrow.Author.Tests.{le-leb, lt-leb}
 use Rattle.shapes.specs.Written.{written}
 use Rattle.shapes.proofs.WrittenLaws.{written-one, written-more, written-length}
-use Rattle.findings.specs.declared.Tally.{Tally}
-use Rattle.findings.specs.declared.Tally.the-variants.{Over, Full, Upto}
-use Rattle.findings.specs.Events.{Event, found, Sink, sinkOf, afterNote, met, collect}
+use Rattle.findings.specs.Events.{Tally, Full, Upto, Event, found, Sink, sinkOf, afterNote, met, collect}
 
 -- ---- writing
 
@@ -45,19 +43,21 @@ note-fits words after finding n h e = rw (le-leb (8 * n + 8) (length words) (ome
 pub note-left : (words after finding : List ℕ) (n : ℕ) → length words / 8 ≤ n → after ≡ words → after ≡ afterNote words n finding
 note-left words after finding n h e = rw (lt-leb (8 * n + 8) (length words) (omega arith)) e
 
-pub note-over : (room : ℕ) (tally : Tally) (words finding : List ℕ) → tally ≡ Over → sinkOf Over words ≡ met room (found finding) tally words
-note-over room tally words finding e = rw e
+-- no finding counts after the end, or where there are too many
+pub note-ended : (room : ℕ) (tally : Tally) (words finding : List ℕ) → tally < 2 → sinkOf tally words ≡ met room (found finding) tally words
+note-ended room zero words finding h = refl
+note-ended room (suc zero) words finding h = refl
+note-ended room (suc (suc n)) words finding h = absurd (omega (arith, h))
 
-pub note-full : (room : ℕ) (tally : Tally) (words finding : List ℕ) → tally ≡ Full → sinkOf Full words ≡ met room (found finding) tally words
-note-full room tally words finding e = rw e
+-- after n of them
+pub note-none : (room n : ℕ) (tally : Tally) (words finding : List ℕ) → tally ≡ Upto n → room / 8 ≤ n → sinkOf Full words ≡ met room (found finding) tally words
+note-none room n tally words finding e h = rw (e, lt-leb (8 * n + 8) room (omega (arith, h)))
 
-pub note-none : (room n : ℕ) (tally : Tally) (words finding : List ℕ) → tally ≡ Upto n → room ≤ n
-    → sinkOf Full words ≡ met room (found finding) tally words
-note-none room n tally words finding e h = rw (e, le-ltb n room h)
-
-pub note-one : (room n : ℕ) (tally : Tally) (words after finding : List ℕ) → tally ≡ Upto n → n < room → after ≡ afterNote words n finding
-    → sinkOf (Upto (n + 1)) after ≡ met room (found finding) tally words
-note-one room n tally words after finding e h p = rw (e, lt-ltb n room h, p)
+pub note-one : (room n : ℕ) (tally : Tally) (words after finding : List ℕ) → tally ≡ Upto n → n < room / 8 → after ≡ afterNote words n finding
+    → sinkOf (tally + 1) after ≡ met room (found finding) tally words
+note-one room n tally words after finding e h p =
+    let next : tally + 1 ≡ Upto (n + 1) = omega (arith, e) in
+    rw (next, e, le-leb (8 * n + 8) room (omega (arith, h)), p)
 
 -- ---- events one after another
 

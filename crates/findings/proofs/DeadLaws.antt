@@ -26,9 +26,7 @@ use Rattle.lints.specs.Finding.{Remark}
 use Rattle.lints.specs.Dead.{Earlier, unconditional, earliest, deadAfter}
 use Rattle.lints.specs.Records.{conditionsAt, earlierAt, numberOr0}
 use Rattle.findings.specs.declared.Task.{Task}
-use Rattle.findings.specs.declared.Tally.{Tally}
-use Rattle.findings.specs.declared.Tally.the-variants.{Over, Full}
-use Rattle.findings.specs.Events.{found, Sink, sinkOf, met, collect}
+use Rattle.findings.specs.Events.{Tally, found, Sink, sinkOf, met, collect}
 use Rattle.findings.specs.Tasks.{noteWords, remarkEvent, remarkEvents}
 use Rattle.findings.proofs.CollectLaws.{collect-append}
 use Rattle.findings.specs.DeadSteps.{sentenceWords, deadEvents, deadFrom}
@@ -167,16 +165,15 @@ unfolding remarkEvents
 remarks-append task [] qs = refl
 remarks-append task (r ∷ rs) qs = ap (λ es. remarkEvent task r ∷ es) (remarks-append task rs qs)
 
--- no finding counts after the end, or where there is no room
-over-stays : (room : ℕ) (words : List ℕ) (task : Task) (rs : List Remark) → collect room (sinkOf Over words) (remarkEvents task rs) ≡ sinkOf Over words
+-- no finding counts after the end, or where there are too many
+ended-stays : (room : ℕ) (words : List ℕ) (task : Task) (tally : Tally) → tally < 2 → (rs : List Remark)
+    → collect room (sinkOf tally words) (remarkEvents task rs) ≡ sinkOf tally words
 unfolding collect remarkEvents
-over-stays room words task [] = refl
-over-stays room words task (r ∷ rs) = over-stays room words task rs
-
-full-stays : (room : ℕ) (words : List ℕ) (task : Task) (rs : List Remark) → collect room (sinkOf Full words) (remarkEvents task rs) ≡ sinkOf Full words
-unfolding collect remarkEvents
-full-stays room words task [] = refl
-full-stays room words task (r ∷ rs) = full-stays room words task rs
+ended-stays room words task zero h [] = refl
+ended-stays room words task zero h (r ∷ rs) = ended-stays room words task zero h rs
+ended-stays room words task (suc zero) h [] = refl
+ended-stays room words task (suc zero) h (r ∷ rs) = ended-stays room words task (suc zero) h rs
+ended-stays room words task (suc (suc n)) h rs = absurd (omega (arith, h))
 
 -- numbers count from 1
 abbrev Positive : Option ℕ → Type 0
@@ -223,16 +220,11 @@ sentence-noted file task s a b start stop tally words p q h =
     rw (place, ← p, ← q) h
 
 module _ (file : File) (task : Task) (first : ℕ) where
-  -- one sentence
-  pub sentence-over : (words : List ℕ) (later : ℕ) {tally : Tally} → tally ≡ Over → (inBlock : Bool)
-      → sinkOf Over words ≡ collect (task .room) (sinkOf tally words) (deadEvents file task inBlock first later)
+  -- one sentence, where no finding counts
+  pub sentence-ended : (words : List ℕ) (later : ℕ) (tally : Tally) → tally < 2 → (inBlock : Bool)
+      → sinkOf tally words ≡ collect (task .room) (sinkOf tally words) (deadEvents file task inBlock first later)
   unfolding deadEvents
-  sentence-over words later e inBlock = rw e (sym (over-stays (task .room) words task _))
-
-  pub sentence-full : (words : List ℕ) (later : ℕ) {tally : Tally} → tally ≡ Full → (inBlock : Bool)
-      → sinkOf Full words ≡ collect (task .room) (sinkOf tally words) (deadEvents file task inBlock first later)
-  unfolding deadEvents
-  sentence-full words later e inBlock = rw e (sym (full-stays (task .room) words task _))
+  sentence-ended words later tally h inBlock = sym (ended-stays (task .room) words task tally h _)
 
   -- the earliest sentence that shadows it
   abbrev earliestBefore : ℕ → Option ℕ

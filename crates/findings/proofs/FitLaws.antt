@@ -4,17 +4,15 @@ use mathlib.Core.Bool.{Bool, true, false, cond}
 use mathlib.Core.List.{List, [], _∷_, _++_, map}
 use mathlib.Core.Path.{_≡_, refl, sym, ap, _∙_}
 use native.Mathlib.Omega.{arith}
-use native.Mathlib.Decide.{decLt}
+use native.Mathlib.Decide.{decLe}
 use native.Mathlib.Nat.{add-zero}
-use borrow.Author.Tests.{lt-ltb, le-ltb, le-leb, lt-leb}
+use borrow.Author.Tests.{le-leb, lt-leb}
 use lib.ListN.{length}
 use lib.Dec.{ltb, leb}
 use Rattle.shapes.specs.Written.{written}
 use Rattle.shapes.proofs.WrittenLaws.{written-none, written-more, written-length}
 use Rattle.matching.specs.Match.{each}
-use Rattle.findings.specs.declared.Tally.{Tally}
-use Rattle.findings.specs.declared.Tally.the-variants.{Over, Full, Upto}
-use Rattle.findings.specs.Events.{Event, found, tooWide, Sink, sinkOf, afterNote, noted, met, collect}
+use Rattle.findings.specs.Events.{Full, Upto, Event, found, tooWide, Sink, sinkOf, afterNote, noted, met, collect}
 
 -- findings of eight words each
 module _ {X : Type 0} (words : X → List ℕ) (eight : (x : X) → length (words x) ≡ 8) where
@@ -22,23 +20,23 @@ module _ {X : Type 0} (words : X → List ℕ) (eight : (x : X) → length (word
   allFound xs = map (λ (x : X). found (words x)) xs
 
   -- the first of them, with room for it
-  first-fits : (room n : ℕ) (buffer : List ℕ) (x : X) → n < room
+  first-fits : (room n : ℕ) (buffer : List ℕ) (x : X) → 8 * n + 8 ≤ room
       → met room (found (words x)) (Upto n) buffer ≡ sinkOf (Upto (n + 1)) (afterNote buffer n (words x))
-  first-fits room n buffer x h = rw (lt-ltb n room h)
+  first-fits room n buffer x h = rw (le-leb (8 * n + 8) room h)
 
-  first-over : (room n : ℕ) (buffer : List ℕ) (x : X) → room ≤ n → met room (found (words x)) (Upto n) buffer ≡ sinkOf Full buffer
-  first-over room n buffer x h = rw (le-ltb n room h)
+  first-over : (room n : ℕ) (buffer : List ℕ) (x : X) → room < 8 * n + 8 → met room (found (words x)) (Upto n) buffer ≡ sinkOf Full buffer
+  first-over room n buffer x h = rw (lt-leb (8 * n + 8) room h)
 
   first-written : (n : ℕ) (buffer : List ℕ) (x : X) → 8 * n + 8 ≤ length buffer → afterNote buffer n (words x) ≡ written buffer (8 * n) (words x)
   first-written n buffer x h = rw (le-leb (8 * n + 8) (length buffer) h)
 
   -- there is room for all of them
-  pub collect-fits : (room n : ℕ) (buffer : List ℕ) (xs : List X) → n + length xs ≤ room → 8 * (n + length xs) ≤ length buffer
+  pub collect-fits : (room n : ℕ) (buffer : List ℕ) (xs : List X) → 8 * (n + length xs) ≤ room → 8 * (n + length xs) ≤ length buffer
       → collect room (sinkOf (Upto n) buffer) (allFound xs) ≡ sinkOf (Upto (n + length xs)) (written buffer (8 * n) (each words xs))
   unfolding collect
   collect-fits room n buffer [] fits holds = rw (add-zero n, ← written-none buffer (8 * n))
   collect-fits room n buffer (x ∷ xs) fits holds =
-      let here : n < room = omega (arith, fits) in
+      let here : 8 * n + 8 ≤ room = omega (arith, fits) in
       let place : 8 * n + 8 ≤ length buffer = omega (arith, holds) in
       let kept : length (written buffer (8 * n) (words x)) ≡ length buffer = written-length buffer (8 * n) (words x) (omega (arith, eight x, place)) in
       let step : n + 1 + length xs ≡ n + suc (length xs) = omega arith in
@@ -51,12 +49,12 @@ module _ {X : Type 0} (words : X → List ℕ) (eight : (x : X) → length (word
       )
 
   -- they are counted whatever the buffer has room for
-  pub collect-counts : (room n : ℕ) (buffer : List ℕ) (xs : List X) → n + length xs ≤ room
+  pub collect-counts : (room n : ℕ) (buffer : List ℕ) (xs : List X) → 8 * (n + length xs) ≤ room
       → collect room (sinkOf (Upto n) buffer) (allFound xs) .tally ≡ Upto (n + length xs)
   unfolding collect
   collect-counts room n buffer [] fits = rw (add-zero n)
   collect-counts room n buffer (x ∷ xs) fits =
-      let here : n < room = omega (arith, fits) in
+      let here : 8 * n + 8 ≤ room = omega (arith, fits) in
       let step : n + 1 + length xs ≡ n + suc (length xs) = omega arith in
       ap (λ (s : Sink). collect room s (allFound xs) .tally) (first-fits room n buffer x here)
       ∙ rw (← step) (collect-counts room (n + 1) (afterNote buffer n (words x)) xs (omega (arith, fits)))
@@ -67,13 +65,13 @@ module _ {X : Type 0} (words : X → List ℕ) (eight : (x : X) → length (word
   full-stays room buffer (x ∷ xs) = full-stays room buffer xs
 
   -- there are more than there is room for
-  pub collect-full : (room n : ℕ) (buffer : List ℕ) (xs : List X) → n ≤ room → room < n + length xs
+  pub collect-full : (room n : ℕ) (buffer : List ℕ) (xs : List X) → 8 * n ≤ room → room < 8 * (n + length xs)
       → collect room (sinkOf (Upto n) buffer) (allFound xs) .tally ≡ Full
   unfolding collect
   collect-full room n buffer [] low more = absurd (omega (arith, more))
-  collect-full room n buffer (x ∷ xs) low more = go (decLt n room) (λ l. collect-full room (n + 1) (afterNote buffer n (words x)) xs (omega (arith, l)) (omega (arith, more)))
+  collect-full room n buffer (x ∷ xs) low more = go (decLe (8 * n + 8) room) (λ l. collect-full room (n + 1) (afterNote buffer n (words x)) xs (omega (arith, l)) (omega (arith, more)))
     where
-      go : Dec (n < room) → (n < room → collect room (sinkOf (Upto (n + 1)) (afterNote buffer n (words x))) (allFound xs) .tally ≡ Full)
+      go : Dec (8 * n + 8 ≤ room) → (8 * n + 8 ≤ room → collect room (sinkOf (Upto (n + 1)) (afterNote buffer n (words x))) (allFound xs) .tally ≡ Full)
           → collect room (met room (found (words x)) (Upto n) buffer) (allFound xs) .tally ≡ Full
       go (yes l) rest = ap (λ (s : Sink). collect room s (allFound xs) .tally) (first-fits room n buffer x l) ∙ rest l
       go (no l) rest =

@@ -20,8 +20,7 @@ use Rattle.lints.specs.Open.{eOccurrences, openIn}
 use Rattle.lints.specs.Part.{argumentOf}
 use Rattle.lints.proofs.PartLaws.{e-same}
 use Rattle.findings.specs.declared.Task.{Task}
-use Rattle.findings.specs.declared.Tally.{Tally}
-use Rattle.findings.specs.Events.{Event, found, Sink, sinkOf, met, collect}
+use Rattle.findings.specs.Events.{Tally, Event, found, Sink, sinkOf, met, collect}
 use Rattle.findings.specs.Tasks.{remarkEvents}
 use Rattle.findings.specs.DeadSteps.{sentenceWords}
 use Rattle.findings.proofs.CollectLaws.{collect-append}

@@ -1,5 +1,5 @@
 -- Where an argument that is compared is too wide, collecting ends there.
-use Prim.Native.Nat.{ℕ, suc}
+use Prim.Native.Nat.{ℕ, zero, suc}
 use mathlib.Core.Bool.{Bool, true, false, cond, _&&_, _||_}
 use mathlib.Core.List.{List, [], _∷_, _++_}
 use mathlib.Core.Path.{_≡_, refl, sym, ap, _∙_}
@@ -12,10 +12,8 @@ use Rattle.lints.specs.Lint.{deadSentence, recognitionImpossible, builtinDomain
 use Rattle.lints.specs.Calls.{Call, sentenceCalls}
 use Rattle.lints.specs.Recognition.{compared, passed, judged, someOver, argumentsOver}
 use Rattle.lints.specs.Levels.{Settings, isShown}
-use Rattle.findings.specs.declared.Tally.{Tally}
-use Rattle.findings.specs.declared.Tally.the-variants.{Over, Full, Upto}
 use Rattle.findings.specs.declared.Task.{Task}
-use Rattle.findings.specs.Events.{Event, found, tooWide, Sink, sinkOf, met, collect}
+use Rattle.findings.specs.Events.{Tally, Over, Event, found, tooWide, Sink, sinkOf, met, collect}
 use Rattle.findings.specs.Tasks.{remarkEvents, recognitionEvents, callEvents, blockEvents, functionEvents, atPosition, functionsEvents}
 use Rattle.findings.specs.All.{taskFor, taskEvents, allEvents}
 use Rattle.findings.proofs.CollectLaws.{collect-append}
@@ -46,9 +44,9 @@ unfolding collect
 wide-ends room s = go (s .tally)
   where
     go : (t : Tally) → met room tooWide t (s .words) .tally ≡ Over
-    go Over = refl
-    go Full = refl
-    go (Upto n) = refl
+    go zero = refl
+    go (suc zero) = refl
+    go (suc (suc n)) = refl
 
 -- one or the other
 either : (a b : Bool) {P : Type 0} → (a || b) ≡ true → (a ≡ true → P) → (b ≡ true → P) → P

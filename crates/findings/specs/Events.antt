@@ -1,19 +1,30 @@
 -- What the lints meet on their way through a law, in order, and what is left of it in a lent buffer.
-use Prim.Native.Nat.{ℕ, _+_, _*_}
+use Prim.Native.Nat.{ℕ, zero, suc, _+_, _*_}
 use mathlib.Core.Bool.{cond}
 use mathlib.Core.List.{List, [], _∷_}
 use lib.ListN.{length}
-use lib.Dec.{ltb, leb}
+use lib.Dec.{leb}
 use Rattle.shapes.specs.Written.{written}
-use Rattle.findings.specs.declared.Tally.{Tally}
-use Rattle.findings.specs.declared.Tally.the-variants.{Over, Full, Upto}
 
 -- a finding, by its eight words, or an argument with too many shapes to be compared (refusal 10)
 pub data Event : Type 0 where
   found : List ℕ → Event
   tooWide : Event
 
--- how far the count of findings has come, and the buffer
+-- how far the count of findings has come, as a number: an argument was too wide, there are more findings than there is room for, or there are so many
+abbrev pub Tally : Type 0
+Tally = ℕ
+
+abbrev pub Over : Tally
+Over = zero
+
+abbrev pub Full : Tally
+Full = suc zero
+
+abbrev pub Upto : ℕ → Tally
+Upto n = suc (suc n)
+
+-- the count, and the buffer
 pub record Sink : Type 0 where
   pub tally : Tally
   pub words : List ℕ
@@ -25,17 +36,17 @@ sinkOf tally words = record { tally = tally; words = words }
 abbrev pub afterNote : List ℕ → ℕ → List ℕ → List ℕ
 afterNote words n finding = cond (leb (8 * n + 8) (length words)) (written words (8 * n) finding) words
 
--- a finding after n of them is counted up to the room that there is
+-- a finding after n of them is counted where there is room for its eight words
 abbrev pub noted : ℕ → ℕ → List ℕ → List ℕ → Sink
-noted room n words finding = cond (ltb n room) (sinkOf (Upto (n + 1)) (afterNote words n finding)) (sinkOf Full words)
+noted room n words finding = cond (leb (8 * n + 8) room) (sinkOf (Upto (n + 1)) (afterNote words n finding)) (sinkOf Full words)
 
 -- what is met; an argument that is too wide ends it all, also where findings do not fit: refusal 10 comes before 11
 abbrev pub met : ℕ → Event → Tally → List ℕ → Sink
-met room e Over words = sinkOf Over words
-met room (found finding) Full words = sinkOf Full words
-met room tooWide Full words = sinkOf Over words
-met room (found finding) (Upto n) words = noted room n words finding
-met room tooWide (Upto n) words = sinkOf Over words
+met room e zero words = sinkOf Over words
+met room (found finding) (suc zero) words = sinkOf Full words
+met room tooWide (suc zero) words = sinkOf Over words
+met room (found finding) (suc (suc n)) words = noted room n words finding
+met room tooWide (suc (suc n)) words = sinkOf Over words
 
 unfoldable pub collect : ℕ → Sink → List Event → Sink
 collect room s [] = s

@@ -20,11 +20,9 @@ use Rattle.lints.specs.Calls.{Call}
 use Rattle.lints.specs.Recognition.{passed, accepted}
 use Rattle.findings.specs.declared.recognition.Verdict.{Verdict}
 use Rattle.findings.specs.declared.recognition.Verdict.the-variants.{Nothing, TooWide, ByFormats, ByLiterals}
-use Rattle.findings.specs.declared.Tally.{Tally}
-use Rattle.findings.specs.declared.Tally.the-variants.{Over, Full, Upto}
 use Rattle.findings.specs.declared.Task.{Task}
 use Rattle.findings.specs.declared.Note.{Note}
-use Rattle.findings.specs.Events.{Event, found, tooWide}
+use Rattle.findings.specs.Events.{Tally, Over, Event, found, tooWide}
 use Rattle.findings.specs.Tasks.{noteWords}
 
 -- the last of the first n functions whose name has this place; `missing` where no name has it
@@ -71,6 +69,4 @@ failureEvents file task t (some why) = callFound file task t (failureNumber why)
 
 -- did the count of findings end?
 abbrev pub isOver : Tally → Bool
-isOver Over = true
-isOver Full = false
-isOver (Upto n) = false
+isOver tally = eqb tally Over

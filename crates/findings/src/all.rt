@@ -1,4 +1,5 @@
 // All lints under given settings.
+use crate::NONE;
 use crate::Tally;
 use crate::Task;
 use crate::levels::task_of;
@@ -7,7 +8,7 @@ ghost use mathlib.Core.Path.{_≡_};
 ghost use Rattle.file.specs.Sections.{fileOf};
 ghost use Rattle.law.specs.Reading.{treeOf};
 ghost use Rattle.lints.specs.Records.{Prepared, formatsIn};
-ghost use Rattle.findings.specs.Events.{sinkOf, collect};
+ghost use Rattle.findings.specs.Events.{Upto, sinkOf, collect};
 ghost use Rattle.findings.specs.All.{settingsFrom, isDue, taskEvents, allEvents};
 
 // Whether a task has anything to meet: a lint whose findings are hidden is passed over, but for lint 2, which may meet an argument with too many shapes.
@@ -53,11 +54,11 @@ pub fn lint_all(
     out: &mut [u32],
 ) -> Tally
     requires { ⌜ Prepared (now law) (now index) (now slots) (now store) limit ⌝ }
-    ensures { λ r. ⌜ sinkOf r (now (out .exit)) ≡ collect room (sinkOf (Tally.Upto 0) (now (out .entry)))
+    ensures { λ r. ⌜ sinkOf r (now (out .exit)) ≡ collect room (sinkOf (Upto 0) (now (out .entry)))
         (allEvents (treeOf (fileOf (now (law .entry)))) (formatsIn (fileOf (now (law .entry))) limit (now (store .entry))) (settingsFrom mode (now (overrides .entry))) room limit) ⌝ }
 {
     let dead = task_of(mode, overrides, 1, room, limit);
-    let first = lint_task(law, index, slots, store, dead, out, Tally::Upto(0));
+    let first = lint_task(law, index, slots, store, dead, out, NONE);
     let recognition = task_of(mode, overrides, 2, room, limit);
     let second = lint_task(law, index, slots, store, recognition, out, first);
     let builtin = task_of(mode, overrides, 3, room, limit);

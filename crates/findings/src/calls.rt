@@ -1,5 +1,6 @@
 // Lints 2 and 3 at one call.
 use crate::Note;
+use crate::OVER;
 use crate::Tally;
 use crate::Task;
 use crate::put_note;
@@ -95,7 +96,7 @@ fn note_verdict(
 {
     match verdict {
         Verdict::Nothing => tally,
-        Verdict::TooWide => Tally::Over,
+        Verdict::TooWide => OVER,
         Verdict::ByFormats => put_shown(law, index, task, t, 1, out, tally),
         Verdict::ByLiterals => put_shown(law, index, task, t, 2, out, tally),
     }
@@ -105,11 +106,7 @@ fn note_verdict(
 fn is_over(tally: Tally) -> bool
     ensures { λ r. ⌜ r ≡ isOver tally ⌝ }
 {
-    match tally {
-        Tally::Over => true,
-        Tally::Full => false,
-        Tally::Upto(_) => false,
-    }
+    tally == OVER
 }
 
 // Lint 2 at the call at a term record; nothing is added once the count has ended.

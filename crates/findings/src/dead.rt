@@ -1,4 +1,5 @@
 // Lint 1 in the sentences of one function or block.
+use crate::NONE;
 use crate::Note;
 use crate::Tally;
 use crate::Task;
@@ -119,11 +120,10 @@ fn note_sentence(
     requires { ⌜ Indexed (now law) (now index) × Accepted (now law) × (first + later < fileOf (now law) .sentences .count) ⌝ }
     ensures { λ r. ⌜ ((inBlock : Bool) → sinkOf r (now (out .exit)) ≡ collect (task .room) (sinkOf tally (now (out .entry))) (deadEvents (fileOf (now (law .entry))) task inBlock first later)) ⌝ }
 {
-    match tally {
-        Tally::Over => Tally::Over,
-        Tally::Full => Tally::Full,
-        Tally::Upto(_) => note_shadowed(law, index, task, first, later, out, tally),
+    if tally < NONE {
+        return tally;
     }
+    note_shadowed(law, index, task, first, later, out, tally)
 }
 
 // Notes the dead ones among so many sentences from `first` on.

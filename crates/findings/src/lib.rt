@@ -14,15 +14,18 @@ pub mod open;
 pub mod recognition;
 pub mod walk;
 
-// The count of findings: it ended at an argument that has too many shapes to be compared, there are more than there is room for, or it has come so far.
-pub enum Tally {
-    Over,
-    Full,
-    Upto(usize),
-}
+// The count of findings, one number so that it is passed on in a register: it ended at an argument that has too many shapes to be compared (0), there are
+// more findings than there is room for (1), or it has come so far (2 and more). specs/Events.antt has these as `Over`, `Full` and `Upto`.
+pub type Tally = usize;
+
+pub const OVER: Tally = 0;
+
+pub const FULL: Tally = 1;
+
+pub const NONE: Tally = 2;
 
 // What a way through a law is for: the lint's number, the severity of its findings, whether they are shown, the position of the function that is gone
-// through, the number of findings that there is room for, and the most shapes of a format.
+// through, the words that there is room for, and the most shapes of a format.
 pub struct Task {
     pub lint: u32,
     pub severity: u32,
@@ -60,17 +63,15 @@ fn write_note(task: Task, note: Note, out: &mut [u32], at: usize)
 pub fn put_note(task: Task, note: Note, out: &mut [u32], tally: Tally) -> Tally
     ensures { λ r. ⌜ sinkOf r (now (out .exit)) ≡ met (task .room) (found (noteWords task note)) tally (now (out .entry)) ⌝ }
 {
-    match tally {
-        Tally::Over => Tally::Over,
-        Tally::Full => Tally::Full,
-        Tally::Upto(n) => {
-            if task.room <= n {
-                return Tally::Full;
-            }
-            if n < out.len() / 8 {
-                write_note(task, note, out, 8 * n);
-            }
-            Tally::Upto(n + 1)
-        }
+    if tally < NONE {
+        return tally;
     }
+    let n = tally - NONE;
+    if task.room / 8 <= n {
+        return FULL;
+    }
+    if n < out.len() / 8 {
+        write_note(task, note, out, 8 * n);
+    }
+    tally + 1
 }

@@ -12,9 +12,7 @@ use Rattle.law.specs.Reading.{treeOf}
 use Rattle.shapes.specs.Written.{written}
 use Rattle.lints.specs.Levels.{Settings, listingWords}
 use Rattle.lints.specs.Records.{formatsIn}
-use Rattle.findings.specs.declared.Tally.{Tally}
-use Rattle.findings.specs.declared.Tally.the-variants.{Upto}
-use Rattle.findings.specs.Events.{sinkOf, collect}
+use Rattle.findings.specs.Events.{Tally, Upto, sinkOf, collect}
 use Rattle.findings.specs.All.{allEvents}
 use Rattle.findings.proofs.EventLaws.{all-found}
 use Rattle.listing.specs.declared.Turned.{Turned}
@@ -64,7 +62,7 @@ module _ (settings : Settings) (bytes store : List ℕ) (front : Front) (index :
 
 module _ (settings : Settings) {bytes index slots store own : List ℕ} {count : ℕ} (c : Collected 64 settings bytes index slots store own count) (words : List ℕ)
     (fits : 8 * count ≤ length words) where
-  pub again : (room : ℕ) (tally : Tally) (after : List ℕ) → room ≡ length words / 8
+  pub again : (room : ℕ) (tally : Tally) (after : List ℕ) → room ≡ length words
       → sinkOf tally after
       ≡ collect room (sinkOf (Upto 0) words) (allEvents (treeOf (fileOf bytes)) (formatsIn (fileOf bytes) 64 store) settings room 64)
       → after ≡ written words 0 (listingWords settings (shownIn 64 settings bytes store))

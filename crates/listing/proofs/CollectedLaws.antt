@@ -35,9 +35,7 @@ use Rattle.lints.specs.Recognition.{argumentsOver}
 use Rattle.lints.specs.Levels.{Settings, shown, listingWords}
 use Rattle.lints.specs.Findings.{findingsOf, Listing, listing}
 use Rattle.lints.specs.Records.{Prepared, formatsIn}
-use Rattle.findings.specs.declared.Tally.{Tally}
-use Rattle.findings.specs.declared.Tally.the-variants.{Over, Full, Upto}
-use Rattle.findings.specs.Events.{Sink, sinkOf, collect}
+use Rattle.findings.specs.Events.{Tally, Over, Full, Upto, Sink, sinkOf, collect}
 use Rattle.findings.specs.All.{allEvents}
 use Rattle.listing.specs.declared.gather.Gathered.{Gathered}
 use Rattle.listing.specs.declared.gather.Gathered.the-variants as gathered
@@ -78,16 +76,16 @@ module _ {limit : ℕ} {bytes index store : List ℕ} (p : Prepares limit bytes 
 -- ---- tallies differ
 
 over-full : Over ≡ Full → ⊥
-over-full e = let z : _≡_ {A = ℕ} 0 1 = cc in omega arith
+over-full e = omega (arith, e)
 
 over-upto : (n : ℕ) → Over ≡ Upto n → ⊥
-over-upto n e = let z : _≡_ {A = ℕ} 0 1 = cc in omega arith
+over-upto n e = omega (arith, e)
 
 full-upto : (n : ℕ) → Full ≡ Upto n → ⊥
-full-upto n e = let z : _≡_ {A = ℕ} 0 1 = cc in omega arith
+full-upto n e = omega (arith, e)
 
 upto-same : (m n : ℕ) → Upto m ≡ Upto n → m ≡ n
-upto-same m n e = cc
+upto-same m n e = omega (arith, e)
 
 -- ---- findings of a law whose formats are in the store
 
@@ -117,9 +115,9 @@ module _ {limit rounds : ℕ} {settled : Bool} (room : ℕ) (settings : Settings
       go : Wide limit settings law (sinkOf tally now) ⊎ Narrow limit settings room law (f .formats) out (sinkOf tally now)
           → GatherIs limit settings room bytes store after out now gathered.TooWide
       go (inl w) = record { store = rw (w .says) words; gathered = rw (w .says) (refl, refl) }
-      go (inr n) = absurd (fits (decLe (length fs) room))
+      go (inr n) = absurd (fits (decLe (8 * length fs) room))
         where
-          fits : Dec (length fs ≤ room) → ⊥
+          fits : Dec (8 * length fs ≤ room) → ⊥
           fits (yes l) = over-upto (length fs) (sym is ∙ n .left .counted l)
           fits (no l) = over-full (sym is ∙ n .left .over (omega (arith, l)))
 
@@ -269,7 +267,7 @@ module _ {limit : ℕ} (settings : Settings) {bytes index before after slots : L
       ∙ listing-parts limit settings (treeOf (fileOf bytes)) l is .1
 
   pub collected : (room count : ℕ) (own start : List ℕ) (rounds : ℕ) (settled : Bool) → length start ≡ 2048 → length own ≡ 2048
-      → Fitted settings room l start own (gathered.Upto count rounds settled) → length (l .findings) ≤ room
+      → Fitted settings room l start own (gathered.Upto count rounds settled) → 8 * length (l .findings) ≤ room
       → Collected limit settings bytes index slots after own count
   collected room count own start rounds settled long kept f fits =
       let number : count ≡ length (l .findings) = upto-count (f .counted fits) in

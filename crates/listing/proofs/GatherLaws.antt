@@ -19,9 +19,7 @@ use Rattle.lints.specs.Finding.{Finding, lintOf, findingWords}
 use Rattle.lints.specs.Recognition.{judged, recognitionRemarks, recognitionFindings, someOver, argumentsOver}
 use Rattle.lints.specs.Levels.{Settings, severityOf, shown, listingWords}
 use Rattle.lints.specs.Findings.{findingsOf, Listing, listing}
-use Rattle.findings.specs.declared.Tally.{Tally}
-use Rattle.findings.specs.declared.Tally.the-variants.{Over, Full, Upto}
-use Rattle.findings.specs.Events.{Sink, sinkOf, collect}
+use Rattle.findings.specs.Events.{Tally, Over, Full, Upto, Sink, sinkOf, collect}
 use Rattle.findings.specs.All.{allEvents}
 use Rattle.findings.proofs.FitLaws.{collect-fits, collect-counts, collect-full}
 use Rattle.findings.proofs.EventLaws.{wordsUnder, eventOf, all-found}
@@ -55,9 +53,9 @@ eight settings f = refl
 
 -- what is left in tally and buffer, where the findings are these
 pub record Left (settings : Settings) (room : ℕ) (fs : List Finding) (before : List ℕ) (s : Sink) : Type 0 where
-  pub counted : length fs ≤ room → s .tally ≡ Upto (length fs)
-  pub placed : length fs ≤ room → 8 * length fs ≤ length before → s .words ≡ written before 0 (listingWords settings fs)
-  pub over : room < length fs → s .tally ≡ Full
+  pub counted : 8 * length fs ≤ room → s .tally ≡ Upto (length fs)
+  pub placed : 8 * length fs ≤ room → 8 * length fs ≤ length before → s .words ≡ written before 0 (listingWords settings fs)
+  pub over : room < 8 * length fs → s .tally ≡ Full
 
 pub all-left : (settings : Settings) (room : ℕ) (fs : List Finding) (before : List ℕ) (s : Sink)
     → s ≡ collect room (sinkOf (Upto 0) before) (map (eventOf settings) fs) → Left settings room fs before s

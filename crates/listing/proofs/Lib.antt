@@ -5,3 +5,4 @@ pub mod CollectedLaws
 pub mod ReadyLaws
 pub mod TellLaws
 pub mod CallLaws
+pub mod EmptyLaws

@@ -46,14 +46,14 @@ module _ {room : ℕ} (settings : Settings) {bytes before after start own : List
     where
       go : (a : Answer Listing) → made ≡ a → GatheredIs settings room a start own r → made ≡ refused 10
       go (refused n) e (ten, same) = rw (← ten) e
-      go (given l) e f = absurd (fits (decLe (length (l .findings)) room))
+      go (given l) e f = absurd (fits (decLe (8 * length (l .findings)) room))
         where
-          fits : Dec (length (l .findings) ≤ room) → ⊥
+          fits : Dec (8 * length (l .findings) ≤ room) → ⊥
           fits (yes x) = wide-upto (sym is ∙ f .counted x)
           fits (no x) = wide-full (sym is ∙ f .over (omega (arith, x)))
 
   abbrev Full : Type 0
-  Full = (l : Listing) × (made ≡ given l) × (room < length (l .findings))
+  Full = (l : Listing) × (made ≡ given l) × (room < 8 * length (l .findings))
 
   -- more findings than there is room for
   full : r ≡ gathered.Full → Full
@@ -61,15 +61,15 @@ module _ {room : ℕ} (settings : Settings) {bytes before after start own : List
     where
       go : (a : Answer Listing) → made ≡ a → GatheredIs settings room a start own r → Full
       go (refused n) e (ten, same) = absurd (wide-full (sym same ∙ is))
-      go (given l) e f = (l, e, fits (decLe (length (l .findings)) room))
+      go (given l) e f = (l, e, fits (decLe (8 * length (l .findings)) room))
         where
-          fits : Dec (length (l .findings) ≤ room) → room < length (l .findings)
+          fits : Dec (8 * length (l .findings) ≤ room) → room < 8 * length (l .findings)
           fits (yes x) = absurd (full-upto (sym is ∙ f .counted x))
           fits (no x) = omega (arith, x)
 
   abbrev Listed : ℕ → ℕ → Bool → Type 0
   Listed count rounds settled =
-      (l : Listing) × (made ≡ given l) × (length (l .findings) ≤ room) × Fitted settings room l start own (gathered.Upto count rounds settled)
+      (l : Listing) × (made ≡ given l) × (8 * length (l .findings) ≤ room) × Fitted settings room l start own (gathered.Upto count rounds settled)
 
   -- they are counted
   listed : {count rounds : ℕ} {settled : Bool} → r ≡ gathered.Upto count rounds settled → Listed count rounds settled
@@ -77,9 +77,9 @@ module _ {room : ℕ} (settings : Settings) {bytes before after start own : List
     where
       go : (a : Answer Listing) → made ≡ a → GatheredIs settings room a start own r → Listed count rounds settled
       go (refused n) e (ten, same) = absurd (wide-upto (sym same ∙ is))
-      go (given l) e f = (l, e, fits (decLe (length (l .findings)) room), rw is at f)
+      go (given l) e f = (l, e, fits (decLe (8 * length (l .findings)) room), rw is at f)
         where
-          fits : Dec (length (l .findings) ≤ room) → length (l .findings) ≤ room
+          fits : Dec (8 * length (l .findings) ≤ room) → 8 * length (l .findings) ≤ room
           fits (yes x) = x
           fits (no x) = absurd (full-upto (sym (f .over (omega (arith, x))) ∙ is))
 
@@ -89,7 +89,7 @@ module _ {room : ℕ} (settings : Settings) {bytes before after start own : List
       → findingsAfter (found.Refused turned.Shapes) after words ≡ findingsFront 64 settings before words (given (treeOf (fileOf bytes)))
   findings-wide words is = rw (g .store, wide is)
 
-  pub findings-full : (words : List ℕ) → room ≡ length words / 8 → r ≡ gathered.Full
+  pub findings-full : (words : List ℕ) → room ≡ length words → r ≡ gathered.Full
       → findingsAfter (found.Refused turned.Findings) after words ≡ findingsFront 64 settings before words (given (treeOf (fileOf bytes)))
   findings-full words size is =
       let (l, e, more) = full is in
@@ -100,19 +100,19 @@ module _ {room : ℕ} (settings : Settings) {bytes before after start own : List
     upto-same : {a b c d : ℕ} {x y : Bool} → gathered.Upto a c x ≡ gathered.Upto b d y → (a ≡ b) × (c ≡ d) × (x ≡ y)
     upto-same e = (cc, cc, cc)
 
-    pub count-fits : count ≤ room
+    pub count-fits : 8 * count ≤ room
     count-fits = let (l, e, fits, f) = listed is in omega (arith, fits, upto-same (f .counted fits) .0)
 
     pub findings-collected : length start ≡ 2048 → length own ≡ 2048 → Collected 64 settings bytes index slots after own count
     findings-collected long kept = let (l, e, fits, f) = listed is in collected settings p s l e (rw e at (g .store)) room count own start rounds settled long kept f fits
 
-    pub findings-listed : (words end : List ℕ) → room ≡ length words / 8 → end ≡ written words 0 (listingWords settings (shownIn 64 settings bytes after))
+    pub findings-listed : (words end : List ℕ) → room ≡ length words → end ≡ written words 0 (listingWords settings (shownIn 64 settings bytes after))
         → findingsAfter (found.Listed count rounds settled) after end ≡ findingsFront 64 settings before words (given (treeOf (fileOf bytes)))
     findings-listed words end size same =
         let (l, e, fits, f) = listed is in
         hand l e fits f (same ∙ ap (λ fs. written words 0 (listingWords settings fs)) (shown-are settings p s l e (rw e at (g .store))))
       where
-        hand : (l : Listing) → made ≡ given l → length (l .findings) ≤ room → Fitted settings room l start own (gathered.Upto count rounds settled)
+        hand : (l : Listing) → made ≡ given l → 8 * length (l .findings) ≤ room → Fitted settings room l start own (gathered.Upto count rounds settled)
             → end ≡ written words 0 (listingWords settings (l .findings))
             → findingsAfter (found.Listed count rounds settled) after end ≡ findingsFront 64 settings before words (given (treeOf (fileOf bytes)))
         hand l e fits f is-end =
@@ -128,7 +128,10 @@ module _ {room : ℕ} (settings : Settings) {bytes before after start own : List
 
     -- ---- the text call
 
-    pub text-told : (position : ℕ) (text end : List ℕ) (t : Told) → room ≡ 256
+    pub text-places : room ≡ 2048 → count ≤ 256
+    text-places size = omega (arith, count-fits, size)
+
+    pub text-told : (position : ℕ) (text end : List ℕ) (t : Told) → room ≡ 2048
         → toldPair t end ≡ textOf text (findingAt (shownIn 64 settings bytes after) position)
         → textAfter t after end ≡ textFront 64 settings before text position (given (treeOf (fileOf bytes)))
     text-told position text end t size same =
@@ -140,7 +143,7 @@ module _ {room : ℕ} (settings : Settings) {bytes before after start own : List
       → textAfter (told.Refused turned.Shapes) after text ≡ textFront 64 settings before text position (given (treeOf (fileOf bytes)))
   text-wide position text is = rw (g .store, wide is)
 
-  pub text-full : (position : ℕ) (text : List ℕ) → room ≡ 256 → r ≡ gathered.Full
+  pub text-full : (position : ℕ) (text : List ℕ) → room ≡ 2048 → r ≡ gathered.Full
       → textAfter (told.Refused turned.Findings) after text ≡ textFront 64 settings before text position (given (treeOf (fileOf bytes)))
   text-full position text size is =
       let (l, e, more) = full is in

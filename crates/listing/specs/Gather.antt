@@ -40,11 +40,11 @@ FrontIs limit settings bytes store Ready index =
 
 -- ---- formats in the store, and findings in a buffer
 
--- findings are counted up to the room, and written where the buffer has place for all
+-- findings are counted where there is room for the words of all of them, and written where the buffer has place for them
 pub record Fitted (settings : Settings) (room : ℕ) (l : Listing) (before after : List ℕ) (r : Gathered) : Type 0 where
-  pub counted : length (l .findings) ≤ room → r ≡ Upto (length (l .findings)) (l .formats .rounds) (l .formats .settled)
-  pub placed : length (l .findings) ≤ room → 8 * length (l .findings) ≤ length before → after ≡ written before 0 (listingWords settings (l .findings))
-  pub over : room < length (l .findings) → r ≡ Full
+  pub counted : 8 * length (l .findings) ≤ room → r ≡ Upto (length (l .findings)) (l .formats .rounds) (l .formats .settled)
+  pub placed : 8 * length (l .findings) ≤ room → 8 * length (l .findings) ≤ length before → after ≡ written before 0 (listingWords settings (l .findings))
+  pub over : room < 8 * length (l .findings) → r ≡ Full
 
 -- a store that inference has filled
 pub record Filled (limit : ℕ) (file : File) (store : List ℕ) (rounds : ℕ) (settled : Bool) : Type 0 where

@@ -1,5 +1,7 @@
 // A law's formats into a store, and its findings into a buffer.
-use findings::Tally;
+use findings::FULL;
+use findings::NONE;
+use findings::OVER;
 use findings::all::lint_all;
 use formats::call::clear_store;
 use formats::call::infer_store;
@@ -37,14 +39,15 @@ fn gather_findings(
     requires { ⌜ Prepares limit (now law) (now index) (now store) × SlotsOf (fileOf (now law)) (now slots) × Filled limit (fileOf (now law)) (now store) rounds settled ⌝ }
     ensures { λ r. ⌜ GatherIs limit (settingsFrom mode (now (overrides .entry))) room (now (law .entry)) (now (store .entry)) (now (store .exit)) (now (out .entry)) (now (out .exit)) r ⌝ }
 {
-    match lint_all(law, index, slots, store, mode, overrides, room, limit, out) {
-        Tally::Over => {
-            clear_store(store, limit);
-            Gathered::TooWide
-        }
-        Tally::Full => Gathered::Full,
-        Tally::Upto(count) => Gathered::Upto(count, rounds, settled),
+    let tally = lint_all(law, index, slots, store, mode, overrides, room, limit, out);
+    if tally == OVER {
+        clear_store(store, limit);
+        return Gathered::TooWide;
     }
+    if tally == FULL {
+        return Gathered::Full;
+    }
+    Gathered::Upto(tally - NONE, rounds, settled)
 }
 
 // The formats of a law, and its findings under given settings, counted up to the room that there is.

@@ -5,7 +5,9 @@ use crate::gather::Gathered;
 use crate::gather::gather;
 use file::Refusal;
 use findings::all::lint_all;
+use formats::call::clear_store;
 use formats::slots::slots_of;
+use law::places::functions;
 use messages::put_message;
 use shapes::copy_words;
 ghost use mathlib.Core.Path.{_≡_};
@@ -72,7 +74,7 @@ fn hand_over(
         (shownIn 64 (settingsFrom mode (now (overrides .entry))) (now (law .entry)) (now (store .entry)))) ⌝ }
 {
     if PLACES < count {
-        let lent = words.len() / 8;
+        let lent = words.len();
         lint_all(
             law,
             index,
@@ -91,7 +93,7 @@ fn hand_over(
 }
 
 // The findings call, of a law that is ready.
-fn findings_ready(
+fn findings_gathered(
     law: &[u8],
     index: &[u16; 972],
     mode: u32,
@@ -104,7 +106,7 @@ fn findings_ready(
         ≡ findingsFront 64 (settingsFrom mode (now (overrides .entry))) (now (store .entry)) (now (words .entry)) (given (treeOf (fileOf (now (law .entry))))) ⌝ }
 {
     let slots = slots_of(law, index);
-    let room = words.len() / 8;
+    let room = words.len();
     let mut own = [0u32; OWN];
     match gather(
         law,
@@ -134,6 +136,26 @@ fn findings_ready(
             Found::Listed(count, rounds, settled)
         }
     }
+}
+
+// The same, without inference and lints where the law has no functions: there are no findings then, and one round settles.
+fn findings_ready(
+    law: &[u8],
+    index: &[u16; 972],
+    mode: u32,
+    overrides: &[u32],
+    store: &mut [u32],
+    words: &mut [u32],
+) -> Found
+    requires { ⌜ Prepares 64 (now law) (now index) (now store) ⌝ }
+    ensures { λ r. ⌜ findingsAfter r (now (store .exit)) (now (words .exit))
+        ≡ findingsFront 64 (settingsFrom mode (now (overrides .entry))) (now (store .entry)) (now (words .entry)) (given (treeOf (fileOf (now (law .entry))))) ⌝ }
+{
+    if functions(index) == 0 {
+        clear_store(store, SHAPES);
+        return Found::Listed(0, 1, true);
+    }
+    findings_gathered(law, index, mode, overrides, store, words)
 }
 
 // Lists the findings of a law under settings: their number, eight words each, and the formats in the store.
@@ -207,7 +229,7 @@ fn text_ready(
         SHAPES,
         mode,
         overrides,
-        PLACES,
+        OWN,
         &mut own[..OWN],
     ) {
         Gathered::TooWide => Told::Refused(Turned::Shapes),

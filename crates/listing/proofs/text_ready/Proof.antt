@@ -1,6 +1,6 @@
 use mathlib.Core.Path.{refl}
 use Rattle.findings.specs.All.{settingsFrom}
-use Rattle.listing.proofs.ReadyLaws.{text-wide, text-full, text-told, findings-collected, count-fits}
+use Rattle.listing.proofs.ReadyLaws.{text-wide, text-full, text-told, findings-collected, text-places}
 use borrow.Author.Needs.{needs}
 use Rattle.listing.proofs.text_ready.Statement.{statement}
 use Rattle.listing.proofs.text_ready.Tie as tie
@@ -23,7 +23,7 @@ text-ready-spec =
     (λ c. search needs)
     (λ c κs.
     let start = c .before .before .before .before .before .before .before .before .before .before .before .before .before .before .before .before .before .before .before in
-    ((settingsFrom (start .args .mode) (start .args .overrides .now), findings-collected (settingsFrom (start .args .mode) (start .args .overrides .now)) (c .before .before .before .before .before .before .before .before .before .before .gather .ensures) (start .pre) (c .before .before .before .before .before .before .before .before .before .before .before .before .before .before .slots-of .ensures) _ _ _ (c .before .before .before .before .before .count .given .1) refl (c .before .before .before .before .before .before .before .before .before .before .gather .kept .1 .1 .1 .1 .1 .1 .1 .1 .0)), count-fits (settingsFrom (start .args .mode) (start .args .overrides .now)) (c .before .before .before .before .before .before .before .before .before .before .gather .ensures) (start .pre) (c .before .before .before .before .before .before .before .before .before .before .before .before .before .before .slots-of .ensures) _ _ _ (c .before .before .before .before .before .count .given .1)))
+    ((settingsFrom (start .args .mode) (start .args .overrides .now), findings-collected (settingsFrom (start .args .mode) (start .args .overrides .now)) (c .before .before .before .before .before .before .before .before .before .before .gather .ensures) (start .pre) (c .before .before .before .before .before .before .before .before .before .before .before .before .before .before .slots-of .ensures) _ _ _ (c .before .before .before .before .before .count .given .1) refl (c .before .before .before .before .before .before .before .before .before .before .gather .kept .1 .1 .1 .1 .1 .1 .1 .1 .0)), text-places (settingsFrom (start .args .mode) (start .args .overrides .now)) (c .before .before .before .before .before .before .before .before .before .before .gather .ensures) (start .pre) (c .before .before .before .before .before .before .before .before .before .before .before .before .before .before .slots-of .ensures) _ _ _ (c .before .before .before .before .before .count .given .1) refl))
     (λ c. search needs)
     (λ c.
     let start = c .before .before .before .before .before .before .before .before .before .before .before .before .before .before in

@@ -13,14 +13,14 @@ use Rattle.findings.proofs.dead.note_dead.Statement.{statement}
 use Rattle.findings.proofs.dead.note_dead.Tie as tie
 
 abbrev Inv-loop : tie.InvT-loop
-Inv-loop law index task first count out₀ so-far₀ later₀ out so-far later =
+Inv-loop law index task first count out₀ tally so-far₀ later₀ out so-far later =
     (later ≤ count)
     × (length out ≡ length out₀)
     × ((inBlock : Bool) → collect (task .room) (sinkOf so-far₀ out₀) (deadFrom (fileOf law) task inBlock first count 0)
     ≡ collect (task .room) (sinkOf so-far out) (deadFrom (fileOf law) task inBlock first count later))
 
 abbrev μ-loop : tie.MeasureT-loop
-μ-loop law index task first count out₀ so-far₀ later₀ out so-far later = count - later
+μ-loop law index task first count out₀ tally so-far₀ later₀ out so-far later = count - later
 
 pub note-dead-spec : {M : Type 1} → statement M
 note-dead-spec =

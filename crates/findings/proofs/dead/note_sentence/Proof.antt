@@ -8,15 +8,9 @@ pub note-sentence-spec : {M : Type 1} → statement M
 note-sentence-spec =
     tie.close
     (tie.spec
-    (λ c. search needs)
-    (λ c. search needs)
-    (λ c. search needs)
+    (λ c.
+    let start = c .before .before .before in
+    laws.sentence-ended (fileOf (start .args .law .now)) (start .args .task) (start .args .first) (start .args .out .now) (start .args .later) (start .args .tally) (c .if1 .taken))
     (λ c κs. search needs)
-    (λ c.
-    let start = c .before .before .before .before in
-    laws.sentence-over (fileOf (start .args .law .now)) (start .args .task) (start .args .first) (start .args .out .now) (start .args .later) (c .enum-told .given .1))
-    (λ c.
-    let start = c .before .before .before .before in
-    laws.sentence-full (fileOf (start .args .law .now)) (start .args .task) (start .args .first) (start .args .out .now) (start .args .later) (c .enum-told2 .given .1))
     (λ c. search needs)
     (λ c. search needs))

@@ -11,14 +11,14 @@ use Rattle.findings.proofs.open.note_open.Statement.{statement}
 use Rattle.findings.proofs.open.note_open.Tie as tie
 
 abbrev Inv-loop : tie.InvT-loop
-Inv-loop law index task first count out₀ so-far₀ i₀ out so-far i =
+Inv-loop law index task first count out₀ tally so-far₀ i₀ out so-far i =
     (i ≤ count)
     × (length out ≡ length out₀)
     × (collect (task .room) (sinkOf so-far₀ out₀) (laws.openFrom (fileOf law) task count first)
     ≡ collect (task .room) (sinkOf so-far out) (laws.openFrom (fileOf law) task (count - i) (first + i)))
 
 abbrev μ-loop : tie.MeasureT-loop
-μ-loop law index task first count out₀ so-far₀ i₀ out so-far i = count - i
+μ-loop law index task first count out₀ tally so-far₀ i₀ out so-far i = count - i
 
 pub note-open-spec : {M : Type 1} → statement M
 note-open-spec =

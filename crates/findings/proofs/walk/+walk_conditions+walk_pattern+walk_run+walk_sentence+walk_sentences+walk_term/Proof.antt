@@ -145,7 +145,7 @@ walk-term-below t =
     and 6 walk-term-kinds.ps (falls 6 walk-term-kinds.ps _<_ μ-walk-term t) walk-term.Pre
 
 abbrev walk-conditions-Inv-loop : walk-conditions-lts.InvT-loop
-walk-conditions-Inv-loop law index slots store task s out₀ first count so-far₀ i₀ out so-far i =
+walk-conditions-Inv-loop law index slots store task s out₀ tally first count so-far₀ i₀ out so-far i =
     (first ≡ firstCondition (fileOf law) s)
     × (count ≡ conditionsOf (fileOf law) s)
     × (i ≤ count)
@@ -154,25 +154,25 @@ walk-conditions-Inv-loop law index slots store task s out₀ first count so-far�
     ≡ steps.after (fileOf law) (formatsIn (fileOf law) (task .limit) store) task (sinkOf so-far out) (steps.conditionsMet (fileOf law) (formatsIn (fileOf law) (task .limit) store) task s (count - i) (first + i)))
 
 abbrev walk-conditions-μ-loop : walk-conditions-lts.MeasureT-loop
-walk-conditions-μ-loop law index slots store task s out₀ first count so-far₀ i₀ out so-far i = count - i
+walk-conditions-μ-loop law index slots store task s out₀ tally first count so-far₀ i₀ out so-far i = count - i
 
 abbrev walk-run-Inv-loop : walk-run-lts.InvT-loop
-walk-run-Inv-loop law index slots store task part at out₀ so-far₀ i₀ out so-far i =
+walk-run-Inv-loop law index slots store task part at out₀ tally so-far₀ i₀ out so-far i =
     (length out ≡ length out₀)
     × steps.Left (fileOf law) (formatsIn (fileOf law) (task .limit) store) task at part (sinkOf so-far₀ out₀) (sinkOf so-far out) i
 
 abbrev walk-run-μ-loop : walk-run-lts.MeasureT-loop
-walk-run-μ-loop law index slots store task part at out₀ so-far₀ i₀ out so-far i = length part - i
+walk-run-μ-loop law index slots store task part at out₀ tally so-far₀ i₀ out so-far i = length part - i
 
 abbrev walk-sentences-Inv-loop : walk-sentences-lts.InvT-loop
-walk-sentences-Inv-loop law index slots store task first count out₀ so-far₀ i₀ out so-far i =
+walk-sentences-Inv-loop law index slots store task first count out₀ tally so-far₀ i₀ out so-far i =
     (i ≤ count)
     × (length out ≡ length out₀)
     × (steps.after (fileOf law) (formatsIn (fileOf law) (task .limit) store) task (sinkOf so-far₀ out₀) (steps.sentencesMet (fileOf law) (formatsIn (fileOf law) (task .limit) store) task count first)
     ≡ steps.after (fileOf law) (formatsIn (fileOf law) (task .limit) store) task (sinkOf so-far out) (steps.sentencesMet (fileOf law) (formatsIn (fileOf law) (task .limit) store) task (count - i) (first + i)))
 
 abbrev walk-sentences-μ-loop : walk-sentences-lts.MeasureT-loop
-walk-sentences-μ-loop law index slots store task first count out₀ so-far₀ i₀ out so-far i = count - i
+walk-sentences-μ-loop law index slots store task first count out₀ tally so-far₀ i₀ out so-far i = count - i
 
 pub +walk-conditions+walk-pattern+walk-run+walk-sentence+walk-sentences+walk-term-spec :
     {M : Type 1} → statement M

@@ -13,14 +13,14 @@ use Rattle.findings.proofs.walk.lint_law.Statement.{statement}
 use Rattle.findings.proofs.walk.lint_law.Tie as tie
 
 abbrev Inv-loop : tie.InvT-loop
-Inv-loop law index slots store task out₀ count so-far₀ f₀ out so-far f =
+Inv-loop law index slots store task out₀ tally count so-far₀ f₀ out so-far f =
     (f ≤ count)
     × (length out ≡ length out₀)
     × (steps.after (fileOf law) (formatsIn (fileOf law) (task .limit) store) task (sinkOf so-far₀ out₀) (lintEvents (treeOf (fileOf law)) (formatsIn (fileOf law) (task .limit) store) task)
     ≡ steps.after (fileOf law) (formatsIn (fileOf law) (task .limit) store) task (sinkOf so-far out) (steps.functionsMet (fileOf law) (formatsIn (fileOf law) (task .limit) store) task f))
 
 abbrev μ-loop : tie.MeasureT-loop
-μ-loop law index slots store task out₀ count so-far₀ f₀ out so-far f = count - f
+μ-loop law index slots store task out₀ tally count so-far₀ f₀ out so-far f = count - f
 
 pub lint-law-spec : {M : Type 1} → statement M
 lint-law-spec =
