@@ -13,9 +13,10 @@ use Rattle.file.specs.Below.{every}
 use Rattle.file.specs.Sections.{File, fileOf}
 use Rattle.file.proofs.Words.{word-part}
 use Rattle.file.proofs.Below.{every-fails}
-use Rattle.law.specs.Places.{blockSize, blockFirst, patternAt}
-use Rattle.law.specs.Runs.{blockLater, sentenceBlocks}
+use Rattle.law.specs.Places.{blockSize, firstSentence, blockFirst, patternAt}
+use Rattle.law.specs.Runs.{usedUp, blockLater, sentenceBlocks, blocksAllowed}
 use Rattle.law.specs.Index.{Indexed, termsStart}
+use Rattle.law.proofs.Tests.{every-all}
 use Rattle.law.proofs.PlaceLaws as places
 use Rattle.law.proofs.IndexLaws as laws
 
@@ -83,3 +84,22 @@ module _ (file : File) where
         let q : next ≡ patternAt file (suc s) = rw (add-one s) at end in
         let n : i ≡ next - first = omega arith in
         rw (← q, ← start) (sym (rw n at h))
+
+  -- where the functions have all sentences, no record is refused
+  blocks-hold : usedUp file ≡ true → firstSentence file (file .functions .count) ≡ file .sentences .count → blocksAllowed file ≡ true
+  unfolding blocksAllowed
+  blocks-hold used all =
+      every-all (file .sentences .count) (sentenceBlocks file) λ s l.
+      every-all (patternAt file (suc s) - patternAt file s) (λ i. blockLater file s (patternAt file s + i)) λ i k.
+      rw (places.blocks-empty file used all (patternAt file s + i) (omega (arith, places.terms-inside file used s l)))
+
+-- the same, from the words that the code has read
+pub functions-have-all : (bytes index : List ℕ) → Indexed bytes index → (functions first count : ℕ) → functions ≡ getD index 4 0 → first ≡ getD index (8 + functions) 0
+    → count ≡ getD index 5 0 → first ≡ count → true ≡ blocksAllowed (fileOf bytes)
+functions-have-all bytes index h functions first count f w n e =
+    let words = h .words in
+    let number : functions ≡ fileOf bytes .functions .count = f ∙ words .functions in
+    let place : first ≡ getD index (8 + fileOf bytes .functions .count) 0 = rw number at w in
+    let all : firstSentence (fileOf bytes) (fileOf bytes .functions .count) ≡ fileOf bytes .sentences .count =
+    omega (arith, place, words .firstSentences (fileOf bytes .functions .count) (omega arith), words .sentences) in
+    sym (blocks-hold (fileOf bytes) (h .used) all)

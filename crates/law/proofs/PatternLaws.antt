@@ -2,27 +2,30 @@
 -- different, and that a part of the term records has the same variables and the same allowed fields as its records have in the whole.
 use Prim.Native.Nat.{ℕ, zero, suc, _+_, _*_, _-_, _≤_, _<_}
 use mathlib.Core.List.{List, [], _∷_, _++_}
-use mathlib.Core.Bool.{Bool, true, false, _||_}
+use mathlib.Core.Bool.{Bool, true, false, cond, _||_}
 use mathlib.Core.Path.{_≡_, refl, sym, _∙_}
 use native.Mathlib.Numerals.{add-one}
 use native.Mathlib.Nat.{add-zero, add-suc, sub-zero}
 use native.Mathlib.Omega.{arith}
 use native.Mathlib.Decide.{decLt}
-use lib.ListN.{length, take, drop}
+use lib.ListN.{length, take, drop, length-append}
+use lib.Dec.{leb}
+use borrow.Author.Tests.{le-leb}
 use Rattle.names.specs.Name.{foldedIndex, sameBytes}
 use Rattle.file.specs.Word.{wordAt}
-use Rattle.file.specs.Below.{every}
 use Rattle.file.specs.Sections.{fileOf}
 use Rattle.file.specs.Head.{termFrom, termAt}
 use Rattle.file.specs.Fields.{termFieldsAt, termsAllowed, fieldsAllowed}
+use Rattle.file.specs.declared.Term.{Term}
+use Rattle.file.specs.declared.Term.the-variants.{Symbolic, SVariable, TVariable, EVariable, Bracket, Call, Block}
 use Rattle.file.proofs.Words.{word-part}
-use Rattle.file.proofs.Below.{both}
 use Rattle.file.proofs.SectionLaws.{sections-records}
 use Rattle.file.proofs.Fields.{leaf-inside, term-at-allowed, fields-terms}
 use Rattle.law.specs.Tree.{Kind, symbolKind, termKind, expressionKind}
 use Rattle.law.specs.Places.{patternAt, patternSize, patternPart}
 use Rattle.law.specs.Variables.{Variable, sameKind, sameVariable, variableOf, variablesFrom, occurs, distinct, patternVariables}
 use Rattle.law.specs.Index.{Indexed}
+use Rattle.law.proofs.Tests.{every-all}
 use Rattle.law.proofs.Parts.{terms-length}
 use Rattle.law.proofs.IndexLaws.{pattern-fits}
 
@@ -231,13 +234,43 @@ module _ (text records : List ℕ) where
     index-inside t kind h l e lk hk =
         leaf-inside text (wordAt records (24 * t)) _ _ _ (term-at-allowed text records count t h l) (omega arith) (omega arith)
 
--- ---- a part of the term records
+-- ---- the number of records
 
--- a test that holds of each number below n
-every-all : (n : ℕ) (p : ℕ → Bool) → ((i : ℕ) → i < n → p i ≡ true) → every n p ≡ true
-unfolding every
-every-all zero p h = refl
-every-all (suc n) p h = both _ _ (every-all n p (λ i l. h i (omega arith))) (h n (omega arith))
+-- a record is at most one variable
+one-variable : (text : List ℕ) (x : Term) → length (variableOf text x) ≤ 1
+one-variable text (Symbolic x) = omega arith
+one-variable text (SVariable a b) = omega arith
+one-variable text (TVariable a b) = omega arith
+one-variable text (EVariable a b) = omega arith
+one-variable text Bracket = omega arith
+one-variable text (Call a b) = omega arith
+one-variable text (Block n) = omega arith
+
+-- records have at most as many variables as they are
+variables-length : (text records : List ℕ) (count t : ℕ) → length (variablesFrom text records count t) ≤ count
+unfolding variablesFrom
+variables-length text records zero t = omega arith
+variables-length text records (suc count) t =
+    rw (length-append (variableOf text (termAt records (24 * t))) (variablesFrom text records count (suc t)))
+    (omega (arith, one-variable text (termAt records (24 * t)), variables-length text records count (suc t)))
+
+-- a list has at most as many different variables as variables
+distinct-length : (vs : List Variable) → distinct vs ≤ length vs
+unfolding distinct
+distinct-length [] = omega arith
+distinct-length (v ∷ vs) = go (occurs v vs) (distinct-length vs)
+  where
+    go : (again : Bool) → distinct vs ≤ length vs → cond again (distinct vs) (suc (distinct vs)) ≤ suc (length vs)
+    go true h = omega arith
+    go false h = omega arith
+
+-- at most 32 records have at most 32 different variables
+pub few-records : (text records : List ℕ) (count t : ℕ) → count ≤ 32 → leb (distinct (variablesFrom text records count t)) 32 ≡ true
+few-records text records count t few =
+    le-leb (distinct (variablesFrom text records count t)) 32
+    (omega (arith, distinct-length (variablesFrom text records count t), variables-length text records count t))
+
+-- ---- a part of the term records
 
 module _ (text records : List ℕ) (at n : ℕ) where
   -- n records from one on

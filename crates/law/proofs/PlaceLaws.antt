@@ -154,6 +154,10 @@ module _ (file : File) where
     pub block-inside : (t : ℕ) → t < file .terms .count → blockFirst file t + blockSize file t ≤ file .sentences .count
     block-inside t h = omega (arith, sentences-used, block-next t, block-grows (suc t) (file .terms .count) h)
 
+    -- where the functions have all sentences, no block has any
+    pub blocks-empty : firstSentence file (file .functions .count) ≡ file .sentences .count → (t : ℕ) → t < file .terms .count → blockSize file t ≡ 0
+    blocks-empty all t h = omega (arith, block-inside t h, block-start, block-grows 0 t (omega arith))
+
     -- the conditions of a sentence are records of section 4
     pub conditions-inside : (s : ℕ) → s < file .sentences .count → firstCondition file s + conditionsOf file s ≤ file .conditions .count
     conditions-inside s h = omega (arith, conditions-used, condition-next s, condition-grows (suc s) (file .sentences .count) h)

@@ -1,5 +1,7 @@
 // Blocks of sentences (refusal 7).
 use crate::places::block_first;
+use crate::places::first_sentence;
+use crate::places::functions;
 use crate::places::pattern_at;
 use crate::places::sentences;
 use crate::places::term_word;
@@ -55,6 +57,10 @@ pub fn blocks_allowed(law: &[u8], index: &[u16; 972]) -> bool
     ensures { λ r. ⌜ r ≡ blocksAllowed (fileOf (now (law .entry))) ⌝ }
 {
     let count = sentences(index);
+    // Where the functions have all sentences, no block has any.
+    if first_sentence(index, functions(index)) == count {
+        return true;
+    }
     let mut s = 0;
     while s < count {
         if !sentence_blocks(law, index, s) {

@@ -1,3 +1,4 @@
+-- Where the functions have all sentences, no block has any (`functions-have-all`).
 -- The invariant: every sentence that was passed holds. The index has the number of sentences.
 use Prim.Native.Nat.{_≤_, _-_}
 use mathlib.Core.Bool.{true}
@@ -8,7 +9,8 @@ use Rattle.file.specs.Below.{every}
 use Rattle.file.specs.Sections.{fileOf}
 use Rattle.file.proofs.Below.{every-none, every-next}
 use Rattle.law.specs.Runs.{sentenceBlocks, blocksAllowed}
-use Rattle.law.proofs.BlockLaws.{sentences-fail, sentences-hold}
+use Rattle.law.proofs.IndexLaws.{functions-limit}
+use Rattle.law.proofs.BlockLaws.{sentences-fail, sentences-hold, functions-have-all}
 use Rattle.law.proofs.blocks.blocks_allowed.Statement.{statement}
 use Rattle.law.proofs.blocks.blocks_allowed.Tie as tie
 
@@ -26,14 +28,25 @@ blocks-allowed-spec =
     Inv-loop
     μ-loop
     (λ c κs. tt)
-    (λ c. (omega arith, every-none _))
-    (λ c κs. let p = c .before .before .before .before .pre in (p, omega (arith, p .words .sentences, c .before .before .sentences .ensures)))
+    (λ c κs. tt)
+    (λ c κs. let p = c .before .before .before .pre in omega (arith, p .words .functions, c .functions .ensures, functions-limit _ _ p))
     (λ c.
-    let start = c .before .before .before .before .before .before in
-    sentences-fail _ _ (start .pre) (sentenceBlocks (fileOf (start .args .law .now))) _ _ _ (c .before .before .before .before .sentences .ensures) (c .before .before .loop-test .taken) (c .before .sentence-blocks .ensures) (not-true _ (c .if1 .taken)))
+    let start = c .before .before .before .before .before in
+    functions-have-all _ _ (start .pre) _ _ _ (c .before .before .functions .ensures) (c .before .first-sentence .ensures) (c .before .before .before .sentences .ensures) (c .if1 .taken))
+    (λ c. (omega arith, every-none _))
+    (λ c κs.
+    let called = c .before .before .before .before .before in
+    let p = called .before .before .pre in
+    (p, omega (arith, p .words .sentences, called .sentences .ensures)))
+    (λ c.
+    let called = c .before .before .before .before .before .before .before in
+    let start = called .before .before in
+    sentences-fail _ _ (start .pre) (sentenceBlocks (fileOf (start .args .law .now))) _ _ _ (called .sentences .ensures) (c .before .before .loop-test .taken) (c .before .sentence-blocks .ensures) (not-true _ (c .if2 .taken)))
     (λ c. omega arith)
     (λ c. omega arith)
     (λ c.
     let the-loop = c .before .before .before .loop in
-    (omega arith, every-next (the-loop .s) _ (the-loop .inv .1) (sym (c .before .sentence-blocks .ensures) ∙ not-false _ (c .if1 .left))))
-    (λ c. sentences-hold _ _ (c .before .before .before .before .pre) _ _ _ (c .before .before .sentences .ensures) (c .before .loop .inv .0) (c .loop-test .left) (c .before .loop .inv .1)))
+    (omega arith, every-next (the-loop .s) _ (the-loop .inv .1) (sym (c .before .sentence-blocks .ensures) ∙ not-false _ (c .if2 .left))))
+    (λ c.
+    let called = c .before .before .before .before .before in
+    sentences-hold _ _ (called .before .before .pre) _ _ _ (called .sentences .ensures) (c .before .loop .inv .0) (c .loop-test .left) (c .before .loop .inv .1)))

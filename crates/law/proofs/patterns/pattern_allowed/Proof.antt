@@ -1,9 +1,10 @@
+-- At most 32 records have at most 32 different variables (`few-records`).
 -- The invariant: the variables that were counted, and the different ones from record i on, are all different ones.
 use Prim.Native.Nat.{_+_, _-_, _≤_}
-use mathlib.Core.Path.{_≡_}
+use mathlib.Core.Path.{_≡_, sym}
 use native.Mathlib.Omega.{arith}
 use Rattle.law.specs.Variables.{variablesFrom, distinct}
-use Rattle.law.proofs.PatternLaws.{distinct-start, distinct-end}
+use Rattle.law.proofs.PatternLaws.{few-records, distinct-start, distinct-end}
 use Rattle.law.proofs.patterns.pattern_allowed.Statement.{statement}
 use Rattle.law.proofs.patterns.pattern_allowed.Tie as tie
 
@@ -20,12 +21,14 @@ pattern-allowed-spec =
     (tie.spec
     Inv-loop
     μ-loop
-    (λ c. let a = c .before .before .args in
+    (λ c. let a = c .before .before .before .args in
+    sym (few-records (a .text .now) (a .pattern .now) (a .count) 0 (c .if1 .taken)))
+    (λ c. let a = c .before .before .before .args in
     (omega arith, omega arith, distinct-start (a .text .now) (a .pattern .now) (a .count)))
-    (λ c κs. let p = c .before .before .before .before .pre in (p .0, p .1, c .loop-test .taken))
+    (λ c κs. let p = c .before .before .before .before .before .pre in (p .0, p .1, c .loop-test .taken))
     (λ c. omega arith)
     (λ c. omega arith)
     (λ c. omega arith)
     (λ c. (omega arith, omega arith, omega arith))
-    (λ c. let a = c .before .before .before .before .args in
+    (λ c. let a = c .before .before .before .before .before .args in
     rw (distinct-end (a .text .now) (a .pattern .now) (a .count) (c .before .loop .i) (c .before .loop .found) _ (c .loop-test .left) (c .before .loop .inv .2))))
