@@ -1,5 +1,5 @@
 -- What is still to be matched around the brackets that were gone into (`Pending`, specs/Asked.antt): one level more, and one level out.
-use Prim.Native.Nat.{ℕ, zero, suc, _+_, _-_, _≤_, _<_, max}
+use Prim.Native.Nat.{ℕ, zero, suc, _+_, _*_, _-_, _≤_, _<_, max}
 use mathlib.Core.Bool.{Bool, true, false, _||_}
 use mathlib.Core.List.{List, [], _∷_, _++_}
 use mathlib.Core.Path.{_≡_, refl, sym, ap, subst, _∙_}
@@ -19,6 +19,7 @@ use Rattle.matching.specs.Pattern.{Atom, Pattern}
 use Rattle.matching.specs.Match.{Values, each}
 use Rattle.matching.specs.Part.{rowOf, from, Begin, at-start, one-on, Stands, termRow}
 use Rattle.matching.specs.Bound.{valuesOf, Kept, Bound}
+use Rattle.matching.specs.Least.{leastTerms}
 use Rattle.matching.specs.Step.{found, Free, Facing, firstVariable, eachLength, eachInside}
 use Rattle.matching.specs.Capacity.{variablesIn, Capacity}
 use Rattle.matching.specs.Asked.{someHolds, Asked, nesting, resume, comingIn, between, levels, LevelsIn, levelsOf, Around, LiteralAsked}
@@ -26,6 +27,7 @@ use Rattle.matching.specs.declared.Bindings.{Bindings}
 use Rattle.matching.specs.declared.literal.Pending.{Pending}
 use Rattle.matching.proofs.PartLaws.{row-empty, row-node}
 use Rattle.matching.proofs.CutLaws.{from-length, from-all, from-from, stands-from, begin-inside}
+use Rattle.matching.proofs.LeastLaws.{left-short}
 use Rattle.matching.proofs.LengthLaws.{leftAt, lengthAt, left-first, left-last, left-more, length-search}
 use Rattle.matching.proofs.CapacityLaws.{capacity-right}
 use Rattle.matching.proofs.AskedLaws.{asked-later, asked-more, asked-inside, row-brackets, values-more}
@@ -339,6 +341,12 @@ module _ {text terms pattern : List ℕ} {at : ℕ} {row : List ℕ} {start : �
 
   pub lengths-start : someHolds outside all-lengths ≡ someHolds outside (lengths-left 0)
   lengths-start = ap (someHolds outside) (left-first text true pattern row (valuesOf text terms b))
+
+  -- too little is left for the rest of the pattern
+  pub length-short : {end : ℕ} (n : ℕ) {needed : ℕ} → end ≡ endOf pattern → ((t : List ℕ) → needed ≡ 24 * leastTerms (rowOf t (from end pattern)))
+      → length (from n row) < needed → someHolds outside all-lengths ≡ someHolds outside (lengths-left n) → false ≡ someHolds outside all-lengths
+  unfolding someHolds
+  length-short n ends least h whole = sym (whole ∙ ap (someHolds outside) (left-short text true pattern row (valuesOf text terms b) n ends least h))
 
   module _ {end n : ℕ} (ends : end ≡ endOf pattern) (begin : Begin row n) {c : Bindings} (more : Bound b at start n c) (x : Bool)
       (answer : x ≡ someHolds (resume (levelsOf text terms p (at + end + length (from end pattern)) (start + n + length (from n row))))

@@ -17,6 +17,7 @@ pub mod SentenceLaws
 pub mod SameLaws
 pub mod RowLaws
 pub mod SearchLaws
+pub mod LeastLaws
 pub mod FillLaws
 pub mod ShadowLaws
 pub mod DigitLaws

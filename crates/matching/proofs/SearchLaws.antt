@@ -62,7 +62,7 @@ module _ {X : Type 0} where
 
 module _ {A : Type 0} where
   -- a cut row is its two parts
-  in-splits : (x : Terms A) {q : Terms A × Terms A} → List·Memᴰ q (splits x) → x ≡ q .0 ⊕ q .1
+  pub in-splits : (x : Terms A) {q : Terms A × Terms A} → List·Memᴰ q (splits x) → x ≡ q .0 ⊕ q .1
   unfolding splits
   in-splits nothing (List·Memᴰ·head e) = rw e
   in-splits (symbol a x) (List·Memᴰ·head e) = rw e

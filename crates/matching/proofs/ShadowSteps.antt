@@ -1,5 +1,5 @@
 -- What the code of src/shadow.rt answers at each of its returns, in the terms of its contracts: the first of all matches.
-use Prim.Native.Nat.{ℕ, _+_, _-_, _≤_, _<_}
+use Prim.Native.Nat.{ℕ, _+_, _*_, _-_, _≤_, _<_}
 use mathlib.Core.Bool.{Bool, true, false, cond}
 use mathlib.Core.List.{List, [], _∷_, _++_, append-nil}
 use mathlib.Core.Option.{Option, none, some}
@@ -19,6 +19,7 @@ use Rattle.matching.specs.Pattern.{Atom, Pattern}
 use Rattle.matching.specs.Match.{Values, bound, each, all-or-first, matches}
 use Rattle.matching.specs.Part.{rowOf, from, Begin, termRow}
 use Rattle.matching.specs.Bound.{valuesOf, Bound}
+use Rattle.matching.specs.Least.{leastTerms}
 use Rattle.matching.specs.Step.{found, leaves, eachLength, eachInside, Leaves, Free, Facing, firstVariable}
 use Rattle.matching.specs.Asked.{firstIn, Asked, matchedValues}
 use Rattle.matching.specs.declared.Bindings.{Bindings}
@@ -28,6 +29,7 @@ use Rattle.matching.specs.declared.First.the-variants.{Fails, Goes, Bind
 use Rattle.matching.proofs.SameLaws.{false-not-true}
 use Rattle.matching.proofs.PartLaws.{row-empty, row-node}
 use Rattle.matching.proofs.CutLaws.{from-length, begin-inside}
+use Rattle.matching.proofs.LeastLaws.{left-short}
 use Rattle.matching.proofs.LengthLaws.{leftAt, lengthAt, left-first, left-last, left-more, length-search}
 use Rattle.matching.proofs.AskedLaws.{values-more}
 
@@ -145,6 +147,11 @@ module _ {text terms pattern : List ℕ} {at : ℕ} {row : List ℕ} {start : �
 
   pub lengths-start : firstIn all-lengths ≡ firstIn (lengths-left 0)
   lengths-start = ap firstIn (left-first text false pattern row (valuesOf text terms b))
+
+  -- too little is left for the rest of the pattern
+  pub length-short : {end : ℕ} (n : ℕ) {needed : ℕ} → end ≡ endOf pattern → ((t : List ℕ) → needed ≡ 24 * leastTerms (rowOf t (from end pattern)))
+      → length (from n row) < needed → firstIn all-lengths ≡ firstIn (lengths-left n) → none ≡ firstIn all-lengths
+  length-short n ends least h whole = sym (whole ∙ ap firstIn (left-short text false pattern row (valuesOf text terms b) n ends least h))
 
   module _ {end n : ℕ} (ends : end ≡ endOf pattern) (begin : Begin row n) {c : Bindings} (more : Bound b at start n c) (m : Matched)
       (answer : matchedValues text terms m ≡ firstIn (found false (rowOf text (from end pattern)) (rowOf text (from n row)) (valuesOf text terms c)))

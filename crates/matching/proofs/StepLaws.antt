@@ -132,7 +132,7 @@ module _ (text pattern row : List ℕ) (some : 24 ≤ length pattern) (x : Symbo
       rw (told, row-node text pattern some, first, row-node text row more) (found-symbol text back x _ (termAt row 0) _ _ vs)
 
 -- a record of a symbol, by its kind
-symbol-from : (kind a b : ℕ) → kind ≤ 2 → (x : Symbol) × (termFrom kind a b ≡ Symbolic x)
+pub symbol-from : (kind a b : ℕ) → kind ≤ 2 → (x : Symbol) × (termFrom kind a b ≡ Symbolic x)
 unfolding termFrom
 symbol-from zero a b h = (Character a, refl)
 symbol-from (suc zero) a b h = (Identifier a b, refl)

@@ -6,6 +6,7 @@ pub mod Shadow
 pub mod Part
 pub mod Bound
 pub mod Step
+pub mod Least
 pub mod Capacity
 pub mod Asked
 pub mod Entry

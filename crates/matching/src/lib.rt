@@ -10,7 +10,7 @@ ghost use mathlib.Core.Path.{_≡_};
 ghost use mathlib.Core.Bool.{Bool, true};
 ghost use mathlib.Core.List.{List, []};
 ghost use mathlib.Core.Option.{none};
-ghost use Prim.Native.Nat.{ℕ, _+_, _≤_, _<_, min};
+ghost use Prim.Native.Nat.{ℕ, _+_, _*_, _≤_, _<_, min};
 ghost use lib.ListN.{length, take, drop};
 ghost use Rattle.file.specs.Head.{termAt};
 ghost use Rattle.file.specs.declared.Symbol.{Symbol};
@@ -21,6 +21,7 @@ ghost use Rattle.matching.specs.Match.{Values, none-bound, valueIn, afte
 ghost use Rattle.matching.specs.Shadow.{sameAtom};
 ghost use Rattle.matching.specs.Part.{rowOf, isBracket, atomOf, sameFirst};
 ghost use Rattle.matching.specs.Bound.{valuesOf, placed, Kept, Bound, PlaceIn};
+ghost use Rattle.matching.specs.Least.{leastTerms};
 ghost use Rattle.matching.specs.Step.{found, beginsWith, BeginsIn, openTerm, symbolTerm, singleOne, mayStand, Leaves};
 
 pub mod literal;
@@ -408,5 +409,25 @@ pub fn apart(text: &[u8], pattern: &[u8], row: &[u8]) -> bool
         First::Binds(_) => false,
         First::Tries => false,
         First::Inside => false,
+    }
+}
+
+// The least bytes of a row that a pattern can match: a record for each of its symbols and brackets (kinds 0 to 2, and 6) that stand in no bracket. A variable
+// may stand for nothing.
+pub fn least(pattern: &[u8]) -> usize
+    ensures { λ r. ⌜ ((text : List ℕ) → r ≡ 24 * leastTerms (rowOf text (now (pattern .entry)))) ⌝ }
+{
+    let mut needed = 0;
+    let mut i = 0;
+    loop {
+        let left = &pattern[i..];
+        if left.len() < 24 {
+            break needed;
+        }
+        let kind = word_at(left, 0);
+        if kind < 3 || kind == 6 {
+            needed += 24;
+        }
+        i += end_of(left);
     }
 }

@@ -4,6 +4,7 @@ use crate::First;
 use crate::apart;
 use crate::bind;
 use crate::first_of;
+use crate::least;
 use crate::narrow;
 use crate::none;
 use crate::wide;
@@ -82,7 +83,7 @@ fn literal_out(
     literal_run(text, terms, pattern, at, row, start, out, b)
 }
 
-// An e. variable without a value, then the rest of the pattern: every length in turn.
+// An e. variable without a value, then the rest of the pattern: every length in turn, while enough of the row is left for the rest.
 fn literal_lengths(
     text: &[u8],
     terms: &[u8],
@@ -101,9 +102,13 @@ fn literal_lengths(
     let end = end_of(pattern);
     let rest = &pattern[end..];
     let next = at + end;
+    let needed = least(rest);
     let mut n = 0;
     loop {
         let left = &row[n..];
+        if left.len() < needed {
+            break false;
+        }
         let more = bind(b, at, start, n);
         if literal_run(text, terms, rest, next, left, start + n, pending, more) {
             break true;

@@ -4,6 +4,7 @@ use crate::First;
 use crate::apart;
 use crate::bind;
 use crate::first_of;
+use crate::least;
 use crate::none;
 use law::runs::end_of;
 ghost use mathlib.Core.Path.{_≡_};
@@ -26,7 +27,7 @@ pub struct Matched {
     pub bindings: Bindings,
 }
 
-// An e. variable without a value, then the rest of the pattern: every length in turn.
+// An e. variable without a value, then the rest of the pattern: every length in turn, while enough of the row is left for the rest.
 fn shadow_lengths(
     text: &[u8],
     terms: &[u8],
@@ -44,9 +45,16 @@ fn shadow_lengths(
     let end = end_of(pattern);
     let rest = &pattern[end..];
     let next = at + end;
+    let needed = least(rest);
     let mut n = 0;
     loop {
         let left = &row[n..];
+        if left.len() < needed {
+            break Matched {
+                ok: false,
+                bindings: b,
+            };
+        }
         let more = bind(b, at, start, n);
         let m = shadow_run(text, terms, rest, next, left, start + n, more);
         if m.ok {
