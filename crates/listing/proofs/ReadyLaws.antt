@@ -103,8 +103,8 @@ module _ {room : ℕ} (settings : Settings) {bytes before after start own : List
     pub count-fits : 8 * count ≤ room
     count-fits = let (l, e, fits, f) = listed is in omega (arith, fits, upto-same (f .counted fits) .0)
 
-    pub findings-collected : length start ≡ 2048 → length own ≡ 2048 → Collected 64 settings bytes index slots after own count
-    findings-collected long kept = let (l, e, fits, f) = listed is in collected settings p s l e (rw e at (g .store)) room count own start rounds settled long kept f fits
+    pub findings-collected : (places : ℕ) → length start ≡ 8 * places → length own ≡ 8 * places → Collected places 64 settings bytes index slots after own count
+    findings-collected places long kept = let (l, e, fits, f) = listed is in collected settings p s l e (rw e at (g .store)) places room count own start rounds settled long kept f fits
 
     pub findings-listed : (words end : List ℕ) → room ≡ length words → end ≡ written words 0 (listingWords settings (shownIn 64 settings bytes after))
         → findingsAfter (found.Listed count rounds settled) after end ≡ findingsFront 64 settings before words (given (treeOf (fileOf bytes)))

@@ -54,7 +54,7 @@ found-at settings (f ∷ fs) (suc p) after h =
     let next : 8 * suc p ≡ suc (suc (suc (suc (suc (suc (suc (suc (8 * p)))))))) = omega arith in
     record { finding = rest .finding; at = rest .at; among = List·Memᴰ·tail (rest .among); words = rw next (rest .words) }
 
-module _ (settings : Settings) {bytes index slots store own : List ℕ} {count : ℕ} (c : Collected 64 settings bytes index slots store own count) where
+module _ (settings : Settings) {bytes index slots store own : List ℕ} {count : ℕ} (c : Collected 256 64 settings bytes index slots store own count) where
   abbrev fs : List Finding
   fs = shownIn 64 settings bytes store
 

@@ -52,10 +52,13 @@ pub enum Told {
 // The most shapes in a format.
 const SHAPES: usize = 64;
 
-// The places of a call's own findings, and their words.
-const PLACES: usize = 256;
-
+// The places of the text call's own findings, as words.
 const OWN: usize = 2048;
+
+// The places of the findings call's own, and their words: few, since clearing them takes time and most laws have fewer findings.
+const PLACES: usize = 32;
+
+const FEW: usize = 256;
 
 // Hands over findings: those of the call's own buffer, or, where that had no place for all, they are collected again.
 fn hand_over(
@@ -69,7 +72,7 @@ fn hand_over(
     count: usize,
     words: &mut [u32],
 )
-    requires { ⌜ Collected 64 (settingsFrom mode (now overrides)) (now law) (now index) (now slots) (now store) (now own) count × (8 * count ≤ length (now words)) ⌝ }
+    requires { ⌜ Collected 32 64 (settingsFrom mode (now overrides)) (now law) (now index) (now slots) (now store) (now own) count × (8 * count ≤ length (now words)) ⌝ }
     ensures { λ _. ⌜ now (words .exit) ≡ written (now (words .entry)) 0 (listingWords (settingsFrom mode (now (overrides .entry)))
         (shownIn 64 (settingsFrom mode (now (overrides .entry))) (now (law .entry)) (now (store .entry)))) ⌝ }
 {
@@ -107,7 +110,7 @@ fn findings_gathered(
 {
     let slots = slots_of(law, index);
     let room = words.len();
-    let mut own = [0u32; OWN];
+    let mut own = [0u32; FEW];
     match gather(
         law,
         index,
@@ -117,7 +120,7 @@ fn findings_gathered(
         mode,
         overrides,
         room,
-        &mut own[..OWN],
+        &mut own[..FEW],
     ) {
         Gathered::TooWide => Found::Refused(Turned::Shapes),
         Gathered::Full => Found::Refused(Turned::Findings),
@@ -129,7 +132,7 @@ fn findings_gathered(
                 store,
                 mode,
                 overrides,
-                &own[..OWN],
+                &own[..FEW],
                 count,
                 words,
             );
@@ -186,8 +189,8 @@ fn tell(
     position: usize,
     text: &mut [u8],
 ) -> Told
-    requires { ⌜ ((settings : Settings) × Collected 64 settings (now law) (now index) (now slots) (now store) (now own) count) × (count ≤ 256) ⌝ }
-    ensures { λ r. ⌜ ((settings : Settings) → Collected 64 settings (now (law .entry)) (now (index .entry)) (now (slots .entry)) (now (store .entry)) (now (own .entry)) count
+    requires { ⌜ ((settings : Settings) × Collected 256 64 settings (now law) (now index) (now slots) (now store) (now own) count) × (count ≤ 256) ⌝ }
+    ensures { λ r. ⌜ ((settings : Settings) → Collected 256 64 settings (now (law .entry)) (now (index .entry)) (now (slots .entry)) (now (store .entry)) (now (own .entry)) count
         → toldPair r (now (text .exit)) ≡ textOf (now (text .entry)) (findingAt (shownIn 64 settings (now (law .entry)) (now (store .entry))) position)) ⌝ }
 {
     if count <= position {

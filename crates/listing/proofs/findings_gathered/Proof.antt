@@ -24,7 +24,7 @@ findings-gathered-spec =
     (λ c. search needs)
     (λ c κs.
     let start = c .before .before .before .before .before .before .before .before .before .before .before .before .before .before .before .before .before .before .before in
-    (findings-collected (settingsFrom (start .args .mode) (start .args .overrides .now)) (c .before .before .before .before .before .before .before .before .before .before .gather .ensures) (start .pre) (c .before .before .before .before .before .before .before .before .before .before .before .before .before .before .slots-of .ensures) _ _ _ (c .before .before .before .before .before .count .given .1) refl (c .before .before .before .before .before .before .before .before .before .before .gather .kept .1 .1 .1 .1 .1 .1 .1 .1 .0), omega (arith, count-fits (settingsFrom (start .args .mode) (start .args .overrides .now)) (c .before .before .before .before .before .before .before .before .before .before .gather .ensures) (start .pre) (c .before .before .before .before .before .before .before .before .before .before .before .before .before .before .slots-of .ensures) _ _ _ (c .before .before .before .before .before .count .given .1))))
+    (findings-collected (settingsFrom (start .args .mode) (start .args .overrides .now)) (c .before .before .before .before .before .before .before .before .before .before .gather .ensures) (start .pre) (c .before .before .before .before .before .before .before .before .before .before .before .before .before .before .slots-of .ensures) _ _ _ (c .before .before .before .before .before .count .given .1) 32 refl (c .before .before .before .before .before .before .before .before .before .before .gather .kept .1 .1 .1 .1 .1 .1 .1 .1 .0), omega (arith, count-fits (settingsFrom (start .args .mode) (start .args .overrides .now)) (c .before .before .before .before .before .before .before .before .before .before .gather .ensures) (start .pre) (c .before .before .before .before .before .before .before .before .before .before .before .before .before .before .slots-of .ensures) _ _ _ (c .before .before .before .before .before .count .given .1))))
     (λ c. search needs)
     (λ c.
     let start = c .before .before .before .before .before .before .before .before .before .before .before .before .before .before in
