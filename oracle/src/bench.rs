@@ -16,8 +16,10 @@ use crate::ours::Buffers;
 use crate::random::Random;
 use crate::settings::Settings;
 
-/// Each time is the least of so many, taken in turns.
+/// Each time is the least of those taken in turns: so many turns at least, and more until both together took so many seconds,
+/// since one interruption is longer than a small law takes.
 const TURNS: usize = 9;
+const SECONDS: f64 = 2e-4;
 const CLEARINGS: usize = 999;
 /// The ratio that no law shall pass.
 const WISHED: f64 = 2.0;
@@ -74,7 +76,7 @@ fn clearing(buffers: &mut Buffers) -> String {
         .ok();
         call = call.min(start.elapsed().as_secs_f64());
         let start = Instant::now();
-        black_box(&mut buffers.store[..bilzarko::STORE_WORDS]).fill(black_box(0));
+        black_box(&mut buffers.store[..bilzarko::STORE_WORDS]).fill(0);
         store = store.min(start.elapsed().as_secs_f64());
     }
     format!(
@@ -99,7 +101,9 @@ fn time(seed: u64, number: u64, buffers: &mut Buffers) -> Option<Time> {
         ours: f64::MAX,
         rust: f64::MAX,
     };
-    for _ in 0..TURNS {
+    let (mut turns, began) = (0, Instant::now());
+    while turns < TURNS || began.elapsed().as_secs_f64() < SECONDS {
+        turns += 1;
         let start = Instant::now();
         let answer = bilzarko::findings(
             &ours,

@@ -60,7 +60,7 @@ module _ (settings : Settings) (bytes store : List ℕ) (front : Front) (index :
 
 -- ---- findings that had no place in the call's own buffer are collected again
 
-module _ (settings : Settings) {bytes index slots store own : List ℕ} {places count : ℕ} (c : Collected places 64 settings bytes index slots store own count) (words : List ℕ)
+module _ (settings : Settings) {bytes index slots store own : List ℕ} {count : ℕ} (c : Collected 64 settings bytes index slots store own count) (words : List ℕ)
     (fits : 8 * count ≤ length words) where
   pub again : (room : ℕ) (tally : Tally) (after : List ℕ) → room ≡ length words
       → sinkOf tally after
@@ -73,13 +73,13 @@ module _ (settings : Settings) {bytes index slots store own : List ℕ} {places 
 
   -- ---- those that have place there are copied
 
-  pub own-part : count ≤ places → 8 * count ≡ length (take (8 * count) own)
-  own-part few = sym (length-take-le (8 * count) own (omega (arith, few, c .long)))
+  pub own-part : 8 * count ≤ length own → 8 * count ≡ length (take (8 * count) own)
+  own-part few = sym (length-take-le (8 * count) own few)
 
   pub words-part : 8 * count ≡ length (take (8 * count) words)
   words-part = sym (length-take-le (8 * count) words fits)
 
-  pub handed : (copied : List ℕ) → count ≤ places → copied ≡ take (8 * count) own
+  pub handed : (copied : List ℕ) → 8 * count ≤ length own → copied ≡ take (8 * count) own
       → copied ++ drop (8 * count) words ≡ written words 0 (listingWords settings (shownIn 64 settings bytes store))
   unfolding written
   handed copied few same =

@@ -266,18 +266,17 @@ module _ {limit : ℕ} (settings : Settings) {bytes index before after slots : L
       ∙ same-over (treeOf (fileOf bytes)) (l .formats .arguments) (l .formats .results) 0 (l .formats .rounds) false (l .formats .settled) limit
       ∙ listing-parts limit settings (treeOf (fileOf bytes)) l is .1
 
-  pub collected : (places room count : ℕ) (own start : List ℕ) (rounds : ℕ) (settled : Bool) → length start ≡ 8 * places → length own ≡ 8 * places
+  pub collected : (room count : ℕ) (own start : List ℕ) (rounds : ℕ) (settled : Bool) → length own ≡ length start
       → Fitted settings room l start own (gathered.Upto count rounds settled) → 8 * length (l .findings) ≤ room
-      → Collected places limit settings bytes index slots after own count
-  collected places room count own start rounds settled long kept f fits =
+      → Collected limit settings bytes index slots after own count
+  collected room count own start rounds settled kept f fits =
       let number : count ≡ length (l .findings) = upto-count (f .counted fits) in
       record {
         prepared = ready p s (l .formats) (drop (storeSize limit) before) after (listing-parts limit settings (treeOf (fileOf bytes)) l is .0) words;
         within = within;
         counted = number ∙ ap length (sym shown-are);
-        long = kept;
         placed = λ few.
-            rw (shown-are, f .placed fits (omega (arith, number, few, long)), number)
+            rw (shown-are, f .placed fits (omega (arith, number, few, kept)), number)
             (start-taken start (listingWords settings (l .findings)) (8 * length (l .findings)) (words-length settings (l .findings)));
       }
     where

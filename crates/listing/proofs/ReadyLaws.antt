@@ -103,8 +103,8 @@ module _ {room : ℕ} (settings : Settings) {bytes before after start own : List
     pub count-fits : 8 * count ≤ room
     count-fits = let (l, e, fits, f) = listed is in omega (arith, fits, upto-same (f .counted fits) .0)
 
-    pub findings-collected : (places : ℕ) → length start ≡ 8 * places → length own ≡ 8 * places → Collected places 64 settings bytes index slots after own count
-    findings-collected places long kept = let (l, e, fits, f) = listed is in collected settings p s l e (rw e at (g .store)) places room count own start rounds settled long kept f fits
+    pub findings-collected : length own ≡ length start → Collected 64 settings bytes index slots after own count
+    findings-collected kept = let (l, e, fits, f) = listed is in collected settings p s l e (rw e at (g .store)) room count own start rounds settled kept f fits
 
     pub findings-listed : (words end : List ℕ) → room ≡ length words → end ≡ written words 0 (listingWords settings (shownIn 64 settings bytes after))
         → findingsAfter (found.Listed count rounds settled) after end ≡ findingsFront 64 settings before words (given (treeOf (fileOf bytes)))
@@ -128,7 +128,7 @@ module _ {room : ℕ} (settings : Settings) {bytes before after start own : List
 
     -- ---- the text call
 
-    pub text-places : room ≡ 2048 → count ≤ 256
+    pub text-places : room ≡ length own → 8 * count ≤ length own
     text-places size = omega (arith, count-fits, size)
 
     pub text-told : (position : ℕ) (text end : List ℕ) (t : Told) → room ≡ 2048

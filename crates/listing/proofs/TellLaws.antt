@@ -54,7 +54,7 @@ found-at settings (f ∷ fs) (suc p) after h =
     let next : 8 * suc p ≡ suc (suc (suc (suc (suc (suc (suc (suc (8 * p)))))))) = omega arith in
     record { finding = rest .finding; at = rest .at; among = List·Memᴰ·tail (rest .among); words = rw next (rest .words) }
 
-module _ (settings : Settings) {bytes index slots store own : List ℕ} {count : ℕ} (c : Collected 256 64 settings bytes index slots store own count) where
+module _ (settings : Settings) {bytes index slots store own : List ℕ} {count : ℕ} (c : Collected 64 settings bytes index slots store own count) where
   abbrev fs : List Finding
   fs = shownIn 64 settings bytes store
 
@@ -62,7 +62,7 @@ module _ (settings : Settings) {bytes index slots store own : List ℕ} {count :
   pub tell-none : (position : ℕ) (text : List ℕ) → count ≤ position → toldPair (told.Refused turned.NoFinding) text ≡ textOf text (findingAt fs position)
   tell-none position text h = rw (none-at fs position (omega (arith, h, c .counted)))
 
-  module _ (few : count ≤ 256) (position : ℕ) (less : position < count) where
+  module _ (few : 8 * count ≤ length own) (position : ℕ) (less : position < count) where
     here : FoundAt settings fs position (drop (8 * count) own)
     here = found-at settings fs position (drop (8 * count) own) (omega (arith, less, c .counted))
 

@@ -68,10 +68,9 @@ pub record GatherIs (limit : ℕ) (settings : Settings) (room : ℕ) (bytes befo
 abbrev pub shownIn : ℕ → Settings → List ℕ → List ℕ → List Finding
 shownIn limit settings bytes store = shown settings (findingsOf (treeOf (fileOf bytes)) (formatsIn (fileOf bytes) limit store))
 
--- they were counted, and stand in a buffer of so many places where they have place there
-pub record Collected (places limit : ℕ) (settings : Settings) (bytes index slots store own : List ℕ) (count : ℕ) : Type 0 where
+-- they were counted, and stand in a buffer where they have place there
+pub record Collected (limit : ℕ) (settings : Settings) (bytes index slots store own : List ℕ) (count : ℕ) : Type 0 where
   pub prepared : Prepared bytes index slots store limit
   pub within : argumentsOver limit (treeOf (fileOf bytes)) (formatsIn (fileOf bytes) limit store) ≡ false
   pub counted : count ≡ length (shownIn limit settings bytes store)
-  pub long : length own ≡ 8 * places
-  pub placed : count ≤ places → take (8 * count) own ≡ listingWords settings (shownIn limit settings bytes store)
+  pub placed : 8 * count ≤ length own → take (8 * count) own ≡ listingWords settings (shownIn limit settings bytes store)

@@ -8,6 +8,7 @@ use findings::all::lint_all;
 use formats::call::clear_store;
 use formats::slots::slots_of;
 use law::places::functions;
+use law::places::sentences;
 use messages::put_message;
 use shapes::copy_words;
 ghost use mathlib.Core.Path.{_≡_};
@@ -52,11 +53,11 @@ pub enum Told {
 // The most shapes in a format.
 const SHAPES: usize = 64;
 
-// The places of the text call's own findings, as words.
+// The words of a call's own findings: 256 places.
 const OWN: usize = 2048;
 
-// The places of the findings call's own, and their words: few, since clearing them takes time and most laws have fewer findings.
-const PLACES: usize = 32;
+// The same for a law of few sentences: 32 places, since it takes time to clear them.
+const SENTENCES: usize = 32;
 
 const FEW: usize = 256;
 
@@ -72,11 +73,12 @@ fn hand_over(
     count: usize,
     words: &mut [u32],
 )
-    requires { ⌜ Collected 32 64 (settingsFrom mode (now overrides)) (now law) (now index) (now slots) (now store) (now own) count × (8 * count ≤ length (now words)) ⌝ }
+    requires { ⌜ Collected 64 (settingsFrom mode (now overrides)) (now law) (now index) (now slots) (now store) (now own) count × (8 * count ≤ length (now words)) ⌝ }
     ensures { λ _. ⌜ now (words .exit) ≡ written (now (words .entry)) 0 (listingWords (settingsFrom mode (now (overrides .entry)))
         (shownIn 64 (settingsFrom mode (now (overrides .entry))) (now (law .entry)) (now (store .entry)))) ⌝ }
 {
-    if PLACES < count {
+    let end = 8 * count;
+    if own.len() < end {
         let lent = words.len();
         lint_all(
             law,
@@ -91,17 +93,17 @@ fn hand_over(
         );
         return;
     }
-    let end = 8 * count;
     copy_words(&own[..end], &mut words[..end]);
 }
 
-// The findings call, of a law that is ready.
+// The findings call, of a law that is ready, with a buffer of its own.
 fn findings_gathered(
     law: &[u8],
     index: &[u16; 972],
     mode: u32,
     overrides: &[u32],
     store: &mut [u32],
+    own: &mut [u32],
     words: &mut [u32],
 ) -> Found
     requires { ⌜ Prepares 64 (now law) (now index) (now store) ⌝ }
@@ -110,7 +112,6 @@ fn findings_gathered(
 {
     let slots = slots_of(law, index);
     let room = words.len();
-    let mut own = [0u32; FEW];
     match gather(
         law,
         index,
@@ -120,7 +121,7 @@ fn findings_gathered(
         mode,
         overrides,
         room,
-        &mut own[..FEW],
+        own,
     ) {
         Gathered::TooWide => Found::Refused(Turned::Shapes),
         Gathered::Full => Found::Refused(Turned::Findings),
@@ -132,7 +133,7 @@ fn findings_gathered(
                 store,
                 mode,
                 overrides,
-                &own[..FEW],
+                own,
                 count,
                 words,
             );
@@ -141,7 +142,7 @@ fn findings_gathered(
     }
 }
 
-// The same, without inference and lints where the law has no functions: there are no findings then, and one round settles.
+// The same, with a buffer by the number of sentences. Where the law has no functions there are no findings, and one round settles.
 fn findings_ready(
     law: &[u8],
     index: &[u16; 972],
@@ -158,7 +159,12 @@ fn findings_ready(
         clear_store(store, SHAPES);
         return Found::Listed(0, 1, true);
     }
-    findings_gathered(law, index, mode, overrides, store, words)
+    if sentences(index) <= SENTENCES {
+        let mut few = [0u32; FEW];
+        return findings_gathered(law, index, mode, overrides, store, &mut few[..FEW], words);
+    }
+    let mut own = [0u32; OWN];
+    findings_gathered(law, index, mode, overrides, store, &mut own[..OWN], words)
 }
 
 // Lists the findings of a law under settings: their number, eight words each, and the formats in the store.
@@ -189,8 +195,8 @@ fn tell(
     position: usize,
     text: &mut [u8],
 ) -> Told
-    requires { ⌜ ((settings : Settings) × Collected 256 64 settings (now law) (now index) (now slots) (now store) (now own) count) × (count ≤ 256) ⌝ }
-    ensures { λ r. ⌜ ((settings : Settings) → Collected 256 64 settings (now (law .entry)) (now (index .entry)) (now (slots .entry)) (now (store .entry)) (now (own .entry)) count
+    requires { ⌜ ((settings : Settings) × Collected 64 settings (now law) (now index) (now slots) (now store) (now own) count) × (8 * count ≤ length (now own)) ⌝ }
+    ensures { λ r. ⌜ ((settings : Settings) → Collected 64 settings (now (law .entry)) (now (index .entry)) (now (slots .entry)) (now (store .entry)) (now (own .entry)) count
         → toldPair r (now (text .exit)) ≡ textOf (now (text .entry)) (findingAt (shownIn 64 settings (now (law .entry)) (now (store .entry))) position)) ⌝ }
 {
     if count <= position {

@@ -1,25 +1,20 @@
-use native.Mathlib.Omega.{arith}
 use mathlib.Core.Path.{refl, sym, _∙_}
 use Rattle.findings.specs.All.{settingsFrom}
 use Rattle.listing.proofs.CallLaws.{again, own-part, words-part, handed}
 use borrow.Author.Needs.{needs}
 use Rattle.listing.proofs.hand_over.Statement.{statement}
 use Rattle.listing.proofs.hand_over.Tie as tie
-use Rattle.listing.proofs.hand_over.Reads as reads
-use Rattle.listing.proofs.hand_over.Lts as lts
-use Rattle.findings.proofs.all.lint_all.Reads as lint-all-reads
-use Rattle.shapes.proofs.copy_words.Reads as copy-words-reads
 
 pub hand-over-spec : {M : Type 1} → statement M
 hand-over-spec =
     tie.close
     (tie.spec
+    (λ c. search needs)
     (λ c κs. search needs)
     (λ c. search needs)
     (λ c.
     let start = c .before .before .before .before .before .before .before .before .before .before in
     again (settingsFrom (start .args .mode) (start .args .overrides .now)) (start .pre .0) (start .args .words .now) (start .pre .1) _ _ _ refl (c .before .before .lint-all .ensures))
-    (λ c. search needs)
     (λ c.
     let start = c .before .before .before .before .before .before .before in
     own-part (settingsFrom (start .args .mode) (start .args .overrides .now)) (start .pre .0) (start .args .words .now) (start .pre .1) (c .before .if1 .left))

@@ -1,4 +1,4 @@
-use mathlib.Core.Path.{refl}
+use mathlib.Core.Path.{refl, sym}
 use Rattle.findings.specs.All.{settingsFrom}
 use Rattle.listing.proofs.ReadyLaws.{text-wide, text-full, text-told, findings-collected, text-places}
 use borrow.Author.Needs.{needs}
@@ -23,7 +23,7 @@ text-ready-spec =
     (λ c. search needs)
     (λ c κs.
     let start = c .before .before .before .before .before .before .before .before .before .before .before .before .before .before .before .before .before .before .before in
-    ((settingsFrom (start .args .mode) (start .args .overrides .now), findings-collected (settingsFrom (start .args .mode) (start .args .overrides .now)) (c .before .before .before .before .before .before .before .before .before .before .gather .ensures) (start .pre) (c .before .before .before .before .before .before .before .before .before .before .before .before .before .before .slots-of .ensures) _ _ _ (c .before .before .before .before .before .count .given .1) 256 refl (c .before .before .before .before .before .before .before .before .before .before .gather .kept .1 .1 .1 .1 .1 .1 .1 .1 .0)), text-places (settingsFrom (start .args .mode) (start .args .overrides .now)) (c .before .before .before .before .before .before .before .before .before .before .gather .ensures) (start .pre) (c .before .before .before .before .before .before .before .before .before .before .before .before .before .before .slots-of .ensures) _ _ _ (c .before .before .before .before .before .count .given .1) refl))
+    ((settingsFrom (start .args .mode) (start .args .overrides .now), findings-collected (settingsFrom (start .args .mode) (start .args .overrides .now)) (c .before .before .before .before .before .before .before .before .before .before .gather .ensures) (start .pre) (c .before .before .before .before .before .before .before .before .before .before .before .before .before .before .slots-of .ensures) _ _ _ (c .before .before .before .before .before .count .given .1) (c .before .before .before .before .before .before .before .before .before .before .gather .kept .1 .1 .1 .1 .1 .1 .1 .1 .0)), text-places (settingsFrom (start .args .mode) (start .args .overrides .now)) (c .before .before .before .before .before .before .before .before .before .before .gather .ensures) (start .pre) (c .before .before .before .before .before .before .before .before .before .before .before .before .before .before .slots-of .ensures) _ _ _ (c .before .before .before .before .before .count .given .1) (sym (c .before .before .before .before .before .before .before .before .before .before .gather .kept .1 .1 .1 .1 .1 .1 .1 .1 .0))))
     (λ c. search needs)
     (λ c.
     let start = c .before .before .before .before .before .before .before .before .before .before .before .before .before .before in
@@ -36,4 +36,4 @@ text-ready-spec =
     (λ c. search needs)
     (λ c.
     let start = c .before .before .before .before .before .before .before .before .before .before .before .before .before .before .before .before .before .before .before .before .before .before in
-    text-told (settingsFrom (start .args .mode) (start .args .overrides .now)) (c .before .before .before .before .before .before .before .before .before .before .before .before .before .gather .ensures) (start .pre) (c .before .before .before .before .before .before .before .before .before .before .before .before .before .before .before .before .before .slots-of .ensures) _ _ _ (c .before .before .before .before .before .before .before .before .count .given .1) _ _ _ (c .before .before .tell .result) refl (c .before .before .tell .ensures (settingsFrom (start .args .mode) (start .args .overrides .now)) (findings-collected (settingsFrom (start .args .mode) (start .args .overrides .now)) (c .before .before .before .before .before .before .before .before .before .before .before .before .before .gather .ensures) (start .pre) (c .before .before .before .before .before .before .before .before .before .before .before .before .before .before .before .before .before .slots-of .ensures) _ _ _ (c .before .before .before .before .before .before .before .before .count .given .1) 256 refl (c .before .before .before .before .before .before .before .before .before .before .before .before .before .gather .kept .1 .1 .1 .1 .1 .1 .1 .1 .0)))))
+    text-told (settingsFrom (start .args .mode) (start .args .overrides .now)) (c .before .before .before .before .before .before .before .before .before .before .before .before .before .gather .ensures) (start .pre) (c .before .before .before .before .before .before .before .before .before .before .before .before .before .before .before .before .before .slots-of .ensures) _ _ _ (c .before .before .before .before .before .before .before .before .count .given .1) _ _ _ (c .before .before .tell .result) refl (c .before .before .tell .ensures (settingsFrom (start .args .mode) (start .args .overrides .now)) (findings-collected (settingsFrom (start .args .mode) (start .args .overrides .now)) (c .before .before .before .before .before .before .before .before .before .before .before .before .before .gather .ensures) (start .pre) (c .before .before .before .before .before .before .before .before .before .before .before .before .before .before .before .before .before .slots-of .ensures) _ _ _ (c .before .before .before .before .before .before .before .before .count .given .1) (c .before .before .before .before .before .before .before .before .before .before .before .before .before .gather .kept .1 .1 .1 .1 .1 .1 .1 .1 .0)))))
