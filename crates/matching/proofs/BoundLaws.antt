@@ -16,7 +16,7 @@ use Rattle.matching.specs.Pattern.{variable}
 use Rattle.matching.specs.Match.{none-bound, bound, valueIn}
 use Rattle.matching.specs.Shadow.{sameAtom}
 use Rattle.matching.specs.Part.{from, atomOf}
-use Rattle.matching.specs.Bound.{variableIn, variableAt, rowAt, valuesUpTo, valuesOf, placed, Kept, Bound, PlaceIn}
+use Rattle.matching.specs.Bound.{variableIn, variableAt, rowAt, valuesUpTo, valuesOf, Kept, Bound, HasPlace}
 use Rattle.matching.specs.declared.Bindings.{Bindings}
 use Rattle.matching.specs.declared.Place.{Place}
 use Rattle.matching.specs.declared.Place.the-variants.{At, Free}
@@ -130,14 +130,19 @@ pub record NotFrom (text terms pattern : List ℕ) (b : Bindings) (i : ℕ) : Ty
   pub left : (v : Variable) → atomOf text (termAt pattern 0) ≡ variable v
       → valueIn (valuesOf text terms b) v ≡ valueIn (valuesUpTo text terms (b .keys) (b .starts) (b .sizes) i) v
 
--- the place r has it, or none does
-abbrev pub HasPlace : List ℕ → List ℕ → List ℕ → Bindings → Place → Type 0
-HasPlace text terms pattern b r =
-    PlaceIn b r × ((v : Variable) → atomOf text (termAt pattern 0) ≡ variable v → placed text terms b r ≡ valueIn (valuesOf text terms b) v)
+-- the key of the place before i stands among the term records
+module _ (terms keys : List ℕ) {count i key : ℕ} (keyed : (i : ℕ) → i < count → getD keys i 0 + 24 ≤ length terms) (within : i ≤ count)
+    (some-left : i ≡ 0 → ⊥) (is-key : key ≡ getD keys (i - 1) 0) where
+  pub key-inside : key + 24 ≤ length terms
+  key-inside = rw is-key (keyed (i - 1) (omega arith))
+
+  pub key-record : 24 ≤ length (from key terms)
+  key-record = simp (length-take, length-drop) (omega (arith, key-inside))
 
 -- where the answer is known
-pub place-is : (text terms pattern : List ℕ) (b : Bindings) {r known : Place} → r ≡ known → HasPlace text terms pattern b r → HasPlace text terms pattern b known
-place-is text terms pattern b e h = rw e at h
+pub place-is : {text terms : List ℕ} (pattern : List ℕ) {b : Bindings} {r known : Place} → Kept text terms b → r ≡ known
+    → HasPlace text terms pattern b r → HasPlace text terms pattern b known
+place-is pattern kept e h = rw e at h
 
 module _ {text terms pattern : List ℕ} {b : Bindings} where
   -- before any place is looked at
@@ -154,13 +159,6 @@ module _ {text terms pattern : List ℕ} {b : Bindings} where
       -- the place before i
       last-place : i - 1 < b .count
       last-place = omega (arith, so-far .within)
-
-      -- its key stands among the term records
-      pub key-inside : key + 24 ≤ length terms
-      key-inside = rw is-key (kept .keyed (i - 1) last-place)
-
-      pub key-record : 24 ≤ length (from key terms)
-      key-record = simp (length-take, length-drop) (omega (arith, key-inside))
 
       module _ {t : Bool} (told : t ≡ sameAtom (atomOf text (termAt (from key terms) 0)) (atomOf text (termAt pattern 0))) where
         last-told : (v : Variable) → atomOf text (termAt pattern 0) ≡ variable v → sameVariable (variableAt text terms (getD (b .keys) (i - 1) 0)) v ≡ t

@@ -413,11 +413,11 @@ module _ (text pattern row : List ℕ) (v : Variable) (vs : Values Atom) (some-l
         }
 
 -- a value as the code cuts it, from its start to its end
-pub value-cut : (text terms : List ℕ) {start size s n : ℕ} {o : Option Pattern} → s ≡ start → n ≡ size
-    → some (rowAt text terms start size) ≡ o → some (rowOf text (take (s + n - s) (drop s terms))) ≡ o
-value-cut text terms {s = s} {n = n} p q h =
-    let e : s + n - s ≡ n = omega arith in
-    rw (e, p, q) h
+pub value-cut : (text terms : List ℕ) (start size : ℕ) {o : Option Pattern}
+    → some (rowAt text terms start size) ≡ o → some (rowOf text (take (start + size - start) (drop start terms))) ≡ o
+value-cut text terms start size h =
+    let e : start + size - start ≡ size = omega arith in
+    rw e h
 
 -- ---- calls and blocks
 

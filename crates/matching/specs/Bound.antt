@@ -8,7 +8,7 @@ use Rattle.file.specs.Head.{termAt}
 use Rattle.law.specs.Tree.{symbolKind}
 use Rattle.law.specs.Variables.{Variable}
 use Rattle.matching.specs.Pattern.{Atom, literal, variable, other, Pattern}
-use Rattle.matching.specs.Match.{Values, none-bound, bound}
+use Rattle.matching.specs.Match.{Values, none-bound, bound, valueIn}
 use Rattle.matching.specs.Part.{rowOf, atomOf}
 use Rattle.matching.specs.declared.Bindings.{Bindings}
 use Rattle.matching.specs.declared.Place.{Place}
@@ -62,3 +62,12 @@ pub record Bound (b : Bindings) (key start size : ℕ) (r : Bindings) : Type 0 w
 abbrev pub PlaceIn : Bindings → Place → Type 0
 PlaceIn b (At i) = i < b .count
 PlaceIn b Free = Unit {0}
+
+-- bindings by their parts
+abbrev pub places : List ℕ → List ℕ → List ℕ → ℕ → Bindings
+places keys starts sizes count = record { keys = keys; starts = starts; sizes = sizes; count = count }
+
+-- the place r has the variable that a pattern's first record is, or none has it
+abbrev pub HasPlace : List ℕ → List ℕ → List ℕ → Bindings → Place → Type 0
+HasPlace text terms pattern b r =
+    PlaceIn b r × ((v : Variable) → atomOf text (termAt pattern 0) ≡ variable v → placed text terms b r ≡ valueIn (valuesOf text terms b) v)

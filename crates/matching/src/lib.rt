@@ -9,9 +9,9 @@ use names::numbers_equal;
 ghost use mathlib.Core.Path.{_≡_};
 ghost use mathlib.Core.Bool.{Bool, true};
 ghost use mathlib.Core.List.{List, []};
-ghost use mathlib.Core.Option.{none};
+ghost use mathlib.Core.Option.{none, some};
 ghost use Prim.Native.Nat.{ℕ, _+_, _*_, _≤_, _<_, min};
-ghost use lib.ListN.{length, take, drop};
+ghost use lib.ListN.{length, take, drop, getD};
 ghost use Rattle.file.specs.Head.{termAt};
 ghost use Rattle.file.specs.declared.Symbol.{Symbol};
 ghost use Rattle.file.specs.declared.Term.the-variants.{Symbolic, Bracket};
@@ -20,7 +20,7 @@ ghost use Rattle.matching.specs.Pattern.{Atom, variable};
 ghost use Rattle.matching.specs.Match.{Values, none-bound, valueIn, after};
 ghost use Rattle.matching.specs.Shadow.{sameAtom};
 ghost use Rattle.matching.specs.Part.{rowOf, isBracket, atomOf, sameFirst};
-ghost use Rattle.matching.specs.Bound.{valuesOf, placed, Kept, Bound, PlaceIn};
+ghost use Rattle.matching.specs.Bound.{rowAt, valuesOf, Kept, Bound, places, HasPlace};
 ghost use Rattle.matching.specs.Least.{leastTerms};
 ghost use Rattle.matching.specs.Step.{found, beginsWith, BeginsIn, openTerm, symbolTerm, singleOne, mayStand, Leaves};
 
@@ -194,18 +194,18 @@ pub fn bind(b: Bindings, key: usize, start: usize, size: usize) -> Bindings
 }
 
 // The place of the variable that the pattern's first record is.
-fn place_of(text: &[u8], terms: &[u8], pattern: &[u8], b: Bindings) -> Place
-    requires { ⌜ Kept (now text) (now terms) b × (24 ≤ length (now pattern)) ⌝ }
-    ensures { λ r. ⌜ PlaceIn b r × ((v : Variable) → atomOf (now (text .entry)) (termAt (now (pattern .entry)) 0) ≡ variable v
-        → placed (now (text .entry)) (now (terms .entry)) b r ≡ valueIn (valuesOf (now (text .entry)) (now (terms .entry)) b) v) ⌝ }
+fn place_of(text: &[u8], terms: &[u8], pattern: &[u8], keys: &[u16; 32], count: usize) -> Place
+    requires { ⌜ (count ≤ 32) × ((i : ℕ) → i < count → getD (now keys) i 0 + 24 ≤ length (now terms)) × (24 ≤ length (now pattern)) ⌝ }
+    ensures { λ r. ⌜ ((starts sizes : List ℕ) → Kept (now (text .entry)) (now (terms .entry)) (places (now (keys .entry)) starts sizes count)
+        → HasPlace (now (text .entry)) (now (terms .entry)) (now (pattern .entry)) (places (now (keys .entry)) starts sizes count) r) ⌝ }
 {
-    let mut i = b.count;
+    let mut i = count;
     loop {
         if i == 0 {
             break Place::Free;
         }
         i -= 1;
-        let key = wide(b.keys[i]);
+        let key = wide(keys[i]);
         if atoms_same(text, &terms[key..], pattern) {
             break Place::At(i);
         }
@@ -312,21 +312,20 @@ fn bracket_first(row: &[u8]) -> First
     First::Inside
 }
 
-// A variable that has a value: the row begins with it.
+// A variable that has a value, at a position and of a size: the row begins with it.
 fn value_first(
     text: &[u8],
     terms: &[u8],
     pattern: &[u8],
     row: &[u8],
-    i: usize,
-    b: Bindings,
+    start: usize,
+    size: usize,
 ) -> First
-    requires { ⌜ Kept (now text) (now terms) b × (i < b .count) × (24 ≤ length (now pattern)) ⌝ }
+    requires { ⌜ (start + size ≤ length (now terms)) × (24 ≤ length (now pattern)) ⌝ }
     ensures { λ r. ⌜ ((v : Variable) (vs : Values Atom) → atomOf (now (text .entry)) (termAt (now (pattern .entry)) 0) ≡ variable v
-        → placed (now (text .entry)) (now (terms .entry)) b (Place.At i) ≡ valueIn vs v → Leaves (now (text .entry)) (now (pattern .entry)) (now (row .entry)) vs r) ⌝ }
+        → some (rowAt (now (text .entry)) (now (terms .entry)) start size) ≡ valueIn vs v → Leaves (now (text .entry)) (now (pattern .entry)) (now (row .entry)) vs r) ⌝ }
 {
-    let start = wide(b.starts[i]);
-    let end = start + wide(b.sizes[i]);
+    let end = start + size;
     match begins(text, &terms[start..end], row) {
         Beginning::After(n) => First::Goes(end_of(pattern), n),
         Beginning::Differs => First::Fails,
@@ -352,28 +351,57 @@ fn free_first(pattern: &[u8], row: &[u8]) -> First
     First::Binds(end_of(row))
 }
 
-// A variable.
-fn variable_first(text: &[u8], terms: &[u8], pattern: &[u8], row: &[u8], b: Bindings) -> First
-    requires { ⌜ Kept (now text) (now terms) b × (24 ≤ length (now pattern)) ⌝ }
+// A variable. `keys`, `starts`, `sizes` and `count` are those of the bindings: by reference, so that they are not copied.
+fn variable_first<'a>(
+    text: &[u8],
+    terms: &[u8],
+    pattern: &[u8],
+    row: &[u8],
+    keys: &'a [u16; 32],
+    starts: &'a [u16; 32],
+    sizes: &'a [u16; 32],
+    count: usize,
+) -> First
+    requires { ⌜ Kept (now text) (now terms) (places (now keys) (now starts) (now sizes) count) × (24 ≤ length (now pattern)) ⌝ }
     ensures { λ r. ⌜ ((v : Variable) → atomOf (now (text .entry)) (termAt (now (pattern .entry)) 0) ≡ variable v
-        → Leaves (now (text .entry)) (now (pattern .entry)) (now (row .entry)) (valuesOf (now (text .entry)) (now (terms .entry)) b) r) ⌝ }
+        → Leaves (now (text .entry)) (now (pattern .entry)) (now (row .entry))
+        (valuesOf (now (text .entry)) (now (terms .entry)) (places (now (keys .entry)) (now (starts .entry)) (now (sizes .entry)) count)) r) ⌝ }
 {
-    match place_of(text, terms, pattern, b) {
-        Place::At(i) => value_first(text, terms, pattern, row, i, b),
+    match place_of(text, terms, pattern, keys, count) {
+        Place::At(i) => {
+            let start = wide(starts[i]);
+            value_first(text, terms, pattern, row, start, wide(sizes[i]))
+        }
         Place::Free => free_first(pattern, row),
     }
 }
 
 // What the first record of a pattern leaves to do with a row.
-pub fn first_of(text: &[u8], terms: &[u8], pattern: &[u8], row: &[u8], b: Bindings) -> First
-    requires { ⌜ Kept (now text) (now terms) b × (24 ≤ length (now pattern)) ⌝ }
-    ensures { λ r. ⌜ Leaves (now (text .entry)) (now (pattern .entry)) (now (row .entry)) (valuesOf (now (text .entry)) (now (terms .entry)) b) r ⌝ }
+pub fn first_of<'a>(
+    text: &[u8],
+    terms: &[u8],
+    pattern: &[u8],
+    row: &[u8],
+    keys: &'a [u16; 32],
+    starts: &'a [u16; 32],
+    sizes: &'a [u16; 32],
+    count: usize,
+) -> First
+    requires { ⌜ Kept (now text) (now terms) (places (now keys) (now starts) (now sizes) count) × (24 ≤ length (now pattern)) ⌝ }
+    ensures { λ r. ⌜ Leaves (now (text .entry)) (now (pattern .entry)) (now (row .entry))
+        (valuesOf (now (text .entry)) (now (terms .entry)) (places (now (keys .entry)) (now (starts .entry)) (now (sizes .entry)) count)) r ⌝ }
 {
     match term_at(pattern, 0) {
         Term::Symbolic(_) => symbols_first(text, pattern, row),
-        Term::SVariable(_, _) => variable_first(text, terms, pattern, row, b),
-        Term::TVariable(_, _) => variable_first(text, terms, pattern, row, b),
-        Term::EVariable(_, _) => variable_first(text, terms, pattern, row, b),
+        Term::SVariable(_, _) => {
+            variable_first(text, terms, pattern, row, keys, starts, sizes, count)
+        }
+        Term::TVariable(_, _) => {
+            variable_first(text, terms, pattern, row, keys, starts, sizes, count)
+        }
+        Term::EVariable(_, _) => {
+            variable_first(text, terms, pattern, row, keys, starts, sizes, count)
+        }
         Term::Bracket => bracket_first(row),
         Term::Call(_, _) => First::Fails,
         Term::Block(_) => First::Fails,

@@ -166,12 +166,12 @@ fn literal_run(
         }
         return false;
     }
-    match first_of(text, terms, pattern, row, b) {
+    let len = b.count;
+    match first_of(text, terms, pattern, row, &b.keys, &b.starts, &b.sizes, len) {
         First::Fails => false,
         First::Goes(m, n) => {
             let rest = &pattern[m..];
-            let left = &row[n..];
-            literal_run(text, terms, rest, at + m, left, start + n, pending, b)
+            literal_run(text, terms, rest, at + m, &row[n..], start + n, pending, b)
         }
         First::Binds(n) => {
             let end = end_of(pattern);

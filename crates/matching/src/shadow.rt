@@ -107,8 +107,7 @@ fn shadow_run(
 ) -> Matched
     requires { ⌜ Asked (now text) (now terms) (now pattern) at (now row) start [] b ⌝ }
     ensures { λ r. ⌜ Kept (now (text .entry)) (now (terms .entry)) (r .bindings)
-        × (matchedValues (now (text .entry)) (now (terms .entry)) r
-        ≡ firstIn (found false (rowOf (now (text .entry)) (now (pattern .entry))) (rowOf (now (text .entry)) (now (row .entry))) (valuesOf (now (text .entry)) (now (terms .entry)) b))) ⌝ }
+        × (matchedValues (now (text .entry)) (now (terms .entry)) r ≡ firstIn (found false (rowOf (now (text .entry)) (now (pattern .entry))) (rowOf (now (text .entry)) (now (row .entry))) (valuesOf (now (text .entry)) (now (terms .entry)) b))) ⌝ }
 {
     if pattern.len() < 24 {
         return Matched {
@@ -116,7 +115,8 @@ fn shadow_run(
             bindings: b,
         };
     }
-    match first_of(text, terms, pattern, row, b) {
+    let len = b.count;
+    match first_of(text, terms, pattern, row, &b.keys, &b.starts, &b.sizes, len) {
         First::Fails => Matched {
             ok: false,
             bindings: b,

@@ -1,7 +1,6 @@
 -- `first_of` meets its contract: its callees' contracts, where the first record's kind is known; calls and blocks by a law of proofs/StepLaws.antt.
 use mathlib.Core.Path.{sym, ap, _∙_}
 use Rattle.matching.specs.Part.{atomOf}
-use Rattle.matching.specs.Bound.{valuesOf}
 use Rattle.matching.proofs.StepLaws as laws
 use borrow.Author.Needs.{needs}
 use Rattle.matching.proofs.first_of.Statement.{statement}
@@ -26,7 +25,7 @@ first-of-spec =
     (λ c. search needs)
     (λ c. let start = c .before .before .before .before .before .before .before .before in
     let term-at = c .before .before .before .term-at in
-    c .symbols-first .ensures _ (valuesOf (start .args .text .now) (start .args .terms .now) (start .args .b))
+    c .symbols-first .ensures _ _
     (sym (term-at .ensures) ∙ c .before .enum-told .given .1))
     (λ c. let start = c .before .before .before .before .before .before .before .before in
     let term-at = c .before .before .before .term-at in
@@ -40,13 +39,13 @@ first-of-spec =
     (λ c. let start = c .before .before .before .before .before .before .before .before in
     let term-at = c .before .before .before .term-at in
     c .bracket-first .ensures (start .args .text .now) (start .args .pattern .now)
-    (valuesOf (start .args .text .now) (start .args .terms .now) (start .args .b)) (start .pre .1)
+    _ (start .pre .1)
     (sym (term-at .ensures) ∙ c .before .enum-told5 .given .1))
     (λ c. let start = c .before .before .before .before .before .before .before in
     laws.call-fails (start .args .text .now) (start .args .pattern .now) (start .args .row .now)
-    (valuesOf (start .args .text .now) (start .args .terms .now) (start .args .b)) (start .pre .1)
+    _ (start .pre .1)
     (sym (c .before .before .term-at .ensures) ∙ c .enum-told6 .given .1))
     (λ c. let start = c .before .before .before .before .before .before .before in
     laws.block-fails (start .args .text .now) (start .args .pattern .now) (start .args .row .now)
-    (valuesOf (start .args .text .now) (start .args .terms .now) (start .args .b)) (start .pre .1)
+    _ (start .pre .1)
     (sym (c .before .before .term-at .ensures) ∙ c .enum-told7 .given .1)))

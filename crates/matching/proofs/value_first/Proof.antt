@@ -1,7 +1,6 @@
 -- `value_first` meets its contract, by a law of proofs/StepLaws.antt for each return.
-use native.Mathlib.Omega.{arith}
-use Rattle.matching.proofs.StepLaws as laws
 use borrow.Author.Needs.{needs}
+use Rattle.matching.proofs.StepLaws as laws
 use Rattle.matching.proofs.value_first.Statement.{statement}
 use Rattle.matching.proofs.value_first.Tie as tie
 
@@ -11,26 +10,15 @@ value-first-spec =
     (tie.spec
     (λ c. search needs)
     (λ c. search needs)
-    (λ c κs. search needs)
     (λ c. search needs)
     (λ c. search needs)
     (λ c κs. search needs)
     (λ c. search needs)
-    (λ c. search needs)
-    (λ c. search needs)
-    (λ c. let start = c .before .before .before .before .before .before .before .before in
-    omega (arith, c .before .before .wide .ensures .0, c .wide2 .ensures .0, start .pre .0 .inside (start .args .i) (start .pre .1)))
     (λ c κs. search needs)
     (λ c. search needs)
-    (λ c κs. search needs)
-    (λ c. search needs)
-    (λ c. let start = c .before .before .before .before .before .before .before .before .before .before .before .before .before .before in
-    let a = start .args in
-    λ v vs first value. laws.value-begins (a .text .now) (a .pattern .now) (a .row .now) v vs (start .pre .2) first
-    (laws.value-cut (a .text .now) (a .terms .now) (c .before .before .before .before .before .before .before .before .wide .ensures .0) (c .before .before .before .before .before .before .wide2 .ensures .0) value) (c .before .before .before .before .begins .ensures)
-    (c .before .before .n .given .1) (c .end-of .ensures .0))
-    (λ c. let start = c .before .before .before .before .before .before .before .before .before .before .before .before in
-    let a = start .args in
-    λ v vs first value. laws.value-differs (a .text .now) (a .pattern .now) (a .row .now) v vs (start .pre .2) first
-    (laws.value-cut (a .text .now) (a .terms .now) (c .before .before .before .before .before .before .wide .ensures .0) (c .before .before .before .before .wide2 .ensures .0) value) (c .before .before .begins .ensures)
-    (c .enum-told .given .1)))
+    (λ c. let a = c .before .before .before .before .before .before .before .before .before .before .args in
+    λ v vs first value. laws.value-begins (a .text .now) (a .pattern .now) (a .row .now) v vs (c .before .before .before .before .before .before .before .before .before .before .pre .1) first
+    (laws.value-cut (a .text .now) (a .terms .now) (a .start) (a .size) value) (c .before .before .before .before .begins .ensures) (c .before .before .n .given .1) (c .end-of .ensures .0))
+    (λ c. let a = c .before .before .before .before .before .before .before .before .args in
+    λ v vs first value. laws.value-differs (a .text .now) (a .pattern .now) (a .row .now) v vs (c .before .before .before .before .before .before .before .before .pre .1) first
+    (laws.value-cut (a .text .now) (a .terms .now) (a .start) (a .size) value) (c .before .before .begins .ensures) (c .enum-told .given .1)))

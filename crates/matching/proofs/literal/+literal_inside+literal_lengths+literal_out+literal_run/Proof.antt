@@ -296,69 +296,69 @@ pub +literal-inside+literal-lengths+literal-out+literal-run-spec : {M : Type 1} 
     ))
     (λ c. level.run-out (c .before .before .before .before .before .before .before .pre .1) (c .literal-out .result) (c .before .before .if1 .taken) (c .before .if2 .taken) (c .literal-out .ensures))
     (λ c. level.run-none (c .before .before .before .before .before .before .pre .1) (step.end-one _ _ _ true _ (c .before .if1 .taken) (c .if2 .left)))
-    (λ c κs. (c .before .before .before .before .before .pre .1 .asked .kept, c .if1 .left))
+    (λ c κs. (c .before .before .before .before .before .before .before .before .before .pre .1 .asked .kept, c .before .before .before .before .if1 .left))
     (λ c. search needs)
     (λ c. search needs)
     (λ c. step.goes-falls (c .before .before .before .first-of .ensures) true _ _ (c .before .m .given .1) .0)
     (λ c. step.goes-falls (c .before .before .before .first-of .ensures) true _ _ (c .before .m .given .1) .0)
     (λ c. search needs)
+    (λ c. let asked = c .before .before .before .before .before .before .before .before .before .before .before .before .before .before .pre .1 .asked in
+    omega (arith, asked .pattern-stands .inside, asked .small, step.goes-falls (c .before .before .before .before .first-of .ensures) true _ _ (c .before .before .m .given .1) .0))
     (λ c. step.goes-within (c .before .before .before .before .first-of .ensures) true _ _ (c .before .before .m .given .1) .2)
     (λ c. step.goes-within (c .before .before .before .before .first-of .ensures) true _ _ (c .before .before .m .given .1) .2)
     (λ c. search needs)
-    (λ c. let asked = c .before .before .before .before .before .before .before .before .before .before .before .pre .1 .asked in
-    omega (arith, asked .pattern-stands .inside, asked .small, step.goes-falls (c .before .before .before .before .before .first-of .ensures) true _ _ (c .before .before .before .m .given .1) .0))
-    (λ c. let asked = c .before .before .before .before .before .before .before .before .before .before .before .pre .1 .asked in
+    (λ c. let asked = c .before .before .before .before .before .before .before .before .before .before .before .before .before .before .before .pre .1 .asked in
     omega (arith, asked .row-stands .inside, asked .small, step.goes-within (c .before .before .before .before .before .first-of .ensures) true _ _ (c .before .before .before .m .given .1) .2))
-    (λ c κs. let start = c .before .before .before .before .before .before .before .before .before .before .before .pre in
+    (λ c κs. let start = c .before .before .before .before .before .before .before .before .before .before .before .before .before .before .before .pre in
     let goes = step.goes-within (c .before .before .before .before .before .first-of .ensures) true _ _ (c .before .before .before .m .given .1) in
     let falls = step.goes-falls (c .before .before .before .before .before .first-of .ensures) true _ _ (c .before .before .before .m .given .1) in (
       omega (arith, start .0, goes .1, falls .0, start .1 .asked .pattern-stands .inside),
       level.literal-later (start .1) _ _ (goes .0) (goes .2),
     ))
     (λ c. search needs)
-    (λ c κs. c .before .before .before .before .if1 .left)
+    (λ c κs. c .before .before .before .before .before .before .before .before .if1 .left)
     (λ c. c .end-of .ensures .2)
     (λ c. search needs)
     (λ c. search needs)
     (λ c. step.binds-within (c .before .before .before .before .before .first-of .ensures) true _ (c .before .before .before .n .given .1) .0)
     (λ c. step.binds-within (c .before .before .before .before .before .first-of .ensures) true _ (c .before .before .before .n .given .1) .0)
     (λ c. search needs)
-    (λ c κs. let asked = c .before .before .before .before .before .before .before .before .before .before .before .before .pre .1 .asked in
+    (λ c κs. let asked = c .before .before .before .before .before .before .before .before .before .before .before .before .before .before .before .before .pre .1 .asked in
     let binds = step.binds-within (c .before .before .before .before .before .before .first-of .ensures) true _ (c .before .before .before .before .n .given .1) in (
       (
-        omega (arith, asked .pattern-stands .inside, asked .small, c .before .before .before .before .before .before .before .if1 .left),
+        omega (arith, asked .pattern-stands .inside, asked .small, c .before .before .before .before .before .before .before .before .before .before .before .if1 .left),
         omega (arith, asked .row-stands .inside, asked .small),
         omega (arith, asked .row-stands .inside, asked .small, binds .0),
-        calls.place-ready asked (c .before .before .before .before .before .before .before .if1 .left) (binds .1),
+        calls.place-ready asked (c .before .before .before .before .before .before .before .before .before .before .before .if1 .left) (binds .1),
       ),
       (asked .kept .keys, asked .kept .starts, asked .kept .sizes),
     ))
-    (λ c. let asked = c .before .before .before .before .before .before .before .before .before .before .before .before .before .pre .1 .asked in
+    (λ c. let asked = c .before .before .before .before .before .before .before .before .before .before .before .before .before .before .before .before .before .pre .1 .asked in
     omega (arith, asked .pattern-stands .inside, asked .small, c .before .before .before .end-of .ensures .2))
-    (λ c. let asked = c .before .before .before .before .before .before .before .before .before .before .before .before .before .pre .1 .asked in
+    (λ c. let asked = c .before .before .before .before .before .before .before .before .before .before .before .before .before .before .before .before .before .pre .1 .asked in
     omega (arith, asked .row-stands .inside, asked .small, step.binds-within (c .before .before .before .before .before .before .before .first-of .ensures) true _ (c .before .before .before .before .before .n .given .1) .0))
-    (λ c κs. let start = c .before .before .before .before .before .before .before .before .before .before .before .before .before .pre in
+    (λ c κs. let start = c .before .before .before .before .before .before .before .before .before .before .before .before .before .before .before .before .before .pre in
     let ends = c .before .before .before .end-of in
     let binds = step.binds-within (c .before .before .before .before .before .before .before .first-of .ensures) true _ (c .before .before .before .before .before .n .given .1) in (
       omega (arith, start .0, ends .ensures .1, ends .ensures .2, start .1 .asked .pattern-stands .inside),
-      level.literal-more (start .1) (c .before .before .before .before .before .before .before .before .if1 .left) (binds .1) (binds .0) (c .bind .ensures) (ends .result) (c .before .before .before .before .before .n .given .0 .0) (ends .ensures .0) (binds .0),
+      level.literal-more (start .1) (c .before .before .before .before .before .before .before .before .before .before .before .before .if1 .left) (binds .1) (binds .0) (c .bind .ensures) (ends .result) (c .before .before .before .before .before .n .given .0 .0) (ends .ensures .0) (binds .0),
     ))
     (λ c. search needs)
-    (λ c κs. let start = c .before .before .before .before .before .before .before .before .pre in
-    (omega (arith, start .0), ((start .1, c .before .before .before .if1 .left), step.tries-free (c .before .before .first-of .ensures) true (c .enum-told2 .given .1))))
+    (λ c κs. let start = c .before .before .before .before .before .before .before .before .before .before .before .before .pre in
+    (omega (arith, start .0), ((start .1, c .before .before .before .before .before .before .before .if1 .left), step.tries-free (c .before .before .first-of .ensures) true (c .enum-told2 .given .1))))
     (λ c. search needs)
-    (λ c κs. let start = c .before .before .before .before .before .before .before .before .pre in
-    (omega (arith, start .0), (start .1, c .before .before .before .if1 .left, step.inside-facing (c .before .before .first-of .ensures) true (c .enum-told3 .given .1))))
-    (λ c. level.run-none (c .before .before .before .before .before .before .before .before .pre .1) (step.step-fails (c .before .before .first-of .ensures) true (c .enum-told .given .1)))
+    (λ c κs. let start = c .before .before .before .before .before .before .before .before .before .before .before .before .pre in
+    (omega (arith, start .0), (start .1, c .before .before .before .before .before .before .before .if1 .left, step.inside-facing (c .before .before .first-of .ensures) true (c .enum-told3 .given .1))))
+    (λ c. level.run-none (c .before .before .before .before .before .before .before .before .before .before .before .before .pre .1) (step.step-fails (c .before .before .first-of .ensures) true (c .enum-told .given .1)))
     (λ c. let goes = step.goes-within (c .before .before .before .before .before .before .first-of .ensures) true _ _ (c .before .before .before .before .m .given .1) in
     let falls = step.goes-falls (c .before .before .before .before .before .before .first-of .ensures) true _ _ (c .before .before .before .before .m .given .1) in
-    level.run-rest (c .before .before .before .before .before .before .before .before .before .before .before .before .pre .1) (c .literal-run .result) _ _ (c .before .before .before .before .before .before .before .before .before .before .before .before .args .b) (falls .0) (goes .2)
+    level.run-rest (c .before .before .before .before .before .before .before .before .before .before .before .before .before .before .before .before .pre .1) (c .literal-run .result) _ _ _ (falls .0) (goes .2)
     (step.step-goes (c .before .before .before .before .before .before .first-of .ensures) true _ _ (c .before .before .before .before .m .given .1)) (c .literal-run .ensures))
-    (λ c. let start = c .before .before .before .before .before .before .before .before .before .before .before .before .before .before .pre in
+    (λ c. let start = c .before .before .before .before .before .before .before .before .before .before .before .before .before .before .before .before .before .before .pre in
     let ends = c .before .before .before .before .end-of in
     let binds = step.binds-within (c .before .before .before .before .before .before .before .before .first-of .ensures) true _ (c .before .before .before .before .before .before .n .given .1) in
-    let values = calls.values-more (start .1 .asked) (c .before .before .before .before .before .before .before .before .before .if1 .left) (binds .1) (binds .0) (c .before .bind .ensures) in
+    let values = calls.values-more (start .1 .asked) (c .before .before .before .before .before .before .before .before .before .before .before .before .before .if1 .left) (binds .1) (binds .0) (c .before .bind .ensures) in
     level.run-rest (start .1) (c .literal-run2 .result) (ends .result) (c .before .before .before .before .before .before .n .given .0 .0) (c .before .bind .result) (ends .ensures .2) (binds .0)
     (step.step-binds (c .before .before .before .before .before .before .before .before .first-of .ensures) true _ _ _ (c .before .before .before .before .before .before .n .given .1) (ends .ensures .0) values) (c .literal-run2 .ensures))
-    (λ c. level.run-same (c .before .before .before .before .before .before .before .before .before .pre .1) (c .literal-lengths .result) _ (c .literal-lengths .ensures) (step.step-tries (c .before .before .before .first-of .ensures) true (c .before .enum-told2 .given .1)))
-    (λ c. level.run-same (c .before .before .before .before .before .before .before .before .before .pre .1) (c .literal-inside .result) _ (c .literal-inside .ensures) (step.step-inside (c .before .before .before .first-of .ensures) true (c .before .enum-told3 .given .1)))
+    (λ c. level.run-same (c .before .before .before .before .before .before .before .before .before .before .before .before .before .pre .1) (c .literal-lengths .result) _ (c .literal-lengths .ensures) (step.step-tries (c .before .before .before .first-of .ensures) true (c .before .enum-told2 .given .1)))
+    (λ c. level.run-same (c .before .before .before .before .before .before .before .before .before .before .before .before .before .pre .1) (c .literal-inside .result) _ (c .literal-inside .ensures) (step.step-inside (c .before .before .before .first-of .ensures) true (c .before .enum-told3 .given .1)))

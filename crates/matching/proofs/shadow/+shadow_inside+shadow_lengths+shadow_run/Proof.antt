@@ -226,63 +226,63 @@ pub +shadow-inside+shadow-lengths+shadow-run-spec : {M : Type 1} → statement M
     (shadow-run-at t)
     shadow-run.Post
     (λ c. (c .before .before .before .before .before .pre .1 .kept, returns.run-end _ _ _ _ _ (c .if1 .taken)))
-    (λ c κs. (c .before .before .before .before .before .pre .1 .kept, c .if1 .left))
+    (λ c κs. (c .before .before .before .before .before .before .before .before .before .pre .1 .kept, c .before .before .before .before .if1 .left))
     (λ c. search needs)
     (λ c. search needs)
     (λ c. returns.goes-falls (c .before .before .before .first-of .ensures) false _ _ (c .before .m .given .1) .0)
     (λ c. returns.goes-falls (c .before .before .before .first-of .ensures) false _ _ (c .before .m .given .1) .0)
     (λ c. search needs)
-    (λ c. let asked = c .before .before .before .before .before .before .before .before .before .before .pre .1 in
+    (λ c. let asked = c .before .before .before .before .before .before .before .before .before .before .before .before .before .before .pre .1 in
     omega (arith, asked .pattern-stands .inside, asked .small, returns.goes-falls (c .before .before .before .before .first-of .ensures) false _ _ (c .before .before .m .given .1) .0))
     (λ c. returns.goes-within (c .before .before .before .before .first-of .ensures) false _ _ (c .before .before .m .given .1) .2)
     (λ c. returns.goes-within (c .before .before .before .before .first-of .ensures) false _ _ (c .before .before .m .given .1) .2)
     (λ c. search needs)
-    (λ c. let asked = c .before .before .before .before .before .before .before .before .before .before .before .pre .1 in
+    (λ c. let asked = c .before .before .before .before .before .before .before .before .before .before .before .before .before .before .before .pre .1 in
     omega (arith, asked .row-stands .inside, asked .small, returns.goes-within (c .before .before .before .before .before .first-of .ensures) false _ _ (c .before .before .before .m .given .1) .2))
-    (λ c κs. let start = c .before .before .before .before .before .before .before .before .before .before .before .pre in
+    (λ c κs. let start = c .before .before .before .before .before .before .before .before .before .before .before .before .before .before .before .pre in
     let goes = returns.goes-within (c .before .before .before .before .before .first-of .ensures) false _ _ (c .before .before .before .m .given .1) in (
       omega (arith, returns.goes-falls (c .before .before .before .before .before .first-of .ensures) false _ _ (c .before .before .before .m .given .1) .1, start .0),
       calls.asked-later (start .1) _ _ (goes .0) (goes .2),
     ))
     (λ c. search needs)
-    (λ c κs. c .before .before .before .before .if1 .left)
+    (λ c κs. c .before .before .before .before .before .before .before .before .if1 .left)
     (λ c. c .end-of .ensures .2)
     (λ c. search needs)
     (λ c. search needs)
     (λ c. returns.binds-within (c .before .before .before .before .before .first-of .ensures) false _ (c .before .before .before .n .given .1) .0)
     (λ c. returns.binds-within (c .before .before .before .before .before .first-of .ensures) false _ (c .before .before .before .n .given .1) .0)
     (λ c. search needs)
-    (λ c κs. let asked = c .before .before .before .before .before .before .before .before .before .before .before .before .pre .1 in
+    (λ c κs. let asked = c .before .before .before .before .before .before .before .before .before .before .before .before .before .before .before .before .pre .1 in
     let binds = returns.binds-within (c .before .before .before .before .before .before .first-of .ensures) false _ (c .before .before .before .before .n .given .1) in (
       (
-        omega (arith, asked .pattern-stands .inside, asked .small, c .before .before .before .before .before .before .before .if1 .left),
+        omega (arith, asked .pattern-stands .inside, asked .small, c .before .before .before .before .before .before .before .before .before .before .before .if1 .left),
         omega (arith, asked .row-stands .inside, asked .small),
         omega (arith, asked .row-stands .inside, asked .small, binds .0),
-        calls.place-ready asked (c .before .before .before .before .before .before .before .if1 .left) (binds .1),
+        calls.place-ready asked (c .before .before .before .before .before .before .before .before .before .before .before .if1 .left) (binds .1),
       ),
       (asked .kept .keys, asked .kept .starts, asked .kept .sizes),
     ))
-    (λ c. let asked = c .before .before .before .before .before .before .before .before .before .before .before .before .before .pre .1 in
+    (λ c. let asked = c .before .before .before .before .before .before .before .before .before .before .before .before .before .before .before .before .before .pre .1 in
     omega (arith, asked .pattern-stands .inside, asked .small, c .before .before .before .end-of .ensures .2))
-    (λ c. let asked = c .before .before .before .before .before .before .before .before .before .before .before .before .before .pre .1 in
+    (λ c. let asked = c .before .before .before .before .before .before .before .before .before .before .before .before .before .before .before .before .before .pre .1 in
     omega (arith, asked .row-stands .inside, asked .small, returns.binds-within (c .before .before .before .before .before .before .before .first-of .ensures) false _ (c .before .before .before .before .before .n .given .1) .0))
-    (λ c κs. let start = c .before .before .before .before .before .before .before .before .before .before .before .before .before in
-    let some = c .before .before .before .before .before .before .before .before .if1 .left in
+    (λ c κs. let start = c .before .before .before .before .before .before .before .before .before .before .before .before .before .before .before .before .before in
+    let some = c .before .before .before .before .before .before .before .before .before .before .before .before .if1 .left in
     let ends = c .before .before .before .end-of in
     let binds = returns.binds-within (c .before .before .before .before .before .before .before .first-of .ensures) false _ (c .before .before .before .before .before .n .given .1) in (
       omega (arith, after-falls (start .args .pattern .now) (ends .result) (length (start .args .pattern .now)) some (ends .ensures .0) refl, start .pre .0),
       calls.asked-more (start .pre .1) some (binds .1) (binds .0) (c .bind .ensures) (ends .result) (c .before .before .before .before .before .n .given .0 .0) (ends .ensures .0) (binds .0),
     ))
     (λ c. search needs)
-    (λ c κs. let start = c .before .before .before .before .before .before .before .before .pre in
-    (omega (arith, start .0), ((start .1, c .before .before .before .if1 .left), returns.tries-free (c .before .before .first-of .ensures) false (c .enum-told2 .given .1))))
+    (λ c κs. let start = c .before .before .before .before .before .before .before .before .before .before .before .before .pre in
+    (omega (arith, start .0), ((start .1, c .before .before .before .before .before .before .before .if1 .left), returns.tries-free (c .before .before .first-of .ensures) false (c .enum-told2 .given .1))))
     (λ c. search needs)
-    (λ c κs. let start = c .before .before .before .before .before .before .before .before .pre in
-    (omega (arith, start .0), (start .1, c .before .before .before .if1 .left, returns.inside-facing (c .before .before .first-of .ensures) false (c .enum-told3 .given .1))))
-    (λ c. (c .before .before .before .before .before .before .before .before .pre .1 .kept, sym (ap firstIn (returns.step-fails (c .before .before .first-of .ensures) false (c .enum-told .given .1)))))
+    (λ c κs. let start = c .before .before .before .before .before .before .before .before .before .before .before .before .pre in
+    (omega (arith, start .0), (start .1, c .before .before .before .before .before .before .before .if1 .left, returns.inside-facing (c .before .before .first-of .ensures) false (c .enum-told3 .given .1))))
+    (λ c. (c .before .before .before .before .before .before .before .before .before .before .before .before .pre .1 .kept, sym (ap firstIn (returns.step-fails (c .before .before .first-of .ensures) false (c .enum-told .given .1)))))
     (λ c. (c .shadow-run .ensures .0, c .shadow-run .ensures .1 ∙ sym (ap firstIn (returns.step-goes (c .before .before .before .before .before .before .first-of .ensures) false _ _ (c .before .before .before .before .m .given .1)))))
     (λ c. let binds = returns.binds-within (c .before .before .before .before .before .before .before .before .first-of .ensures) false _ (c .before .before .before .before .before .before .n .given .1) in
-    let values = calls.values-more (c .before .before .before .before .before .before .before .before .before .before .before .before .before .before .pre .1) (c .before .before .before .before .before .before .before .before .before .if1 .left) (binds .1) (binds .0) (c .before .bind .ensures) in (
+    let values = calls.values-more (c .before .before .before .before .before .before .before .before .before .before .before .before .before .before .before .before .before .before .pre .1) (c .before .before .before .before .before .before .before .before .before .before .before .before .before .if1 .left) (binds .1) (binds .0) (c .before .bind .ensures) in (
       c .shadow-run2 .ensures .0,
       c .shadow-run2 .ensures .1 ∙ sym (ap firstIn (returns.step-binds (c .before .before .before .before .before .before .before .before .first-of .ensures) false _ _ _ (c .before .before .before .before .before .before .n .given .1) (c .before .before .before .before .end-of .ensures .0) values)),
     ))
