@@ -160,30 +160,12 @@ fn walk_sentence(
         (keep 1 (sentencesAt (fileOf (now (law .entry))) s))) ⌝ }
 {
     let at = pattern_at(law, index, s);
-    let left = walk_pattern(
-        law,
-        index,
-        slots,
-        store,
-        task,
-        pattern(law, index, s),
-        at,
-        out,
-        tally,
-    );
+    let first = pattern(law, index, s);
+    let left = walk_pattern(law, index, slots, store, task, first, at, out, tally);
     let asked = walk_conditions(law, index, slots, store, task, s, out, left);
     let next = result_at(law, index, s);
-    walk_run(
-        law,
-        index,
-        slots,
-        store,
-        task,
-        result(law, index, s),
-        next,
-        out,
-        asked,
-    )
+    let last = result(law, index, s);
+    walk_run(law, index, slots, store, task, last, next, out, asked)
 }
 
 // Goes through a pattern, where the task is lint 1.
@@ -232,29 +214,11 @@ fn walk_conditions(
     while i < count {
         let c = first + i;
         let at = asked_at(law, index, s, c);
-        let left = walk_run(
-            law,
-            index,
-            slots,
-            store,
-            task,
-            asked(law, index, s, c),
-            at,
-            out,
-            so_far,
-        );
+        let part = asked(law, index, s, c);
+        let left = walk_run(law, index, slots, store, task, part, at, out, so_far);
         let next = at + asked_size(law, index, c);
-        so_far = walk_pattern(
-            law,
-            index,
-            slots,
-            store,
-            task,
-            wanted(law, index, s, c),
-            next,
-            out,
-            left,
-        );
+        let whole = wanted(law, index, s, c);
+        so_far = walk_pattern(law, index, slots, store, task, whole, next, out, left);
         i += 1;
     }
     so_far

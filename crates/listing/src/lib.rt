@@ -51,15 +51,15 @@ pub enum Told {
 }
 
 // The most shapes in a format.
-const SHAPES: usize = 64;
+const LIMIT: usize = 64;
 
-// The words of a call's own findings: 256 places.
+// The words of a call's own findings: 256 places, or 32 for a law of few sentences, since it takes time to clear them.
 const OWN: usize = 2048;
 
-// The same for a law of few sentences: 32 places, since it takes time to clear them.
-const SENTENCES: usize = 32;
+const OWN_FEW: usize = 256;
 
-const FEW: usize = 256;
+// The most sentences that are few.
+const FEW: usize = 32;
 
 // Hands over findings: those of the call's own buffer, or, where that had no place for all, they are collected again.
 fn hand_over(
@@ -88,7 +88,7 @@ fn hand_over(
             mode,
             overrides,
             lent,
-            SHAPES,
+            LIMIT,
             words,
         );
         return;
@@ -104,39 +104,19 @@ fn findings_gathered(
     overrides: &[u32],
     store: &mut [u32],
     own: &mut [u32],
-    words: &mut [u32],
+    out: &mut [u32],
 ) -> Found
     requires { ⌜ Prepares 64 (now law) (now index) (now store) ⌝ }
-    ensures { λ r. ⌜ findingsAfter r (now (store .exit)) (now (words .exit))
-        ≡ findingsFront 64 (settingsFrom mode (now (overrides .entry))) (now (store .entry)) (now (words .entry)) (given (treeOf (fileOf (now (law .entry))))) ⌝ }
+    ensures { λ r. ⌜ findingsAfter r (now (store .exit)) (now (out .exit))
+        ≡ findingsFront 64 (settingsFrom mode (now (overrides .entry))) (now (store .entry)) (now (out .entry)) (given (treeOf (fileOf (now (law .entry))))) ⌝ }
 {
     let slots = slots_of(law, index);
-    let room = words.len();
-    match gather(
-        law,
-        index,
-        &slots,
-        store,
-        SHAPES,
-        mode,
-        overrides,
-        room,
-        own,
-    ) {
+    let room = out.len();
+    match gather(law, index, &slots, store, LIMIT, mode, overrides, room, own) {
         Gathered::TooWide => Found::Refused(Turned::Shapes),
         Gathered::Full => Found::Refused(Turned::Findings),
         Gathered::Upto(count, rounds, settled) => {
-            hand_over(
-                law,
-                index,
-                &slots,
-                store,
-                mode,
-                overrides,
-                own,
-                count,
-                words,
-            );
+            hand_over(law, index, &slots, store, mode, overrides, own, count, out);
             Found::Listed(count, rounds, settled)
         }
     }
@@ -156,12 +136,20 @@ fn findings_ready(
         ≡ findingsFront 64 (settingsFrom mode (now (overrides .entry))) (now (store .entry)) (now (words .entry)) (given (treeOf (fileOf (now (law .entry))))) ⌝ }
 {
     if functions(index) == 0 {
-        clear_store(store, SHAPES);
+        clear_store(store, LIMIT);
         return Found::Listed(0, 1, true);
     }
-    if sentences(index) <= SENTENCES {
-        let mut few = [0u32; FEW];
-        return findings_gathered(law, index, mode, overrides, store, &mut few[..FEW], words);
+    if sentences(index) <= FEW {
+        let mut few = [0u32; OWN_FEW];
+        return findings_gathered(
+            law,
+            index,
+            mode,
+            overrides,
+            store,
+            &mut few[..OWN_FEW],
+            words,
+        );
     }
     let mut own = [0u32; OWN];
     findings_gathered(law, index, mode, overrides, store, &mut own[..OWN], words)
@@ -206,11 +194,11 @@ fn tell(
     let at = 8 * position;
     let end = at + 8;
     let words = &own[at..end];
-    let length = put_message(law, index, slots, store, SHAPES, words, &mut text[..0]); // no byte fits: only the length is found
+    let length = put_message(law, index, slots, store, LIMIT, words, &mut text[..0]); // no byte fits: only the length is found
     if room < length {
         return Told::Refused(Turned::Text);
     }
-    put_message(law, index, slots, store, SHAPES, words, text);
+    put_message(law, index, slots, store, LIMIT, words, text);
     Told::Written(length)
 }
 
@@ -235,7 +223,7 @@ fn text_ready(
         index,
         &slots,
         store,
-        SHAPES,
+        LIMIT,
         mode,
         overrides,
         OWN,
