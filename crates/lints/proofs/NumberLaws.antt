@@ -1,35 +1,15 @@
 -- Laws of spelled numbers and of their values.
-use Prim.Native.Nat.{ℕ, _+_, _*_, _-_, _≤_, _<_, min}
+use Prim.Native.Nat.{ℕ, _+_, _*_, _-_, _≤_, _<_}
 use mathlib.Core.List.{List, [], _∷_}
 use mathlib.Core.Path.{_≡_, refl, _∙_}
 use native.Mathlib.Omega.{arith}
 use native.Mathlib.Numerals.{add-one}
-use native.Mathlib.Decide.{decLe}
-use lib.ListN.{length, take, drop, getD, drop-of-length-le, length-drop}
-use lib.Seq.{take-all, take-nil, drop-cons, drop-length}
+use lib.ListN.{length, drop, getD, drop-of-length-le}
+use lib.Seq.{drop-cons}
 use borrow.Author.Tests.{le-leb, lt-leb}
 use Rattle.law.specs.Expression.{valueAfter, valueOf}
 use Rattle.lints.specs.Part.{numberOperand}
 use Rattle.lints.specs.declared.builtin.Operand.the-variants.{Macrodigit, Other}
-
--- a part of the text that is cut off where the text ends: `some` bytes are left from `from` on
-pub spelled-part : (text : List ℕ) (start len from some : ℕ) → from ≡ min start (length text) → some ≡ min len (length text - from)
-    → take (from + some - from) (drop from text) ≡ take len (drop start text)
-spelled-part text start len from some e q = go (decLe start (length text)) (decLe len (length text - from))
-  where
-    go : Dec (start ≤ length text) → Dec (len ≤ length text - from) → take (from + some - from) (drop from text) ≡ take len (drop start text)
-    go (yes h) (yes k) =
-        let same : from ≡ start = omega arith in
-        let all : from + some - from ≡ len = omega arith in
-        rw (all, same)
-    go (yes h) (no k) =
-        let same : from ≡ start = omega arith in
-        let size : length (drop from text) ≡ length text - from = length-drop from text in
-        rw (← same, take-all len (drop from text) (omega arith)) (take-all (from + some - from) (drop from text) (omega arith))
-    go (no h) k =
-        let same : from ≡ length text = omega arith in
-        let none : drop start text ≡ [] = drop-of-length-le text {i = start} (omega arith) in
-        rw (same, drop-length text, none, take-nil {A = ℕ} len) (take-nil (length text + some - length text))
 
 -- digits that are read after a value do not make it less
 pub value-grows : (n : ℕ) (ds : List ℕ) → n ≤ valueAfter n ds

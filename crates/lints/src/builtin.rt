@@ -3,11 +3,11 @@ use file::Symbol;
 use file::Term;
 use file::term_at;
 use law::runs::end_of;
+use matching::spelled;
 use names::names_equal;
 ghost use mathlib.Core.Path.{_≡_};
 ghost use mathlib.Core.List.{List};
-ghost use Prim.Native.Nat.{ℕ, _-_, _<_, min};
-ghost use lib.ListN.{take, drop};
+ghost use Prim.Native.Nat.{ℕ, _-_, _<_};
 ghost use Rattle.names.specs.Name.{folded, digitByte, everyByte};
 ghost use Rattle.lints.specs.Builtin.{macrodigits, allZero, secondFails, firstFails, integersFail, charactersOf, digitsFail, builtins, domainIn, failure};
 ghost use Rattle.lints.specs.Part.{argumentOf, failureIn, domainFrom, signOperand, numberOperand, symbolOperand, operandOf, SignTaken, decidedBy, allOf, both, zeroOf, symbolDigit, digitOf};
@@ -40,22 +40,6 @@ enum All {
     Undecided,
     Yes,
     No,
-}
-
-// The lesser of two numbers.
-fn least(a: usize, b: usize) -> usize
-    ensures { λ r. ⌜ r ≡ min a b ⌝ }
-{
-    if a < b { a } else { b }
-}
-
-// The part of the text where a name or a number is spelled, cut off where the text ends.
-pub fn spelled(text: &[u8], start: usize, len: usize) -> &[u8]
-    ensures { λ r. ⌜ now r ≡ take len (drop start (now (text .entry))) ⌝ }
-{
-    let from = least(start, text.len());
-    let end = from + least(len, text.len() - from);
-    &text[from..end]
 }
 
 // ---- integers
@@ -113,7 +97,7 @@ fn symbol_operand(text: &[u8], symbol: Symbol) -> Operand
     match symbol {
         Symbol::Character(c) => sign_operand(c),
         Symbol::Identifier(_, _) => Operand::Other,
-        Symbol::Number(a, b) => number_operand(spelled(text, a as usize, b as usize)),
+        Symbol::Number(a, b) => number_operand(spelled(text, a, b)),
     }
 }
 

@@ -69,7 +69,7 @@ fn lesser(a: usize, b: usize) -> usize
 }
 
 // The part of the text from a position on, so many bytes or up to the end.
-fn spelled(text: &[u8], start: u32, len: u32) -> &[u8]
+pub fn spelled(text: &[u8], start: u32, len: u32) -> &[u8]
     ensures { λ r. ⌜ now r ≡ take len (drop start (now (text .entry))) ⌝ }
 {
     let from = lesser(start as usize, text.len());

@@ -12,8 +12,6 @@ symbol-operand-spec =
     (λ c κs. search needs)
     (λ c. search needs)
     (λ c. search needs)
-    (λ c. search needs)
-    (λ c. search needs)
     (λ c κs. search needs)
     (λ c κs. search needs)
     (λ c. c .sign-operand .ensures ∙ rw (c .before .before .symbol .given .1))
