@@ -15,22 +15,24 @@ use Rattle.file.specs.declared.Term.{Term}
 use Rattle.file.specs.declared.Term.the-variants.{Symbolic, SVariable, TVariable, EVariable, Bracket, Call, Block}
 use Rattle.law.specs.Expression.{nothing, symbol, brackets}
 use Rattle.law.specs.Runs.{endOf}
+use Rattle.law.specs.Tree.{expressionKind}
 use Rattle.matching.specs.Pattern.{Atom, Pattern}
 use Rattle.matching.specs.Match.{Values, bound, each, all-or-first, matches}
 use Rattle.matching.specs.Part.{rowOf, from, Begin, termRow}
 use Rattle.matching.specs.Bound.{valuesOf, Bound}
-use Rattle.matching.specs.Least.{leastTerms}
+use Rattle.matching.specs.Least.{termsIn, NeedsOf, Passes}
 use Rattle.matching.specs.Step.{found, leaves, eachLength, eachInside, Leaves, Free, Facing, firstVariable}
 use Rattle.matching.specs.Asked.{firstIn, Asked, matchedValues}
 use Rattle.matching.specs.declared.Bindings.{Bindings}
+use Rattle.matching.specs.declared.Needs.{Needs}
 use Rattle.matching.specs.declared.shadow.Matched.{Matched}
 use Rattle.matching.specs.declared.First.{First}
 use Rattle.matching.specs.declared.First.the-variants.{Fails, Goes, Binds, Tries, Inside}
 use Rattle.matching.proofs.SameLaws.{false-not-true}
 use Rattle.matching.proofs.PartLaws.{row-empty, row-node}
 use Rattle.matching.proofs.CutLaws.{from-length, begin-inside}
-use Rattle.matching.proofs.LeastLaws.{left-short}
-use Rattle.matching.proofs.LengthLaws.{leftAt, lengthAt, left-first, left-last, left-more, length-search}
+use Rattle.matching.proofs.LeastLaws.{left-short, left-passed}
+use Rattle.matching.proofs.LengthLaws.{leftAt, lengthAt, left-last, left-more, length-search}
 use Rattle.matching.proofs.AskedLaws.{values-more}
 
 -- ---- the first of a list
@@ -79,7 +81,7 @@ module _ {text pattern row : List ℕ} {vs : Values Atom} {r : First} (l : Leave
   pub binds-within : (n : ℕ) → r ≡ Binds n → (n ≤ length row) × Free (rowOf text pattern) (firstVariable text pattern) vs
   binds-within n e = rw e at (l .within)
 
-  pub tries-free : r ≡ Tries → Free (rowOf text pattern) (firstVariable text pattern) vs
+  pub tries-free : r ≡ Tries → Free (rowOf text pattern) (firstVariable text pattern) vs × (firstVariable text pattern .kind ≡ expressionKind)
   tries-free e = rw e at (l .within)
 
   pub inside-facing : r ≡ Inside → Facing (rowOf text pattern) row
@@ -145,13 +147,16 @@ module _ {text terms pattern : List ℕ} {at : ℕ} {row : List ℕ} {start : �
   abbrev this-length : ℕ → List (Values Atom)
   this-length = lengthAt text false pattern row (valuesOf text terms b)
 
-  pub lengths-start : firstIn all-lengths ≡ firstIn (lengths-left 0)
-  lengths-start = ap firstIn (left-first text false pattern row (valuesOf text terms b))
+  module _ (of-kind : firstVariable text pattern .kind ≡ expressionKind) {end : ℕ} (ends : end ≡ endOf pattern) {needs : Needs}
+      (told : NeedsOf (valuesOf text terms b) (rowOf text (from end pattern)) needs) where
+    -- the lengths that are passed do not match
+    pub lengths-start : {n room : ℕ} → Passes row needs n room → firstIn all-lengths ≡ firstIn (lengths-left n)
+    lengths-start passes = ap firstIn (left-passed text false pattern row (valuesOf text terms b) (free .without) of-kind ends told passes)
 
-  -- too little is left for the rest of the pattern
-  pub length-short : {end : ℕ} (n : ℕ) {needed : ℕ} → end ≡ endOf pattern → ((t : List ℕ) → needed ≡ 24 * leastTerms (rowOf t (from end pattern)))
-      → length (from n row) < needed → firstIn all-lengths ≡ firstIn (lengths-left n) → none ≡ firstIn all-lengths
-  length-short n ends least h whole = sym (whole ∙ ap firstIn (left-short text false pattern row (valuesOf text terms b) n ends least h))
+    -- too little is left for the rest of the pattern
+    pub length-short : (n : ℕ) {room : ℕ} → room ≡ termsIn (rowOf text (from n row)) → room < needs .terms
+        → firstIn all-lengths ≡ firstIn (lengths-left n) → none ≡ firstIn all-lengths
+    length-short n counted h whole = sym (whole ∙ ap firstIn (left-short text false pattern row (valuesOf text terms b) (free .without) of-kind ends told n counted h))
 
   module _ {end n : ℕ} (ends : end ≡ endOf pattern) (begin : Begin row n) {c : Bindings} (more : Bound b at start n c) (m : Matched)
       (answer : matchedValues text terms m ≡ firstIn (found false (rowOf text (from end pattern)) (rowOf text (from n row)) (valuesOf text terms c)))

@@ -378,7 +378,7 @@ module _ (text pattern row : List ℕ) (v : Variable) (vs : Values Atom) (some-l
     unfolding matches choices
     free-tries told e =
         let k : v .kind ≡ expressionKind = open-kind text (termAt pattern 0) first (sym told ∙ e) in
-        record { within = free; search = λ back. rw (the-variable, begins-variable, without, k) }
+        record { within = (free, rw the-variable k); search = λ back. rw (the-variable, begins-variable, without, k) }
 
     module _ {o : Bool} (told : o ≡ openTerm (termAt pattern 0)) (closed : o ≡ false) where
       -- nothing is left of the row

@@ -21,7 +21,7 @@ ghost use Rattle.matching.specs.Match.{Values, none-bound, valueIn, afte
 ghost use Rattle.matching.specs.Shadow.{sameAtom};
 ghost use Rattle.matching.specs.Part.{rowOf, isBracket, atomOf, sameFirst};
 ghost use Rattle.matching.specs.Bound.{rowAt, valuesOf, Kept, Bound, places, HasPlace};
-ghost use Rattle.matching.specs.Least.{leastTerms};
+ghost use Rattle.matching.specs.Least.{termsIn, atomLeast, atomFree, NeedsOf, variableTerm, Passes};
 ghost use Rattle.matching.specs.Step.{found, beginsWith, BeginsIn, openTerm, symbolTerm, singleOne, mayStand, Leaves};
 
 pub mod literal;
@@ -56,6 +56,19 @@ pub enum First {
     Binds(usize),
     Tries,
     Inside,
+}
+
+// What a pattern needs of a row that it matches: at least so many terms, and not more where this many e. variables without a value, which may match any number,
+// are none. Brackets are one term.
+pub struct Needs {
+    pub terms: usize,
+    pub free: usize,
+}
+
+// A length of a row, in bytes, and the number of terms after it.
+pub struct Length {
+    pub end: usize,
+    pub left: usize,
 }
 
 // The lesser of two numbers.
@@ -220,6 +233,21 @@ fn is_open(term: Term) -> bool
         Term::Symbolic(_) => false,
         Term::SVariable(_, _) => false,
         Term::TVariable(_, _) => false,
+        Term::EVariable(_, _) => true,
+        Term::Bracket => false,
+        Term::Call(_, _) => false,
+        Term::Block(_) => false,
+    }
+}
+
+// Is this term a variable?
+fn is_variable(term: Term) -> bool
+    ensures { λ r. ⌜ r ≡ variableTerm term ⌝ }
+{
+    match term {
+        Term::Symbolic(_) => false,
+        Term::SVariable(_, _) => true,
+        Term::TVariable(_, _) => true,
         Term::EVariable(_, _) => true,
         Term::Bracket => false,
         Term::Call(_, _) => false,
@@ -440,22 +468,108 @@ pub fn apart(text: &[u8], pattern: &[u8], row: &[u8]) -> bool
     }
 }
 
-// The least bytes of a row that a pattern can match: a record for each of its symbols and brackets (kinds 0 to 2, and 6) that stand in no bracket. A variable
-// may stand for nothing.
-pub fn least(pattern: &[u8]) -> usize
-    ensures { λ r. ⌜ ((text : List ℕ) → r ≡ 24 * leastTerms (rowOf text (now (pattern .entry)))) ⌝ }
+// How many terms a part has; brackets are one term.
+fn terms_in(part: &[u8]) -> usize
+    ensures { λ r. ⌜ ((text : List ℕ) → r ≡ termsIn (rowOf text (now (part .entry)))) × (r ≤ length (now (part .entry))) ⌝ }
+{
+    let mut count = 0;
+    let mut i = 0;
+    loop {
+        let left = &part[i..];
+        if left.len() < 24 {
+            break count;
+        }
+        count += 1;
+        i += end_of(left);
+    }
+}
+
+// What the first record of a pattern needs of a row.
+fn first_needs<'a>(
+    text: &[u8],
+    terms: &[u8],
+    pattern: &[u8],
+    keys: &'a [u16; 32],
+    starts: &'a [u16; 32],
+    sizes: &'a [u16; 32],
+    count: usize,
+) -> Needs
+    requires { ⌜ Kept (now text) (now terms) (places (now keys) (now starts) (now sizes) count) × (24 ≤ length (now pattern)) × (length (now terms) < 65536) ⌝ }
+    ensures { λ r. ⌜ (r .terms ≡ atomLeast (valuesOf (now (text .entry)) (now (terms .entry)) (places (now (keys .entry)) (now (starts .entry)) (now (sizes .entry)) count))
+        (atomOf (now (text .entry)) (termAt (now (pattern .entry)) 0)))
+        × (r .free ≡ atomFree (valuesOf (now (text .entry)) (now (terms .entry)) (places (now (keys .entry)) (now (starts .entry)) (now (sizes .entry)) count))
+        (atomOf (now (text .entry)) (termAt (now (pattern .entry)) 0)))
+        × (r .terms < 65536) × (r .free ≤ 1) ⌝ }
+{
+    let term = term_at(pattern, 0);
+    if !is_variable(term) {
+        return Needs { terms: 1, free: 0 };
+    }
+    match place_of(text, terms, pattern, keys, count) {
+        Place::At(i) => {
+            let start = wide(starts[i]);
+            let end = start + wide(sizes[i]);
+            let value = terms_in(&terms[start..end]);
+            Needs {
+                terms: value,
+                free: 0,
+            }
+        }
+        Place::Free => {
+            if is_open(term) {
+                return Needs { terms: 0, free: 1 };
+            }
+            Needs { terms: 1, free: 0 }
+        }
+    }
+}
+
+// What a pattern needs of a row, by the values that variables have.
+pub fn needs_of<'a>(
+    text: &[u8],
+    terms: &[u8],
+    pattern: &[u8],
+    keys: &'a [u16; 32],
+    starts: &'a [u16; 32],
+    sizes: &'a [u16; 32],
+    count: usize,
+) -> Needs
+    requires { ⌜ Kept (now text) (now terms) (places (now keys) (now starts) (now sizes) count) × (length (now terms) < 65536) × (length (now pattern) < 65536) ⌝ }
+    ensures { λ r. ⌜ NeedsOf (valuesOf (now (text .entry)) (now (terms .entry)) (places (now (keys .entry)) (now (starts .entry)) (now (sizes .entry)) count))
+        (rowOf (now (text .entry)) (now (pattern .entry))) r ⌝ }
 {
     let mut needed = 0;
+    let mut free = 0;
     let mut i = 0;
     loop {
         let left = &pattern[i..];
         if left.len() < 24 {
-            break needed;
+            break Needs {
+                terms: needed,
+                free: free,
+            };
         }
-        let kind = word_at(left, 0);
-        if kind < 3 || kind == 6 {
-            needed += 24;
-        }
+        let first = first_needs(text, terms, left, keys, starts, sizes, count);
+        needed += first.terms;
+        free += first.free;
         i += end_of(left);
+    }
+}
+
+// The first length of a row that an e. variable need try: where no other is open, the only one that leaves as many terms as are needed.
+pub fn first_length(row: &[u8], needs: Needs) -> Length
+    ensures { λ r. ⌜ Passes (now (row .entry)) needs (r .end) (r .left) ⌝ }
+{
+    let mut n = 0;
+    let mut room = terms_in(row);
+    loop {
+        if 0 < needs.free {
+            break Length { end: n, left: room };
+        }
+        if room <= needs.terms {
+            break Length { end: n, left: room };
+        }
+        room -= 1;
+        n += end_of(&row[n..]);
     }
 }

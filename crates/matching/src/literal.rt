@@ -3,9 +3,10 @@ use crate::Bindings;
 use crate::First;
 use crate::apart;
 use crate::bind;
+use crate::first_length;
 use crate::first_of;
-use crate::least;
 use crate::narrow;
+use crate::needs_of;
 use crate::none;
 use crate::wide;
 use file::word_at;
@@ -16,6 +17,7 @@ ghost use mathlib.Core.List.{[], _++_};
 ghost use mathlib.Core.Option.{none};
 ghost use Prim.Native.Nat.{suc, _+_, _≤_, _<_};
 ghost use lib.ListN.{length, set};
+ghost use Rattle.law.specs.Tree.{expressionKind};
 ghost use Rattle.law.specs.Variables.{distinct};
 ghost use Rattle.matching.specs.Literal.{literalMatches};
 ghost use Rattle.matching.specs.Part.{rowOf, literalPart, symbolsOf, Stands};
@@ -83,7 +85,7 @@ fn literal_out(
     literal_run(text, terms, pattern, at, row, start, out, b)
 }
 
-// An e. variable without a value, then the rest of the pattern: every length in turn, while enough of the row is left for the rest.
+// An e. variable without a value, then the rest of the pattern: every length in turn that leaves enough of the row for the rest, and not too much.
 fn literal_lengths(
     text: &[u8],
     terms: &[u8],
@@ -94,7 +96,7 @@ fn literal_lengths(
     pending: Pending,
     b: Bindings,
 ) -> bool
-    requires { ⌜ LiteralAsked (now text) (now terms) (now pattern) at (now row) start pending b × (24 ≤ length (now pattern)) ⌝ }
+    requires { ⌜ LiteralAsked (now text) (now terms) (now pattern) at (now row) start pending b × (24 ≤ length (now pattern)) × (firstVariable (now text) (now pattern) .kind ≡ expressionKind) ⌝ }
     requires { ⌜ Free (rowOf (now text) (now pattern)) (firstVariable (now text) (now pattern)) (valuesOf (now text) (now terms) b) ⌝ }
     ensures { λ r. ⌜ r ≡ someHolds (resume (levelsOf (now (text .entry)) (now (terms .entry)) pending (at + length (now (pattern .entry))) (start + length (now (row .entry)))))
         (eachLength (now (text .entry)) true (now (pattern .entry)) (now (row .entry)) (valuesOf (now (text .entry)) (now (terms .entry)) b)) ⌝ }
@@ -102,11 +104,15 @@ fn literal_lengths(
     let end = end_of(pattern);
     let rest = &pattern[end..];
     let next = at + end;
-    let needed = least(rest);
-    let mut n = 0;
+    let len = b.count;
+    let needs = needs_of(text, terms, rest, &b.keys, &b.starts, &b.sizes, len);
+    let first = first_length(row, needs);
+    let needed = needs.terms;
+    let mut room = first.left;
+    let mut n = first.end;
     loop {
         let left = &row[n..];
-        if left.len() < needed {
+        if room < needed {
             break false;
         }
         let more = bind(b, at, start, n);
@@ -116,6 +122,7 @@ fn literal_lengths(
         if left.len() < 24 {
             break false;
         }
+        room -= 1;
         n += end_of(left);
     }
 }

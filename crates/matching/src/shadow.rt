@@ -3,8 +3,9 @@ use crate::Bindings;
 use crate::First;
 use crate::apart;
 use crate::bind;
+use crate::first_length;
 use crate::first_of;
-use crate::least;
+use crate::needs_of;
 use crate::none;
 use law::runs::end_of;
 ghost use mathlib.Core.Path.{_≡_};
@@ -13,6 +14,7 @@ ghost use mathlib.Core.List.{[]};
 ghost use mathlib.Core.Option.{none};
 ghost use Prim.Native.Nat.{_≤_, _<_};
 ghost use lib.ListN.{length};
+ghost use Rattle.law.specs.Tree.{expressionKind};
 ghost use Rattle.law.specs.Variables.{distinct};
 ghost use Rattle.matching.specs.Shadow.{shadows};
 ghost use Rattle.matching.specs.Part.{rowOf, Stands};
@@ -27,7 +29,7 @@ pub struct Matched {
     pub bindings: Bindings,
 }
 
-// An e. variable without a value, then the rest of the pattern: every length in turn, while enough of the row is left for the rest.
+// An e. variable without a value, then the rest of the pattern: every length in turn that leaves enough of the row for the rest, and not too much.
 fn shadow_lengths(
     text: &[u8],
     terms: &[u8],
@@ -37,7 +39,7 @@ fn shadow_lengths(
     start: usize,
     b: Bindings,
 ) -> Matched
-    requires { ⌜ Asked (now text) (now terms) (now pattern) at (now row) start [] b × (24 ≤ length (now pattern)) ⌝ }
+    requires { ⌜ Asked (now text) (now terms) (now pattern) at (now row) start [] b × (24 ≤ length (now pattern)) × (firstVariable (now text) (now pattern) .kind ≡ expressionKind) ⌝ }
     requires { ⌜ Free (rowOf (now text) (now pattern)) (firstVariable (now text) (now pattern)) (valuesOf (now text) (now terms) b) ⌝ }
     ensures { λ r. ⌜ Kept (now (text .entry)) (now (terms .entry)) (r .bindings)
         × (matchedValues (now (text .entry)) (now (terms .entry)) r ≡ firstIn (eachLength (now (text .entry)) false (now (pattern .entry)) (now (row .entry)) (valuesOf (now (text .entry)) (now (terms .entry)) b))) ⌝ }
@@ -45,11 +47,15 @@ fn shadow_lengths(
     let end = end_of(pattern);
     let rest = &pattern[end..];
     let next = at + end;
-    let needed = least(rest);
-    let mut n = 0;
+    let len = b.count;
+    let needs = needs_of(text, terms, rest, &b.keys, &b.starts, &b.sizes, len);
+    let first = first_length(row, needs);
+    let needed = needs.terms;
+    let mut room = first.left;
+    let mut n = first.end;
     loop {
         let left = &row[n..];
-        if left.len() < needed {
+        if room < needed {
             break Matched {
                 ok: false,
                 bindings: b,
@@ -63,6 +69,7 @@ fn shadow_lengths(
         if left.len() < 24 {
             break m;
         }
+        room -= 1;
         n += end_of(left);
     }
 }

@@ -11,12 +11,14 @@ use lib.ListN.{length, getD}
 use Rattle.law.specs.Runs.{endOf}
 use Rattle.matching.specs.Pattern.{Atom}
 use Rattle.matching.specs.Match.{Values}
+use Rattle.matching.specs.Least.{termsIn}
 use Rattle.matching.specs.Step.{eachLength}
 use Rattle.matching.specs.Bound.{valuesOf}
 use Rattle.matching.specs.Asked.{someHolds, resume, levelsOf}
 use Rattle.matching.specs.declared.literal.Pending.{Pending}
-use Rattle.matching.specs.Part.{Begin, at-start, one-on}
+use Rattle.matching.specs.Part.{rowOf, from, Begin, one-on}
 use Rattle.matching.proofs.CutLaws.{begin-inside, from-length}
+use Rattle.matching.proofs.LeastLaws.{next-terms}
 use Rattle.matching.proofs.LengthLaws.{leftAt}
 use Rattle.matching.proofs.AskedLaws as calls
 use Rattle.matching.proofs.LevelLaws as level
@@ -36,7 +38,8 @@ use Rattle.matching.proofs.literal.literal_run.Reads as literal-run
 use Rattle.matching.proofs.literal.literal_run.Kinds as literal-run-kinds
 use Rattle.matching.proofs.literal.+literal_inside+literal_lengths+literal_out+literal_run.Lts-literal_run as literal-run-lts
 use Rattle.law.proofs.runs.end_of.Reads as end-of-reads
-use Rattle.matching.proofs.least.Reads as least-reads
+use Rattle.matching.proofs.needs_of.Reads as needs-of-reads
+use Rattle.matching.proofs.first_length.Reads as first-length-reads
 use Rattle.matching.proofs.bind.Reads as bind-reads
 use Rattle.matching.proofs.first_of.Reads as first-of-reads
 use Rattle.matching.proofs.literal.push.Reads as push-reads
@@ -113,12 +116,12 @@ abbrev outside : List ℕ → List ℕ → Pending → List ℕ → ℕ → List
 outside text terms pending pattern at row start = resume (levelsOf text terms pending (at + length pattern) (start + length row))
 
 abbrev literal-lengths-Inv-loop : literal-lengths-lts.InvT-loop
-literal-lengths-Inv-loop text terms pattern at row start pending b end rest next needed n₀ n =
-    Begin row n × (someHolds (outside text terms pending pattern at row start) (eachLength text true pattern row (valuesOf text terms b))
+literal-lengths-Inv-loop text terms pattern at row start pending b end rest next len needed room₀ n₀ room n =
+    Begin row n × (room ≡ termsIn (rowOf text (from n row))) × (someHolds (outside text terms pending pattern at row start) (eachLength text true pattern row (valuesOf text terms b))
     ≡ someHolds (outside text terms pending pattern at row start) (leftAt text true pattern row (valuesOf text terms b) n))
 
 abbrev literal-lengths-μ-loop : literal-lengths-lts.MeasureT-loop
-literal-lengths-μ-loop text terms pattern at row start pending b end rest next needed n₀ n = length row - n
+literal-lengths-μ-loop text terms pattern at row start pending b end rest next len needed room₀ n₀ room n = length row - n
 
 pub +literal-inside+literal-lengths+literal-out+literal-run-spec : {M : Type 1} → statement M
 +literal-inside+literal-lengths+literal-out+literal-run-spec =
@@ -173,8 +176,10 @@ pub +literal-inside+literal-lengths+literal-out+literal-run-spec : {M : Type 1} 
     (λ t. literal-lengths-lts.spec (
       end-of-reads.Asked,
       end-of-reads.Learnt,
-      least-reads.Asked,
-      least-reads.Learnt,
+      needs-of-reads.Asked,
+      needs-of-reads.Learnt,
+      first-length-reads.Asked,
+      first-length-reads.Learnt,
       bind-reads.Asked,
       bind-reads.Learnt,
       literal-run-below t,
@@ -190,13 +195,20 @@ pub +literal-inside+literal-lengths+literal-out+literal-run-spec : {M : Type 1} 
     (λ c. search needs)
     (λ c. let asked = c .before .before .before .before .before .before .pre .1 .0 .0 .asked in
     omega (arith, asked .pattern-stands .inside, asked .small, c .before .end-of .ensures .2))
+    (λ c κs. let start = c .before .before .before .before .before .before .before .before .before .before .pre in
+    let asked = start .1 .0 .0 .asked in (
+      asked .kept,
+      asked .small,
+      omega (arith, asked .pattern-stands .inside, asked .small, from-length (c .before .before .before .before .before .end-of .result) (c .before .before .before .before .before .before .before .before .before .before .args .pattern .now)),
+    ))
     (λ c κs. tt)
-    (λ c. let start = c .before .before .before .before .before .before .before .pre in
-    (at-start, level.lengths-start (start .1 .0 .0) (start .1 .0 .1) (start .1 .1)))
+    (λ c. let start = c .before .before .before .before .before .before .before .before .before .before .before .before .pre in
+    let passes = c .first-length .ensures in
+    (passes .begins, passes .counted _, level.lengths-start (start .1 .0 .0) (start .1 .0 .1) (start .1 .1) (start .1 .0 .2) (c .before .before .before .before .before .before .before .end-of .ensures .0) (c .before .needs-of .ensures) passes))
     (λ c. begin-inside (c .loop .inv .0))
     (λ c. begin-inside (c .loop .inv .0))
     (λ c. search needs)
-    (λ c κs. let start = c .before .before .before .before .before .before .before .before .before .before .pre in
+    (λ c κs. let start = c .before .before .before .before .before .before .before .before .before .before .before .before .before .before .before .pre in
     let asked = start .1 .0 .0 .asked in (
       (
         omega (arith, asked .pattern-stands .inside, asked .small, start .1 .0 .1),
@@ -206,33 +218,36 @@ pub +literal-inside+literal-lengths+literal-out+literal-run-spec : {M : Type 1} 
       ),
       (asked .kept .keys, asked .kept .starts, asked .kept .sizes),
     ))
-    (λ c. let asked = c .before .before .before .before .before .before .before .before .before .before .before .pre .1 .0 .0 .asked in
+    (λ c. let asked = c .before .before .before .before .before .before .before .before .before .before .before .before .before .before .before .before .pre .1 .0 .0 .asked in
     omega (arith, asked .row-stands .inside, asked .small, begin-inside (c .before .before .before .loop .inv .0)))
-    (λ c κs. let start = c .before .before .before .before .before .before .before .before .before .before .before .pre in
-    let ends = c .before .before .before .before .before .before .end-of in
+    (λ c κs. let start = c .before .before .before .before .before .before .before .before .before .before .before .before .before .before .before .before .pre in
+    let ends = c .before .before .before .before .before .before .before .before .before .before .before .end-of in
     let inside = begin-inside (c .before .before .before .loop .inv .0) in (
       omega (arith, start .0, ends .ensures .1, ends .ensures .2, start .1 .0 .0 .asked .pattern-stands .inside),
       level.literal-more (start .1 .0 .0) (start .1 .0 .1) (start .1 .1) inside (c .bind .ensures) (ends .result) (c .before .before .before .loop .n) (ends .ensures .0) inside,
     ))
+    (λ c. let the-loop = c .before .before .before .before .before .before .loop in
+    omega (arith, the-loop .inv .1, next-terms (c .before .before .before .before .before .before .before .before .before .before .before .before .before .before .before .before .before .before .before .args .row .now) (the-loop .n) (c .if3 .left) refl (c .before .before .before .before .before .before .before .before .before .before .before .before .before .before .before .before .before .before .before .args .text .now)))
     (λ c κs. c .if3 .left)
-    (λ c. let asked = c .before .before .before .before .before .before .before .before .before .before .before .before .before .before .before .pre .1 .0 .0 .asked in
-    omega (arith, asked .row-stands .inside, asked .small, c .end-of2 .ensures .2, from-length (c .before .before .before .before .before .before .before .loop .n) (c .before .before .before .before .before .before .before .before .before .before .before .before .before .before .before .args .row .now), begin-inside (c .before .before .before .before .before .before .before .loop .inv .0)))
+    (λ c. let asked = c .before .before .before .before .before .before .before .before .before .before .before .before .before .before .before .before .before .before .before .before .pre .1 .0 .0 .asked in
+    omega (arith, asked .row-stands .inside, asked .small, c .end-of2 .ensures .2, from-length (c .before .before .before .before .before .before .before .loop .n) (c .before .before .before .before .before .before .before .before .before .before .before .before .before .before .before .before .before .before .before .before .args .row .now), begin-inside (c .before .before .before .before .before .before .before .loop .inv .0)))
     (λ c.
     let the-loop = c .before .before .before .before .before .before .before .loop in
-    omega (arith, c .end-of2 .ensures .1, c .end-of2 .ensures .2, from-length (the-loop .n) (c .before .before .before .before .before .before .before .before .before .before .before .before .before .before .before .args .row .now), begin-inside (the-loop .inv .0)))
-    (λ c. let start = c .before .before .before .before .before .before .before .before .before .before .before .before .before .before .before .pre in (
+    omega (arith, c .end-of2 .ensures .1, c .end-of2 .ensures .2, from-length (the-loop .n) (c .before .before .before .before .before .before .before .before .before .before .before .before .before .before .before .before .before .before .before .before .args .row .now), begin-inside (the-loop .inv .0)))
+    (λ c. let start = c .before .before .before .before .before .before .before .before .before .before .before .before .before .before .before .before .before .before .before .before .pre in (
       rw (c .end-of2 .ensures .0) (one-on (c .before .if3 .left) (c .before .before .before .before .before .before .before .loop .inv .0)),
-      rw (c .end-of2 .ensures .0) (level.length-next (start .1 .0 .0) (start .1 .0 .1) (start .1 .1) (c .before .before .before .before .before .before .before .before .before .before .end-of .ensures .0) (c .before .before .before .before .before .before .before .loop .inv .0) (c .before .before .before .before .bind .ensures)
-          (c .before .before .before .literal-run .result) (c .before .before .before .literal-run .ensures) (c .before .before .before .before .before .before .before .loop .inv .1) (c .before .before .if2 .left) (c .before .if3 .left)),
+      omega (arith, c .before .before .before .before .before .before .before .loop .inv .1, next-terms (c .before .before .before .before .before .before .before .before .before .before .before .before .before .before .before .before .before .before .before .before .args .row .now) (c .before .before .before .before .before .before .before .loop .n) (c .before .if3 .left) (c .end-of2 .ensures .0) (c .before .before .before .before .before .before .before .before .before .before .before .before .before .before .before .before .before .before .before .before .args .text .now)),
+      rw (c .end-of2 .ensures .0) (level.length-next (start .1 .0 .0) (start .1 .0 .1) (start .1 .1) (c .before .before .before .before .before .before .before .before .before .before .before .before .before .before .before .end-of .ensures .0) (c .before .before .before .before .before .before .before .loop .inv .0) (c .before .before .before .before .bind .ensures)
+          (c .before .before .before .literal-run .result) (c .before .before .before .literal-run .ensures) (c .before .before .before .before .before .before .before .loop .inv .2) (c .before .before .if2 .left) (c .before .if3 .left)),
     ))
-    (λ c. let start = c .before .before .before .before .before .before .before .before .before .before .pre in
-    level.length-short (start .1 .0 .0) (start .1 .0 .1) (start .1 .1) (c .before .before .loop .n) (c .before .before .before .before .before .end-of .ensures .0) (c .before .before .before .least .ensures) (c .if1 .taken) (c .before .before .loop .inv .1))
-    (λ c. let start = c .before .before .before .before .before .before .before .before .before .before .before .before .before .pre in
-    level.length-found (start .1 .0 .0) (start .1 .0 .1) (start .1 .1) (c .before .before .before .before .before .before .before .before .end-of .ensures .0) (c .before .before .before .before .before .loop .inv .0) (c .before .before .bind .ensures) (c .before .literal-run .result)
-    (c .before .literal-run .ensures) (c .before .before .before .before .before .loop .inv .1) (c .if2 .taken))
-    (λ c. let start = c .before .before .before .before .before .before .before .before .before .before .before .before .before .before .pre in
-    level.length-none (start .1 .0 .0) (start .1 .0 .1) (start .1 .1) (c .before .before .before .before .before .before .before .before .before .end-of .ensures .0) (c .before .before .before .before .before .before .loop .inv .0) (c .before .before .before .bind .ensures) (c .before .before .literal-run .result)
-    (c .before .before .literal-run .ensures) (c .before .before .before .before .before .before .loop .inv .1) (c .before .if2 .left) (c .if3 .taken)))
+    (λ c. let start = c .before .before .before .before .before .before .before .before .before .before .before .before .before .before .before .pre in
+    level.length-short (start .1 .0 .0) (start .1 .0 .1) (start .1 .1) (start .1 .0 .2) (c .before .before .before .before .before .before .before .before .before .before .end-of .ensures .0) (c .before .before .before .before .needs-of .ensures) (c .before .before .loop .n) (c .before .before .loop .inv .1) (c .if1 .taken) (c .before .before .loop .inv .2))
+    (λ c. let start = c .before .before .before .before .before .before .before .before .before .before .before .before .before .before .before .before .before .before .pre in
+    level.length-found (start .1 .0 .0) (start .1 .0 .1) (start .1 .1) (c .before .before .before .before .before .before .before .before .before .before .before .before .before .end-of .ensures .0) (c .before .before .before .before .before .loop .inv .0) (c .before .before .bind .ensures) (c .before .literal-run .result)
+    (c .before .literal-run .ensures) (c .before .before .before .before .before .loop .inv .2) (c .if2 .taken))
+    (λ c. let start = c .before .before .before .before .before .before .before .before .before .before .before .before .before .before .before .before .before .before .before .pre in
+    level.length-none (start .1 .0 .0) (start .1 .0 .1) (start .1 .1) (c .before .before .before .before .before .before .before .before .before .before .before .before .before .before .end-of .ensures .0) (c .before .before .before .before .before .before .loop .inv .0) (c .before .before .before .bind .ensures) (c .before .before .literal-run .result)
+    (c .before .before .literal-run .ensures) (c .before .before .before .before .before .before .loop .inv .2) (c .before .if2 .left) (c .if3 .taken)))
     (λ t. literal-out-lts.spec (
       wide-reads.Asked,
       wide-reads.Learnt,
@@ -345,7 +360,8 @@ pub +literal-inside+literal-lengths+literal-out+literal-run-spec : {M : Type 1} 
     ))
     (λ c. search needs)
     (λ c κs. let start = c .before .before .before .before .before .before .before .before .before .before .before .before .pre in
-    (omega (arith, start .0), ((start .1, c .before .before .before .before .before .before .before .if1 .left), step.tries-free (c .before .before .first-of .ensures) true (c .enum-told2 .given .1))))
+    let tries = step.tries-free (c .before .before .first-of .ensures) true (c .enum-told2 .given .1) in
+    (omega (arith, start .0), ((start .1, c .before .before .before .before .before .before .before .if1 .left, tries .1), tries .0)))
     (λ c. search needs)
     (λ c κs. let start = c .before .before .before .before .before .before .before .before .before .before .before .before .pre in
     (omega (arith, start .0), (start .1, c .before .before .before .before .before .before .before .if1 .left, step.inside-facing (c .before .before .first-of .ensures) true (c .enum-told3 .given .1))))
