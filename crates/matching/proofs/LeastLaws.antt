@@ -1,5 +1,5 @@
 -- How many terms a row must have for a pattern to match it (specs/Least.antt), and which lengths of a row need be tried for an e. variable before the pattern.
-use Prim.Native.Nat.{ℕ, zero, suc, _+_, _*_, _-_, _≤_, _<_}
+use Prim.Native.Nat.{ℕ, suc, _+_, _*_, _-_, _≤_, _<_}
 use mathlib.Core.Bool.{Bool, true, false, cond}
 use mathlib.Core.List.{List, [], _∷_, _++_, List·Memᴰ, List·Memᴰ·head}
 use mathlib.Core.Logic.{_⊎_, inl, inr}
@@ -17,24 +17,22 @@ use Rattle.law.specs.Expression.{Terms, nothing, symbol, brackets, _⊕_}
 use Rattle.law.specs.Runs.{endOf}
 use Rattle.law.specs.Variables.{Variable, sameVariable}
 use Rattle.law.proofs.RunLaws.{end-low, end-high}
-use Rattle.matching.specs.Pattern.{Symbol, Atom, literal, variable, other, Pattern}
+use Rattle.matching.specs.Pattern.{Atom, literal, variable, Pattern}
 use Rattle.matching.specs.Match.{Values, bound, valueIn, splits, noted, all-or-first, after, choices, matches}
 use Rattle.matching.specs.Fill.{OfKind}
 use Rattle.matching.specs.Shadow.{sameAtom, symbolLike, singleTerm}
 use Rattle.matching.specs.Part.{rowOf, from, Begin, at-start, one-on, atomOf, termRow}
-use Rattle.matching.specs.Bound.{variableIn, rowAt, valuesOf, HasPlace}
+use Rattle.matching.specs.Bound.{variableIn, valuesOf, HasPlace}
 use Rattle.matching.specs.Step.{found, firstVariable, eachLength, openTerm}
 use Rattle.matching.specs.Least.{termsIn, leastOf, freeOf, atomLeast, atomFree, leastTerms, freeIn, NeedsOf, variableTerm, Passes}
 use Rattle.matching.specs.declared.Needs.{Needs}
-use Rattle.matching.specs.declared.Length.{Length}
 use Rattle.matching.specs.declared.Bindings.{Bindings}
-use Rattle.matching.specs.declared.Place.{Place}
 use Rattle.matching.specs.declared.Place.the-variants.{At, Free}
 use Rattle.matching.proofs.SameLaws.{false-not-true, variable-sound, atom-sound}
 use Rattle.matching.proofs.SearchLaws.{in-when, in-all-or-first, in-map, in-each, in-splits, choices-kinded, choices-sound}
 use Rattle.matching.proofs.PartLaws.{row-empty, row-node}
 use Rattle.matching.proofs.CutLaws.{from-all, from-length, from-from}
-use Rattle.matching.proofs.LengthLaws.{lengthsFrom, leftAt, lengthAt, left-first, left-more}
+use Rattle.matching.proofs.LengthLaws.{lengthsFrom, leftAt, left-first, left-more}
 
 terms-append : {A : Type 0} (x y : Terms A) → termsIn (x ⊕ y) ≡ termsIn x + termsIn y
 terms-append nothing y = omega arith
@@ -369,7 +367,9 @@ module _ (text : List ℕ) (back : Bool) (pattern row : List ℕ) (vs : Values A
   long-passed n at-start none-free h = left-first text back pattern row vs
   long-passed n (one-on {n = m} long b) none-free h =
       let terms = next-terms row m long refl text in
-      let nothing-here = length-long back (rowOf text (rest 24 endOf pattern)) (firstVariable text pattern) vs without of-kind (rowOf text (take m row)) (rowOf text (from m row)) (omega (arith, free-is)) (omega (arith, needed-is, terms)) in
+      let nothing-here =
+      length-long back (rowOf text (rest 24 endOf pattern)) (firstVariable text pattern) vs without of-kind (rowOf text (take m row)) (rowOf text (from m row))
+      (omega (arith, free-is)) (omega (arith, needed-is, terms)) in
       long-passed m b none-free (omega (arith, terms)) ∙ left-more text back pattern row vs m b long
       ∙ ap (λ l. l ++ leftAt text back pattern row vs (m + endOf (from m row))) nothing-here
 

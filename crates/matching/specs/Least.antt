@@ -74,7 +74,8 @@ variableTerm Bracket = false
 variableTerm (Call a b) = false
 variableTerm (Block n) = false
 
--- lengths of a row before this one are passed, and so many terms are left after it. They are passed only where no e. variable is free, and leave more than needed
+-- an end of a length of the row, and the number of terms that it leaves. Shorter lengths are passed over only where no e. variable is free, and leave more
+-- terms than are needed
 pub record Passes (row : List ℕ) (needs : Needs) (end left : ℕ) : Type 0 where
   pub begins : Begin row end
   pub counted : (text : List ℕ) → left ≡ termsIn (rowOf text (from end row))

@@ -58,8 +58,8 @@ pub enum First {
     Inside,
 }
 
-// What a pattern needs of a row that it matches: at least so many terms, and not more where this many e. variables without a value, which may match any number,
-// are none. Brackets are one term.
+// What a pattern needs of a row: at least so many terms, brackets counted as one, and exactly so many where none of its e. variables is free. Free are those
+// without a value, outside brackets.
 pub struct Needs {
     pub terms: usize,
     pub free: usize,
@@ -484,7 +484,7 @@ fn terms_in(part: &[u8]) -> usize
     }
 }
 
-// What the first record of a pattern needs of a row.
+// What the first term of a pattern needs.
 fn first_needs<'a>(
     text: &[u8],
     terms: &[u8],
@@ -524,7 +524,7 @@ fn first_needs<'a>(
     }
 }
 
-// What a pattern needs of a row, by the values that variables have.
+// What a pattern needs, by the values that variables have. A symbol, brackets and an s. or t. variable without a value match one term each.
 pub fn needs_of<'a>(
     text: &[u8],
     terms: &[u8],
@@ -556,7 +556,7 @@ pub fn needs_of<'a>(
     }
 }
 
-// The first length of a row that an e. variable need try: where no other is open, the only one that leaves as many terms as are needed.
+// The first length of a row that need be tried for an e. variable before a pattern that needs this: the lengths before it leave too many terms.
 pub fn first_length(row: &[u8], needs: Needs) -> Length
     ensures { λ r. ⌜ Passes (now (row .entry)) needs (r .end) (r .left) ⌝ }
 {

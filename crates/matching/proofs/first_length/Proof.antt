@@ -1,5 +1,4 @@
 -- `first_length` meets its contract, by a law of proofs/LeastLaws.antt for each turn of the loop.
-use Prim.Native.Nat.{ℕ}
 use mathlib.Core.List.{[]}
 use native.Mathlib.Omega.{arith}
 use borrow.Author.Needs.{needs}

@@ -16,7 +16,7 @@ use Rattle.matching.specs.Asked.{firstIn}
 use Rattle.matching.specs.Part.{rowOf, from, Begin, one-on}
 use Rattle.matching.proofs.CutLaws.{begin-inside, from-length}
 use Rattle.matching.proofs.LeastLaws.{next-terms}
-use Rattle.matching.proofs.LengthLaws.{leftAt, left-first, length-search}
+use Rattle.matching.proofs.LengthLaws.{leftAt}
 use Rattle.matching.proofs.AskedLaws as calls
 use Rattle.matching.proofs.ShadowSteps as returns
 use borrow.Fn.Kinds.{In}
