@@ -104,8 +104,7 @@ fn literal_lengths(
     let end = end_of(pattern);
     let rest = &pattern[end..];
     let next = at + end;
-    let len = b.count;
-    let needs = needs_of(text, terms, rest, &b.keys, &b.starts, &b.sizes, len);
+    let needs = needs_of(text, terms, rest, &b.keys, &b.starts, &b.sizes, b.count);
     let first = first_length(row, needs);
     let needed = needs.terms;
     let mut room = first.left;

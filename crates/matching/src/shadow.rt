@@ -29,6 +29,16 @@ pub struct Matched {
     pub bindings: Bindings,
 }
 
+// There is no match.
+fn unmatched(b: Bindings) -> Matched
+    ensures { λ r. ⌜ (r .ok ≡ false) × (r .bindings ≡ b) ⌝ }
+{
+    Matched {
+        ok: false,
+        bindings: b,
+    }
+}
+
 // An e. variable without a value, then the rest of the pattern: every length in turn that leaves enough of the row for the rest, and not too much.
 fn shadow_lengths(
     text: &[u8],
@@ -47,8 +57,7 @@ fn shadow_lengths(
     let end = end_of(pattern);
     let rest = &pattern[end..];
     let next = at + end;
-    let len = b.count;
-    let needs = needs_of(text, terms, rest, &b.keys, &b.starts, &b.sizes, len);
+    let needs = needs_of(text, terms, rest, &b.keys, &b.starts, &b.sizes, b.count);
     let first = first_length(row, needs);
     let needed = needs.terms;
     let mut room = first.left;
@@ -56,10 +65,7 @@ fn shadow_lengths(
     loop {
         let left = &row[n..];
         if room < needed {
-            break Matched {
-                ok: false,
-                bindings: b,
-            };
+            break unmatched(b);
         }
         let more = bind(b, at, start, n);
         let m = shadow_run(text, terms, rest, next, left, start + n, more);
@@ -124,10 +130,7 @@ fn shadow_run(
     }
     let len = b.count;
     match first_of(text, terms, pattern, row, &b.keys, &b.starts, &b.sizes, len) {
-        First::Fails => Matched {
-            ok: false,
-            bindings: b,
-        },
+        First::Fails => unmatched(b),
         First::Goes(m, n) => {
             shadow_run(text, terms, &pattern[m..], at + m, &row[n..], start + n, b)
         }

@@ -116,12 +116,12 @@ abbrev outside : List ℕ → List ℕ → Pending → List ℕ → ℕ → List
 outside text terms pending pattern at row start = resume (levelsOf text terms pending (at + length pattern) (start + length row))
 
 abbrev literal-lengths-Inv-loop : literal-lengths-lts.InvT-loop
-literal-lengths-Inv-loop text terms pattern at row start pending b end rest next len needed room₀ n₀ room n =
+literal-lengths-Inv-loop text terms pattern at row start pending b end rest next needed room₀ n₀ room n =
     Begin row n × (room ≡ termsIn (rowOf text (from n row))) × (someHolds (outside text terms pending pattern at row start) (eachLength text true pattern row (valuesOf text terms b))
     ≡ someHolds (outside text terms pending pattern at row start) (leftAt text true pattern row (valuesOf text terms b) n))
 
 abbrev literal-lengths-μ-loop : literal-lengths-lts.MeasureT-loop
-literal-lengths-μ-loop text terms pattern at row start pending b end rest next len needed room₀ n₀ room n = length row - n
+literal-lengths-μ-loop text terms pattern at row start pending b end rest next needed room₀ n₀ room n = length row - n
 
 pub +literal-inside+literal-lengths+literal-out+literal-run-spec : {M : Type 1} → statement M
 +literal-inside+literal-lengths+literal-out+literal-run-spec =

@@ -33,6 +33,7 @@ use Rattle.matching.proofs.shadow.+shadow_inside+shadow_lengths+shadow_
 use Rattle.law.proofs.runs.end_of.Reads as end-of-reads
 use Rattle.matching.proofs.needs_of.Reads as needs-of-reads
 use Rattle.matching.proofs.first_length.Reads as first-length-reads
+use Rattle.matching.proofs.shadow.unmatched.Reads as unmatched-reads
 use Rattle.matching.proofs.bind.Reads as bind-reads
 use Rattle.matching.proofs.first_of.Reads as first-of-reads
 use Rattle.matching.proofs.shadow.+shadow_inside+shadow_lengths+shadow_run.{statement}
@@ -84,11 +85,11 @@ shadow-run-below t =
     and 4 shadow-run-kinds.ps (falls 4 shadow-run-kinds.ps _<_ μ-shadow-run t) shadow-run.Pre
 
 abbrev shadow-lengths-Inv-loop : shadow-lengths-lts.InvT-loop
-shadow-lengths-Inv-loop text terms pattern at row start b end rest next len needed room₀ n₀ room n =
+shadow-lengths-Inv-loop text terms pattern at row start b end rest next needed room₀ n₀ room n =
     Begin row n × (room ≡ termsIn (rowOf text (from n row))) × (firstIn (eachLength text false pattern row (valuesOf text terms b)) ≡ firstIn (leftAt text false pattern row (valuesOf text terms b) n))
 
 abbrev shadow-lengths-μ-loop : shadow-lengths-lts.MeasureT-loop
-shadow-lengths-μ-loop text terms pattern at row start b end rest next len needed room₀ n₀ room n = length row - n
+shadow-lengths-μ-loop text terms pattern at row start b end rest next needed room₀ n₀ room n = length row - n
 
 pub +shadow-inside+shadow-lengths+shadow-run-spec : {M : Type 1} → statement M
 +shadow-inside+shadow-lengths+shadow-run-spec =
@@ -152,6 +153,8 @@ pub +shadow-inside+shadow-lengths+shadow-run-spec : {M : Type 1} → statement M
       needs-of-reads.Learnt,
       first-length-reads.Asked,
       first-length-reads.Learnt,
+      unmatched-reads.Asked,
+      unmatched-reads.Learnt,
       bind-reads.Asked,
       bind-reads.Learnt,
       shadow-run-below t,
@@ -180,6 +183,7 @@ pub +shadow-inside+shadow-lengths+shadow-run-spec : {M : Type 1} → statement M
     (λ c. begin-inside (c .loop .inv .0))
     (λ c. begin-inside (c .loop .inv .0))
     (λ c. search needs)
+    (λ c κs. tt)
     (λ c κs. let start = c .before .before .before .before .before .before .before .before .before .before .before .before .before .before .before .pre in
     let asked = start .1 .0 .0 in (
       (
@@ -212,8 +216,8 @@ pub +shadow-inside+shadow-lengths+shadow-run-spec : {M : Type 1} → statement M
       rw (c .end-of2 .ensures .0) (returns.length-next (start .1 .0 .0) (start .1 .0 .1) (start .1 .1) (c .before .before .before .before .before .before .before .before .before .before .before .before .before .before .before .end-of .ensures .0) (c .before .before .before .before .before .before .before .loop .inv .0) (c .before .before .before .before .bind .ensures)
           (c .before .before .before .shadow-run .result) (c .before .before .before .shadow-run .ensures .1) (c .before .before .before .before .before .before .before .loop .inv .2) (c .before .before .if2 .left) (c .before .if3 .left)),
     ))
-    (λ c. let start = c .before .before .before .before .before .before .before .before .before .before .before .before .before .before .before .pre in
-    (start .1 .0 .0 .kept, returns.length-short (start .1 .0 .0) (start .1 .0 .1) (start .1 .1) (start .1 .0 .2) (c .before .before .before .before .before .before .before .before .before .before .end-of .ensures .0) (c .before .before .before .before .needs-of .ensures) (c .before .before .loop .n) (c .before .before .loop .inv .1) (c .if1 .taken) (c .before .before .loop .inv .2)))
+    (λ c. let start = c .before .before .before .before .before .before .before .before .before .before .before .before .before .before .before .before .pre in
+    (rw (c .unmatched .ensures .1) (start .1 .0 .0 .kept), rw (c .unmatched .ensures .0) (returns.length-short (start .1 .0 .0) (start .1 .0 .1) (start .1 .1) (start .1 .0 .2) (c .before .before .before .before .before .before .before .before .before .before .before .end-of .ensures .0) (c .before .before .before .before .before .needs-of .ensures) (c .before .before .before .loop .n) (c .before .before .before .loop .inv .1) (c .before .if1 .taken) (c .before .before .before .loop .inv .2))))
     (λ c. let start = c .before .before .before .before .before .before .before .before .before .before .before .before .before .before .before .before .before .before .pre in (
       c .before .shadow-run .ensures .0,
       returns.length-found (start .1 .0 .0) (start .1 .0 .1) (start .1 .1) (c .before .before .before .before .before .before .before .before .before .before .before .before .before .end-of .ensures .0) (c .before .before .before .before .before .loop .inv .0) (c .before .before .bind .ensures)
@@ -227,6 +231,8 @@ pub +shadow-inside+shadow-lengths+shadow-run-spec : {M : Type 1} → statement M
     λ t. shadow-run-lts.spec (
       first-of-reads.Asked,
       first-of-reads.Learnt,
+      unmatched-reads.Asked,
+      unmatched-reads.Learnt,
       shadow-run-below t,
       shadow-run.Post,
       end-of-reads.Asked,
@@ -243,6 +249,7 @@ pub +shadow-inside+shadow-lengths+shadow-run-spec : {M : Type 1} → statement M
     (λ c. (c .before .before .before .before .before .pre .1 .kept, returns.run-end _ _ _ _ _ (c .if1 .taken)))
     (λ c κs. (c .before .before .before .before .before .before .before .before .before .pre .1 .kept, c .before .before .before .before .if1 .left))
     (λ c. search needs)
+    (λ c κs. tt)
     (λ c. search needs)
     (λ c. returns.goes-falls (c .before .before .before .first-of .ensures) false _ _ (c .before .m .given .1) .0)
     (λ c. returns.goes-falls (c .before .before .before .first-of .ensures) false _ _ (c .before .m .given .1) .0)
@@ -295,7 +302,7 @@ pub +shadow-inside+shadow-lengths+shadow-run-spec : {M : Type 1} → statement M
     (λ c. search needs)
     (λ c κs. let start = c .before .before .before .before .before .before .before .before .before .before .before .before .pre in
     (omega (arith, start .0), (start .1, c .before .before .before .before .before .before .before .if1 .left, returns.inside-facing (c .before .before .first-of .ensures) false (c .enum-told3 .given .1))))
-    (λ c. (c .before .before .before .before .before .before .before .before .before .before .before .before .pre .1 .kept, sym (ap firstIn (returns.step-fails (c .before .before .first-of .ensures) false (c .enum-told .given .1)))))
+    (λ c. (rw (c .unmatched .ensures .1) (c .before .before .before .before .before .before .before .before .before .before .before .before .before .pre .1 .kept), rw (c .unmatched .ensures .0) (sym (ap firstIn (returns.step-fails (c .before .before .before .first-of .ensures) false (c .before .enum-told .given .1))))))
     (λ c. (c .shadow-run .ensures .0, c .shadow-run .ensures .1 ∙ sym (ap firstIn (returns.step-goes (c .before .before .before .before .before .before .first-of .ensures) false _ _ (c .before .before .before .before .m .given .1)))))
     (λ c. let binds = returns.binds-within (c .before .before .before .before .before .before .before .before .first-of .ensures) false _ (c .before .before .before .before .before .before .n .given .1) in
     let values = calls.values-more (c .before .before .before .before .before .before .before .before .before .before .before .before .before .before .before .before .before .before .pre .1) (c .before .before .before .before .before .before .before .before .before .before .before .before .before .if1 .left) (binds .1) (binds .0) (c .before .bind .ensures) in (
