@@ -20,6 +20,8 @@ use crate::settings::Settings;
 /// since one interruption is longer than a small law takes.
 const TURNS: usize = 9;
 const SECONDS: f64 = 2e-4;
+/// All laws are gone through so many times, so that a slow time of the machine meets a law in one of them alone.
+const PASSES: usize = 5;
 const CLEARINGS: usize = 999;
 /// The ratio that no law shall pass.
 const WISHED: f64 = 2.0;
@@ -44,9 +46,17 @@ impl Time {
 
 pub fn run(laws: u64, seed: u64) -> ExitCode {
     let mut buffers = Buffers::new();
-    let times: Vec<Time> = (0..laws)
+    let mut times: Vec<Time> = (0..laws)
         .filter_map(|number| time(seed, number, &mut buffers))
         .collect();
+    for _ in 1..PASSES {
+        for known in &mut times {
+            if let Some(again) = time(seed, known.number, &mut buffers) {
+                known.ours = known.ours.min(again.ours);
+                known.rust = known.rust.min(again.rust);
+            }
+        }
+    }
     println!("{}", row("all", times.iter().collect()));
     let (more, same): (Vec<&Time>, Vec<&Time>) = times.iter().partition(|time| time.bracketed);
     println!("{}", row("bracketed literals", more));

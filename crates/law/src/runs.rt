@@ -15,12 +15,16 @@ ghost use Rattle.law.specs.Places.{conditionsOf, firstCondition};
 ghost use Rattle.law.specs.Runs.{endOf, runFits, conditionFits, sentenceFits};
 ghost use Rattle.law.specs.Index.{Indexed};
 
-// Where the contents of the run's first record end.
+// Where the contents of the run's first record end. Where it has none, the next record is known without a wait for its n.
 pub fn end_of(part: &[u8]) -> usize
     requires { ⌜ 24 ≤ length (now part) ⌝ }
     ensures { λ r. ⌜ (r ≡ endOf (now (part .entry))) × (24 ≤ r) × (r ≤ length (now (part .entry))) ⌝ }
 {
-    let end = 24 + 24 * (word_at(part, 12) as usize);
+    let n = word_at(part, 12) as usize;
+    if n == 0 {
+        return 24;
+    }
+    let end = 24 + 24 * n;
     if end < part.len() { end } else { part.len() }
 }
 

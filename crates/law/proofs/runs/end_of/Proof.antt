@@ -9,6 +9,7 @@ unfolding endOf
 end-of-spec = tie.close (tie.spec
     (λ c κs. search needs)
     (λ c. search needs)
+    (λ c. (omega arith, omega arith, omega arith))
     (λ c. search needs)
     (λ c. search needs)
     (λ c. (omega arith, omega arith, omega arith))
