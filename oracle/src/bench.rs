@@ -20,7 +20,8 @@ use crate::settings::Settings;
 /// since one interruption is longer than a small law takes.
 const TURNS: usize = 9;
 const SECONDS: f64 = 2e-4;
-/// All laws are gone through so many times, so that a slow time of the machine meets a law in one of them alone.
+/// All laws are gone through so many times, and the middle ratio of a law counts: both sides of a ratio are then of one state of
+/// the machine, and a short disturbance meets a law in one pass alone.
 const PASSES: usize = 5;
 const CLEARINGS: usize = 999;
 /// The ratio that no law shall pass.
@@ -34,13 +35,13 @@ struct Time {
     terms: usize,
     /// It has a literal argument with brackets, which is matched here and not in the Rust.
     bracketed: bool,
-    ours: f64,
-    rust: f64,
+    /// One for each pass, in order of size.
+    ratios: Vec<f64>,
 }
 
 impl Time {
     fn ratio(&self) -> f64 {
-        self.ours / self.rust
+        self.ratios[self.ratios.len() / 2]
     }
 }
 
@@ -52,10 +53,12 @@ pub fn run(laws: u64, seed: u64) -> ExitCode {
     for _ in 1..PASSES {
         for known in &mut times {
             if let Some(again) = time(seed, known.number, &mut buffers) {
-                known.ours = known.ours.min(again.ours);
-                known.rust = known.rust.min(again.rust);
+                known.ratios.extend(again.ratios);
             }
         }
+    }
+    for known in &mut times {
+        known.ratios.sort_by(f64::total_cmp);
     }
     println!("{}", row("all", times.iter().collect()));
     let (more, same): (Vec<&Time>, Vec<&Time>) = times.iter().partition(|time| time.bracketed);
@@ -104,13 +107,7 @@ fn time(seed: u64, number: u64, buffers: &mut Buffers) -> Option<Time> {
     let remarks = compared(&law.program, &encoded)?;
     let settings = Settings::strict();
     let (ours, levels) = (settings.ours(), settings.levels());
-    let mut time = Time {
-        number,
-        terms: encoded.terms.len(),
-        bracketed: remarks.bracketed > 0,
-        ours: f64::MAX,
-        rust: f64::MAX,
-    };
+    let (mut least_ours, mut least_rust) = (f64::MAX, f64::MAX);
     let (mut turns, began) = (0, Instant::now());
     while turns < TURNS || began.elapsed().as_secs_f64() < SECONDS {
         turns += 1;
@@ -121,7 +118,7 @@ fn time(seed: u64, number: u64, buffers: &mut Buffers) -> Option<Time> {
             &mut buffers.store,
             &mut buffers.words,
         );
-        time.ours = time.ours.min(start.elapsed().as_secs_f64());
+        least_ours = least_ours.min(start.elapsed().as_secs_f64());
         black_box(&answer).ok()?;
         let start = Instant::now();
         drop(black_box(check_program_with_levels(
@@ -129,9 +126,14 @@ fn time(seed: u64, number: u64, buffers: &mut Buffers) -> Option<Time> {
             settings.mode(),
             &levels,
         )));
-        time.rust = time.rust.min(start.elapsed().as_secs_f64());
+        least_rust = least_rust.min(start.elapsed().as_secs_f64());
     }
-    Some(time)
+    Some(Time {
+        number,
+        terms: encoded.terms.len(),
+        bracketed: remarks.bracketed > 0,
+        ratios: vec![least_ours / least_rust],
+    })
 }
 
 fn row(name: &str, times: Vec<&Time>) -> String {
