@@ -1,14 +1,23 @@
 -- Document 01, "Small laws": "No functions: no findings, 1 round, settled."
-use Prim.Native.Nat.{ℕ, _*_}
-use mathlib.Core.Bool.{true}
+use Prim.Native.Nat.{ℕ, _*_, _≤_, _<_}
+use mathlib.Core.Bool.{Bool, true, false, not}
 use mathlib.Core.List.{List, [], _++_}
-use mathlib.Core.Path.{_≡_, refl, sym, _∙_}
+use mathlib.Core.Path.{_≡_, refl, ap, _∙_}
 use native.Mathlib.Omega.{arith}
-use borrow.Author.Tests.{le-leb}
-use lib.ListN.{length, getD, drop, replicate}
+use borrow.Author.Tests.{le-leb, le-ltb, lt-ltb, not-true, not-false}
+use lib.ListN.{length, drop, replicate}
 use Rattle.file.specs.Answer.{given}
-use Rattle.file.specs.Sections.{File, fileOf}
+use Rattle.file.specs.Below.{every, total}
+use Rattle.file.specs.Sections.{Section, sectionsOf, fileOf}
+use Rattle.file.specs.Fields.{fieldsAllowed}
+use Rattle.file.specs.declared.Sections.{Sections}
+use Rattle.file.proofs.SectionLaws.{Told}
+use Rattle.law.specs.Places.{firstSentence, blockFirst, firstCondition, patternAt}
+use Rattle.law.specs.Runs.{usedUp, runsAllowed, blocksAllowed}
 use Rattle.law.specs.Reading.{functionsFrom, treeOf}
+use Rattle.law.specs.Depth.{depthOf}
+use Rattle.law.specs.Variables.{patternsAllowed}
+use Rattle.law.specs.Law.{lawOf}
 use Rattle.formats.specs.Infer.{namesOf, allAt, round, roundsFrom, arguments, inferWithin, infer}
 use Rattle.formats.specs.Store.{storeSize, entryWords, storeOf}
 use Rattle.shapes.proofs.WrittenLaws.{written-none}
@@ -17,16 +26,29 @@ use Rattle.lints.specs.Dead.{deadFindings}
 use Rattle.lints.specs.Recognition.{recognitionFindings, someOver, argumentsOver}
 use Rattle.lints.specs.Builtin.{builtinFindings}
 use Rattle.lints.specs.Open.{openFindings}
-use Rattle.lints.specs.Levels.{Settings, shown, listingWords}
+use Rattle.lints.specs.Levels.{Settings, settingsAllowed, shown, listingWords}
 use Rattle.lints.specs.Findings.{findingsOf, listing}
+use Rattle.listing.specs.declared.Turned.the-variants as turned
 use Rattle.listing.specs.declared.Found.the-variants as found
-use Rattle.listing.specs.Outcome.{findingsFront}
-use Rattle.listing.specs.Gather.{Prepares}
+use Rattle.listing.specs.Outcome.{front, findingsOutcome}
 use Rattle.listing.specs.Promise.{findingsAfter}
 
-no-functions : (file : File) → file .functions .count ≡ 0 → treeOf file ≡ []
-unfolding treeOf functionsFrom
-no-functions file e = rw e
+-- a file without records is a law without functions
+no-records : (bytes : List ℕ) → sectionsOf bytes ≡ given (fileOf bytes) → fileOf bytes .functions .count ≡ 0 → fileOf bytes .sentences .count ≡ 0
+    → fileOf bytes .conditions .count ≡ 0 → fileOf bytes .terms .count ≡ 0 → lawOf bytes ≡ given []
+unfolding
+    lawOf fieldsAllowed runsAllowed usedUp blocksAllowed patternsAllowed depthOf treeOf functionsFrom firstSentence blockFirst firstCondition patternAt every total
+no-records bytes cut f s c t = rw (cut, f, s, c, t)
+
+-- as the code sees it
+pub empty-law : (bytes : List ℕ) (s : Sections) → Told bytes s → (s .functions ≡ 0) × (s .sentences ≡ 0) × (s .conditions ≡ 0) × (s .terms ≡ 0)
+    → lawOf bytes ≡ given []
+empty-law bytes s told (f, n, c, t) =
+    no-records bytes (told .file) (ap (λ (x : Section). x .count) (told .functions) ∙ f) (ap (λ (x : Section). x .count) (told .sentences) ∙ n)
+    (ap (λ (x : Section). x .count) (told .conditions) ∙ c) (ap (λ (x : Section). x .count) (told .terms) ∙ t)
+
+pub false-says : {P : Type 0} → false ≡ true → P
+false-says e = let z : _≡_ {A = ℕ} 0 1 = cc in absurd (omega arith)
 
 none-listed : (limit : ℕ) (settings : Settings)
     → listing limit settings [] ≡ given (record { formats = record { arguments = []; results = []; rounds = 1; settled = true }; findings = [] })
@@ -35,11 +57,28 @@ unfolding
     openFindings findingsFrom
 none-listed limit settings = refl
 
--- the store is all zeros, and no word of the findings changes
-pub none-found : (settings : Settings) {bytes index : List ℕ} (store words after : List ℕ) → Prepares 64 bytes index store → {count : ℕ} → count ≡ getD index 4 0
-    → count ≡ 0 → after ≡ replicate (storeSize 64) 0 ++ drop (storeSize 64) store
-    → findingsAfter (found.Listed 0 1 true) after words ≡ findingsFront 64 settings store words (given (treeOf (fileOf bytes)))
-unfolding listingWords storeOf entryWords
-none-found settings {bytes} store words after p all none cleared =
-    let empty : fileOf bytes .functions .count ≡ 0 = sym (p .indexed .words .functions) ∙ sym all ∙ none in
-    rw (no-functions (fileOf bytes) empty, none-listed 64 settings, le-leb (8 * length {A = Finding} []) (length words) (omega arith), ← written-none words 0, cleared)
+-- the refusals that are left, 14 and 15; else the store is all zeros, and no word of the findings changes
+module _ (settings : Settings) (bytes store words : List ℕ) (empty : lawOf bytes ≡ given []) {allowed : Bool} (is : allowed ≡ settingsAllowed settings) where
+  pub none-settings : not allowed ≡ true → findingsAfter (found.Refused turned.Settings) store words ≡ findingsOutcome 64 settings bytes store words
+  unfolding findingsOutcome front
+  none-settings h = rw (← is, not-true allowed h)
+
+  module _ (h : not allowed ≡ false) where
+    pub none-short : length store < 8320 → findingsAfter (found.Refused turned.Store) store words ≡ findingsOutcome 64 settings bytes store words
+    unfolding findingsOutcome front
+    none-short short = rw (← is, not-false allowed h, empty, lt-ltb (length store) 8320 short)
+
+    pub none-found : (after : List ℕ) → 8320 ≤ length store → after ≡ replicate (storeSize 64) 0 ++ drop (storeSize 64) store
+        → findingsAfter (found.Listed 0 1 true) after words ≡ findingsOutcome 64 settings bytes store words
+    unfolding findingsOutcome front listingWords storeOf entryWords
+    none-found after enough cleared =
+        rw (
+          ← is,
+          not-false allowed h,
+          empty,
+          le-ltb (length store) 8320 enough,
+          none-listed 64 settings,
+          le-leb (8 * length {A = Finding} []) (length words) (omega arith),
+          ← written-none words 0,
+          cleared,
+        )

@@ -1,12 +1,18 @@
 // What turns a call back before anything is inferred: settings (14), the file (1 to 9), the store's length (15), in this order.
 use crate::Turned;
+use file::Cut;
+use file::Sections;
+use file::sections_of;
 use findings::levels::settings_allowed;
 use law::Check;
 use law::read_law;
-ghost use mathlib.Core.List.{List};
+ghost use mathlib.Core.Bool.{true};
+ghost use mathlib.Core.List.{List, []};
 ghost use mathlib.Core.Path.{_≡_};
 ghost use Prim.Native.Nat.{ℕ};
 ghost use lib.ListN.{length};
+ghost use Rattle.file.specs.Answer.{given};
+ghost use Rattle.law.specs.Law.{lawOf};
 ghost use Rattle.findings.specs.All.{settingsFrom};
 ghost use Rattle.listing.specs.Gather.{FrontIs};
 
@@ -17,7 +23,33 @@ pub enum Front {
 }
 
 // The words of a store: 128 formats of 64 shapes.
-const STORE: usize = 8320;
+pub const STORE: usize = 8320;
+
+// Are there no functions, sentences, conditions and terms?
+fn no_records(sections: Sections) -> bool
+    ensures { λ r. ⌜ (r ≡ true → (sections .functions ≡ 0) × (sections .sentences ≡ 0) × (sections .conditions ≡ 0) × (sections .terms ≡ 0)) ⌝ }
+{
+    if sections.functions != 0 {
+        return false;
+    }
+    if sections.sentences != 0 {
+        return false;
+    }
+    if sections.conditions != 0 {
+        return false;
+    }
+    sections.terms == 0
+}
+
+// Whether a file has none of these. Then it is a law without functions, and no index need be made to see it.
+pub fn is_empty(law: &[u8]) -> bool
+    ensures { λ r. ⌜ (r ≡ true → lawOf (now (law .entry)) ≡ given []) ⌝ }
+{
+    match sections_of(law) {
+        Cut::Refused(_) => false,
+        Cut::Whole(sections) => no_records(sections),
+    }
+}
 
 // Checks settings, a file, and that so many words are a store. The index of a law that is ready is filled.
 pub fn check_front(

@@ -1,26 +1,30 @@
 // The two calls: the findings of a law, and the text of one of them.
 use crate::front::Front;
+use crate::front::STORE;
 use crate::front::check_front;
+use crate::front::is_empty;
 use crate::gather::Gathered;
 use crate::gather::gather;
 use file::Refusal;
 use findings::all::lint_all;
+use findings::levels::settings_allowed;
 use formats::call::clear_store;
 use formats::slots::slots_of;
-use law::places::functions;
 use law::places::sentences;
 use messages::put_message;
 use shapes::copy_words;
+ghost use mathlib.Core.List.{List, []};
 ghost use mathlib.Core.Path.{_≡_};
-ghost use Prim.Native.Nat.{_*_, _≤_};
+ghost use Prim.Native.Nat.{ℕ, _*_, _≤_};
 ghost use lib.ListN.{length};
 ghost use Rattle.file.specs.Answer.{given};
 ghost use Rattle.file.specs.Sections.{fileOf};
+ghost use Rattle.law.specs.Law.{lawOf};
 ghost use Rattle.law.specs.Reading.{treeOf};
 ghost use Rattle.shapes.specs.Written.{written};
 ghost use Rattle.lints.specs.Levels.{Settings, listingWords};
 ghost use Rattle.findings.specs.All.{settingsFrom};
-ghost use Rattle.listing.specs.Outcome.{findingsFront, textFront, textOf, findingAt, textOutcome};
+ghost use Rattle.listing.specs.Outcome.{findingsFront, findingsOutcome, textFront, textOf, findingAt, textOutcome};
 ghost use Rattle.listing.specs.Gather.{Prepares, shownIn, Collected};
 ghost use Rattle.listing.specs.Promise.{findingsAfter, textAfter, toldPair, FindingsPromise};
 
@@ -122,7 +126,7 @@ fn findings_gathered(
     }
 }
 
-// The same, with a buffer by the number of sentences. Where the law has no functions there are no findings, and one round settles.
+// The same, with a buffer by the number of sentences.
 fn findings_ready(
     law: &[u8],
     index: &[u16; 972],
@@ -135,10 +139,6 @@ fn findings_ready(
     ensures { λ r. ⌜ findingsAfter r (now (store .exit)) (now (words .exit))
         ≡ findingsFront 64 (settingsFrom mode (now (overrides .entry))) (now (store .entry)) (now (words .entry)) (given (treeOf (fileOf (now (law .entry))))) ⌝ }
 {
-    if functions(index) == 0 {
-        clear_store(store, LIMIT);
-        return Found::Listed(0, 1, true);
-    }
     if sentences(index) <= FEW {
         let mut few = [0u32; OWN_FEW];
         return findings_gathered(
@@ -155,6 +155,21 @@ fn findings_ready(
     findings_gathered(law, index, mode, overrides, store, &mut own[..OWN], words)
 }
 
+// The findings call, of a law without functions: there are no findings, and one round settles.
+fn findings_none(mode: u32, overrides: &[u32], store: &mut [u32]) -> Found
+    ensures { λ r. ⌜ ((bytes words : List ℕ) → lawOf bytes ≡ given [] → findingsAfter r (now (store .exit)) words
+        ≡ findingsOutcome 64 (settingsFrom mode (now (overrides .entry))) bytes (now (store .entry)) words) ⌝ }
+{
+    if !settings_allowed(mode, overrides) {
+        return Found::Refused(Turned::Settings);
+    }
+    if store.len() < STORE {
+        return Found::Refused(Turned::Store);
+    }
+    clear_store(store, LIMIT);
+    Found::Listed(0, 1, true)
+}
+
 // Lists the findings of a law under settings: their number, eight words each, and the formats in the store.
 pub fn findings(
     mode: u32,
@@ -165,6 +180,9 @@ pub fn findings(
 ) -> Found
     ensures { λ r. ⌜ FindingsPromise 64 (settingsFrom mode (now (overrides .entry))) (now (law .entry)) (now (store .entry)) (now (words .entry)) (now (store .exit)) (now (words .exit)) r ⌝ }
 {
+    if is_empty(law) {
+        return findings_none(mode, overrides, store);
+    }
     let mut index: [u16; 972] = [0; 972];
     match check_front(mode, overrides, law, store.len(), &mut index) {
         Front::Refused(why) => Found::Refused(why),

@@ -1,8 +1,9 @@
--- A call that its front turns back, or the findings of a law that is ready, with its index.
+-- A law without functions, a call that its front turns back, or the findings of a law that is ready, with its index.
 use mathlib.Core.Path.{refl}
 use borrow.Author.Needs.{needs}
 use Rattle.findings.specs.All.{settingsFrom}
 use Rattle.listing.proofs.CallLaws.{front-ready, findings-turned, findings-goes}
+use Rattle.listing.proofs.PromiseLaws.{promise}
 use Rattle.listing.proofs.findings.Statement.{statement}
 use Rattle.listing.proofs.findings.Tie as tie
 
@@ -11,22 +12,31 @@ findings-spec =
     tie.close
     (tie.spec
     (λ c κs. search needs)
+    (λ c κs. search needs)
+    (λ c. search needs)
+    (λ c.
+    let start = c .before .before .before .before .before .before .before .before .before .before in
+    let settings = settingsFrom (start .args .mode) (start .args .overrides .now) in
+    let the-none = c .before .before .findings-none in
+    promise 64 settings (start .args .law .now) (start .args .store .now) (start .args .words .now) _ _ (the-none .result)
+    (the-none .ensures (start .args .law .now) (start .args .words .now) (c .before .before .before .before .before .is-empty .ensures (c .before .before .before .before .if1 .taken))))
+    (λ c κs. search needs)
     (λ c. search needs)
     (λ c. search needs)
     (λ c κs.
-    let start = c .before .before .before .before .before .before .before .before .before .before .before in
+    let start = c .before .before .before .before .before .before .before .before .before .before .before .before .before in
     let settings = settingsFrom (start .args .mode) (start .args .overrides .now) in
     let front = c .before .before .before .before .before .check-front in
     front-ready settings (start .args .law .now) (start .args .store .now) _ _ (front .ensures _ refl) (c .before .before .before .enum-told .given .1))
     (λ c.
-    let start = c .before .before .before .before .before .before .before .before .before in
+    let start = c .before .before .before .before .before .before .before .before .before .before .before in
     let settings = settingsFrom (start .args .mode) (start .args .overrides .now) in
     let front = c .before .before .before .check-front in
     findings-turned settings (start .args .law .now) (start .args .store .now) _ _ (front .ensures _ refl) _ _ (c .before .why .given .1))
     (λ c. search needs)
     (λ c. search needs)
     (λ c.
-    let start = c .before .before .before .before .before .before .before .before .before .before .before .before .before .before .before .before in
+    let start = c .before .before .before .before .before .before .before .before .before .before .before .before .before .before .before .before .before .before in
     let settings = settingsFrom (start .args .mode) (start .args .overrides .now) in
     let front = c .before .before .before .before .before .before .before .before .before .before .check-front in
     let ready = c .before .before .before .before .findings-ready in

@@ -1,0 +1,20 @@
+-- The counts are those of the file's sections.
+use borrow.Author.Needs.{needs}
+use Rattle.file.proofs.SectionLaws.{cut-whole}
+use Rattle.listing.proofs.EmptyLaws.{empty-law, false-says}
+use Rattle.listing.proofs.front.is_empty.Statement.{statement}
+use Rattle.listing.proofs.front.is_empty.Tie as tie
+
+pub is-empty-spec : {M : Type 1} → statement M
+is-empty-spec =
+    tie.close
+    (tie.spec
+    (λ c κs. search needs)
+    (λ c. search needs)
+    (λ c. search needs)
+    (λ c κs. search needs)
+    (λ c. false-says)
+    (λ c.
+    let start = c .before .before .before .before .before .before in
+    let the-sections-of = c .before .before .before .before .sections-of in
+    λ yes. empty-law (start .args .law .now) _ (cut-whole (start .args .law .now) _ _ (the-sections-of .ensures) (c .before .before .sections .given .1)) (c .no-records .ensures yes)))
