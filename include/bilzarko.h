@@ -12,7 +12,7 @@
  *   reads or writes it before the call returns; nothing writes the overrides and the law before then;
  * - where the number of elements is 0 the pointer is not used: it may be null or point anywhere;
  * - `answer` is never null;
- * - a call needs about 1 MiB of stack. With less, the system ends the process at the guard page.
+ * - a call needs up to 1.2 MiB of stack. With less, the system ends the process at the guard page.
  */
 #ifndef BILZARKO_H
 #define BILZARKO_H

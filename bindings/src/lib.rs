@@ -4,7 +4,7 @@
 //! says what they answer. This crate declares them again and gives each a safe function: any arguments that its types
 //! allow may be passed. The archive is for x86-64 Linux.
 //!
-//! A call needs about 1 MiB of stack. Where a thread has less, the system ends the process at the stack's guard page.
+//! A call needs up to 1.2 MiB of stack. Where a thread has less, the system ends the process at the stack's guard page.
 #![deny(missing_docs)]
 
 use std::fmt;
