@@ -91,7 +91,7 @@ pub fn spelled(text: &[u8], start: u32, len: u32) -> &[u8]
 }
 
 // Are the first records of these parts the same symbol or the same variable?
-fn atoms_same(text: &[u8], x: &[u8], y: &[u8]) -> bool
+pub fn atoms_same(text: &[u8], x: &[u8], y: &[u8]) -> bool
     requires { ⌜ (24 ≤ length (now x)) × (24 ≤ length (now y)) ⌝ }
     ensures { λ r. ⌜ r ≡ sameAtom (atomOf (now (text .entry)) (termAt (now (x .entry)) 0)) (atomOf (now (text .entry)) (termAt (now (y .entry)) 0)) ⌝ }
 {
@@ -114,7 +114,7 @@ fn atoms_same(text: &[u8], x: &[u8], y: &[u8]) -> bool
 }
 
 // Is the first record of this part a bracket?
-fn is_bracket(part: &[u8]) -> bool
+pub fn is_bracket(part: &[u8]) -> bool
     requires { ⌜ 24 ≤ length (now part) ⌝ }
     ensures { λ r. ⌜ r ≡ isBracket (termAt (now (part .entry)) 0) ⌝ }
 {
@@ -286,7 +286,7 @@ fn is_single(term: Term) -> bool
 }
 
 // May an s. or t. variable stand for this term?
-fn may_stand(variable: Term, term: Term) -> bool
+pub fn may_stand(variable: Term, term: Term) -> bool
     ensures { λ r. ⌜ r ≡ mayStand variable term ⌝ }
 {
     match variable {
@@ -469,7 +469,7 @@ pub fn apart(text: &[u8], pattern: &[u8], row: &[u8]) -> bool
 }
 
 // How many terms a part has; brackets are one term.
-fn terms_in(part: &[u8]) -> usize
+pub fn terms_in(part: &[u8]) -> usize
     ensures { λ r. ⌜ ((text : List ℕ) → r ≡ termsIn (rowOf text (now (part .entry)))) × (r ≤ length (now (part .entry))) ⌝ }
 {
     let mut count = 0;

@@ -1,0 +1,4 @@
+pub mod LooseLaws
+pub mod GreedyLaws
+pub mod FrontLaws
+pub mod OpenLaws

@@ -1,0 +1,3 @@
+pub mod Loose
+pub mod Greedy
+pub mod Ahead
