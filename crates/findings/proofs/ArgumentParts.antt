@@ -14,8 +14,8 @@ use Rattle.law.proofs.PlaceLaws.{condition-next, asked-first, asked-next, asked
 use Rattle.law.proofs.RunLaws.{fits-first, by-records}
 use Rattle.law.proofs.Allowed.{all-used, pattern-fits, result-fits, asked-fits, wanted-fits}
 use Rattle.law.proofs.Owners.{step-around, sentence-of}
-use Rattle.matching.specs.Entry.{argumentPart}
-use Rattle.matching.proofs.Arguments.{record-inside}
+use Rattle.sentences.specs.Entry.{argumentPart}
+use Rattle.sentences.proofs.Arguments.{record-inside}
 
 module _ (file : File) (readable : Readable file) where
   -- the records inside a record fit

@@ -24,7 +24,7 @@ use Rattle.formats.specs.Slots.{callFolded}
 use Rattle.formats.proofs.SlotLaws.{call-name-inside, call-name-read}
 use Rattle.matching.specs.Match.{when, each}
 use Rattle.matching.specs.Literal.{isLiteral}
-use Rattle.matching.specs.Entry.{argumentPart, argumentIn}
+use Rattle.sentences.specs.Entry.{argumentPart, argumentIn}
 use Rattle.lints.specs.Finding.{byFormats, byLiterals, Failure}
 use Rattle.lints.specs.Recognition.{compared, passed, accepted, remark, judged}
 use Rattle.lints.specs.Calls.{Call}

@@ -20,7 +20,7 @@ use Rattle.law.proofs.Functions.{kept-reads}
 use Rattle.matching.specs.Pattern.{Pattern, patternOf}
 use Rattle.matching.specs.Part.{rowOf}
 use Rattle.matching.specs.Shadow.{shadows, shadowsWith}
-use Rattle.matching.specs.Entry.{patternIn}
+use Rattle.sentences.specs.Entry.{patternIn}
 use Rattle.matching.proofs.PartLaws.{row-run}
 use Rattle.lints.specs.Finding.{Remark}
 use Rattle.lints.specs.Dead.{Earlier, unconditional, earliest, deadAfter}

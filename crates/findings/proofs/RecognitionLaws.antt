@@ -40,7 +40,7 @@ use Rattle.formats.proofs.SlotLaws.{function-placed}
 use Rattle.matching.specs.Pattern.{Symbol}
 use Rattle.matching.specs.Literal.{isLiteral, literalTerms, literalMatches}
 use Rattle.matching.specs.Part.{rowOf, literalPart, symbolsOf}
-use Rattle.matching.specs.Entry.{argumentPart, argumentIn}
+use Rattle.sentences.specs.Entry.{argumentPart, argumentIn}
 use Rattle.matching.proofs.PartLaws.{row-run}
 use Rattle.matching.proofs.LiteralParts.{part-literal, part-symbols}
 use Rattle.lints.specs.Recognition.{someMatches, comparedWith, compared, passed, accepted}

@@ -27,7 +27,7 @@ use Rattle.law.proofs.PlaceLaws.{function-inside}
 use Rattle.law.proofs.IndexLaws.{functions-limit, sentences-limit, conditions-limit, terms-limit, sentences-before, conditions-before, owns, owned, asked-fits}
 use Rattle.formats.specs.Infer.{Inferred}
 use Rattle.matching.specs.Match.{when, each}
-use Rattle.matching.specs.Entry.{argumentPart, argumentIn}
+use Rattle.sentences.specs.Entry.{argumentPart, argumentIn}
 use Rattle.matching.specs.Part.{from}
 use Rattle.matching.proofs.CutLaws.{from-length, from-from, from-all}
 use Rattle.lints.specs.Open.{openIn}

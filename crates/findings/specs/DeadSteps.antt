@@ -6,7 +6,7 @@ use Rattle.file.specs.Word.{wordAt}
 use Rattle.file.specs.Sections.{File}
 use Rattle.law.specs.Tree.{keep}
 use Rattle.law.specs.Reading.{markAt, sentencesAt}
-use Rattle.matching.specs.Entry.{patternIn}
+use Rattle.sentences.specs.Entry.{patternIn}
 use Rattle.lints.specs.Dead.{earliest, deadBy, deadAfter}
 use Rattle.lints.specs.Records.{earlierAt}
 use Rattle.findings.specs.declared.Task.{Task}

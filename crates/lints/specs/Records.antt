@@ -13,7 +13,7 @@ use Rattle.law.specs.Law.{Accepted}
 use Rattle.formats.specs.Infer.{Inferred}
 use Rattle.formats.specs.Slots.{fileNames}
 use Rattle.formats.specs.Turns.{Asked, Holding, argumentsIn, resultsIn}
-use Rattle.matching.specs.Entry.{argumentIn}
+use Rattle.sentences.specs.Entry.{argumentIn}
 use Rattle.lints.specs.Calls.{Call}
 use Rattle.lints.specs.Dead.{Earlier, unconditional}
 

@@ -1,36 +1,31 @@
 -- What is still to be matched around the brackets that were gone into (`Pending`, specs/Asked.antt): one level more, and one level out.
-use Prim.Native.Nat.{ℕ, zero, suc, _+_, _-_, _≤_, _<_, max}
+use Prim.Native.Nat.{ℕ, zero, suc, _+_, _-_, _≤_, _<_}
 use mathlib.Core.Bool.{Bool, true, false, _||_}
 use mathlib.Core.List.{List, [], _∷_, _++_}
 use mathlib.Core.Path.{_≡_, refl, sym, ap, subst, _∙_}
 use native.Mathlib.Omega.{arith}
 use native.Mathlib.Decide.{decLt}
-use native.Mathlib.Nat.{add-assoc}
 use lib.ListN.{length, take, drop, getD, set, length-take, length-drop, length-set}
 use lib.Seq.{getD-set-same, getD-set-other}
 use Rattle.file.specs.Forest.{contents, rest}
 use Rattle.file.specs.Head.{termAt}
 use Rattle.file.specs.declared.Term.{Term}
 use Rattle.file.specs.declared.Term.the-variants.{Symbolic, SVariable, TVariable, EVariable, Bracket, Call, Block}
-use Rattle.law.specs.Expression.{nothing, symbol, brackets}
+use Rattle.law.specs.Expression.{nothing, brackets}
 use Rattle.law.specs.Runs.{endOf}
-use Rattle.law.specs.Tree.{expressionKind}
 use Rattle.law.proofs.RunLaws.{end-low, end-high}
 use Rattle.matching.specs.Pattern.{Atom, Pattern}
 use Rattle.matching.specs.Match.{Values, each}
 use Rattle.matching.specs.Part.{rowOf, from, Begin, at-start, one-on, Stands, termRow}
 use Rattle.matching.specs.Bound.{valuesOf, Kept, Bound}
-use Rattle.matching.specs.Least.{termsIn, NeedsOf, Passes}
 use Rattle.matching.specs.Step.{found, Free, Facing, firstVariable, eachLength, eachInside}
 use Rattle.matching.specs.Capacity.{variablesIn, Capacity}
 use Rattle.matching.specs.Asked.{someHolds, Asked, nesting, resume, comingIn, between, levels, LevelsIn, levelsOf, Around, LiteralAsked}
 use Rattle.matching.specs.declared.Bindings.{Bindings}
-use Rattle.matching.specs.declared.Needs.{Needs}
 use Rattle.matching.specs.declared.literal.Pending.{Pending}
-use Rattle.matching.proofs.PartLaws.{row-empty, row-node}
+use Rattle.matching.proofs.PartLaws.{row-node}
 use Rattle.matching.proofs.CutLaws.{from-length, from-all, from-from, stands-from, begin-inside}
-use Rattle.matching.proofs.LeastLaws.{left-short, left-passed}
-use Rattle.matching.proofs.LengthLaws.{leftAt, lengthAt, left-last, left-more, length-search}
+use Rattle.matching.proofs.LengthLaws.{leftAt, lengthAt, left-first, left-last, left-more, length-search}
 use Rattle.matching.proofs.CapacityLaws.{capacity-right}
 use Rattle.matching.proofs.AskedLaws.{asked-later, asked-more, asked-inside, row-brackets, values-more}
 use Rattle.matching.proofs.ShadowSteps.{end-both}
@@ -341,17 +336,8 @@ module _ {text terms pattern : List ℕ} {at : ℕ} {row : List ℕ} {start : �
   abbrev this-length : ℕ → List (Values Atom)
   this-length = lengthAt text true pattern row (valuesOf text terms b)
 
-  module _ (of-kind : firstVariable text pattern .kind ≡ expressionKind) {end : ℕ} (ends : end ≡ endOf pattern) {needs : Needs}
-      (told : NeedsOf (valuesOf text terms b) (rowOf text (from end pattern)) needs) where
-    -- the lengths that are passed do not match
-    pub lengths-start : {n room : ℕ} → Passes row needs n room → someHolds outside all-lengths ≡ someHolds outside (lengths-left n)
-    lengths-start passes = ap (someHolds outside) (left-passed text true pattern row (valuesOf text terms b) (free .without) of-kind ends told passes)
-
-    -- too little is left for the rest of the pattern
-    pub length-short : (n : ℕ) {room : ℕ} → room ≡ termsIn (rowOf text (from n row)) → room < needs .terms
-        → someHolds outside all-lengths ≡ someHolds outside (lengths-left n) → false ≡ someHolds outside all-lengths
-    unfolding someHolds
-    length-short n counted h whole = sym (whole ∙ ap (someHolds outside) (left-short text true pattern row (valuesOf text terms b) (free .without) of-kind ends told n counted h))
+  pub lengths-start : someHolds outside all-lengths ≡ someHolds outside (lengths-left 0)
+  lengths-start = ap (someHolds outside) (left-first text true pattern row (valuesOf text terms b))
 
   module _ {end n : ℕ} (ends : end ≡ endOf pattern) (begin : Begin row n) {c : Bindings} (more : Bound b at start n c) (x : Bool)
       (answer : x ≡ someHolds (resume (levelsOf text terms p (at + end + length (from end pattern)) (start + n + length (from n row))))

@@ -11,13 +11,9 @@ pub mod AskedLaws
 pub mod ShadowSteps
 pub mod ShadowStart
 pub mod LevelLaws
-pub mod SentencePatterns
-pub mod Arguments
-pub mod SentenceLaws
 pub mod SameLaws
 pub mod RowLaws
 pub mod SearchLaws
-pub mod LeastLaws
 pub mod FillLaws
 pub mod ShadowLaws
 pub mod DigitLaws

@@ -1,8 +1,8 @@
 -- Literal matching from the start: nothing is around the pattern and the row, and no variable has a value.
 use Prim.Native.Nat.{ℕ, _+_, _≤_, _<_}
-use mathlib.Core.Bool.{Bool, true, false}
+use mathlib.Core.Bool.{Bool, true}
 use mathlib.Core.List.{List, []}
-use mathlib.Core.Path.{_≡_, sym, ap, _∙_}
+use mathlib.Core.Path.{_≡_, _∙_}
 use native.Mathlib.Omega.{arith}
 use lib.ListN.{length}
 use Rattle.law.specs.Variables.{distinct}
@@ -52,9 +52,3 @@ module _ (text terms : List ℕ) (p : Pending) (alone : p .count ≡ 0) (b : Bin
       let search : r ≡ someHolds (resume []) (found true (rowOf text pattern) (rowOf text row) none-bound) =
       rw (levels-none (at + length pattern) (start + length row), unbound) at e in
       search ∙ literal-found text row (rowOf text pattern) h
-
--- where the first record shows that there is no match
-pub literal-apart : (text pattern row : List ℕ) → literalPart row ≡ true → found true (rowOf text pattern) (rowOf text row) none-bound ≡ []
-    → false ≡ literalMatches (rowOf text pattern) (symbolsOf text row)
-unfolding someHolds
-literal-apart text pattern row h e = sym (ap (someHolds (resume [])) e) ∙ literal-found text row (rowOf text pattern) h

@@ -62,7 +62,7 @@ module _ {X : Type 0} where
 
 module _ {A : Type 0} where
   -- a cut row is its two parts
-  pub in-splits : (x : Terms A) {q : Terms A × Terms A} → List·Memᴰ q (splits x) → x ≡ q .0 ⊕ q .1
+  in-splits : (x : Terms A) {q : Terms A × Terms A} → List·Memᴰ q (splits x) → x ≡ q .0 ⊕ q .1
   unfolding splits
   in-splits nothing (List·Memᴰ·head e) = rw e
   in-splits (symbol a x) (List·Memᴰ·head e) = rw e
@@ -152,7 +152,7 @@ module _ {A : Type 0} (same : A → A → Bool) (ofLaw : Symbol → A) (isSymbol
   found = matches same ofLaw isSymbol isSingle back
 
   -- what a variable without a value may stand for is of its kind
-  pub choices-kinded : (k : Kind) (x : Terms A) {q : Terms A × Terms A} → List·Memᴰ q (may none k x) → OfKind isSymbol isSingle k (q .0)
+  choices-kinded : (k : Kind) (x : Terms A) {q : Terms A × Terms A} → List·Memᴰ q (may none k x) → OfKind isSymbol isSingle k (q .0)
   unfolding choices
   choices-kinded symbolKind (symbol a x) m = let (h, l) = in-when (isSymbol a) _ m in rw (List·Memᴰ·eq-of-singleton l) h
   choices-kinded termKind (symbol a x) m = let (h, l) = in-when (isSingle a) _ m in rw (List·Memᴰ·eq-of-singleton l) h
@@ -167,7 +167,7 @@ module _ {A : Type 0} (same : A → A → Bool) (ofLaw : Symbol → A) (isSymbol
 
   module _ (sound : (a b : A) → same a b ≡ true → a ≡ b) where
     -- what a variable stands for, and what follows, are the row
-    pub choices-sound : (o : Option (Terms A)) (k : Kind) (x : Terms A) {q : Terms A × Terms A} → List·Memᴰ q (may o k x) → x ≡ q .0 ⊕ q .1
+    choices-sound : (o : Option (Terms A)) (k : Kind) (x : Terms A) {q : Terms A × Terms A} → List·Memᴰ q (may o k x) → x ≡ q .0 ⊕ q .1
     unfolding choices
     choices-sound (some y) k x m = let (r, l, e) = in-map _ (after same y x) m in rw e (in-after same sound y x l)
     choices-sound none symbolKind (symbol a x) m = rw (List·Memᴰ·eq-of-singleton (in-when (isSymbol a) _ m .1))

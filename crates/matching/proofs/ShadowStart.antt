@@ -1,9 +1,9 @@
 -- Shadowing from the start: no variable has a value.
 use Prim.Native.Nat.{ℕ, _≤_, _<_}
 use mathlib.Core.Bool.{Bool, true, false, cond}
-use mathlib.Core.List.{List, [], _∷_, _++_}
-use mathlib.Core.Option.{Option, none, some}
-use mathlib.Core.Path.{_≡_, refl, sym, ap, _∙_}
+use mathlib.Core.List.{List, [], _∷_}
+use mathlib.Core.Option.{none, some}
+use mathlib.Core.Path.{_≡_, refl}
 use lib.ListN.{length}
 use Rattle.law.specs.Variables.{distinct}
 use Rattle.matching.specs.Pattern.{Atom}
@@ -43,8 +43,3 @@ module _ (text terms : List ℕ) (b : Bindings) (unbound : valuesOf text terms b
   unfolding shadowsWith ownValues
   shadow-answer pattern row m e =
       first-some-in (m .ok) (valuesOf text terms (m .bindings)) (found false (rowOf text pattern) (rowOf text row) none-bound) (rw unbound at e)
-
--- where the first record shows that there is no match
-pub shadow-apart : (text pattern row : List ℕ) → found false (rowOf text pattern) (rowOf text row) none-bound ≡ [] → false ≡ shadows (rowOf text pattern) (rowOf text row)
-unfolding shadowsWith ownValues
-shadow-apart text pattern row e = sym (ap some-in e)

@@ -7,32 +7,27 @@ use mathlib.Core.Path.{_≡_, refl, sym, ap, _∙_}
 use native.Mathlib.Omega.{arith}
 use native.Mathlib.Decide.{decLt}
 use lib.ListN.{length, take, drop}
-use lib.Dec.{ltb, leb}
-use borrow.Author.Tests.{lt-ltb, le-ltb, lt-leb}
+use lib.Dec.{ltb}
+use borrow.Author.Tests.{lt-ltb, le-ltb}
 use Rattle.file.specs.Forest.{contents, rest}
 use Rattle.file.specs.Head.{termAt}
 use Rattle.file.specs.declared.Term.{Term}
 use Rattle.file.specs.declared.Term.the-variants.{Symbolic, SVariable, TVariable, EVariable, Bracket, Call, Block}
-use Rattle.law.specs.Expression.{nothing, symbol, brackets}
+use Rattle.law.specs.Expression.{nothing}
 use Rattle.law.specs.Runs.{endOf}
-use Rattle.law.specs.Tree.{expressionKind}
 use Rattle.matching.specs.Pattern.{Atom, Pattern}
 use Rattle.matching.specs.Match.{Values, bound, each, all-or-first, matches}
 use Rattle.matching.specs.Part.{rowOf, from, Begin, termRow}
 use Rattle.matching.specs.Bound.{valuesOf, Bound}
-use Rattle.matching.specs.Least.{termsIn, NeedsOf, Passes}
 use Rattle.matching.specs.Step.{found, leaves, eachLength, eachInside, Leaves, Free, Facing, firstVariable}
 use Rattle.matching.specs.Asked.{firstIn, Asked, matchedValues}
 use Rattle.matching.specs.declared.Bindings.{Bindings}
-use Rattle.matching.specs.declared.Needs.{Needs}
 use Rattle.matching.specs.declared.shadow.Matched.{Matched}
 use Rattle.matching.specs.declared.First.{First}
 use Rattle.matching.specs.declared.First.the-variants.{Fails, Goes, Binds, Tries, Inside}
-use Rattle.matching.proofs.SameLaws.{false-not-true}
 use Rattle.matching.proofs.PartLaws.{row-empty, row-node}
 use Rattle.matching.proofs.CutLaws.{from-length, begin-inside}
-use Rattle.matching.proofs.LeastLaws.{left-short, left-passed}
-use Rattle.matching.proofs.LengthLaws.{leftAt, lengthAt, left-last, left-more, length-search}
+use Rattle.matching.proofs.LengthLaws.{leftAt, lengthAt, left-first, left-last, left-more, length-search}
 use Rattle.matching.proofs.AskedLaws.{values-more}
 
 -- ---- the first of a list
@@ -81,7 +76,7 @@ module _ {text pattern row : List ℕ} {vs : Values Atom} {r : First} (l : Leave
   pub binds-within : (n : ℕ) → r ≡ Binds n → (n ≤ length row) × Free (rowOf text pattern) (firstVariable text pattern) vs
   binds-within n e = rw e at (l .within)
 
-  pub tries-free : r ≡ Tries → Free (rowOf text pattern) (firstVariable text pattern) vs × (firstVariable text pattern .kind ≡ expressionKind)
+  pub tries-free : r ≡ Tries → Free (rowOf text pattern) (firstVariable text pattern) vs
   tries-free e = rw e at (l .within)
 
   pub inside-facing : r ≡ Inside → Facing (rowOf text pattern) row
@@ -106,14 +101,6 @@ module _ (text pattern row : List ℕ) (back : Bool) (vs : Values Atom) (short :
 
   pub end-one : 24 ≤ length row → found back (rowOf text pattern) (rowOf text row) vs ≡ []
   end-one h = rw (row-empty text pattern short, row-node text row h) (nothing-row text back vs (termAt row 0) _ _)
-
-  -- as `apart` tells it
-  pub end-apart : leb 24 (length row) ≡ true → found back (rowOf text pattern) (rowOf text row) vs ≡ []
-  end-apart e = go (decLt (length row) 24)
-    where
-      go : Dec (length row < 24) → found back (rowOf text pattern) (rowOf text row) vs ≡ []
-      go (yes h) = absurd (false-not-true (sym (lt-leb 24 (length row) h) ∙ e))
-      go (no h) = end-one (omega arith)
 
 -- ---- the returns of `shadow_run`
 
@@ -147,16 +134,8 @@ module _ {text terms pattern : List ℕ} {at : ℕ} {row : List ℕ} {start : �
   abbrev this-length : ℕ → List (Values Atom)
   this-length = lengthAt text false pattern row (valuesOf text terms b)
 
-  module _ (of-kind : firstVariable text pattern .kind ≡ expressionKind) {end : ℕ} (ends : end ≡ endOf pattern) {needs : Needs}
-      (told : NeedsOf (valuesOf text terms b) (rowOf text (from end pattern)) needs) where
-    -- the lengths that are passed do not match
-    pub lengths-start : {n room : ℕ} → Passes row needs n room → firstIn all-lengths ≡ firstIn (lengths-left n)
-    lengths-start passes = ap firstIn (left-passed text false pattern row (valuesOf text terms b) (free .without) of-kind ends told passes)
-
-    -- too little is left for the rest of the pattern
-    pub length-short : (n : ℕ) {room : ℕ} → room ≡ termsIn (rowOf text (from n row)) → room < needs .terms
-        → firstIn all-lengths ≡ firstIn (lengths-left n) → none ≡ firstIn all-lengths
-    length-short n counted h whole = sym (whole ∙ ap firstIn (left-short text false pattern row (valuesOf text terms b) (free .without) of-kind ends told n counted h))
+  pub lengths-start : firstIn all-lengths ≡ firstIn (lengths-left 0)
+  lengths-start = ap firstIn (left-first text false pattern row (valuesOf text terms b))
 
   module _ {end n : ℕ} (ends : end ≡ endOf pattern) (begin : Begin row n) {c : Bindings} (more : Bound b at start n c) (m : Matched)
       (answer : matchedValues text terms m ≡ firstIn (found false (rowOf text (from end pattern)) (rowOf text (from n row)) (valuesOf text terms c)))

@@ -24,7 +24,7 @@ use Rattle.law.proofs.RunLaws.{end-low, end-high}
 use Rattle.law.proofs.Parts.{drop-take}
 use Rattle.matching.specs.Pattern as pattern
 use Rattle.matching.specs.Pattern.{Atom, literal, variable, other, Pattern}
-use Rattle.matching.specs.Match.{Values, none-bound, bound, when, each, valueIn, after, choices, matches}
+use Rattle.matching.specs.Match.{Values, bound, when, each, valueIn, after, choices, matches}
 use Rattle.matching.specs.Shadow.{sameAtom, symbolLike, singleTerm}
 use Rattle.matching.specs.Bound.{variableIn, rowAt}
 use Rattle.matching.specs.Part.{rowOf, from, Begin, at-start, one-on, symbolAt, atomOf, termRow, isBracket}
@@ -327,11 +327,6 @@ module _ (text : List ℕ) {v : Variable} where
     stands-none (Call a b) e o = absurd (other-no e)
     stands-none (Block n) e o = absurd (other-no e)
 
--- at first no variable has a value
-pub none-valued : (v : Variable) → valueIn {A = Atom} none-bound v ≡ none
-unfolding valueIn
-none-valued v = refl
-
 -- what the code asks of terms that it read
 pub open-told : {x t : Term} {r : Bool} → x ≡ t → r ≡ openTerm x → r ≡ openTerm t
 open-told e h = h ∙ ap openTerm e
@@ -378,7 +373,7 @@ module _ (text pattern row : List ℕ) (v : Variable) (vs : Values Atom) (some-l
     unfolding matches choices
     free-tries told e =
         let k : v .kind ≡ expressionKind = open-kind text (termAt pattern 0) first (sym told ∙ e) in
-        record { within = (free, rw the-variable k); search = λ back. rw (the-variable, begins-variable, without, k) }
+        record { within = free; search = λ back. rw (the-variable, begins-variable, without, k) }
 
     module _ {o : Bool} (told : o ≡ openTerm (termAt pattern 0)) (closed : o ≡ false) where
       -- nothing is left of the row

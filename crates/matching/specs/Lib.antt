@@ -6,8 +6,6 @@ pub mod Shadow
 pub mod Part
 pub mod Bound
 pub mod Step
-pub mod Least
 pub mod Capacity
 pub mod Asked
-pub mod Entry
 pub mod Examples

@@ -11,7 +11,6 @@ use Rattle.file.specs.declared.Term.{Term}
 use Rattle.file.specs.declared.Term.the-variants.{Symbolic, SVariable, TVariable, EVariable, Bracket, Call, Block}
 use Rattle.law.specs.Expression.{symbol, brackets}
 use Rattle.law.specs.Runs.{endOf}
-use Rattle.law.specs.Tree.{expressionKind}
 use Rattle.law.specs.Variables.{Variable}
 use Rattle.matching.specs.Pattern.{Atom, literal, variable, Pattern}
 use Rattle.matching.specs.Match.{Values, bound, valueIn, splits, each, all-or-first, matches}
@@ -73,12 +72,12 @@ pub record Facing (p : Pattern) (row : List ℕ) : Type 0 where
   pub begins : p ≡ brackets inside others
   pub some : 24 ≤ length row
 
--- what is known besides: positions are within the parts, one of the pattern is further on and a term begins there, and a variable that gets a value had none, and is an e. variable where every length is tried
+-- what is known besides: positions are within the parts, one of the pattern is further on and a term begins there, and a variable that gets a value had none
 abbrev pub FirstIn : List ℕ → List ℕ → List ℕ → Values Atom → First → Type 0
 FirstIn text pattern row vs Fails = Unit {0}
 FirstIn text pattern row vs (Goes m n) = Begin pattern m × (1 ≤ m) × (n ≤ length row)
 FirstIn text pattern row vs (Binds n) = (n ≤ length row) × Free (rowOf text pattern) (firstVariable text pattern) vs
-FirstIn text pattern row vs Tries = Free (rowOf text pattern) (firstVariable text pattern) vs × (firstVariable text pattern .kind ≡ expressionKind)
+FirstIn text pattern row vs Tries = Free (rowOf text pattern) (firstVariable text pattern) vs
 FirstIn text pattern row vs Inside = Facing (rowOf text pattern) row
 
 -- kinds of terms, by their records: an e. variable; what an s. variable may stand for; what a t. variable may

@@ -7,10 +7,9 @@ use names::indices_equal;
 use names::names_equal;
 use names::numbers_equal;
 ghost use mathlib.Core.Path.{_≡_};
-ghost use mathlib.Core.Bool.{Bool, true};
-ghost use mathlib.Core.List.{List, []};
+ghost use mathlib.Core.List.{List};
 ghost use mathlib.Core.Option.{none, some};
-ghost use Prim.Native.Nat.{ℕ, _+_, _*_, _≤_, _<_, min};
+ghost use Prim.Native.Nat.{ℕ, _+_, _≤_, _<_, min};
 ghost use lib.ListN.{length, take, drop, getD};
 ghost use Rattle.file.specs.Head.{termAt};
 ghost use Rattle.file.specs.declared.Symbol.{Symbol};
@@ -21,11 +20,9 @@ ghost use Rattle.matching.specs.Match.{Values, none-bound, valueIn, afte
 ghost use Rattle.matching.specs.Shadow.{sameAtom};
 ghost use Rattle.matching.specs.Part.{rowOf, isBracket, atomOf, sameFirst};
 ghost use Rattle.matching.specs.Bound.{rowAt, valuesOf, Kept, Bound, places, HasPlace};
-ghost use Rattle.matching.specs.Least.{termsIn, atomLeast, atomFree, NeedsOf, variableTerm, Passes};
-ghost use Rattle.matching.specs.Step.{found, beginsWith, BeginsIn, openTerm, symbolTerm, singleOne, mayStand, Leaves};
+ghost use Rattle.matching.specs.Step.{beginsWith, BeginsIn, openTerm, symbolTerm, singleOne, mayStand, Leaves};
 
 pub mod literal;
-pub mod sentences;
 pub mod shadow;
 
 // Values of variables, in places: the position of the variable's first record among the term records, and the position and the size of the value.
@@ -56,19 +53,6 @@ pub enum First {
     Binds(usize),
     Tries,
     Inside,
-}
-
-// What a pattern needs of a row: at least so many terms, brackets counted as one, and exactly so many where none of its e. variables is free. Free are those
-// without a value, outside brackets.
-pub struct Needs {
-    pub terms: usize,
-    pub free: usize,
-}
-
-// A length of a row, in bytes, and the number of terms after it.
-pub struct Length {
-    pub end: usize,
-    pub left: usize,
 }
 
 // The lesser of two numbers.
@@ -233,21 +217,6 @@ fn is_open(term: Term) -> bool
         Term::Symbolic(_) => false,
         Term::SVariable(_, _) => false,
         Term::TVariable(_, _) => false,
-        Term::EVariable(_, _) => true,
-        Term::Bracket => false,
-        Term::Call(_, _) => false,
-        Term::Block(_) => false,
-    }
-}
-
-// Is this term a variable?
-fn is_variable(term: Term) -> bool
-    ensures { λ r. ⌜ r ≡ variableTerm term ⌝ }
-{
-    match term {
-        Term::Symbolic(_) => false,
-        Term::SVariable(_, _) => true,
-        Term::TVariable(_, _) => true,
         Term::EVariable(_, _) => true,
         Term::Bracket => false,
         Term::Call(_, _) => false,
@@ -433,143 +402,5 @@ pub fn first_of<'a>(
         Term::Bracket => bracket_first(row),
         Term::Call(_, _) => First::Fails,
         Term::Block(_) => First::Fails,
-    }
-}
-
-// The same, where no variable has a value.
-fn bare_first(text: &[u8], pattern: &[u8], row: &[u8]) -> First
-    requires { ⌜ 24 ≤ length (now pattern) ⌝ }
-    ensures { λ r. ⌜ Leaves (now (text .entry)) (now (pattern .entry)) (now (row .entry)) none-bound r ⌝ }
-{
-    match term_at(pattern, 0) {
-        Term::Symbolic(_) => symbols_first(text, pattern, row),
-        Term::SVariable(_, _) => free_first(pattern, row),
-        Term::TVariable(_, _) => free_first(pattern, row),
-        Term::EVariable(_, _) => free_first(pattern, row),
-        Term::Bracket => bracket_first(row),
-        Term::Call(_, _) => First::Fails,
-        Term::Block(_) => First::Fails,
-    }
-}
-
-// Does the first record of a pattern show that there is no match? Then no place for values need be made.
-pub fn apart(text: &[u8], pattern: &[u8], row: &[u8]) -> bool
-    ensures { λ r. ⌜ (r ≡ true → (back : Bool) → found back (rowOf (now (text .entry)) (now (pattern .entry))) (rowOf (now (text .entry)) (now (row .entry))) none-bound ≡ []) ⌝ }
-{
-    if pattern.len() < 24 {
-        return 24 <= row.len();
-    }
-    match bare_first(text, pattern, row) {
-        First::Fails => true,
-        First::Goes(_, _) => false,
-        First::Binds(_) => false,
-        First::Tries => false,
-        First::Inside => false,
-    }
-}
-
-// How many terms a part has; brackets are one term.
-pub fn terms_in(part: &[u8]) -> usize
-    ensures { λ r. ⌜ ((text : List ℕ) → r ≡ termsIn (rowOf text (now (part .entry)))) × (r ≤ length (now (part .entry))) ⌝ }
-{
-    let mut count = 0;
-    let mut i = 0;
-    loop {
-        let left = &part[i..];
-        if left.len() < 24 {
-            break count;
-        }
-        count += 1;
-        i += end_of(left);
-    }
-}
-
-// What the first term of a pattern needs.
-fn first_needs<'a>(
-    text: &[u8],
-    terms: &[u8],
-    pattern: &[u8],
-    keys: &'a [u16; 32],
-    starts: &'a [u16; 32],
-    sizes: &'a [u16; 32],
-    count: usize,
-) -> Needs
-    requires { ⌜ Kept (now text) (now terms) (places (now keys) (now starts) (now sizes) count) × (24 ≤ length (now pattern)) × (length (now terms) < 65536) ⌝ }
-    ensures { λ r. ⌜ (r .terms ≡ atomLeast (valuesOf (now (text .entry)) (now (terms .entry)) (places (now (keys .entry)) (now (starts .entry)) (now (sizes .entry)) count))
-        (atomOf (now (text .entry)) (termAt (now (pattern .entry)) 0)))
-        × (r .free ≡ atomFree (valuesOf (now (text .entry)) (now (terms .entry)) (places (now (keys .entry)) (now (starts .entry)) (now (sizes .entry)) count))
-        (atomOf (now (text .entry)) (termAt (now (pattern .entry)) 0)))
-        × (r .terms < 65536) × (r .free ≤ 1) ⌝ }
-{
-    let term = term_at(pattern, 0);
-    if !is_variable(term) {
-        return Needs { terms: 1, free: 0 };
-    }
-    match place_of(text, terms, pattern, keys, count) {
-        Place::At(i) => {
-            let start = wide(starts[i]);
-            let end = start + wide(sizes[i]);
-            let value = terms_in(&terms[start..end]);
-            Needs {
-                terms: value,
-                free: 0,
-            }
-        }
-        Place::Free => {
-            if is_open(term) {
-                return Needs { terms: 0, free: 1 };
-            }
-            Needs { terms: 1, free: 0 }
-        }
-    }
-}
-
-// What a pattern needs, by the values that variables have. A symbol, brackets and an s. or t. variable without a value match one term each.
-pub fn needs_of<'a>(
-    text: &[u8],
-    terms: &[u8],
-    pattern: &[u8],
-    keys: &'a [u16; 32],
-    starts: &'a [u16; 32],
-    sizes: &'a [u16; 32],
-    count: usize,
-) -> Needs
-    requires { ⌜ Kept (now text) (now terms) (places (now keys) (now starts) (now sizes) count) × (length (now terms) < 65536) × (length (now pattern) < 65536) ⌝ }
-    ensures { λ r. ⌜ NeedsOf (valuesOf (now (text .entry)) (now (terms .entry)) (places (now (keys .entry)) (now (starts .entry)) (now (sizes .entry)) count))
-        (rowOf (now (text .entry)) (now (pattern .entry))) r ⌝ }
-{
-    let mut needed = 0;
-    let mut free = 0;
-    let mut i = 0;
-    loop {
-        let left = &pattern[i..];
-        if left.len() < 24 {
-            break Needs {
-                terms: needed,
-                free: free,
-            };
-        }
-        let first = first_needs(text, terms, left, keys, starts, sizes, count);
-        needed += first.terms;
-        free += first.free;
-        i += end_of(left);
-    }
-}
-
-// The first length of a row that need be tried for an e. variable before a pattern that needs this: the lengths before it leave too many terms.
-pub fn first_length(row: &[u8], needs: Needs) -> Length
-    ensures { λ r. ⌜ Passes (now (row .entry)) needs (r .end) (r .left) ⌝ }
-{
-    let mut n = 0;
-    let mut room = terms_in(row);
-    loop {
-        if 0 < needs.free {
-            break Length { end: n, left: room };
-        }
-        if room <= needs.terms {
-            break Length { end: n, left: room };
-        }
-        room -= 1;
-        n += end_of(&row[n..]);
     }
 }

@@ -1,30 +1,25 @@
 // Literal matching: does a pattern match a row without variables, calls and blocks? A bracket whose contents matched is gone back into.
 use crate::Bindings;
 use crate::First;
-use crate::apart;
 use crate::bind;
-use crate::first_length;
 use crate::first_of;
 use crate::narrow;
-use crate::needs_of;
 use crate::none;
 use crate::wide;
 use file::word_at;
 use law::runs::end_of;
 ghost use mathlib.Core.Path.{_≡_};
 ghost use mathlib.Core.Bool.{true, false};
-ghost use mathlib.Core.List.{[], _++_};
 ghost use mathlib.Core.Option.{none};
 ghost use Prim.Native.Nat.{suc, _+_, _≤_, _<_};
 ghost use lib.ListN.{length, set};
-ghost use Rattle.law.specs.Tree.{expressionKind};
 ghost use Rattle.law.specs.Variables.{distinct};
 ghost use Rattle.matching.specs.Literal.{literalMatches};
 ghost use Rattle.matching.specs.Part.{rowOf, literalPart, symbolsOf, Stands};
 ghost use Rattle.matching.specs.Bound.{valuesOf, Kept};
 ghost use Rattle.matching.specs.Step.{found, eachLength, eachInside, Free, Facing, firstVariable};
 ghost use Rattle.matching.specs.Capacity.{variablesIn, Capacity};
-ghost use Rattle.matching.specs.Asked.{someHolds, Asked, nesting, resume, comingIn, levelsOf, Around, LiteralAsked};
+ghost use Rattle.matching.specs.Asked.{someHolds, nesting, resume, comingIn, levelsOf, Around, LiteralAsked};
 
 // What is still to be matched around the brackets that were gone into: the positions among the term records where each level of the pattern and of the
 // row ends, the outermost first. A level begins where the one inside it ends.
@@ -85,7 +80,7 @@ fn literal_out(
     literal_run(text, terms, pattern, at, row, start, out, b)
 }
 
-// An e. variable without a value, then the rest of the pattern: every length in turn that leaves enough of the row for the rest, and not too much.
+// An e. variable without a value, then the rest of the pattern: every length in turn.
 fn literal_lengths(
     text: &[u8],
     terms: &[u8],
@@ -96,7 +91,7 @@ fn literal_lengths(
     pending: Pending,
     b: Bindings,
 ) -> bool
-    requires { ⌜ LiteralAsked (now text) (now terms) (now pattern) at (now row) start pending b × (24 ≤ length (now pattern)) × (firstVariable (now text) (now pattern) .kind ≡ expressionKind) ⌝ }
+    requires { ⌜ LiteralAsked (now text) (now terms) (now pattern) at (now row) start pending b × (24 ≤ length (now pattern)) ⌝ }
     requires { ⌜ Free (rowOf (now text) (now pattern)) (firstVariable (now text) (now pattern)) (valuesOf (now text) (now terms) b) ⌝ }
     ensures { λ r. ⌜ r ≡ someHolds (resume (levelsOf (now (text .entry)) (now (terms .entry)) pending (at + length (now (pattern .entry))) (start + length (now (row .entry)))))
         (eachLength (now (text .entry)) true (now (pattern .entry)) (now (row .entry)) (valuesOf (now (text .entry)) (now (terms .entry)) b)) ⌝ }
@@ -104,16 +99,9 @@ fn literal_lengths(
     let end = end_of(pattern);
     let rest = &pattern[end..];
     let next = at + end;
-    let needs = needs_of(text, terms, rest, &b.keys, &b.starts, &b.sizes, b.count);
-    let first = first_length(row, needs);
-    let needed = needs.terms;
-    let mut room = first.left;
-    let mut n = first.end;
+    let mut n = 0;
     loop {
         let left = &row[n..];
-        if room < needed {
-            break false;
-        }
         let more = bind(b, at, start, n);
         if literal_run(text, terms, rest, next, left, start + n, pending, more) {
             break true;
@@ -121,7 +109,6 @@ fn literal_lengths(
         if left.len() < 24 {
             break false;
         }
-        room -= 1;
         n += end_of(left);
     }
 }
@@ -215,8 +202,8 @@ pub fn is_literal(part: &[u8]) -> bool
     }
 }
 
-// Does a pattern match a literal part?
-pub fn literal(
+// Does a pattern match a literal part? The search from no values, with nothing around.
+pub fn search_literal(
     text: &[u8],
     terms: &[u8],
     pattern: &[u8],
@@ -228,8 +215,5 @@ pub fn literal(
     requires { ⌜ (distinct (variablesIn (rowOf (now text) (now pattern))) ≤ 32) × (nesting (rowOf (now text) (now pattern)) ≤ 33) × (literalPart (now row) ≡ true) ⌝ }
     ensures { λ r. ⌜ r ≡ literalMatches (rowOf (now (text .entry)) (now (pattern .entry))) (symbolsOf (now (text .entry)) (now (row .entry))) ⌝ }
 {
-    if apart(text, pattern, row) {
-        return false;
-    }
     literal_run(text, terms, pattern, at, row, start, alone(), none())
 }

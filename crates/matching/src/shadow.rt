@@ -1,20 +1,16 @@
 // Shadowing: does an earlier pattern match whatever a later one matches? A bracket whose contents matched is not gone back into.
 use crate::Bindings;
 use crate::First;
-use crate::apart;
 use crate::bind;
-use crate::first_length;
 use crate::first_of;
-use crate::needs_of;
 use crate::none;
 use law::runs::end_of;
 ghost use mathlib.Core.Path.{_≡_};
-ghost use mathlib.Core.Bool.{true, false};
+ghost use mathlib.Core.Bool.{false};
 ghost use mathlib.Core.List.{[]};
 ghost use mathlib.Core.Option.{none};
 ghost use Prim.Native.Nat.{_≤_, _<_};
 ghost use lib.ListN.{length};
-ghost use Rattle.law.specs.Tree.{expressionKind};
 ghost use Rattle.law.specs.Variables.{distinct};
 ghost use Rattle.matching.specs.Shadow.{shadows};
 ghost use Rattle.matching.specs.Part.{rowOf, Stands};
@@ -29,17 +25,7 @@ pub struct Matched {
     pub bindings: Bindings,
 }
 
-// There is no match.
-fn unmatched(b: Bindings) -> Matched
-    ensures { λ r. ⌜ (r .ok ≡ false) × (r .bindings ≡ b) ⌝ }
-{
-    Matched {
-        ok: false,
-        bindings: b,
-    }
-}
-
-// An e. variable without a value, then the rest of the pattern: every length in turn that leaves enough of the row for the rest, and not too much.
+// An e. variable without a value, then the rest of the pattern: every length in turn.
 fn shadow_lengths(
     text: &[u8],
     terms: &[u8],
@@ -49,7 +35,7 @@ fn shadow_lengths(
     start: usize,
     b: Bindings,
 ) -> Matched
-    requires { ⌜ Asked (now text) (now terms) (now pattern) at (now row) start [] b × (24 ≤ length (now pattern)) × (firstVariable (now text) (now pattern) .kind ≡ expressionKind) ⌝ }
+    requires { ⌜ Asked (now text) (now terms) (now pattern) at (now row) start [] b × (24 ≤ length (now pattern)) ⌝ }
     requires { ⌜ Free (rowOf (now text) (now pattern)) (firstVariable (now text) (now pattern)) (valuesOf (now text) (now terms) b) ⌝ }
     ensures { λ r. ⌜ Kept (now (text .entry)) (now (terms .entry)) (r .bindings)
         × (matchedValues (now (text .entry)) (now (terms .entry)) r ≡ firstIn (eachLength (now (text .entry)) false (now (pattern .entry)) (now (row .entry)) (valuesOf (now (text .entry)) (now (terms .entry)) b))) ⌝ }
@@ -57,16 +43,9 @@ fn shadow_lengths(
     let end = end_of(pattern);
     let rest = &pattern[end..];
     let next = at + end;
-    let needs = needs_of(text, terms, rest, &b.keys, &b.starts, &b.sizes, b.count);
-    let first = first_length(row, needs);
-    let needed = needs.terms;
-    let mut room = first.left;
-    let mut n = first.end;
+    let mut n = 0;
     loop {
         let left = &row[n..];
-        if room < needed {
-            break unmatched(b);
-        }
         let more = bind(b, at, start, n);
         let m = shadow_run(text, terms, rest, next, left, start + n, more);
         if m.ok {
@@ -75,7 +54,6 @@ fn shadow_lengths(
         if left.len() < 24 {
             break m;
         }
-        room -= 1;
         n += end_of(left);
     }
 }
@@ -130,7 +108,10 @@ fn shadow_run(
     }
     let len = b.count;
     match first_of(text, terms, pattern, row, &b.keys, &b.starts, &b.sizes, len) {
-        First::Fails => unmatched(b),
+        First::Fails => Matched {
+            ok: false,
+            bindings: b,
+        },
         First::Goes(m, n) => {
             shadow_run(text, terms, &pattern[m..], at + m, &row[n..], start + n, b)
         }
@@ -146,8 +127,8 @@ fn shadow_run(
     }
 }
 
-// Does an earlier pattern shadow a later one?
-pub fn shadow(
+// Does an earlier pattern shadow a later one? The search from no values.
+pub fn search_shadow(
     text: &[u8],
     terms: &[u8],
     earlier: &[u8],
@@ -159,8 +140,5 @@ pub fn shadow(
     requires { ⌜ distinct (variablesIn (rowOf (now text) (now earlier))) ≤ 32 ⌝ }
     ensures { λ r. ⌜ r ≡ shadows (rowOf (now (text .entry)) (now (earlier .entry))) (rowOf (now (text .entry)) (now (later .entry))) ⌝ }
 {
-    if apart(text, earlier, later) {
-        return false;
-    }
     shadow_run(text, terms, earlier, at, later, start, none()).ok
 }

@@ -14,7 +14,7 @@ use Rattle.law.proofs.IndexLaws.{terms-limit}
 use Rattle.shapes.specs.Format.{Shapes, of}
 use Rattle.shapes.specs.Words.{readFormat}
 use Rattle.shapes.proofs.WordLaws.{read-write}
-use Rattle.matching.specs.Entry.{argumentPart, argumentIn}
+use Rattle.sentences.specs.Entry.{argumentPart, argumentIn}
 use Rattle.formats.specs.FormatOf.{Results}
 use Rattle.formats.specs.Infer.{find, orNever}
 use Rattle.formats.specs.Slots.{fileNames, callFolded, position}

@@ -22,7 +22,7 @@ use Rattle.law.proofs.Functions.{functionAt, functionsAt, tree-functions, funct
 use Rattle.shapes.specs.Format.{of, size}
 use Rattle.matching.specs.Pattern.{patternOf}
 use Rattle.matching.specs.Match.{when, each}
-use Rattle.matching.specs.Entry.{argumentPart, argumentIn}
+use Rattle.sentences.specs.Entry.{argumentPart, argumentIn}
 use Rattle.matching.proofs.SameLaws.{false-not-true}
 use Rattle.matching.proofs.SearchLaws.{in-when, in-each, each-in, in-map}
 use Rattle.formats.specs.Infer.{Inferred}

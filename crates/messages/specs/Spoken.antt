@@ -12,7 +12,7 @@ use Rattle.law.specs.Reading.{treeOf}
 use Rattle.law.specs.Index.{PartAt}
 use Rattle.shapes.specs.Format.{of, size}
 use Rattle.formats.specs.Slots.{fileNames, callFolded, position}
-use Rattle.matching.specs.Entry.{argumentPart}
+use Rattle.sentences.specs.Entry.{argumentPart}
 use Rattle.lints.specs.Finding.{Claim, byFormats, byLiterals, Finding, findingWords}
 use Rattle.lints.specs.Findings.{findingsOf}
 use Rattle.lints.specs.Recognition.{accepted, passed, argumentsOver}

@@ -13,10 +13,10 @@ use law::Check;
 use law::places::sentences;
 use law::places::terms;
 use libc::STDOUT_FILENO;
-use matching::sentences::Recognised;
-use matching::sentences::Shadowed;
-use matching::sentences::matches_in;
-use matching::sentences::shadows_in;
+use sentences::Recognised;
+use sentences::Shadowed;
+use sentences::matches_in;
+use sentences::shadows_in;
 
 // Writes a line: two spaces, a number, words and a number.
 fn print_line(first: usize, words: &[u8], second: usize) {

@@ -3,20 +3,20 @@ use Prim.Native.Nat.{ℕ, zero, suc, _+_, _-_, _≤_, _<_}
 use mathlib.Core.Bool.{Bool, true, false, cond, _&&_}
 use mathlib.Core.List.{List}
 use mathlib.Core.Logic.{_⊎_, inl, inr}
-use mathlib.Core.Option.{Option, none, some, Option·none-ne-some}
-use mathlib.Core.Path.{_≡_, refl, sym, ap, _∙_}
+use mathlib.Core.Option.{Option, none, some}
+use mathlib.Core.Path.{_≡_, refl, sym, _∙_}
 use native.Mathlib.Omega.{arith}
 use lib.ListN.{length, take, drop}
 use Rattle.file.specs.Word.{wordAt}
-use Rattle.file.specs.Forest.{contents, rest}
+use Rattle.file.specs.Forest.{rest}
 use Rattle.file.specs.Head.{termFrom, termAt}
 use Rattle.file.specs.declared.Symbol as heads
 use Rattle.file.specs.declared.Term.{Term}
 use Rattle.file.specs.declared.Term.the-variants.{Symbolic, SVariable, TVariable, EVariable, Bracket, Call, Block}
-use Rattle.law.specs.Expression.{Terms, nothing, symbol, brackets}
+use Rattle.law.specs.Expression.{nothing, symbol, brackets}
 use Rattle.law.specs.Runs.{endOf}
 use Rattle.law.proofs.RunLaws.{end-high}
-use Rattle.matching.specs.Pattern.{Atom, literal, variable, other, Pattern}
+use Rattle.matching.specs.Pattern.{literal, variable, Pattern}
 use Rattle.matching.specs.Shadow.{sameAtom, symbolLike, singleTerm}
 use Rattle.matching.specs.Part.{rowOf, from, symbolAt, atomOf, termRow, isBracket}
 use Rattle.matching.specs.Step.{openTerm, mayStand}
@@ -25,7 +25,7 @@ use Rattle.matching.proofs.PartLaws.{row-empty, row-node}
 use Rattle.matching.proofs.CutLaws.{from-all, from-length, from-from}
 use Rattle.matching.proofs.StepLaws.{symbol-from}
 use Rattle.sentences.specs.Greedy.{openAtom, next, orElse, atomFits, bracketFits, frontOf, leftmostOf}
-use Rattle.sentences.specs.Ahead.{passes, frontIn, leftmostIn, aheadOf, AheadIn, OpenStart, fitsAtom, fitsHeads, fitsFirst}
+use Rattle.sentences.specs.Ahead.{passes, frontIn, leftmostIn, aheadOf, AheadIn, OpenStart, fitsHeads, fitsFirst}
 use Rattle.sentences.specs.declared.loose.Ahead.{Ahead}
 use Rattle.sentences.specs.declared.loose.Ahead.the-variants.{At, Fails}
 use Rattle.sentences.proofs.GreedyLaws.{next-some}
@@ -218,7 +218,7 @@ module _ {text pattern row : List ℕ} {i j : ℕ} (so-far : Fronted text patter
       front-short h = (
         tt,
         sym (so-far .left
-        ∙ rw (row-node text (from i pattern) long, row-empty text (from j row) h) (front-none text (termAt (from i pattern) 0) (not-open (from i pattern) told closed) _ _)),
+            ∙ rw (row-node text (from i pattern) long, row-empty text (from j row) h) (front-none text (termAt (from i pattern) 0) (not-open (from i pattern) told closed) _ _)),
       )
 
       module _ (more : 24 ≤ length (from j row)) {t : Bool} (fit : t ≡ fitsFirst text (from i pattern) (from j row)) where

@@ -1,18 +1,16 @@
 -- The greedy way is the loose test.
-use Prim.Native.Nat.{ℕ, zero, suc, _≤_, _<_}
+use Prim.Native.Nat.{ℕ, suc, _≤_, _<_}
 use mathlib.Core.Bool.{Bool, true, false, cond, _&&_, _||_}
 use native.Mathlib.Omega.{arith}
-use Rattle.matching.specs.Least.{termsIn}
-use mathlib.Core.Logic.{_⊎_, inl, inr}
+use mathlib.Core.Logic.{inl, inr}
 use mathlib.Core.Option.{Option, none, some, Option·none-ne-some}
 use mathlib.Core.Path.{_≡_, refl, sym, ap, _∙_}
 use Rattle.law.specs.Tree.{Kind, symbolKind, termKind, expressionKind}
 use Rattle.law.specs.Expression.{Terms, nothing, symbol, brackets}
-use Rattle.law.specs.Variables.{Variable}
 use Rattle.matching.specs.Pattern.{Symbol, Atom, literal, variable, other, Pattern}
 use Rattle.matching.proofs.SameLaws.{false-not-true, both-hold}
 use Rattle.sentences.specs.Loose.{someEnd, someRest, loosely}
-use Rattle.sentences.specs.Greedy.{EndOf, openKind, openAtom, next, orElse, kindFits, atomFits, bracketFits, frontOf, leftmostOf, leftPasses, opens}
+use Rattle.sentences.specs.Greedy.{EndOf, termsIn, openKind, openAtom, next, orElse, kindFits, atomFits, bracketFits, frontOf, leftmostOf, leftPasses, opens}
 
 or-true : (b : Bool) → (b || true) ≡ true
 or-true true = refl

@@ -2,3 +2,8 @@ pub mod LooseLaws
 pub mod GreedyLaws
 pub mod FrontLaws
 pub mod OpenLaws
+pub mod OnceLaws
+pub mod EntryLaws
+pub mod SentencePatterns
+pub mod Arguments
+pub mod SentenceLaws

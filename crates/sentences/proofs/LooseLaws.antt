@@ -1,21 +1,18 @@
 -- The loose test misses no match, and where no variable is repeated it finds none too many.
-use mathlib.Core.Bool.{Bool, true, false, cond, not, _&&_, _||_}
+use mathlib.Core.Bool.{Bool, true, false, cond, not, _||_}
 use mathlib.Core.List.{List, [], _∷_, _++_, List·Memᴰ, List·Memᴰ·head, List·Memᴰ·tail, Memᴰ·map}
 use mathlib.Core.Option.{Option, none, some, Option·none-ne-some}
 use mathlib.Core.Path.{_≡_, refl, sym, _∙_}
 use Rattle.law.specs.Tree.{Kind, symbolKind, termKind, expressionKind}
 use Rattle.law.specs.Expression.{Terms, nothing, symbol, brackets, _⊕_}
 use Rattle.law.specs.Variables.{Variable, sameVariable, occurs}
-use Rattle.matching.specs.Pattern.{Symbol, Atom, literal, variable, other, Pattern}
+use Rattle.matching.specs.Pattern.{Symbol, literal, variable, other, Pattern}
 use Rattle.matching.specs.Match.{Values, none-bound, bound, valueIn, some-in, matches}
-use Rattle.matching.specs.Fill.{Plain, filled, OfKind, Kinded, KindedValues, Agrees, Fills}
-use Rattle.matching.specs.Match.{when, each, all-or-first, splits, noted, choices}
+use Rattle.matching.specs.Fill.{Plain, filled, OfKind, Kinded}
+use Rattle.matching.specs.Match.{each, all-or-first, splits, noted, choices}
 use Rattle.matching.specs.Capacity.{variablesIn}
-use Rattle.matching.specs.Shadow.{sameAtom, symbolLike, singleTerm, shadows, shadowsWith, ownValues}
-use Rattle.matching.specs.Literal.{literalMatches, anySymbol}
-use Rattle.matching.specs.Pattern.{sameSymbol, character}
 use Rattle.matching.proofs.SearchLaws.{none-kinded, in-when, when-in, in-each, each-in, in-all-or-first, some-member, member-some}
-use Rattle.matching.proofs.SameLaws.{false-not-true, both-hold, variable-sound, variable-refl, symbol-sound, symbol-refl, atom-sound}
+use Rattle.matching.proofs.SameLaws.{false-not-true, both-hold, variable-sound, variable-refl}
 use Rattle.matching.proofs.VariableLaws.{occurs-first, occurs-later, occurs-left, occurs-right}
 use Rattle.matching.proofs.FillLaws.{fills-of-match}
 use Rattle.sentences.specs.Loose.{someEnd, someRest, loosely, onceEach}
@@ -241,38 +238,3 @@ module _ {A : Type 0} (same : A → A → Bool) (ofLaw : Symbol → A) (isSymbol
       ∙ u w (occurs-right w (variablesIn c) (variablesIn p) k)) j in
       let (us, m) = some-member (found p x ws) rest in
       member-some (each-in (λ (r : Values A). found p x r) l m)
-
--- ---- both matchers
-
--- a symbol that any s. and t. variable may stand for
-abbrev any-atom : Atom
-any-atom = literal (character 0)
-
--- shadowing
-pub shadows-loosely : (p x : Pattern) → shadows p x ≡ true → loosely sameAtom literal symbolLike singleTerm p x ≡ true
-unfolding shadowsWith ownValues
-shadows-loosely p x h = loose-misses-nothing sameAtom literal symbolLike singleTerm symbol-refl false atom-sound any-atom refl refl p x h
-
-pub shadows-once : (p x : Pattern) → onceEach (variablesIn p) ≡ true → shadows p x ≡ loosely sameAtom literal symbolLike singleTerm p x
-unfolding shadowsWith ownValues valueIn
-shadows-once p x o = go (loosely sameAtom literal symbolLike singleTerm p x) refl (shadows p x) refl
-  where
-    go : (b : Bool) → loosely sameAtom literal symbolLike singleTerm p x ≡ b → (a : Bool) → shadows p x ≡ a → a ≡ b
-    go true e true k = refl
-    go false e false k = refl
-    go true e false k = absurd (false-not-true (sym k ∙ loose-found sameAtom literal symbolLike singleTerm false p x none-bound o (λ w i. refl) e))
-    go false e true k = absurd (false-not-true (sym e ∙ shadows-loosely p x k))
-
--- literal matching
-pub literal-loosely : (p : Pattern) (x : Terms Symbol) → literalMatches p x ≡ true → loosely sameSymbol (λ a. a) anySymbol anySymbol p x ≡ true
-literal-loosely p x h = loose-misses-nothing sameSymbol (λ a. a) anySymbol anySymbol symbol-refl true symbol-sound (character 0) refl refl p x h
-
-pub literal-once : (p : Pattern) (x : Terms Symbol) → onceEach (variablesIn p) ≡ true → literalMatches p x ≡ loosely sameSymbol (λ a. a) anySymbol anySymbol p x
-unfolding valueIn
-literal-once p x o = go (loosely sameSymbol (λ a. a) anySymbol anySymbol p x) refl (literalMatches p x) refl
-  where
-    go : (b : Bool) → loosely sameSymbol (λ a. a) anySymbol anySymbol p x ≡ b → (a : Bool) → literalMatches p x ≡ a → a ≡ b
-    go true e true k = refl
-    go false e false k = refl
-    go true e false k = absurd (false-not-true (sym k ∙ loose-found sameSymbol (λ a. a) anySymbol anySymbol true p x none-bound o (λ w i. refl) e))
-    go false e true k = absurd (false-not-true (sym e ∙ literal-loosely p x k))

@@ -1,13 +1,13 @@
 -- The loose test of parts of the term records: what `has_open`, `skip`, `last`, `loose_open` and `loose` answer at each return.
 use Prim.Native.Nat.{ℕ, suc, _+_, _-_, _≤_, _<_}
-use mathlib.Core.Bool.{Bool, true, false, cond}
+use mathlib.Core.Bool.{Bool, true, false}
 use mathlib.Core.List.{List}
-use mathlib.Core.Logic.{_⊎_, inl, inr}
-use mathlib.Core.Option.{Option, none, some}
+use mathlib.Core.Logic.{inr}
+use mathlib.Core.Option.{some}
 use mathlib.Core.Path.{_≡_, refl, sym, ap, _∙_}
 use native.Mathlib.Omega.{arith}
 use native.Mathlib.Decide.{decLt}
-use lib.ListN.{length, take, drop}
+use lib.ListN.{length}
 use lib.Dec.{ltb}
 use borrow.Author.Tests.{lt-ltb, le-ltb}
 use Rattle.file.specs.Word.{wordAt}
@@ -15,19 +15,18 @@ use Rattle.file.specs.Forest.{contents, rest}
 use Rattle.file.specs.Head.{termAt}
 use Rattle.file.specs.declared.Term.{Term}
 use Rattle.file.specs.declared.Term.the-variants.{Symbolic, SVariable, TVariable, EVariable, Bracket, Call, Block}
-use Rattle.law.specs.Expression.{Terms, nothing, symbol, brackets}
+use Rattle.law.specs.Expression.{nothing, symbol, brackets}
 use Rattle.law.specs.Runs.{endOf}
-use Rattle.law.proofs.RunLaws.{end-high}
-use Rattle.matching.specs.Pattern.{Atom, literal, variable, other, Pattern}
+use Rattle.law.proofs.RunLaws.{end-low, end-high}
+use Rattle.matching.specs.Pattern.{literal, variable, Pattern}
 use Rattle.matching.specs.Shadow.{sameAtom, symbolLike, singleTerm}
-use Rattle.matching.specs.Least.{termsIn}
-use Rattle.matching.specs.Part.{rowOf, from, atomOf, termRow}
+use Rattle.matching.specs.Part.{rowOf, from, termRow}
 use Rattle.matching.specs.Step.{openTerm}
 use Rattle.matching.proofs.SameLaws.{false-not-true}
 use Rattle.matching.proofs.PartLaws.{row-empty, row-node}
 use Rattle.matching.proofs.CutLaws.{from-all, from-length, from-from}
-use Rattle.sentences.specs.Loose.{someEnd, loosely}
-use Rattle.sentences.specs.Greedy.{EndOf, openAtom, leftPasses, opens}
+use Rattle.sentences.specs.Loose.{loosely}
+use Rattle.sentences.specs.Greedy.{EndOf, termsIn, leftPasses, opens}
 use Rattle.sentences.specs.Ahead.{passes, frontIn, leftmostIn, endPasses, aheadOf, AheadIn, OpenStart, Skipped}
 use Rattle.sentences.specs.declared.loose.Ahead.{Ahead}
 use Rattle.sentences.specs.declared.loose.Ahead.the-variants.{At, Fails}
@@ -83,7 +82,7 @@ module _ {pattern : List ℕ} {i : ℕ} (so-far : Seen pattern i) where
         step : (text : List ℕ) → opens (rowOf text (from i pattern)) ≡ opens (rowOf text (rest 24 endOf (from i pattern)))
         step text = rw (row-node text (from i pattern) long) (opens-later text (termAt (from i pattern) 0) _ _ (not-open (from i pattern) told h))
 
--- ---- what `skip` has gone through
+-- ---- the first term of a part, and the rest
 
 module _ (text : List ℕ) where
   term-terms : (x : Term) (c p : Pattern) → termsIn (termRow text x c p) ≡ suc (termsIn p)
@@ -103,6 +102,40 @@ module _ (text : List ℕ) where
   term-end Bracket c p = inr (whole-end p)
   term-end (Call a b) c p = inr (whole-end p)
   term-end (Block n) c p = inr (whole-end p)
+
+module _ (part : List ℕ) (i : ℕ) (some-left : 24 ≤ length (from i part)) {e : ℕ} (ends : e ≡ endOf (from i part)) (text : List ℕ) where
+  next-row : rowOf text (from i part)
+      ≡ termRow text (termAt (from i part) 0) (rowOf text (contents 24 endOf (from i part))) (rowOf text (from (i + e) part))
+  next-row = rw (ends, ← from-from (endOf (from i part)) i part) (row-node text (from i part) some-left)
+
+  next-terms : termsIn (rowOf text (from i part)) ≡ suc (termsIn (rowOf text (from (i + e) part)))
+  next-terms = rw next-row (term-terms text (termAt (from i part) 0) _ (rowOf text (from (i + e) part)))
+
+  next-end : EndOf (rowOf text (from (i + e) part)) (rowOf text (from i part))
+  next-end = rw next-row (term-end text (termAt (from i part) 0) _ (rowOf text (from (i + e) part)))
+
+-- ---- what `terms_in` has gone through
+
+pub record Counted (part : List ℕ) (count i : ℕ) : Type 0 where
+  pub within : i ≤ length part
+  pub few : count ≤ i
+  pub left : (text : List ℕ) → termsIn (rowOf text part) ≡ count + termsIn (rowOf text (from i part))
+
+pub count-begun : (part : List ℕ) → Counted part 0 0
+count-begun part = record { within = omega arith; few = omega arith; left = λ text. rw (from-all part) (omega arith) }
+
+module _ {part : List ℕ} {count i : ℕ} (so-far : Counted part count i) where
+  pub count-all : length (from i part) < 24 → ((text : List ℕ) → count ≡ termsIn (rowOf text part)) × (count ≤ length part)
+  count-all h = (λ text. sym (so-far .left text ∙ rw (row-empty text (from i part) h) (omega arith)), omega (arith, so-far .few, so-far .within))
+
+  pub count-next : 24 ≤ length (from i part) → {e later : ℕ} → e ≡ endOf (from i part) → later ≡ count + 1 → Counted part later (i + e)
+  count-next long ends more = record {
+    within = omega (arith, from-length i part, so-far .within, end-high (from i part));
+    few = omega (arith, so-far .few, end-low (from i part) long);
+    left = λ text. omega (arith, so-far .left text, next-terms part i long ends text);
+  }
+
+-- ---- what `skip` has gone through
 
 pub skip-begun : (row : List ℕ) (count : ℕ) → Skipped row count count 0
 skip-begun row count = record {
@@ -125,19 +158,9 @@ module _ {row : List ℕ} {count left n : ℕ} (so-far : Skipped row count left 
   pub skip-next : {e : ℕ} → e ≡ endOf (from n row) → {later : ℕ} → later ≡ left - 1 → Skipped row count later (n + e)
   skip-next {e} ends less = record {
     within = omega (arith, from-length n row, so-far .within, end-high (from n row));
-    end = λ text. end-end (rowOf text row) (rowOf text (from n row)) _ (rest-end text) (so-far .end text);
-    counted = λ text. omega (arith, so-far .counted text, rest-terms text);
+    end = λ text. end-end (rowOf text row) (rowOf text (from n row)) _ (next-end row n skip-some ends text) (so-far .end text);
+    counted = λ text. omega (arith, so-far .counted text, next-terms row n skip-some ends text);
   }
-    where
-      next-row : (text : List ℕ) → rowOf text (from n row)
-          ≡ termRow text (termAt (from n row) 0) (rowOf text (contents 24 endOf (from n row))) (rowOf text (from (n + e) row))
-      next-row text = rw (ends, ← from-from (endOf (from n row)) n row) (row-node text (from n row) skip-some)
-
-      rest-end : (text : List ℕ) → EndOf (rowOf text (from (n + e) row)) (rowOf text (from n row))
-      rest-end text = rw (next-row text) (term-end text (termAt (from n row) 0) _ (rowOf text (from (n + e) row)))
-
-      rest-terms : (text : List ℕ) → termsIn (rowOf text (from n row)) ≡ suc (termsIn (rowOf text (from (n + e) row)))
-      rest-terms text = rw (next-row text) (term-terms text (termAt (from n row) 0) _ (rowOf text (from (n + e) row)))
 
 -- ---- what `last` answers at each return
 

@@ -1,3 +1,4 @@
 pub mod Loose
 pub mod Greedy
 pub mod Ahead
+pub mod Entry

@@ -6,16 +6,17 @@ use law::runs::end_of;
 use matching::atoms_same;
 use matching::is_bracket;
 use matching::may_stand;
-use matching::terms_in;
 ghost use mathlib.Core.Path.{_≡_};
 ghost use mathlib.Core.Bool.{true, false};
 ghost use mathlib.Core.List.{List};
 ghost use Prim.Native.Nat.{ℕ, _+_, _≤_};
 ghost use lib.ListN.{length};
-ghost use Rattle.matching.specs.Part.{rowOf, from};
-ghost use Rattle.matching.specs.Least.{termsIn};
-ghost use Rattle.sentences.specs.Greedy.{opens};
-ghost use Rattle.sentences.specs.Ahead.{passes, frontIn, leftmostIn, endPasses, aheadOf, AheadIn, OpenStart, fitsFirst, Skipped};
+ghost use Rattle.file.specs.Head.{termAt};
+ghost use Rattle.matching.specs.Part.{rowOf, atomOf};
+ghost use Rattle.matching.specs.Capacity.{variablesIn};
+ghost use Rattle.sentences.specs.Loose.{onceEach};
+ghost use Rattle.sentences.specs.Greedy.{opens, termsIn};
+ghost use Rattle.sentences.specs.Ahead.{passes, frontIn, leftmostIn, endPasses, aheadOf, AheadIn, OpenStart, fitsFirst, Skipped, Alone};
 
 // Where a pattern and a row stand once the pattern's terms before its first e. variable are matched.
 pub enum Ahead {
@@ -36,6 +37,22 @@ fn has_open(pattern: &[u8]) -> bool
         if word_at(left, 0) == 5 {
             break true;
         }
+        i += end_of(left);
+    }
+}
+
+// How many terms a part has; brackets are one term.
+fn terms_in(part: &[u8]) -> usize
+    ensures { λ r. ⌜ ((text : List ℕ) → r ≡ termsIn (rowOf text (now (part .entry)))) × (r ≤ length (now (part .entry))) ⌝ }
+{
+    let mut count = 0;
+    let mut i = 0;
+    loop {
+        let left = &part[i..];
+        if left.len() < 24 {
+            break count;
+        }
+        count += 1;
         i += end_of(left);
     }
 }
@@ -177,5 +194,45 @@ pub fn loose(text: &[u8], pattern: &[u8], row: &[u8]) -> bool
     match front(text, pattern, row) {
         Ahead::Fails => false,
         Ahead::At(m, n) => loose_open(text, &pattern[m..], &row[n..]),
+    }
+}
+
+// Is the variable that stands first in one part a record of another, at any depth?
+fn again(text: &[u8], first: &[u8], part: &[u8]) -> bool
+    requires { ⌜ 24 ≤ length (now first) ⌝ }
+    ensures { λ r. ⌜ (r ≡ false → Alone (now (text .entry)) (atomOf (now (text .entry)) (termAt (now (first .entry)) 0)) (now (part .entry))) ⌝ }
+{
+    let mut i = 0;
+    loop {
+        let left = &part[i..];
+        if left.len() < 24 {
+            break false;
+        }
+        if atoms_same(text, first, left) {
+            break true;
+        }
+        i += 24;
+    }
+}
+
+// Does a pattern show that it has no variable twice? What stands inside calls is looked at too.
+pub fn once(text: &[u8], pattern: &[u8]) -> bool
+    ensures { λ r. ⌜ (r ≡ true → onceEach (variablesIn (rowOf (now (text .entry)) (now (pattern .entry)))) ≡ true) ⌝ }
+{
+    let mut i = 0;
+    loop {
+        let left = &pattern[i..];
+        if left.len() < 24 {
+            break true;
+        }
+        let kind = word_at(left, 0);
+        if 2 < kind {
+            if kind < 6 {
+                if again(text, left, &left[24..]) {
+                    break false;
+                }
+            }
+        }
+        i += 24;
     }
 }

@@ -6,7 +6,7 @@ use native.Mathlib.Omega.{arith}
 use mathlib.Core.Logic.{⊎-elim}
 use Rattle.law.proofs.IndexLaws.{sentences-limit}
 use Rattle.file.specs.Sections.{fileOf}
-use Rattle.matching.specs.Entry.{patternIn}
+use Rattle.sentences.specs.Entry.{patternIn}
 use Rattle.lints.specs.Dead.{earliest}
 use Rattle.lints.specs.Records.{earlierAt}
 use Rattle.findings.proofs.DeadLaws as laws

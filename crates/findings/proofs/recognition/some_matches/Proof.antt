@@ -6,7 +6,7 @@ use Rattle.file.specs.Sections.{fileOf}
 use Rattle.law.proofs.Allowed.{accepted-readable}
 use Rattle.law.proofs.IndexLaws.{sentences-limit}
 use Rattle.matching.specs.Literal.{literalTerms}
-use Rattle.matching.specs.Entry.{argumentIn}
+use Rattle.sentences.specs.Entry.{argumentIn}
 use Rattle.findings.proofs.RecognitionLaws.{argument-literal, MatchesLeft, function-few, matches-start, matches-here, matches-next, matches-end}
 use Rattle.findings.proofs.recognition.some_matches.Statement.{statement}
 use Rattle.findings.proofs.recognition.some_matches.Tie as tie

@@ -1,24 +1,21 @@
 -- `literal_run`, `literal_lengths`, `literal_inside` and `literal_out` meet their contracts, by laws of proofs/LevelLaws.antt and ShadowSteps.antt for each
 -- return and each call. The measure is four times the bytes of the term records from the pattern's position on, and twice the levels around, with 1 more
 -- for `literal_run`, which hands the same pattern on: gone into brackets, a level is more, but the pattern's position is further on.
-use Prim.Native.Nat.{ℕ, suc, _+_, _*_, _-_, _<_}
-use mathlib.Core.Bool.{Bool, true, false}
-use mathlib.Core.List.{List, []}
-use mathlib.Core.Path.{_≡_, refl, sym, ap, _∙_}
+use Prim.Native.Nat.{ℕ, _+_, _*_, _-_, _<_}
+use mathlib.Core.Bool.{Bool, true}
+use mathlib.Core.List.{List}
+use mathlib.Core.Path.{_≡_}
 use native.Mathlib.Omega.{arith}
 use borrow.Author.Needs.{needs}
-use lib.ListN.{length, getD}
-use Rattle.law.specs.Runs.{endOf}
+use lib.ListN.{length}
 use Rattle.matching.specs.Pattern.{Atom}
 use Rattle.matching.specs.Match.{Values}
-use Rattle.matching.specs.Least.{termsIn}
 use Rattle.matching.specs.Step.{eachLength}
 use Rattle.matching.specs.Bound.{valuesOf}
 use Rattle.matching.specs.Asked.{someHolds, resume, levelsOf}
 use Rattle.matching.specs.declared.literal.Pending.{Pending}
-use Rattle.matching.specs.Part.{rowOf, from, Begin, one-on}
+use Rattle.matching.specs.Part.{Begin, at-start, one-on}
 use Rattle.matching.proofs.CutLaws.{begin-inside, from-length}
-use Rattle.matching.proofs.LeastLaws.{next-terms}
 use Rattle.matching.proofs.LengthLaws.{leftAt}
 use Rattle.matching.proofs.AskedLaws as calls
 use Rattle.matching.proofs.LevelLaws as level
@@ -38,8 +35,6 @@ use Rattle.matching.proofs.literal.literal_run.Reads as literal-run
 use Rattle.matching.proofs.literal.literal_run.Kinds as literal-run-kinds
 use Rattle.matching.proofs.literal.+literal_inside+literal_lengths+literal_out+literal_run.Lts-literal_run as literal-run-lts
 use Rattle.law.proofs.runs.end_of.Reads as end-of-reads
-use Rattle.matching.proofs.needs_of.Reads as needs-of-reads
-use Rattle.matching.proofs.first_length.Reads as first-length-reads
 use Rattle.matching.proofs.bind.Reads as bind-reads
 use Rattle.matching.proofs.first_of.Reads as first-of-reads
 use Rattle.matching.proofs.literal.push.Reads as push-reads
@@ -116,12 +111,12 @@ abbrev outside : List ℕ → List ℕ → Pending → List ℕ → ℕ → List
 outside text terms pending pattern at row start = resume (levelsOf text terms pending (at + length pattern) (start + length row))
 
 abbrev literal-lengths-Inv-loop : literal-lengths-lts.InvT-loop
-literal-lengths-Inv-loop text terms pattern at row start pending b end rest next needed room₀ n₀ room n =
-    Begin row n × (room ≡ termsIn (rowOf text (from n row))) × (someHolds (outside text terms pending pattern at row start) (eachLength text true pattern row (valuesOf text terms b))
+literal-lengths-Inv-loop text terms pattern at row start pending b end rest next n₀ n =
+    Begin row n × (someHolds (outside text terms pending pattern at row start) (eachLength text true pattern row (valuesOf text terms b))
     ≡ someHolds (outside text terms pending pattern at row start) (leftAt text true pattern row (valuesOf text terms b) n))
 
 abbrev literal-lengths-μ-loop : literal-lengths-lts.MeasureT-loop
-literal-lengths-μ-loop text terms pattern at row start pending b end rest next needed room₀ n₀ room n = length row - n
+literal-lengths-μ-loop text terms pattern at row start pending b end rest next n₀ n = length row - n
 
 pub +literal-inside+literal-lengths+literal-out+literal-run-spec : {M : Type 1} → statement M
 +literal-inside+literal-lengths+literal-out+literal-run-spec =
@@ -176,10 +171,6 @@ pub +literal-inside+literal-lengths+literal-out+literal-run-spec : {M : Type 1} 
     (λ t. literal-lengths-lts.spec (
       end-of-reads.Asked,
       end-of-reads.Learnt,
-      needs-of-reads.Asked,
-      needs-of-reads.Learnt,
-      first-length-reads.Asked,
-      first-length-reads.Learnt,
       bind-reads.Asked,
       bind-reads.Learnt,
       literal-run-below t,
@@ -195,59 +186,46 @@ pub +literal-inside+literal-lengths+literal-out+literal-run-spec : {M : Type 1} 
     (λ c. search needs)
     (λ c. let asked = c .before .before .before .before .before .before .pre .1 .0 .0 .asked in
     omega (arith, asked .pattern-stands .inside, asked .small, c .before .end-of .ensures .2))
-    (λ c κs. let start = c .before .before .before .before .before .before .before .before .before .before .pre in
-    let asked = start .1 .0 .0 .asked in (
-      asked .kept,
-      asked .small,
-      omega (arith, asked .pattern-stands .inside, asked .small, from-length (c .before .before .before .before .before .end-of .result) (c .before .before .before .before .before .before .before .before .before .before .args .pattern .now)),
-    ))
-    (λ c κs. tt)
-    (λ c. let start = c .before .before .before .before .before .before .before .before .before .before .before .before .pre in
-    let passes = c .first-length .ensures in
-    (passes .begins, passes .counted _, level.lengths-start (start .1 .0 .0) (start .1 .0 .1) (start .1 .1) (start .1 .0 .2) (c .before .before .before .before .before .before .before .end-of .ensures .0) (c .before .needs-of .ensures) passes))
+    (λ c. let start = c .before .before .before .before .before .before .pre in
+    (at-start, level.lengths-start (start .1 .0 .0) (start .1 .0 .1) (start .1 .1)))
     (λ c. begin-inside (c .loop .inv .0))
     (λ c. begin-inside (c .loop .inv .0))
     (λ c. search needs)
-    (λ c κs. let start = c .before .before .before .before .before .before .before .before .before .before .before .before .before .before .before .pre in
+    (λ c κs. let start = c .before .before .before .before .before .before .before .before .pre in
     let asked = start .1 .0 .0 .asked in (
       (
         omega (arith, asked .pattern-stands .inside, asked .small, start .1 .0 .1),
         omega (arith, asked .row-stands .inside, asked .small),
-        omega (arith, asked .row-stands .inside, asked .small, begin-inside (c .before .before .loop .inv .0)),
+        omega (arith, asked .row-stands .inside, asked .small, begin-inside (c .before .loop .inv .0)),
         calls.place-ready asked (start .1 .0 .1) (start .1 .1),
       ),
       (asked .kept .keys, asked .kept .starts, asked .kept .sizes),
     ))
-    (λ c. let asked = c .before .before .before .before .before .before .before .before .before .before .before .before .before .before .before .before .pre .1 .0 .0 .asked in
-    omega (arith, asked .row-stands .inside, asked .small, begin-inside (c .before .before .before .loop .inv .0)))
-    (λ c κs. let start = c .before .before .before .before .before .before .before .before .before .before .before .before .before .before .before .before .pre in
-    let ends = c .before .before .before .before .before .before .before .before .before .before .before .end-of in
-    let inside = begin-inside (c .before .before .before .loop .inv .0) in (
+    (λ c. let asked = c .before .before .before .before .before .before .before .before .before .pre .1 .0 .0 .asked in
+    omega (arith, asked .row-stands .inside, asked .small, begin-inside (c .before .before .loop .inv .0)))
+    (λ c κs. let start = c .before .before .before .before .before .before .before .before .before .pre in
+    let ends = c .before .before .before .before .end-of in
+    let inside = begin-inside (c .before .before .loop .inv .0) in (
       omega (arith, start .0, ends .ensures .1, ends .ensures .2, start .1 .0 .0 .asked .pattern-stands .inside),
-      level.literal-more (start .1 .0 .0) (start .1 .0 .1) (start .1 .1) inside (c .bind .ensures) (ends .result) (c .before .before .before .loop .n) (ends .ensures .0) inside,
+      level.literal-more (start .1 .0 .0) (start .1 .0 .1) (start .1 .1) inside (c .bind .ensures) (ends .result) (c .before .before .loop .n) (ends .ensures .0) inside,
     ))
-    (λ c. let the-loop = c .before .before .before .before .before .before .loop in
-    omega (arith, the-loop .inv .1, next-terms (c .before .before .before .before .before .before .before .before .before .before .before .before .before .before .before .before .before .before .before .args .row .now) (the-loop .n) (c .if3 .left) refl (c .before .before .before .before .before .before .before .before .before .before .before .before .before .before .before .before .before .before .before .args .text .now)))
-    (λ c κs. c .if3 .left)
-    (λ c. let asked = c .before .before .before .before .before .before .before .before .before .before .before .before .before .before .before .before .before .before .before .before .pre .1 .0 .0 .asked in
-    omega (arith, asked .row-stands .inside, asked .small, c .end-of2 .ensures .2, from-length (c .before .before .before .before .before .before .before .loop .n) (c .before .before .before .before .before .before .before .before .before .before .before .before .before .before .before .before .before .before .before .before .args .row .now), begin-inside (c .before .before .before .before .before .before .before .loop .inv .0)))
+    (λ c κs. c .if2 .left)
+    (λ c. let asked = c .before .before .before .before .before .before .before .before .before .before .before .before .before .pre .1 .0 .0 .asked in
+    omega (arith, asked .row-stands .inside, asked .small, c .end-of2 .ensures .2, from-length (c .before .before .before .before .before .before .loop .n) (c .before .before .before .before .before .before .before .before .before .before .before .before .before .args .row .now), begin-inside (c .before .before .before .before .before .before .loop .inv .0)))
     (λ c.
-    let the-loop = c .before .before .before .before .before .before .before .loop in
-    omega (arith, c .end-of2 .ensures .1, c .end-of2 .ensures .2, from-length (the-loop .n) (c .before .before .before .before .before .before .before .before .before .before .before .before .before .before .before .before .before .before .before .before .args .row .now), begin-inside (the-loop .inv .0)))
-    (λ c. let start = c .before .before .before .before .before .before .before .before .before .before .before .before .before .before .before .before .before .before .before .before .pre in (
-      rw (c .end-of2 .ensures .0) (one-on (c .before .if3 .left) (c .before .before .before .before .before .before .before .loop .inv .0)),
-      omega (arith, c .before .before .before .before .before .before .before .loop .inv .1, next-terms (c .before .before .before .before .before .before .before .before .before .before .before .before .before .before .before .before .before .before .before .before .args .row .now) (c .before .before .before .before .before .before .before .loop .n) (c .before .if3 .left) (c .end-of2 .ensures .0) (c .before .before .before .before .before .before .before .before .before .before .before .before .before .before .before .before .before .before .before .before .args .text .now)),
-      rw (c .end-of2 .ensures .0) (level.length-next (start .1 .0 .0) (start .1 .0 .1) (start .1 .1) (c .before .before .before .before .before .before .before .before .before .before .before .before .before .before .before .end-of .ensures .0) (c .before .before .before .before .before .before .before .loop .inv .0) (c .before .before .before .before .bind .ensures)
-          (c .before .before .before .literal-run .result) (c .before .before .before .literal-run .ensures) (c .before .before .before .before .before .before .before .loop .inv .2) (c .before .before .if2 .left) (c .before .if3 .left)),
+    let the-loop = c .before .before .before .before .before .before .loop in
+    omega (arith, c .end-of2 .ensures .1, c .end-of2 .ensures .2, from-length (the-loop .n) (c .before .before .before .before .before .before .before .before .before .before .before .before .before .args .row .now), begin-inside (the-loop .inv .0)))
+    (λ c. let start = c .before .before .before .before .before .before .before .before .before .before .before .before .before .pre in (
+      rw (c .end-of2 .ensures .0) (one-on (c .before .if2 .left) (c .before .before .before .before .before .before .loop .inv .0)),
+      rw (c .end-of2 .ensures .0) (level.length-next (start .1 .0 .0) (start .1 .0 .1) (start .1 .1) (c .before .before .before .before .before .before .before .before .end-of .ensures .0) (c .before .before .before .before .before .before .loop .inv .0) (c .before .before .before .before .bind .ensures)
+          (c .before .before .before .literal-run .result) (c .before .before .before .literal-run .ensures) (c .before .before .before .before .before .before .loop .inv .1) (c .before .before .if1 .left) (c .before .if2 .left)),
     ))
-    (λ c. let start = c .before .before .before .before .before .before .before .before .before .before .before .before .before .before .before .pre in
-    level.length-short (start .1 .0 .0) (start .1 .0 .1) (start .1 .1) (start .1 .0 .2) (c .before .before .before .before .before .before .before .before .before .before .end-of .ensures .0) (c .before .before .before .before .needs-of .ensures) (c .before .before .loop .n) (c .before .before .loop .inv .1) (c .if1 .taken) (c .before .before .loop .inv .2))
-    (λ c. let start = c .before .before .before .before .before .before .before .before .before .before .before .before .before .before .before .before .before .before .pre in
-    level.length-found (start .1 .0 .0) (start .1 .0 .1) (start .1 .1) (c .before .before .before .before .before .before .before .before .before .before .before .before .before .end-of .ensures .0) (c .before .before .before .before .before .loop .inv .0) (c .before .before .bind .ensures) (c .before .literal-run .result)
-    (c .before .literal-run .ensures) (c .before .before .before .before .before .loop .inv .2) (c .if2 .taken))
-    (λ c. let start = c .before .before .before .before .before .before .before .before .before .before .before .before .before .before .before .before .before .before .before .pre in
-    level.length-none (start .1 .0 .0) (start .1 .0 .1) (start .1 .1) (c .before .before .before .before .before .before .before .before .before .before .before .before .before .before .end-of .ensures .0) (c .before .before .before .before .before .before .loop .inv .0) (c .before .before .before .bind .ensures) (c .before .before .literal-run .result)
-    (c .before .before .literal-run .ensures) (c .before .before .before .before .before .before .loop .inv .2) (c .before .if2 .left) (c .if3 .taken)))
+    (λ c. let start = c .before .before .before .before .before .before .before .before .before .before .before .pre in
+    level.length-found (start .1 .0 .0) (start .1 .0 .1) (start .1 .1) (c .before .before .before .before .before .before .end-of .ensures .0) (c .before .before .before .before .loop .inv .0) (c .before .before .bind .ensures) (c .before .literal-run .result)
+    (c .before .literal-run .ensures) (c .before .before .before .before .loop .inv .1) (c .if1 .taken))
+    (λ c. let start = c .before .before .before .before .before .before .before .before .before .before .before .before .pre in
+    level.length-none (start .1 .0 .0) (start .1 .0 .1) (start .1 .1) (c .before .before .before .before .before .before .before .end-of .ensures .0) (c .before .before .before .before .before .loop .inv .0) (c .before .before .before .bind .ensures) (c .before .before .literal-run .result)
+    (c .before .before .literal-run .ensures) (c .before .before .before .before .before .loop .inv .1) (c .before .if1 .left) (c .if2 .taken)))
     (λ t. literal-out-lts.spec (
       wide-reads.Asked,
       wide-reads.Learnt,
@@ -360,8 +338,7 @@ pub +literal-inside+literal-lengths+literal-out+literal-run-spec : {M : Type 1} 
     ))
     (λ c. search needs)
     (λ c κs. let start = c .before .before .before .before .before .before .before .before .before .before .before .before .pre in
-    let tries = step.tries-free (c .before .before .first-of .ensures) true (c .enum-told2 .given .1) in
-    (omega (arith, start .0), ((start .1, c .before .before .before .before .before .before .before .if1 .left, tries .1), tries .0)))
+    (omega (arith, start .0), ((start .1, c .before .before .before .before .before .before .before .if1 .left), step.tries-free (c .before .before .first-of .ensures) true (c .enum-told2 .given .1))))
     (λ c. search needs)
     (λ c κs. let start = c .before .before .before .before .before .before .before .before .before .before .before .before .pre in
     (omega (arith, start .0), (start .1, c .before .before .before .before .before .before .before .if1 .left, step.inside-facing (c .before .before .first-of .ensures) true (c .enum-told3 .given .1))))

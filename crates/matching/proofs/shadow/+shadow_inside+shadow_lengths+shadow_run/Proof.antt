@@ -1,21 +1,18 @@
 -- `shadow_run`, `shadow_lengths` and `shadow_inside` meet their contracts, by a law of proofs/ShadowSteps.antt for each return, and of proofs/AskedLaws.antt
 -- for each call. The measure is twice the pattern's length, with 1 more for `shadow_run`, which hands the same pattern on.
 use Prim.Native.Nat.{ℕ, _+_, _*_, _-_, _<_}
-use mathlib.Core.Bool.{true, false}
+use mathlib.Core.Bool.{false}
 use mathlib.Core.Path.{_≡_, refl, sym, ap, _∙_}
 use native.Mathlib.Omega.{arith}
 use borrow.Author.Needs.{needs}
 use borrow.Author.Tests.{not-true, not-false}
 use lib.ListN.{length}
-use Rattle.law.specs.Runs.{endOf}
 use Rattle.law.proofs.Forests.{inside-falls, after-falls}
-use Rattle.matching.specs.Least.{termsIn}
 use Rattle.matching.specs.Step.{eachLength}
 use Rattle.matching.specs.Bound.{valuesOf}
 use Rattle.matching.specs.Asked.{firstIn}
-use Rattle.matching.specs.Part.{rowOf, from, Begin, one-on}
+use Rattle.matching.specs.Part.{Begin, at-start, one-on}
 use Rattle.matching.proofs.CutLaws.{begin-inside, from-length}
-use Rattle.matching.proofs.LeastLaws.{next-terms}
 use Rattle.matching.proofs.LengthLaws.{leftAt}
 use Rattle.matching.proofs.AskedLaws as calls
 use Rattle.matching.proofs.ShadowSteps as returns
@@ -31,9 +28,6 @@ use Rattle.matching.proofs.shadow.shadow_run.Reads as shadow-run
 use Rattle.matching.proofs.shadow.shadow_run.Kinds as shadow-run-kinds
 use Rattle.matching.proofs.shadow.+shadow_inside+shadow_lengths+shadow_run.Lts-shadow_run as shadow-run-lts
 use Rattle.law.proofs.runs.end_of.Reads as end-of-reads
-use Rattle.matching.proofs.needs_of.Reads as needs-of-reads
-use Rattle.matching.proofs.first_length.Reads as first-length-reads
-use Rattle.matching.proofs.shadow.unmatched.Reads as unmatched-reads
 use Rattle.matching.proofs.bind.Reads as bind-reads
 use Rattle.matching.proofs.first_of.Reads as first-of-reads
 use Rattle.matching.proofs.shadow.+shadow_inside+shadow_lengths+shadow_run.{statement}
@@ -85,11 +79,11 @@ shadow-run-below t =
     and 4 shadow-run-kinds.ps (falls 4 shadow-run-kinds.ps _<_ μ-shadow-run t) shadow-run.Pre
 
 abbrev shadow-lengths-Inv-loop : shadow-lengths-lts.InvT-loop
-shadow-lengths-Inv-loop text terms pattern at row start b end rest next needed room₀ n₀ room n =
-    Begin row n × (room ≡ termsIn (rowOf text (from n row))) × (firstIn (eachLength text false pattern row (valuesOf text terms b)) ≡ firstIn (leftAt text false pattern row (valuesOf text terms b) n))
+shadow-lengths-Inv-loop text terms pattern at row start b end rest next n₀ n =
+    Begin row n × (firstIn (eachLength text false pattern row (valuesOf text terms b)) ≡ firstIn (leftAt text false pattern row (valuesOf text terms b) n))
 
 abbrev shadow-lengths-μ-loop : shadow-lengths-lts.MeasureT-loop
-shadow-lengths-μ-loop text terms pattern at row start b end rest next needed room₀ n₀ room n = length row - n
+shadow-lengths-μ-loop text terms pattern at row start b end rest next n₀ n = length row - n
 
 pub +shadow-inside+shadow-lengths+shadow-run-spec : {M : Type 1} → statement M
 +shadow-inside+shadow-lengths+shadow-run-spec =
@@ -149,12 +143,6 @@ pub +shadow-inside+shadow-lengths+shadow-run-spec : {M : Type 1} → statement M
     (λ t. shadow-lengths-lts.spec (
       end-of-reads.Asked,
       end-of-reads.Learnt,
-      needs-of-reads.Asked,
-      needs-of-reads.Learnt,
-      first-length-reads.Asked,
-      first-length-reads.Learnt,
-      unmatched-reads.Asked,
-      unmatched-reads.Learnt,
       bind-reads.Asked,
       bind-reads.Learnt,
       shadow-run-below t,
@@ -170,69 +158,53 @@ pub +shadow-inside+shadow-lengths+shadow-run-spec : {M : Type 1} → statement M
     (λ c. search needs)
     (λ c. let asked = c .before .before .before .before .before .before .pre .1 .0 .0 in
     omega (arith, asked .pattern-stands .inside, asked .small, c .before .end-of .ensures .2))
-    (λ c κs. let start = c .before .before .before .before .before .before .before .before .before .before .pre in
-    let asked = start .1 .0 .0 in (
-      asked .kept,
-      asked .small,
-      omega (arith, asked .pattern-stands .inside, asked .small, from-length (c .before .before .before .before .before .end-of .result) (c .before .before .before .before .before .before .before .before .before .before .args .pattern .now)),
-    ))
-    (λ c κs. tt)
-    (λ c. let start = c .before .before .before .before .before .before .before .before .before .before .before .before .pre in
-    let passes = c .first-length .ensures in
-    (passes .begins, passes .counted _, returns.lengths-start (start .1 .0 .0) (start .1 .0 .1) (start .1 .1) (start .1 .0 .2) (c .before .before .before .before .before .before .before .end-of .ensures .0) (c .before .needs-of .ensures) passes))
+    (λ c. let start = c .before .before .before .before .before .before .pre in
+    (at-start, returns.lengths-start (start .1 .0 .0) (start .1 .0 .1) (start .1 .1)))
     (λ c. begin-inside (c .loop .inv .0))
     (λ c. begin-inside (c .loop .inv .0))
     (λ c. search needs)
-    (λ c κs. tt)
-    (λ c κs. let start = c .before .before .before .before .before .before .before .before .before .before .before .before .before .before .before .pre in
+    (λ c κs. let start = c .before .before .before .before .before .before .before .before .pre in
     let asked = start .1 .0 .0 in (
       (
         omega (arith, asked .pattern-stands .inside, asked .small, start .1 .0 .1),
         omega (arith, asked .row-stands .inside, asked .small),
-        omega (arith, asked .row-stands .inside, asked .small, begin-inside (c .before .before .loop .inv .0)),
+        omega (arith, asked .row-stands .inside, asked .small, begin-inside (c .before .loop .inv .0)),
         calls.place-ready asked (start .1 .0 .1) (start .1 .1),
       ),
       (asked .kept .keys, asked .kept .starts, asked .kept .sizes),
     ))
-    (λ c. let asked = c .before .before .before .before .before .before .before .before .before .before .before .before .before .before .before .before .pre .1 .0 .0 in
-    omega (arith, asked .row-stands .inside, asked .small, begin-inside (c .before .before .before .loop .inv .0)))
-    (λ c κs. let start = c .before .before .before .before .before .before .before .before .before .before .before .before .before .before .before .before .pre in
-    let ends = c .before .before .before .before .before .before .before .before .before .before .before .end-of in
-    let inside = begin-inside (c .before .before .before .loop .inv .0) in (
-      omega (arith, after-falls (c .before .before .before .before .before .before .before .before .before .before .before .before .before .before .before .before .args .pattern .now) (ends .result) (length (c .before .before .before .before .before .before .before .before .before .before .before .before .before .before .before .before .args .pattern .now)) (start .1 .0 .1) (ends .ensures .0) refl, start .0),
-      calls.asked-more (start .1 .0 .0) (start .1 .0 .1) (start .1 .1) inside (c .bind .ensures) (ends .result) (c .before .before .before .loop .n) (ends .ensures .0) inside,
+    (λ c. let asked = c .before .before .before .before .before .before .before .before .before .pre .1 .0 .0 in
+    omega (arith, asked .row-stands .inside, asked .small, begin-inside (c .before .before .loop .inv .0)))
+    (λ c κs. let start = c .before .before .before .before .before .before .before .before .before .pre in
+    let ends = c .before .before .before .before .end-of in
+    let inside = begin-inside (c .before .before .loop .inv .0) in (
+      omega (arith, after-falls (c .before .before .before .before .before .before .before .before .before .args .pattern .now) (ends .result) (length (c .before .before .before .before .before .before .before .before .before .args .pattern .now)) (start .1 .0 .1) (ends .ensures .0) refl, start .0),
+      calls.asked-more (start .1 .0 .0) (start .1 .0 .1) (start .1 .1) inside (c .bind .ensures) (ends .result) (c .before .before .loop .n) (ends .ensures .0) inside,
     ))
-    (λ c. let the-loop = c .before .before .before .before .before .before .loop in
-    omega (arith, the-loop .inv .1, next-terms (c .before .before .before .before .before .before .before .before .before .before .before .before .before .before .before .before .before .before .before .args .row .now) (the-loop .n) (c .if3 .left) refl (c .before .before .before .before .before .before .before .before .before .before .before .before .before .before .before .before .before .before .before .args .text .now)))
-    (λ c κs. c .if3 .left)
-    (λ c. let asked = c .before .before .before .before .before .before .before .before .before .before .before .before .before .before .before .before .before .before .before .before .pre .1 .0 .0 in
-    omega (arith, asked .row-stands .inside, asked .small, c .end-of2 .ensures .2, from-length (c .before .before .before .before .before .before .before .loop .n) (c .before .before .before .before .before .before .before .before .before .before .before .before .before .before .before .before .before .before .before .before .args .row .now), begin-inside (c .before .before .before .before .before .before .before .loop .inv .0)))
+    (λ c κs. c .if2 .left)
+    (λ c. let asked = c .before .before .before .before .before .before .before .before .before .before .before .before .before .pre .1 .0 .0 in
+    omega (arith, asked .row-stands .inside, asked .small, c .end-of2 .ensures .2, from-length (c .before .before .before .before .before .before .loop .n) (c .before .before .before .before .before .before .before .before .before .before .before .before .before .args .row .now), begin-inside (c .before .before .before .before .before .before .loop .inv .0)))
     (λ c.
-    let the-loop = c .before .before .before .before .before .before .before .loop in
-    omega (arith, c .end-of2 .ensures .1, c .end-of2 .ensures .2, from-length (the-loop .n) (c .before .before .before .before .before .before .before .before .before .before .before .before .before .before .before .before .before .before .before .before .args .row .now), begin-inside (the-loop .inv .0)))
-    (λ c. let start = c .before .before .before .before .before .before .before .before .before .before .before .before .before .before .before .before .before .before .before .before .pre in (
-      rw (c .end-of2 .ensures .0) (one-on (c .before .if3 .left) (c .before .before .before .before .before .before .before .loop .inv .0)),
-      omega (arith, c .before .before .before .before .before .before .before .loop .inv .1, next-terms (c .before .before .before .before .before .before .before .before .before .before .before .before .before .before .before .before .before .before .before .before .args .row .now) (c .before .before .before .before .before .before .before .loop .n) (c .before .if3 .left) (c .end-of2 .ensures .0) (c .before .before .before .before .before .before .before .before .before .before .before .before .before .before .before .before .before .before .before .before .args .text .now)),
-      rw (c .end-of2 .ensures .0) (returns.length-next (start .1 .0 .0) (start .1 .0 .1) (start .1 .1) (c .before .before .before .before .before .before .before .before .before .before .before .before .before .before .before .end-of .ensures .0) (c .before .before .before .before .before .before .before .loop .inv .0) (c .before .before .before .before .bind .ensures)
-          (c .before .before .before .shadow-run .result) (c .before .before .before .shadow-run .ensures .1) (c .before .before .before .before .before .before .before .loop .inv .2) (c .before .before .if2 .left) (c .before .if3 .left)),
+    let the-loop = c .before .before .before .before .before .before .loop in
+    omega (arith, c .end-of2 .ensures .1, c .end-of2 .ensures .2, from-length (the-loop .n) (c .before .before .before .before .before .before .before .before .before .before .before .before .before .args .row .now), begin-inside (the-loop .inv .0)))
+    (λ c. let start = c .before .before .before .before .before .before .before .before .before .before .before .before .before .pre in (
+      rw (c .end-of2 .ensures .0) (one-on (c .before .if2 .left) (c .before .before .before .before .before .before .loop .inv .0)),
+      rw (c .end-of2 .ensures .0) (returns.length-next (start .1 .0 .0) (start .1 .0 .1) (start .1 .1) (c .before .before .before .before .before .before .before .before .end-of .ensures .0) (c .before .before .before .before .before .before .loop .inv .0) (c .before .before .before .before .bind .ensures)
+          (c .before .before .before .shadow-run .result) (c .before .before .before .shadow-run .ensures .1) (c .before .before .before .before .before .before .loop .inv .1) (c .before .before .if1 .left) (c .before .if2 .left)),
     ))
-    (λ c. let start = c .before .before .before .before .before .before .before .before .before .before .before .before .before .before .before .before .pre in
-    (rw (c .unmatched .ensures .1) (start .1 .0 .0 .kept), rw (c .unmatched .ensures .0) (returns.length-short (start .1 .0 .0) (start .1 .0 .1) (start .1 .1) (start .1 .0 .2) (c .before .before .before .before .before .before .before .before .before .before .before .end-of .ensures .0) (c .before .before .before .before .before .needs-of .ensures) (c .before .before .before .loop .n) (c .before .before .before .loop .inv .1) (c .before .if1 .taken) (c .before .before .before .loop .inv .2))))
-    (λ c. let start = c .before .before .before .before .before .before .before .before .before .before .before .before .before .before .before .before .before .before .pre in (
+    (λ c. let start = c .before .before .before .before .before .before .before .before .before .before .before .pre in (
       c .before .shadow-run .ensures .0,
-      returns.length-found (start .1 .0 .0) (start .1 .0 .1) (start .1 .1) (c .before .before .before .before .before .before .before .before .before .before .before .before .before .end-of .ensures .0) (c .before .before .before .before .before .loop .inv .0) (c .before .before .bind .ensures)
-          (c .before .shadow-run .result) (c .before .shadow-run .ensures .1) (c .before .before .before .before .before .loop .inv .2) (c .if2 .taken),
+      returns.length-found (start .1 .0 .0) (start .1 .0 .1) (start .1 .1) (c .before .before .before .before .before .before .end-of .ensures .0) (c .before .before .before .before .loop .inv .0) (c .before .before .bind .ensures)
+          (c .before .shadow-run .result) (c .before .shadow-run .ensures .1) (c .before .before .before .before .loop .inv .1) (c .if1 .taken),
     ))
-    (λ c. let start = c .before .before .before .before .before .before .before .before .before .before .before .before .before .before .before .before .before .before .before .pre in (
+    (λ c. let start = c .before .before .before .before .before .before .before .before .before .before .before .before .pre in (
       c .before .before .shadow-run .ensures .0,
-      returns.length-none (start .1 .0 .0) (start .1 .0 .1) (start .1 .1) (c .before .before .before .before .before .before .before .before .before .before .before .before .before .before .end-of .ensures .0) (c .before .before .before .before .before .before .loop .inv .0) (c .before .before .before .bind .ensures)
-          (c .before .before .shadow-run .result) (c .before .before .shadow-run .ensures .1) (c .before .before .before .before .before .before .loop .inv .2) (c .before .if2 .left) (c .if3 .taken),
+      returns.length-none (start .1 .0 .0) (start .1 .0 .1) (start .1 .1) (c .before .before .before .before .before .before .before .end-of .ensures .0) (c .before .before .before .before .before .loop .inv .0) (c .before .before .before .bind .ensures)
+          (c .before .before .shadow-run .result) (c .before .before .shadow-run .ensures .1) (c .before .before .before .before .before .loop .inv .1) (c .before .if1 .left) (c .if2 .taken),
     )))
     λ t. shadow-run-lts.spec (
       first-of-reads.Asked,
       first-of-reads.Learnt,
-      unmatched-reads.Asked,
-      unmatched-reads.Learnt,
       shadow-run-below t,
       shadow-run.Post,
       end-of-reads.Asked,
@@ -249,7 +221,6 @@ pub +shadow-inside+shadow-lengths+shadow-run-spec : {M : Type 1} → statement M
     (λ c. (c .before .before .before .before .before .pre .1 .kept, returns.run-end _ _ _ _ _ (c .if1 .taken)))
     (λ c κs. (c .before .before .before .before .before .before .before .before .before .pre .1 .kept, c .before .before .before .before .if1 .left))
     (λ c. search needs)
-    (λ c κs. tt)
     (λ c. search needs)
     (λ c. returns.goes-falls (c .before .before .before .first-of .ensures) false _ _ (c .before .m .given .1) .0)
     (λ c. returns.goes-falls (c .before .before .before .first-of .ensures) false _ _ (c .before .m .given .1) .0)
@@ -297,12 +268,11 @@ pub +shadow-inside+shadow-lengths+shadow-run-spec : {M : Type 1} → statement M
     ))
     (λ c. search needs)
     (λ c κs. let start = c .before .before .before .before .before .before .before .before .before .before .before .before .pre in
-    let tries = returns.tries-free (c .before .before .first-of .ensures) false (c .enum-told2 .given .1) in
-    (omega (arith, start .0), ((start .1, c .before .before .before .before .before .before .before .if1 .left, tries .1), tries .0)))
+    (omega (arith, start .0), ((start .1, c .before .before .before .before .before .before .before .if1 .left), returns.tries-free (c .before .before .first-of .ensures) false (c .enum-told2 .given .1))))
     (λ c. search needs)
     (λ c κs. let start = c .before .before .before .before .before .before .before .before .before .before .before .before .pre in
     (omega (arith, start .0), (start .1, c .before .before .before .before .before .before .before .if1 .left, returns.inside-facing (c .before .before .first-of .ensures) false (c .enum-told3 .given .1))))
-    (λ c. (rw (c .unmatched .ensures .1) (c .before .before .before .before .before .before .before .before .before .before .before .before .before .pre .1 .kept), rw (c .unmatched .ensures .0) (sym (ap firstIn (returns.step-fails (c .before .before .before .first-of .ensures) false (c .before .enum-told .given .1))))))
+    (λ c. (c .before .before .before .before .before .before .before .before .before .before .before .before .pre .1 .kept, sym (ap firstIn (returns.step-fails (c .before .before .first-of .ensures) false (c .enum-told .given .1)))))
     (λ c. (c .shadow-run .ensures .0, c .shadow-run .ensures .1 ∙ sym (ap firstIn (returns.step-goes (c .before .before .before .before .before .before .first-of .ensures) false _ _ (c .before .before .before .before .m .given .1)))))
     (λ c. let binds = returns.binds-within (c .before .before .before .before .before .before .before .before .first-of .ensures) false _ (c .before .before .before .before .before .before .n .given .1) in
     let values = calls.values-more (c .before .before .before .before .before .before .before .before .before .before .before .before .before .before .before .before .before .before .pre .1) (c .before .before .before .before .before .before .before .before .before .before .before .before .before .if1 .left) (binds .1) (binds .0) (c .before .bind .ensures) in (

@@ -37,7 +37,7 @@ use Rattle.law.proofs.runs.end_of.Reads as end-of-reads
 use Rattle.matching.proofs.atoms_same.Reads as atoms-same-reads
 use Rattle.matching.proofs.is_bracket.Reads as is-bracket-reads
 use Rattle.matching.proofs.may_stand.Reads as may-stand-reads
-use Rattle.matching.proofs.terms_in.Reads as terms-in-reads
+use Rattle.sentences.proofs.loose.terms_in.Reads as terms-in-reads
 use Rattle.sentences.proofs.loose.has_open.Reads as has-open-reads
 use Rattle.sentences.proofs.loose.skip.Reads as skip-reads
 use Rattle.sentences.proofs.loose.+fits+front+last+leftmost+loose+loose_open.{statement}
@@ -283,17 +283,35 @@ pub +fits+front+last+leftmost+loose+loose-open-spec : {M : Type 1} → statement
     (λ c. search needs)
     (λ c. search needs)
     (λ c κs. search needs)
-    (λ c κs. (omega (arith, from-length (c .before .before .before .end-of .result) (from (c .before .before .before .before .before .before .before .loop .i) (c .before .before .before .before .before .before .before .before .before .before .before .args .pattern .now)), from-length (c .before .before .before .before .before .before .before .loop .i) (c .before .before .before .before .before .before .before .before .before .before .before .args .pattern .now), c .before .before .before .before .if1 .left, c .before .before .before .end-of .ensures .1, c .before .before .before .before .before .before .before .before .before .before .before .pre .0),
-    sym (c .before .has-open .ensures (c .before .before .before .before .before .before .before .before .before .before .before .args .text .now)) ∙ not-true (c .before .has-open .result) (c .if2 .taken)))
+    (λ c κs. (
+      omega (arith, from-length (c .before .before .before .end-of .result) (from (c .before .before .before .before .before .before .before .loop .i) (c .before .before .before .before .before .before .before .before .before .before .before .args .pattern .now)), from-length (c .before .before .before .before .before .before .before .loop .i) (c .before .before .before .before .before .before .before .before .before .before .before .args .pattern .now), c .before .before .before .before .if1 .left, c .before .before .before .end-of .ensures .1, c .before .before .before .before .before .before .before .before .before .before .before .pre .0),
+      sym (c .before .has-open .ensures (c .before .before .before .before .before .before .before .before .before .before .before .args .text .now)) ∙ not-true (c .before .has-open .result) (c .if2 .taken),
+    ))
     (λ c κs. (omega (arith, from-length (c .before .before .before .end-of .result) (from (c .before .before .before .before .before .before .before .loop .i) (c .before .before .before .before .before .before .before .before .before .before .before .args .pattern .now)), from-length (c .before .before .before .before .before .before .before .loop .i) (c .before .before .before .before .before .before .before .before .before .before .before .args .pattern .now), c .before .before .before .before .before .before .before .before .before .before .before .pre .0), tt))
     (λ c. search needs)
     (λ c. search needs)
-    (λ c. omega (arith, ends.opened-within (c .before .before .before .before .before .before .before .before .before .before .before .loop .inv) (c .before .before .before .before .before .before .before .before .if1 .left) (c .before .before .before .before .before .before .before .end-of .ensures .0) (c .before .before .before .before .before .has-open .ensures) (not-false (c .before .before .before .before .before .has-open .result) (c .before .before .before .before .if2 .left)) _ (c .before .before .before .leftmost .ensures) (c .before .m .given .1) .0,
-    from-length (c .before .before .before .before .before .before .before .end-of .result) (from (c .before .before .before .before .before .before .before .before .before .before .before .loop .i) (c .before .before .before .before .before .before .before .before .before .before .before .before .before .before .before .args .pattern .now)), from-length (c .before .before .before .before .before .before .before .before .before .before .before .loop .i) (c .before .before .before .before .before .before .before .before .before .before .before .before .before .before .before .args .pattern .now), c .before .before .before .before .before .before .before .before .before .before .before .loop .inv .within, c .before .before .before .before .before .before .before .end-of .ensures .2))
-    (λ c. omega (arith, ends.opened-within (c .before .before .before .before .before .before .before .before .before .before .before .loop .inv) (c .before .before .before .before .before .before .before .before .if1 .left) (c .before .before .before .before .before .before .before .end-of .ensures .0) (c .before .before .before .before .before .has-open .ensures) (not-false (c .before .before .before .before .before .has-open .result) (c .before .before .before .before .if2 .left)) _ (c .before .before .before .leftmost .ensures) (c .before .m .given .1) .0,
-    from-length (c .before .before .before .before .before .before .before .end-of .result) (from (c .before .before .before .before .before .before .before .before .before .before .before .loop .i) (c .before .before .before .before .before .before .before .before .before .before .before .before .before .before .before .args .pattern .now)), from-length (c .before .before .before .before .before .before .before .before .before .before .before .loop .i) (c .before .before .before .before .before .before .before .before .before .before .before .before .before .before .before .args .pattern .now), c .before .before .before .before .before .before .before .before .before .before .before .loop .inv .within, c .before .before .before .before .before .before .before .end-of .ensures .2))
-    (λ c. omega (arith, ends.opened-within (c .before .before .before .before .before .before .before .before .before .before .before .loop .inv) (c .before .before .before .before .before .before .before .before .if1 .left) (c .before .before .before .before .before .before .before .end-of .ensures .0) (c .before .before .before .before .before .has-open .ensures) (not-false (c .before .before .before .before .before .has-open .result) (c .before .before .before .before .if2 .left)) _ (c .before .before .before .leftmost .ensures) (c .before .m .given .1) .1,
-    from-length (c .before .before .before .before .before .before .before .before .before .before .before .loop .j) (c .before .before .before .before .before .before .before .before .before .before .before .before .before .before .before .args .row .now), c .before .before .before .before .before .before .before .before .before .before .before .loop .inv .row-within))
+    (λ c. omega (
+      arith,
+      ends.opened-within (c .before .before .before .before .before .before .before .before .before .before .before .loop .inv) (c .before .before .before .before .before .before .before .before .if1 .left) (c .before .before .before .before .before .before .before .end-of .ensures .0) (c .before .before .before .before .before .has-open .ensures) (not-false (c .before .before .before .before .before .has-open .result) (c .before .before .before .before .if2 .left)) _ (c .before .before .before .leftmost .ensures) (c .before .m .given .1) .0,
+      from-length (c .before .before .before .before .before .before .before .end-of .result) (from (c .before .before .before .before .before .before .before .before .before .before .before .loop .i) (c .before .before .before .before .before .before .before .before .before .before .before .before .before .before .before .args .pattern .now)),
+      from-length (c .before .before .before .before .before .before .before .before .before .before .before .loop .i) (c .before .before .before .before .before .before .before .before .before .before .before .before .before .before .before .args .pattern .now),
+      c .before .before .before .before .before .before .before .before .before .before .before .loop .inv .within,
+      c .before .before .before .before .before .before .before .end-of .ensures .2,
+    ))
+    (λ c. omega (
+      arith,
+      ends.opened-within (c .before .before .before .before .before .before .before .before .before .before .before .loop .inv) (c .before .before .before .before .before .before .before .before .if1 .left) (c .before .before .before .before .before .before .before .end-of .ensures .0) (c .before .before .before .before .before .has-open .ensures) (not-false (c .before .before .before .before .before .has-open .result) (c .before .before .before .before .if2 .left)) _ (c .before .before .before .leftmost .ensures) (c .before .m .given .1) .0,
+      from-length (c .before .before .before .before .before .before .before .end-of .result) (from (c .before .before .before .before .before .before .before .before .before .before .before .loop .i) (c .before .before .before .before .before .before .before .before .before .before .before .before .before .before .before .args .pattern .now)),
+      from-length (c .before .before .before .before .before .before .before .before .before .before .before .loop .i) (c .before .before .before .before .before .before .before .before .before .before .before .before .before .before .before .args .pattern .now),
+      c .before .before .before .before .before .before .before .before .before .before .before .loop .inv .within,
+      c .before .before .before .before .before .before .before .end-of .ensures .2,
+    ))
+    (λ c. omega (
+      arith,
+      ends.opened-within (c .before .before .before .before .before .before .before .before .before .before .before .loop .inv) (c .before .before .before .before .before .before .before .before .if1 .left) (c .before .before .before .before .before .before .before .end-of .ensures .0) (c .before .before .before .before .before .has-open .ensures) (not-false (c .before .before .before .before .before .has-open .result) (c .before .before .before .before .if2 .left)) _ (c .before .before .before .leftmost .ensures) (c .before .m .given .1) .1,
+      from-length (c .before .before .before .before .before .before .before .before .before .before .before .loop .j) (c .before .before .before .before .before .before .before .before .before .before .before .before .before .before .before .args .row .now),
+      c .before .before .before .before .before .before .before .before .before .before .before .loop .inv .row-within,
+    ))
     (λ c. omega (arith, from-length (c .before .before .before .before .before .before .before .before .before .before .before .loop .i) (c .before .before .before .before .before .before .before .before .before .before .before .before .before .before .before .args .pattern .now), c .before .before .before .before .before .before .before .before .if1 .left, c .before .before .before .before .before .before .before .end-of .ensures .1))
     (λ c. ends.opened-next (c .before .before .before .before .before .before .before .before .before .before .before .loop .inv) (c .before .before .before .before .before .before .before .before .if1 .left) (c .before .before .before .before .before .before .before .end-of .ensures .0) (c .before .before .before .before .before .has-open .ensures) (not-false (c .before .before .before .before .before .has-open .result) (c .before .before .before .before .if2 .left)) _ (c .before .before .before .leftmost .ensures) (c .before .m .given .1))
     (λ c. ends.opened-end (c .before .before .before .loop .inv) (c .if1 .taken))

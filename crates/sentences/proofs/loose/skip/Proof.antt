@@ -1,9 +1,7 @@
 -- `skip` meets its contract, by a law of proofs/OpenLaws.antt for each turn of the loop.
-use Prim.Native.Nat.{_≤_}
 use mathlib.Core.Path.{refl}
 use native.Mathlib.Omega.{arith}
 use borrow.Author.Needs.{needs}
-use lib.ListN.{length}
 use Rattle.matching.proofs.CutLaws.{from-length}
 use Rattle.sentences.specs.Ahead.{Skipped}
 use Rattle.sentences.proofs.OpenLaws as laws
