@@ -11,6 +11,7 @@ ghost use mathlib.Core.Bool.{true, false};
 ghost use mathlib.Core.List.{List};
 ghost use Prim.Native.Nat.{ℕ, _+_, _≤_};
 ghost use lib.ListN.{length};
+ghost use Rattle.file.specs.Word.{wordAt};
 ghost use Rattle.file.specs.Head.{termAt};
 ghost use Rattle.matching.specs.Part.{rowOf, atomOf};
 ghost use Rattle.matching.specs.Capacity.{variablesIn};
@@ -73,14 +74,11 @@ fn skip(row: &[u8], count: usize) -> usize
     }
 }
 
-// May the first term of a pattern, no e. variable, stand for the first term of a row? A bracket asks about the contents.
+// May the first term of a pattern, no symbol and no e. variable, stand for the first term of a row? A bracket asks about the contents.
 fn fits(text: &[u8], pattern: &[u8], row: &[u8]) -> bool
-    requires { ⌜ (24 ≤ length (now pattern)) × (24 ≤ length (now row)) ⌝ }
+    requires { ⌜ (24 ≤ length (now pattern)) × (24 ≤ length (now row)) × (3 ≤ wordAt (now pattern) 0) ⌝ }
     ensures { λ r. ⌜ r ≡ fitsFirst (now (text .entry)) (now (pattern .entry)) (now (row .entry)) ⌝ }
 {
-    if word_at(pattern, 0) < 3 {
-        return atoms_same(text, pattern, row);
-    }
     if !is_bracket(pattern) {
         return may_stand(term_at(pattern, 0), term_at(row, 0));
     }
@@ -105,14 +103,21 @@ fn front(text: &[u8], pattern: &[u8], row: &[u8]) -> Ahead
         if left.len() < 24 {
             break Ahead::At(i, j);
         }
-        if word_at(left, 0) == 5 {
+        let kind = word_at(left, 0);
+        if kind == 5 {
             break Ahead::At(i, j);
         }
         if right.len() < 24 {
             break Ahead::Fails;
         }
-        if !fits(text, left, right) {
-            break Ahead::Fails;
+        if kind < 3 {
+            if !atoms_same(text, left, right) {
+                break Ahead::Fails;
+            }
+        } else {
+            if !fits(text, left, right) {
+                break Ahead::Fails;
+            }
         }
         i += end_of(left);
         j += end_of(right);

@@ -2,6 +2,7 @@
 -- length of the pattern, eight times, and then the order in which the functions hand the same pattern on; the contents of a bracket are shorter.
 use Prim.Native.Nat.{ℕ, _+_, _*_, _-_, _<_}
 use native.Mathlib.Omega.{arith}
+use mathlib.Core.Logic.{⊎-elim}
 use mathlib.Core.Path.{refl, sym, _∙_}
 use borrow.Author.Needs.{needs}
 use borrow.Author.Tests.{not-true, not-false}
@@ -37,9 +38,9 @@ use Rattle.law.proofs.runs.end_of.Reads as end-of-reads
 use Rattle.matching.proofs.atoms_same.Reads as atoms-same-reads
 use Rattle.matching.proofs.is_bracket.Reads as is-bracket-reads
 use Rattle.matching.proofs.may_stand.Reads as may-stand-reads
-use Rattle.sentences.proofs.loose.terms_in.Reads as terms-in-reads
 use Rattle.sentences.proofs.loose.has_open.Reads as has-open-reads
 use Rattle.sentences.proofs.loose.skip.Reads as skip-reads
+use Rattle.sentences.proofs.loose.terms_in.Reads as terms-in-reads
 use Rattle.sentences.proofs.loose.+fits+front+last+leftmost+loose+loose_open.{statement}
 use Rattle.sentences.proofs.loose.+fits+front+last+leftmost+loose+loose_open.Tie.{close}
 
@@ -121,10 +122,6 @@ loose-open-μ-loop text pattern row i₀ j₀ i j = length pattern - i
 pub +fits+front+last+leftmost+loose+loose-open-spec : {M : Type 1} → statement M
 +fits+front+last+leftmost+loose+loose-open-spec =
     close μ-fits μ-front μ-last μ-leftmost μ-loose μ-loose-open (λ t. fits-lts.spec (
-      word-at-reads.Asked,
-      word-at-reads.Learnt,
-      atoms-same-reads.Asked,
-      atoms-same-reads.Learnt,
       is-bracket-reads.Asked,
       is-bracket-reads.Learnt,
       term-at-reads.Asked,
@@ -138,36 +135,35 @@ pub +fits+front+last+leftmost+loose+loose-open-spec : {M : Type 1} → statement
     )
     (fits-at t)
     fits.Post
-    (λ c κs. omega (arith, c .before .before .before .pre .1 .0))
-    (λ c κs. c .before .before .before .before .before .pre .1)
-    (λ c. let a = c .before .before .before .before .before .before .args in laws.fits-symbol (a .text .now) (a .pattern .now) (a .row .now) (c .before .before .word-at .ensures) (c .before .if1 .taken) (c .atoms-same .ensures))
+    (λ c κs. c .before .before .before .pre .1 .0)
     (λ c κs. c .before .before .before .before .before .pre .1 .0)
+    (λ c κs. c .before .before .before .before .before .before .pre .1 .1)
+    (λ c κs. tt)
+    (λ c. let a = c .before .before .before .before .before .before .before .before .args in
+    laws.fits-variable (a .text .now) (a .pattern .now) (a .row .now) (c .before .before .before .before .is-bracket .ensures) refl (c .before .before .before .before .before .before .before .before .pre .1 .2)
+    (not-true (c .before .before .before .before .is-bracket .result) (c .before .before .before .if1 .taken)) (c .before .before .term-at .ensures) (c .before .term-at2 .ensures) (c .may-stand .ensures))
+    (λ c κs. c .before .before .before .before .before .pre .1 .1)
+    (λ c. let a = c .before .before .before .before .before .before .before .args in
+    laws.fits-none (a .text .now) (a .pattern .now) (a .row .now) (c .before .before .before .is-bracket .ensures) (not-false (c .before .before .before .is-bracket .result) (c .before .before .if1 .left))
+    (c .before .is-bracket2 .ensures) (not-true (c .before .is-bracket2 .result) (c .if2 .taken)))
     (λ c κs. c .before .before .before .before .before .before .before .pre .1 .0)
     (λ c κs. c .before .before .before .before .before .before .before .before .pre .1 .1)
-    (λ c κs. tt)
-    (λ c. let a = c .before .before .before .before .before .before .before .before .before .before .args in
-    laws.fits-variable (a .text .now) (a .pattern .now) (a .row .now) (c .before .before .before .before .is-bracket .ensures) (c .before .before .before .before .before .before .word-at .ensures) (omega (arith, c .before .before .before .before .before .if1 .left))
-    (not-true (c .before .before .before .before .is-bracket .result) (c .before .before .before .if2 .taken)) (c .before .before .term-at .ensures) (c .before .term-at2 .ensures) (c .may-stand .ensures))
-    (λ c κs. c .before .before .before .before .before .before .before .pre .1 .1)
-    (λ c. let a = c .before .before .before .before .before .before .before .before .before .args in
-    laws.fits-none (a .text .now) (a .pattern .now) (a .row .now) (c .before .before .before .is-bracket .ensures) (not-false (c .before .before .before .is-bracket .result) (c .before .before .if2 .left))
-    (c .before .is-bracket2 .ensures) (not-true (c .before .is-bracket2 .result) (c .if3 .taken)))
-    (λ c κs. c .before .before .before .before .before .before .before .before .before .pre .1 .0)
-    (λ c κs. c .before .before .before .before .before .before .before .before .before .before .pre .1 .1)
     (λ c. search needs)
     (λ c. search needs)
     (λ c. search needs)
     (λ c. search needs)
     (λ c. search needs)
     (λ c. search needs)
-    (λ c κs. let pattern = c .before .before .before .before .before .before .before .before .before .before .before .before .before .args .pattern .now in
-    (omega (arith, inside-falls pattern (c .before .before .before .end-of .result) (length pattern) (c .before .before .before .before .before .before .before .before .before .before .before .before .before .pre .1 .0) (c .before .before .before .end-of .ensures .0) refl, c .before .before .before .before .before .before .before .before .before .before .before .before .before .pre .0), tt))
-    (λ c. let a = c .before .before .before .before .before .before .before .before .before .before .before .before .before .before .args in
-    laws.fits-inside (a .text .now) (a .pattern .now) (a .row .now) (c .before .before .before .before .before .before .before .before .is-bracket .ensures) (not-false (c .before .before .before .before .before .before .before .before .is-bracket .result) (c .before .before .before .before .before .before .before .if2 .left))
-    (c .before .before .before .before .before .before .is-bracket2 .ensures) (not-false (c .before .before .before .before .before .before .is-bracket2 .result) (c .before .before .before .before .before .if3 .left)) (c .before .before .before .before .end-of .ensures .0) (c .before .before .before .end-of2 .ensures .0) (c .loose .ensures)))
+    (λ c κs. let pattern = c .before .before .before .before .before .before .before .before .before .before .before .args .pattern .now in
+    (omega (arith, inside-falls pattern (c .before .before .before .end-of .result) (length pattern) (c .before .before .before .before .before .before .before .before .before .before .before .pre .1 .0) (c .before .before .before .end-of .ensures .0) refl, c .before .before .before .before .before .before .before .before .before .before .before .pre .0), tt))
+    (λ c. let a = c .before .before .before .before .before .before .before .before .before .before .before .before .args in
+    laws.fits-inside (a .text .now) (a .pattern .now) (a .row .now) (c .before .before .before .before .before .before .before .before .is-bracket .ensures) (not-false (c .before .before .before .before .before .before .before .before .is-bracket .result) (c .before .before .before .before .before .before .before .if1 .left))
+    (c .before .before .before .before .before .before .is-bracket2 .ensures) (not-false (c .before .before .before .before .before .before .is-bracket2 .result) (c .before .before .before .before .before .if2 .left)) (c .before .before .before .before .end-of .ensures .0) (c .before .before .before .end-of2 .ensures .0) (c .loose .ensures)))
     (λ t. front-lts.spec (
       word-at-reads.Asked,
       word-at-reads.Learnt,
+      atoms-same-reads.Asked,
+      atoms-same-reads.Learnt,
       fits-below t,
       fits.Post,
       end-of-reads.Asked,
@@ -185,18 +181,31 @@ pub +fits+front+last+leftmost+loose+loose-open-spec : {M : Type 1} → statement
     (λ c. c .before .loop .inv .row-within)
     (λ c. search needs)
     (λ c κs. omega (arith, c .if1 .left))
-    (λ c κs. (omega (arith, from-length (c .before .before .before .before .before .before .loop .i) (c .before .before .before .before .before .before .before .before .before .before .args .pattern .now), c .before .before .before .before .before .before .before .before .before .before .pre .0), (c .before .before .before .if1 .left, c .if3 .left)))
-    (λ c κs. c .before .before .before .before .before .if1 .left)
-    (λ c. omega (arith, from-length (c .before .before .before .before .before .before .before .before .before .loop .i) (c .before .before .before .before .before .before .before .before .before .before .before .before .before .args .pattern .now), c .end-of .ensures .2, c .before .before .before .before .before .before .before .before .before .loop .inv .within))
-    (λ c κs. c .before .before .before .if3 .left)
-    (λ c. omega (arith, from-length (c .before .before .before .before .before .before .before .before .before .before .loop .j) (c .before .before .before .before .before .before .before .before .before .before .before .before .before .before .args .row .now), c .end-of2 .ensures .2, c .before .before .before .before .before .before .before .before .before .before .loop .inv .row-within))
-    (λ c. omega (arith, from-length (c .before .before .before .before .before .before .before .before .before .before .loop .i) (c .before .before .before .before .before .before .before .before .before .before .before .before .before .before .args .pattern .now), c .before .before .before .before .before .before .before .if1 .left, c .before .end-of .ensures .1))
-    (λ c. laws.front-next (c .before .before .before .before .before .before .before .before .before .before .loop .inv) (c .before .before .before .before .before .before .before .if1 .left) (c .before .before .before .before .before .before .word-at .ensures) (c .before .before .before .before .before .if2 .left) (c .before .before .before .before .if3 .left) (c .before .before .before .fits2 .ensures)
-    (not-false (c .before .before .before .fits2 .result) (c .before .before .if4 .left)) (c .before .end-of .ensures .0) (c .end-of2 .ensures .0))
+    (λ c κs. (c .before .before .before .before .if1 .left, c .before .if3 .left))
+    (λ c κs. (omega (arith, from-length (c .before .before .before .before .before .before .before .loop .i) (c .before .before .before .before .before .before .before .before .before .before .before .args .pattern .now), c .before .before .before .before .before .before .before .before .before .before .before .pre .0), (c .before .before .before .before .if1 .left, c .before .if3 .left, omega (arith, c .if4 .left, c .before .before .before .word-at .ensures))))
+    (λ c κs. c .before .before .before .before .if1 .left)
+    (λ c. omega (arith, from-length (c .before .before .before .before .before .before .before .before .loop .i) (c .before .before .before .before .before .before .before .before .before .before .before .before .args .pattern .now), c .end-of .ensures .2, c .before .before .before .before .before .before .before .before .loop .inv .within))
+    (λ c κs. c .before .before .if3 .left)
+    (λ c. omega (arith, from-length (c .before .before .before .before .before .before .before .before .before .loop .j) (c .before .before .before .before .before .before .before .before .before .before .before .before .before .args .row .now), c .end-of2 .ensures .2, c .before .before .before .before .before .before .before .before .before .loop .inv .row-within))
+    (λ c. omega (arith, from-length (c .before .before .before .before .before .before .before .before .before .loop .i) (c .before .before .before .before .before .before .before .before .before .before .before .before .before .args .pattern .now), c .before .before .before .before .before .before .if1 .left, c .before .end-of .ensures .1))
+    (λ c. let a = c .before .before .before .before .before .before .before .before .before .before .before .before .before .args in
+    let at-loop = c .before .before .before .before .before .before .before .before .before .loop in
+    ⊎-elim
+    (λ w. laws.front-next (at-loop .inv) (c .before .before .before .before .before .before .if1 .left) (c .before .before .before .before .before .word-at .ensures) (c .before .before .before .before .if2 .left) (c .before .before .before .if3 .left)
+    (laws.fits-symbol (a .text .now) (from (at-loop .i) (a .pattern .now)) (from (at-loop .j) (a .row .now)) (c .before .before .before .before .before .word-at .ensures) (w .0 .taken) (w .1 .ensures))
+    (not-false (w .1 .result) (w .2 .left)) (c .before .end-of .ensures .0) (c .end-of2 .ensures .0))
+    (λ w. laws.front-next (at-loop .inv) (c .before .before .before .before .before .before .if1 .left) (c .before .before .before .before .before .word-at .ensures) (c .before .before .before .before .if2 .left) (c .before .before .before .if3 .left) (w .1 .ensures)
+    (not-false (w .1 .result) (w .2 .left)) (c .before .end-of .ensures .0) (c .end-of2 .ensures .0))
+    (c .before .before .if4 .came))
     (λ c. laws.front-end (c .before .before .before .loop .inv) (c .if1 .taken))
     (λ c. laws.front-open-term (c .before .before .before .before .before .loop .inv) (c .before .before .if1 .left) (c .before .word-at .ensures) (c .if2 .taken))
     (λ c. laws.front-short (c .before .before .before .before .before .before .loop .inv) (c .before .before .before .if1 .left) (c .before .before .word-at .ensures) (c .before .if2 .left) (c .if3 .taken))
-    (λ c. laws.front-differs (c .before .before .before .before .before .before .before .before .loop .inv) (c .before .before .before .before .before .if1 .left) (c .before .before .before .before .word-at .ensures) (c .before .before .before .if2 .left) (c .before .before .if3 .left) (c .before .fits2 .ensures) (not-true (c .before .fits2 .result) (c .if4 .taken))))
+    (λ c. let a = c .before .before .before .before .before .before .before .before .before .before .before .before .before .args in
+    let at-loop = c .before .before .before .before .before .before .before .before .before .loop in
+    laws.front-differs (at-loop .inv) (c .before .before .before .before .before .before .if1 .left) (c .before .before .before .before .before .word-at .ensures) (c .before .before .before .before .if2 .left) (c .before .before .before .if3 .left)
+    (laws.fits-symbol (a .text .now) (from (at-loop .i) (a .pattern .now)) (from (at-loop .j) (a .row .now)) (c .before .before .before .before .before .word-at .ensures) (c .before .before .if4 .taken) (c .before .atoms-same .ensures))
+    (not-true (c .before .atoms-same .result) (c .if5 .taken)))
+    (λ c. laws.front-differs (c .before .before .before .before .before .before .before .before .before .loop .inv) (c .before .before .before .before .before .before .if1 .left) (c .before .before .before .before .before .word-at .ensures) (c .before .before .before .before .if2 .left) (c .before .before .before .if3 .left) (c .before .fits2 .ensures) (not-true (c .before .fits2 .result) (c .if6 .taken))))
     (λ t. last-lts.spec (
       terms-in-reads.Asked,
       terms-in-reads.Learnt,
