@@ -185,6 +185,14 @@ module _ (text pattern row : List ℕ) where
           → r ≡ passes (rowOf text (take (m - 24) (drop 24 pattern))) (rowOf text (take (n - 24) (drop 24 row))) → r ≡ fitsFirst text pattern row
       fits-inside d ends row-ends e = e ∙ rw (← first, bracket, ← second, d, ends, row-ends)
 
+-- first symbols that differ
+pub symbols-part : (text pattern row : List ℕ) → 24 ≤ length pattern → 24 ≤ length row → {kind : ℕ} → kind ≡ wordAt pattern 0 → kind ≤ 2
+    → {t : Bool} → t ≡ sameAtom (atomOf text (termAt pattern 0)) (atomOf text (termAt row 0)) → t ≡ false → frontIn (rowOf text pattern) (rowOf text row) ≡ none
+symbols-part text pattern row long more {kind} told h fit e =
+    let no : fitsFirst text pattern row ≡ false = sym (fits-symbol text pattern row told (omega arith) fit) ∙ e in
+    rw (row-node text pattern long, row-node text row more)
+    (front-heads text (termAt pattern 0) (not-open pattern told (λ five. omega (arith, five))) _ _ (termAt row 0) _ _ ∙ rw no)
+
 -- ---- what `front` has gone through: from i and j on the pattern and the row are left
 
 abbrev Answers : List ℕ → List ℕ → List ℕ → Ahead → Type 0

@@ -1,6 +1,6 @@
 -- The loose test of parts of the term records: what `has_open`, `skip`, `last`, `loose_open` and `loose` answer at each return.
 use Prim.Native.Nat.{ℕ, suc, _+_, _-_, _≤_, _<_}
-use mathlib.Core.Bool.{Bool, true, false}
+use mathlib.Core.Bool.{Bool, true, false, not}
 use mathlib.Core.List.{List}
 use mathlib.Core.Logic.{inr}
 use mathlib.Core.Option.{some}
@@ -20,7 +20,7 @@ use Rattle.law.specs.Runs.{endOf}
 use Rattle.law.proofs.RunLaws.{end-low, end-high}
 use Rattle.matching.specs.Pattern.{literal, variable, Pattern}
 use Rattle.matching.specs.Shadow.{sameAtom, symbolLike, singleTerm}
-use Rattle.matching.specs.Part.{rowOf, from, termRow}
+use Rattle.matching.specs.Part.{rowOf, from, atomOf, termRow}
 use Rattle.matching.specs.Step.{openTerm}
 use Rattle.matching.proofs.SameLaws.{false-not-true}
 use Rattle.matching.proofs.PartLaws.{row-empty, row-node}
@@ -31,7 +31,7 @@ use Rattle.sentences.specs.Ahead.{passes, frontIn, leftmostIn, endPasses
 use Rattle.sentences.specs.declared.loose.Ahead.{Ahead}
 use Rattle.sentences.specs.declared.loose.Ahead.the-variants.{At, Fails}
 use Rattle.sentences.proofs.GreedyLaws.{whole-end, end-end, end-some, front-loosely, leftmost-loosely, last-loosely, last-short}
-use Rattle.sentences.proofs.FrontLaws.{is-open, not-open, front-open, leftmost-open}
+use Rattle.sentences.proofs.FrontLaws.{is-open, not-open, front-open, leftmost-open, symbols-part}
 
 -- ---- what `has_open` has gone through
 
@@ -305,3 +305,15 @@ module _ (text pattern row : List ℕ) (r : Ahead)
   pub loose-goes : {m n : ℕ} → r ≡ At m n → {b : Bool} → b ≡ passes (rowOf text (from m pattern)) (rowOf text (from n row))
       → b ≡ passes (rowOf text pattern) (rowOf text row)
   loose-goes h e = e ∙ sym (loose-front ∙ rw h)
+
+-- ---- what `parted` answers
+
+pub parted-not : (text pattern row : List ℕ) → 24 ≤ length pattern → 24 ≤ length row → {kind : ℕ} → kind ≡ wordAt pattern 0 → kind ≤ 2
+    → {t : Bool} → t ≡ sameAtom (atomOf text (termAt pattern 0)) (atomOf text (termAt row 0)) → not t ≡ true → passes (rowOf text pattern) (rowOf text row) ≡ false
+parted-not text pattern row long more told h {t} fit e =
+    front-loosely sameAtom literal symbolLike singleTerm (rowOf text pattern) (rowOf text row)
+    ∙ ap (leftPasses sameAtom literal symbolLike singleTerm) (symbols-part text pattern row long more told h fit (go t e))
+  where
+    go : (b : Bool) → not b ≡ true → b ≡ false
+    go true k = absurd (false-not-true k)
+    go false k = refl

@@ -2,6 +2,7 @@
 // searched.
 use crate::loose::loose;
 use crate::loose::once;
+use crate::loose::parted;
 use file::Refusal;
 use law::Check;
 use law::places::pattern;
@@ -55,6 +56,9 @@ fn shadow(text: &[u8], terms: &[u8], earlier: &[u8], at: usize, later: &[u8], st
     requires { ⌜ distinct (variablesIn (rowOf (now text) (now earlier))) ≤ 32 ⌝ }
     ensures { λ r. ⌜ r ≡ shadows (rowOf (now (text .entry)) (now (earlier .entry))) (rowOf (now (text .entry)) (now (later .entry))) ⌝ }
 {
+    if parted(text, earlier, later) {
+        return false;
+    }
     if !loose(text, earlier, later) {
         return false;
     }
@@ -70,6 +74,9 @@ fn literal(text: &[u8], terms: &[u8], pattern: &[u8], at: usize, row: &[u8], sta
     requires { ⌜ (distinct (variablesIn (rowOf (now text) (now pattern))) ≤ 32) × (nesting (rowOf (now text) (now pattern)) ≤ 33) × (literalPart (now row) ≡ true) ⌝ }
     ensures { λ r. ⌜ r ≡ literalMatches (rowOf (now (text .entry)) (now (pattern .entry))) (symbolsOf (now (text .entry)) (now (row .entry))) ⌝ }
 {
+    if parted(text, pattern, row) {
+        return false;
+    }
     if !loose(text, pattern, row) {
         return false;
     }

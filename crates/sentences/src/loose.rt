@@ -202,6 +202,22 @@ pub fn loose(text: &[u8], pattern: &[u8], row: &[u8]) -> bool
     }
 }
 
+// Do a pattern and a row begin with symbols that differ? Most pairs of sentences do.
+pub fn parted(text: &[u8], pattern: &[u8], row: &[u8]) -> bool
+    ensures { λ r. ⌜ (r ≡ true → passes (rowOf (now (text .entry)) (now (pattern .entry))) (rowOf (now (text .entry)) (now (row .entry))) ≡ false) ⌝ }
+{
+    if pattern.len() < 24 {
+        return false;
+    }
+    if row.len() < 24 {
+        return false;
+    }
+    if 2 < word_at(pattern, 0) {
+        return false;
+    }
+    !atoms_same(text, pattern, row)
+}
+
 // Is the variable that stands first in one part a record of another, at any depth?
 fn again(text: &[u8], first: &[u8], part: &[u8]) -> bool
     requires { ⌜ 24 ≤ length (now first) ⌝ }

@@ -1,4 +1,5 @@
--- `literal` meets its contract: the loose test decides, or the search.
+-- `literal` meets its contract: first symbols that differ, or the loose test, or the search decides.
+use mathlib.Core.Path.{refl}
 use Rattle.sentences.proofs.EntryLaws as laws
 use borrow.Author.Needs.{needs}
 use borrow.Author.Tests.{not-true, not-false}
@@ -12,13 +13,17 @@ literal-spec =
     (λ c κs. search needs)
     (λ c. let start = c .before .before .before .before .before .before in
     let a = start .args in
-    laws.literal-not (a .text .now) (a .pattern .now) (a .row .now) (c .before .loose .ensures) (start .pre .1 .2)
-    (not-true (c .before .loose .result) (c .if1 .taken)))
+    laws.literal-not (a .text .now) (a .pattern .now) (a .row .now) refl (start .pre .1 .2) (c .before .parted .ensures (c .if1 .taken)))
     (λ c κs. search needs)
     (λ c. let start = c .before .before .before .before .before .before .before .before in
     let a = start .args in
+    laws.literal-not (a .text .now) (a .pattern .now) (a .row .now) (c .before .loose .ensures) (start .pre .1 .2)
+    (not-true (c .before .loose .result) (c .if2 .taken)))
+    (λ c κs. search needs)
+    (λ c. let start = c .before .before .before .before .before .before .before .before .before .before in
+    let a = start .args in
     let loose = c .before .before .before .loose in
     laws.literal-once (a .text .now) (a .pattern .now) (a .row .now) (loose .ensures) (start .pre .1 .2)
-    (not-false (loose .result) (c .before .before .if1 .left)) (c .before .once .ensures (c .if2 .taken)))
+    (not-false (loose .result) (c .before .before .if2 .left)) (c .before .once .ensures (c .if3 .taken)))
     (λ c κs. search needs)
     (λ c. search needs))

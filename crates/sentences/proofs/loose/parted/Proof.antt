@@ -1,0 +1,21 @@
+-- `parted` meets its contract, by a law of proofs/OpenLaws.antt where the symbols are compared.
+use mathlib.Core.Path.{sym}
+use native.Mathlib.Omega.{arith}
+use borrow.Author.Needs.{needs}
+use Rattle.matching.proofs.SameLaws.{false-not-true}
+use Rattle.sentences.proofs.OpenLaws as laws
+use Rattle.sentences.proofs.loose.parted.Statement.{statement}
+use Rattle.sentences.proofs.loose.parted.Tie as tie
+
+pub parted-spec : {M : Type 1} → statement M
+parted-spec =
+    tie.close
+    (tie.spec
+    (λ c. λ e. absurd (false-not-true e))
+    (λ c. λ e. absurd (false-not-true e))
+    (λ c κs. omega (arith, c .before .if1 .left))
+    (λ c. λ e. absurd (false-not-true e))
+    (λ c κs. (c .before .before .before .if1 .left, c .before .before .if2 .left))
+    (λ c. let a = c .before .before .before .before .before .before .before .before .args in
+    λ e. laws.parted-not (a .text .now) (a .pattern .now) (a .row .now) (c .before .before .before .before .if1 .left) (c .before .before .before .if2 .left)
+    (c .before .before .word-at .ensures) (omega (arith, c .before .if3 .left)) (c .atoms-same .ensures) e))
