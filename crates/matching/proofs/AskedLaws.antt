@@ -122,6 +122,12 @@ module _ {text terms pattern : List ℕ} {at : ℕ} {row : List ℕ} {start : �
         row-node text pattern some-left
         ∙ first-brackets text (termAt pattern 0) _ _ (facing .inside) (facing .others) (sym (row-node text pattern some-left) ∙ facing .begins)
 
+    -- the variables of their contents are variables of the pattern
+    pub contents-within : (w : Variable) → occurs w (variablesIn (rowOf text (contents 24 endOf pattern))) ≡ true → occurs w (variablesIn (rowOf text pattern)) ≡ true
+    unfolding variablesIn
+    contents-within w o =
+        rw row-brackets (occurs-left w (variablesIn (rowOf text (contents 24 endOf pattern))) (variablesIn (rowOf text (rest 24 endOf pattern))) o)
+
     inside-capacity : Capacity (variablesIn (rowOf text (contents 24 endOf pattern)) ++ (variablesIn (rowOf text (rest 24 endOf pattern)) ++ coming)) (valuesOf text terms b)
     unfolding variablesIn
     inside-capacity =
@@ -150,7 +156,7 @@ module _ {text terms pattern : List ℕ} {at : ℕ} {row : List ℕ} {start : �
         (variablesIn (rowOf text (rest 24 endOf pattern)) ++ coming) first inside-capacity)
 
 -- the variables of what follows a term of the pattern are variables of the pattern
-later-variables : (text pattern : List ℕ) {m : ℕ} (coming : List Variable) (v : Variable) → Begin pattern m
+pub later-variables : (text pattern : List ℕ) {m : ℕ} (coming : List Variable) (v : Variable) → Begin pattern m
     → occurs v (variablesIn (rowOf text (from m pattern)) ++ coming) ≡ true → occurs v (variablesIn (rowOf text pattern) ++ coming) ≡ true
 later-variables text pattern coming v at-start h = rw (from-all pattern) at h
 later-variables text pattern coming v (one-on {n} some-left b) h =

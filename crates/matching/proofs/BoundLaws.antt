@@ -34,7 +34,7 @@ term-from s at h =
 
 module _ (text terms : List ℕ) where
   -- the values in the first n places do not depend on a place after them
-  values-set : (keys starts sizes : List ℕ) (at key start size n : ℕ) → n ≤ at
+  pub values-set : (keys starts sizes : List ℕ) (at key start size n : ℕ) → n ≤ at
       → valuesUpTo text terms (set keys at key) (set starts at start) (set sizes at size) n ≡ valuesUpTo text terms keys starts sizes n
   unfolding valuesUpTo
   values-set keys starts sizes at key start size zero h = refl

@@ -160,7 +160,7 @@ module _ {text terms pattern : List ℕ} {at : ℕ} {row : List ℕ} {start : �
 
     -- brackets stand first
     module _ (facing : Facing (rowOf text pattern) row) (m n : ℕ) (p-end : m ≡ endOf pattern) (r-end : n ≡ endOf row) where
-      deeper : p .count + suc (nesting (rowOf text (contents 24 endOf pattern))) ≤ 33
+      pub deeper : p .count + suc (nesting (rowOf text (contents 24 endOf pattern))) ≤ 33
       unfolding nesting
       deeper =
           let brackets-first : p .count + nesting (brackets (rowOf text (contents 24 endOf pattern)) (rowOf text (rest 24 endOf pattern))) ≤ 33 =

@@ -8,7 +8,11 @@ pub mod BeginLaws
 pub mod BoundLaws
 pub mod StepLaws
 pub mod AskedLaws
+pub mod RecordLaws
+pub mod AgreeLaws
 pub mod ShadowSteps
+pub mod SureLaws
+pub mod FailedLaws
 pub mod ShadowStart
 pub mod LevelLaws
 pub mod SameLaws
@@ -21,3 +25,4 @@ pub mod LiteralLaws
 pub mod LiteralSearch
 pub mod LiteralParts
 pub mod LiteralStart
+pub mod AloneLaws

@@ -8,4 +8,6 @@ pub mod Bound
 pub mod Step
 pub mod Capacity
 pub mod Asked
+pub mod Repeats
+pub mod Failed
 pub mod Examples

@@ -65,6 +65,10 @@ module _ (text : List ℕ) (back : Bool) (pattern row : List ℕ) (vs : Values A
   leaves Tries = eachLength
   leaves Inside = eachInside
 
+-- all matches are found by trying every length
+abbrev pub TriesAll : List ℕ → List ℕ → List ℕ → Values Atom → Type 0
+TriesAll text pattern row vs = (back : Bool) → found back (rowOf text pattern) (rowOf text row) vs ≡ eachLength text back pattern row vs
+
 -- brackets stand first in the pattern, and a record in the row
 pub record Facing (p : Pattern) (row : List ℕ) : Type 0 where
   pub inside : Pattern

@@ -22,7 +22,9 @@ ghost use Rattle.matching.specs.Part.{rowOf, isBracket, atomOf, sameFirs
 ghost use Rattle.matching.specs.Bound.{rowAt, valuesOf, Kept, Bound, places, HasPlace};
 ghost use Rattle.matching.specs.Step.{beginsWith, BeginsIn, openTerm, symbolTerm, singleOne, mayStand, Leaves};
 
+pub mod failed;
 pub mod literal;
+pub mod repeats;
 pub mod shadow;
 
 // Values of variables, in places: the position of the variable's first record among the term records, and the position and the size of the value.

@@ -2,9 +2,13 @@
 use crate::Bindings;
 use crate::First;
 use crate::bind;
+use crate::failed::failed_before;
+use crate::failed::note_failed;
 use crate::first_of;
 use crate::narrow;
 use crate::none;
+use crate::repeats::closed;
+use crate::repeats::disjoint_variables;
 use crate::wide;
 use file::word_at;
 use law::runs::end_of;
@@ -17,9 +21,12 @@ ghost use Rattle.law.specs.Variables.{distinct};
 ghost use Rattle.matching.specs.Literal.{literalMatches};
 ghost use Rattle.matching.specs.Part.{rowOf, literalPart, symbolsOf, Stands};
 ghost use Rattle.matching.specs.Bound.{valuesOf, Kept};
-ghost use Rattle.matching.specs.Step.{found, eachLength, eachInside, Free, Facing, firstVariable};
+ghost use Rattle.matching.specs.Step.{found, eachLength, eachInside, Free, Facing, TriesAll, firstVariable};
 ghost use Rattle.matching.specs.Capacity.{variablesIn, Capacity};
 ghost use Rattle.matching.specs.Asked.{someHolds, nesting, resume, comingIn, levelsOf, Around, LiteralAsked};
+ghost use Rattle.matching.specs.Failed.{Sure, Remembers};
+
+// `sure` says of how many places it is known that their variables do not stand in the pattern. `failed` is what is remembered.
 
 // What is still to be matched around the brackets that were gone into: the positions among the term records where each level of the pattern and of the
 // row ends, the outermost first. A level begins where the one inside it ends.
@@ -61,10 +68,12 @@ fn literal_out(
     start: usize,
     pending: Pending,
     b: Bindings,
+    failed: &mut [u16; 2048],
 ) -> bool
-    requires { ⌜ (length (now terms) < 65536) × Around (now text) (now terms) pending at start × Kept (now text) (now terms) b ⌝ }
+    requires { ⌜ (length (now terms) < 65536) × Around (now text) (now terms) pending at start × Kept (now text) (now terms) b × Remembers true (now text) (now terms) (now failed) ⌝ }
     requires { ⌜ Capacity (comingIn (levelsOf (now text) (now terms) pending at start)) (valuesOf (now text) (now terms) b) ⌝ }
-    ensures { λ r. ⌜ r ≡ resume (levelsOf (now (text .entry)) (now (terms .entry)) pending at start) (valuesOf (now (text .entry)) (now (terms .entry)) b) ⌝ }
+    ensures { λ r. ⌜ (r ≡ resume (levelsOf (now (text .entry)) (now (terms .entry)) pending at start) (valuesOf (now (text .entry)) (now (terms .entry)) b))
+        × Remembers true (now (text .entry)) (now (terms .entry)) (now (failed .exit)) ⌝ }
 {
     let n = pending.count;
     if n == 0 {
@@ -77,7 +86,7 @@ fn literal_out(
     let row_end = wide(pending.rows[top]);
     let pattern = &terms[at..end];
     let row = &terms[start..row_end];
-    literal_run(text, terms, pattern, at, row, start, out, b)
+    literal_run(text, terms, pattern, at, row, start, out, b, 0, failed)
 }
 
 // An e. variable without a value, then the rest of the pattern: every length in turn.
@@ -90,11 +99,14 @@ fn literal_lengths(
     start: usize,
     pending: Pending,
     b: Bindings,
+    sure: usize,
+    failed: &mut [u16; 2048],
 ) -> bool
-    requires { ⌜ LiteralAsked (now text) (now terms) (now pattern) at (now row) start pending b × (24 ≤ length (now pattern)) ⌝ }
+    requires { ⌜ LiteralAsked (now text) (now terms) (now pattern) at (now row) start pending b × (24 ≤ length (now pattern)) × Sure (now text) (now terms) (now pattern) b sure × Remembers true (now text) (now terms) (now failed) ⌝ }
     requires { ⌜ Free (rowOf (now text) (now pattern)) (firstVariable (now text) (now pattern)) (valuesOf (now text) (now terms) b) ⌝ }
-    ensures { λ r. ⌜ r ≡ someHolds (resume (levelsOf (now (text .entry)) (now (terms .entry)) pending (at + length (now (pattern .entry))) (start + length (now (row .entry)))))
-        (eachLength (now (text .entry)) true (now (pattern .entry)) (now (row .entry)) (valuesOf (now (text .entry)) (now (terms .entry)) b)) ⌝ }
+    ensures { λ r. ⌜ (r ≡ someHolds (resume (levelsOf (now (text .entry)) (now (terms .entry)) pending (at + length (now (pattern .entry))) (start + length (now (row .entry)))))
+        (eachLength (now (text .entry)) true (now (pattern .entry)) (now (row .entry)) (valuesOf (now (text .entry)) (now (terms .entry)) b)))
+        × Remembers true (now (text .entry)) (now (terms .entry)) (now (failed .exit)) ⌝ }
 {
     let end = end_of(pattern);
     let rest = &pattern[end..];
@@ -103,7 +115,18 @@ fn literal_lengths(
     loop {
         let left = &row[n..];
         let more = bind(b, at, start, n);
-        if literal_run(text, terms, rest, next, left, start + n, pending, more) {
+        if literal_run(
+            text,
+            terms,
+            rest,
+            next,
+            left,
+            start + n,
+            pending,
+            more,
+            sure,
+            failed,
+        ) {
             break true;
         }
         if left.len() < 24 {
@@ -111,6 +134,79 @@ fn literal_lengths(
         }
         n += end_of(left);
     }
+}
+
+// The same, unless it is remembered that there is no match: where nothing is around and no variable of the pattern has a value, this does not depend on
+// the values.
+fn literal_tries(
+    text: &[u8],
+    terms: &[u8],
+    pattern: &[u8],
+    at: usize,
+    row: &[u8],
+    start: usize,
+    pending: Pending,
+    b: Bindings,
+    sure: usize,
+    failed: &mut [u16; 2048],
+) -> bool
+    requires { ⌜ LiteralAsked (now text) (now terms) (now pattern) at (now row) start pending b × (24 ≤ length (now pattern)) × Sure (now text) (now terms) (now pattern) b sure × Remembers true (now text) (now terms) (now failed) ⌝ }
+    requires { ⌜ Free (rowOf (now text) (now pattern)) (firstVariable (now text) (now pattern)) (valuesOf (now text) (now terms) b) ⌝ }
+    requires { ⌜ TriesAll (now text) (now pattern) (now row) (valuesOf (now text) (now terms) b) ⌝ }
+    ensures { λ r. ⌜ (r ≡ someHolds (resume (levelsOf (now (text .entry)) (now (terms .entry)) pending (at + length (now (pattern .entry))) (start + length (now (row .entry)))))
+        (eachLength (now (text .entry)) true (now (pattern .entry)) (now (row .entry)) (valuesOf (now (text .entry)) (now (terms .entry)) b)))
+        × Remembers true (now (text .entry)) (now (terms .entry)) (now (failed .exit)) ⌝ }
+{
+    if pending.count != 0 {
+        return literal_lengths(
+            text,
+            terms,
+            pattern,
+            at,
+            row,
+            start,
+            pending,
+            b,
+            sure,
+            failed,
+        );
+    }
+    let len = b.count;
+    if !closed(text, terms, pattern, &b.keys, sure, len) {
+        return literal_lengths(
+            text,
+            terms,
+            pattern,
+            at,
+            row,
+            start,
+            pending,
+            b,
+            sure,
+            failed,
+        );
+    }
+    let end = at + pattern.len();
+    let row_end = start + row.len();
+    if failed_before(failed, at, end, start, row_end) {
+        return false;
+    }
+    let found = literal_lengths(
+        text,
+        terms,
+        pattern,
+        at,
+        row,
+        start,
+        pending,
+        b,
+        len,
+        failed,
+    );
+    if !found {
+        note_failed(failed, at, end, start, row_end);
+    }
+    found
 }
 
 // A bracket against a bracket: the contents, and then what is around them.
@@ -123,10 +219,13 @@ fn literal_inside(
     start: usize,
     pending: Pending,
     b: Bindings,
+    sure: usize,
+    failed: &mut [u16; 2048],
 ) -> bool
-    requires { ⌜ LiteralAsked (now text) (now terms) (now pattern) at (now row) start pending b × (24 ≤ length (now pattern)) × Facing (rowOf (now text) (now pattern)) (now row) ⌝ }
-    ensures { λ r. ⌜ r ≡ someHolds (resume (levelsOf (now (text .entry)) (now (terms .entry)) pending (at + length (now (pattern .entry))) (start + length (now (row .entry)))))
-        (eachInside (now (text .entry)) true (now (pattern .entry)) (now (row .entry)) (valuesOf (now (text .entry)) (now (terms .entry)) b)) ⌝ }
+    requires { ⌜ LiteralAsked (now text) (now terms) (now pattern) at (now row) start pending b × (24 ≤ length (now pattern)) × Facing (rowOf (now text) (now pattern)) (now row) × Sure (now text) (now terms) (now pattern) b sure × Remembers true (now text) (now terms) (now failed) ⌝ }
+    ensures { λ r. ⌜ (r ≡ someHolds (resume (levelsOf (now (text .entry)) (now (terms .entry)) pending (at + length (now (pattern .entry))) (start + length (now (row .entry)))))
+        (eachInside (now (text .entry)) true (now (pattern .entry)) (now (row .entry)) (valuesOf (now (text .entry)) (now (terms .entry)) b)))
+        × Remembers true (now (text .entry)) (now (terms .entry)) (now (failed .exit)) ⌝ }
 {
     let m = end_of(pattern);
     let n = end_of(row);
@@ -134,7 +233,100 @@ fn literal_inside(
     let contents = &pattern[24..m];
     let inside = &row[24..n];
     let first = at + 24;
-    literal_run(text, terms, contents, first, inside, start + 24, around, b)
+    literal_run(
+        text,
+        terms,
+        contents,
+        first,
+        inside,
+        start + 24,
+        around,
+        b,
+        sure,
+        failed,
+    )
+}
+
+// A bracket against a bracket. Where nothing is around and the contents share no variable with the rest, one match of the contents is as good as another: both
+// are asked for by themselves, and nothing is gone back into.
+fn literal_bracket(
+    text: &[u8],
+    terms: &[u8],
+    pattern: &[u8],
+    at: usize,
+    row: &[u8],
+    start: usize,
+    pending: Pending,
+    b: Bindings,
+    sure: usize,
+    failed: &mut [u16; 2048],
+) -> bool
+    requires { ⌜ LiteralAsked (now text) (now terms) (now pattern) at (now row) start pending b × (24 ≤ length (now pattern)) × Facing (rowOf (now text) (now pattern)) (now row) × Sure (now text) (now terms) (now pattern) b sure × Remembers true (now text) (now terms) (now failed) ⌝ }
+    ensures { λ r. ⌜ (r ≡ someHolds (resume (levelsOf (now (text .entry)) (now (terms .entry)) pending (at + length (now (pattern .entry))) (start + length (now (row .entry)))))
+        (eachInside (now (text .entry)) true (now (pattern .entry)) (now (row .entry)) (valuesOf (now (text .entry)) (now (terms .entry)) b)))
+        × Remembers true (now (text .entry)) (now (terms .entry)) (now (failed .exit)) ⌝ }
+{
+    if pending.count != 0 {
+        return literal_inside(
+            text,
+            terms,
+            pattern,
+            at,
+            row,
+            start,
+            pending,
+            b,
+            sure,
+            failed,
+        );
+    }
+    let m = end_of(pattern);
+    let contents = &pattern[24..m];
+    let rest = &pattern[m..];
+    if !disjoint_variables(text, contents, rest) {
+        return literal_inside(
+            text,
+            terms,
+            pattern,
+            at,
+            row,
+            start,
+            pending,
+            b,
+            sure,
+            failed,
+        );
+    }
+    let n = end_of(row);
+    let inside = &row[24..n];
+    let first = at + 24;
+    if !literal_run(
+        text,
+        terms,
+        contents,
+        first,
+        inside,
+        start + 24,
+        pending,
+        b,
+        sure,
+        failed,
+    ) {
+        return false;
+    }
+    let next = at + m;
+    literal_run(
+        text,
+        terms,
+        rest,
+        next,
+        &row[n..],
+        start + n,
+        pending,
+        b,
+        sure,
+        failed,
+    )
 }
 
 // Is there a match of a pattern with a row, and then of all that is around them?
@@ -147,15 +339,18 @@ fn literal_run(
     start: usize,
     pending: Pending,
     b: Bindings,
+    sure: usize,
+    failed: &mut [u16; 2048],
 ) -> bool
-    requires { ⌜ LiteralAsked (now text) (now terms) (now pattern) at (now row) start pending b ⌝ }
-    ensures { λ r. ⌜ r ≡ someHolds (resume (levelsOf (now (text .entry)) (now (terms .entry)) pending (at + length (now (pattern .entry))) (start + length (now (row .entry)))))
-        (found true (rowOf (now (text .entry)) (now (pattern .entry))) (rowOf (now (text .entry)) (now (row .entry))) (valuesOf (now (text .entry)) (now (terms .entry)) b)) ⌝ }
+    requires { ⌜ LiteralAsked (now text) (now terms) (now pattern) at (now row) start pending b × Sure (now text) (now terms) (now pattern) b sure × Remembers true (now text) (now terms) (now failed) ⌝ }
+    ensures { λ r. ⌜ (r ≡ someHolds (resume (levelsOf (now (text .entry)) (now (terms .entry)) pending (at + length (now (pattern .entry))) (start + length (now (row .entry)))))
+        (found true (rowOf (now (text .entry)) (now (pattern .entry))) (rowOf (now (text .entry)) (now (row .entry))) (valuesOf (now (text .entry)) (now (terms .entry)) b)))
+        × Remembers true (now (text .entry)) (now (terms .entry)) (now (failed .exit)) ⌝ }
 {
     if pattern.len() < 24 {
         if row.len() < 24 {
             let next = at + pattern.len();
-            return literal_out(text, terms, next, start + row.len(), pending, b);
+            return literal_out(text, terms, next, start + row.len(), pending, b, failed);
         }
         return false;
     }
@@ -164,17 +359,61 @@ fn literal_run(
         First::Fails => false,
         First::Goes(m, n) => {
             let rest = &pattern[m..];
-            literal_run(text, terms, rest, at + m, &row[n..], start + n, pending, b)
+            literal_run(
+                text,
+                terms,
+                rest,
+                at + m,
+                &row[n..],
+                start + n,
+                pending,
+                b,
+                sure,
+                failed,
+            )
         }
         First::Binds(n) => {
             let end = end_of(pattern);
             let rest = &pattern[end..];
             let left = &row[n..];
             let more = bind(b, at, start, n);
-            literal_run(text, terms, rest, at + end, left, start + n, pending, more)
+            literal_run(
+                text,
+                terms,
+                rest,
+                at + end,
+                left,
+                start + n,
+                pending,
+                more,
+                sure,
+                failed,
+            )
         }
-        First::Tries => literal_lengths(text, terms, pattern, at, row, start, pending, b),
-        First::Inside => literal_inside(text, terms, pattern, at, row, start, pending, b),
+        First::Tries => literal_tries(
+            text,
+            terms,
+            pattern,
+            at,
+            row,
+            start,
+            pending,
+            b,
+            sure,
+            failed,
+        ),
+        First::Inside => literal_bracket(
+            text,
+            terms,
+            pattern,
+            at,
+            row,
+            start,
+            pending,
+            b,
+            sure,
+            failed,
+        ),
     }
 }
 
@@ -215,5 +454,17 @@ pub fn search_literal(
     requires { ⌜ (distinct (variablesIn (rowOf (now text) (now pattern))) ≤ 32) × (nesting (rowOf (now text) (now pattern)) ≤ 33) × (literalPart (now row) ≡ true) ⌝ }
     ensures { λ r. ⌜ r ≡ literalMatches (rowOf (now (text .entry)) (now (pattern .entry))) (symbolsOf (now (text .entry)) (now (row .entry))) ⌝ }
 {
-    literal_run(text, terms, pattern, at, row, start, alone(), none())
+    let mut failed: [u16; 2048] = [0; 2048];
+    literal_run(
+        text,
+        terms,
+        pattern,
+        at,
+        row,
+        start,
+        alone(),
+        none(),
+        0,
+        &mut failed,
+    )
 }

@@ -2,8 +2,11 @@
 use crate::Bindings;
 use crate::First;
 use crate::bind;
+use crate::failed::failed_before;
+use crate::failed::note_failed;
 use crate::first_of;
 use crate::none;
+use crate::repeats::closed;
 use law::runs::end_of;
 ghost use mathlib.Core.Path.{_≡_};
 ghost use mathlib.Core.Bool.{false};
@@ -15,9 +18,13 @@ ghost use Rattle.law.specs.Variables.{distinct};
 ghost use Rattle.matching.specs.Shadow.{shadows};
 ghost use Rattle.matching.specs.Part.{rowOf, Stands};
 ghost use Rattle.matching.specs.Bound.{valuesOf, Kept};
-ghost use Rattle.matching.specs.Step.{found, eachLength, eachInside, Free, Facing, firstVariable};
+ghost use Rattle.matching.specs.Step.{found, eachLength, eachInside, Free, Facing, TriesAll, firstVariable};
 ghost use Rattle.matching.specs.Capacity.{variablesIn};
 ghost use Rattle.matching.specs.Asked.{firstIn, Asked, matchedValues};
+ghost use Rattle.matching.specs.Failed.{Sure, Remembers};
+
+// `sure` says of how many places it is known that their variables do not stand in the pattern: none of these is looked for again. `failed` is what is
+// remembered.
 
 // Whether there is a match, and the values of the first.
 pub struct Matched {
@@ -34,11 +41,14 @@ fn shadow_lengths(
     row: &[u8],
     start: usize,
     b: Bindings,
+    sure: usize,
+    failed: &mut [u16; 2048],
 ) -> Matched
-    requires { ⌜ Asked (now text) (now terms) (now pattern) at (now row) start [] b × (24 ≤ length (now pattern)) ⌝ }
+    requires { ⌜ Asked (now text) (now terms) (now pattern) at (now row) start [] b × (24 ≤ length (now pattern)) × Sure (now text) (now terms) (now pattern) b sure × Remembers false (now text) (now terms) (now failed) ⌝ }
     requires { ⌜ Free (rowOf (now text) (now pattern)) (firstVariable (now text) (now pattern)) (valuesOf (now text) (now terms) b) ⌝ }
     ensures { λ r. ⌜ Kept (now (text .entry)) (now (terms .entry)) (r .bindings)
-        × (matchedValues (now (text .entry)) (now (terms .entry)) r ≡ firstIn (eachLength (now (text .entry)) false (now (pattern .entry)) (now (row .entry)) (valuesOf (now (text .entry)) (now (terms .entry)) b))) ⌝ }
+        × (matchedValues (now (text .entry)) (now (terms .entry)) r ≡ firstIn (eachLength (now (text .entry)) false (now (pattern .entry)) (now (row .entry)) (valuesOf (now (text .entry)) (now (terms .entry)) b)))
+        × Remembers false (now (text .entry)) (now (terms .entry)) (now (failed .exit)) ⌝ }
 {
     let end = end_of(pattern);
     let rest = &pattern[end..];
@@ -47,7 +57,7 @@ fn shadow_lengths(
     loop {
         let left = &row[n..];
         let more = bind(b, at, start, n);
-        let m = shadow_run(text, terms, rest, next, left, start + n, more);
+        let m = shadow_run(text, terms, rest, next, left, start + n, more, sure, failed);
         if m.ok {
             break m;
         }
@@ -56,6 +66,44 @@ fn shadow_lengths(
         }
         n += end_of(left);
     }
+}
+
+// The same, unless it is remembered that there is no match: where no variable of the pattern has a value, this does not depend on the values.
+fn shadow_tries(
+    text: &[u8],
+    terms: &[u8],
+    pattern: &[u8],
+    at: usize,
+    row: &[u8],
+    start: usize,
+    b: Bindings,
+    sure: usize,
+    failed: &mut [u16; 2048],
+) -> Matched
+    requires { ⌜ Asked (now text) (now terms) (now pattern) at (now row) start [] b × (24 ≤ length (now pattern)) × Sure (now text) (now terms) (now pattern) b sure × Remembers false (now text) (now terms) (now failed) ⌝ }
+    requires { ⌜ Free (rowOf (now text) (now pattern)) (firstVariable (now text) (now pattern)) (valuesOf (now text) (now terms) b) ⌝ }
+    requires { ⌜ TriesAll (now text) (now pattern) (now row) (valuesOf (now text) (now terms) b) ⌝ }
+    ensures { λ r. ⌜ Kept (now (text .entry)) (now (terms .entry)) (r .bindings)
+        × (matchedValues (now (text .entry)) (now (terms .entry)) r ≡ firstIn (eachLength (now (text .entry)) false (now (pattern .entry)) (now (row .entry)) (valuesOf (now (text .entry)) (now (terms .entry)) b)))
+        × Remembers false (now (text .entry)) (now (terms .entry)) (now (failed .exit)) ⌝ }
+{
+    let len = b.count;
+    if !closed(text, terms, pattern, &b.keys, sure, len) {
+        return shadow_lengths(text, terms, pattern, at, row, start, b, sure, failed);
+    }
+    let end = at + pattern.len();
+    let row_end = start + row.len();
+    if failed_before(failed, at, end, start, row_end) {
+        return Matched {
+            ok: false,
+            bindings: b,
+        };
+    }
+    let m = shadow_lengths(text, terms, pattern, at, row, start, b, len, failed);
+    if !m.ok {
+        note_failed(failed, at, end, start, row_end);
+    }
+    m
 }
 
 // A bracket against a bracket: the first match of the contents, then the rest.
@@ -67,23 +115,36 @@ fn shadow_inside(
     row: &[u8],
     start: usize,
     b: Bindings,
+    sure: usize,
+    failed: &mut [u16; 2048],
 ) -> Matched
-    requires { ⌜ Asked (now text) (now terms) (now pattern) at (now row) start [] b × (24 ≤ length (now pattern)) × Facing (rowOf (now text) (now pattern)) (now row) ⌝ }
+    requires { ⌜ Asked (now text) (now terms) (now pattern) at (now row) start [] b × (24 ≤ length (now pattern)) × Facing (rowOf (now text) (now pattern)) (now row) × Sure (now text) (now terms) (now pattern) b sure × Remembers false (now text) (now terms) (now failed) ⌝ }
     ensures { λ r. ⌜ Kept (now (text .entry)) (now (terms .entry)) (r .bindings)
-        × (matchedValues (now (text .entry)) (now (terms .entry)) r ≡ firstIn (eachInside (now (text .entry)) false (now (pattern .entry)) (now (row .entry)) (valuesOf (now (text .entry)) (now (terms .entry)) b))) ⌝ }
+        × (matchedValues (now (text .entry)) (now (terms .entry)) r ≡ firstIn (eachInside (now (text .entry)) false (now (pattern .entry)) (now (row .entry)) (valuesOf (now (text .entry)) (now (terms .entry)) b)))
+        × Remembers false (now (text .entry)) (now (terms .entry)) (now (failed .exit)) ⌝ }
 {
     let m = end_of(pattern);
     let n = end_of(row);
     let contents = &pattern[24..m];
     let inside = &row[24..n];
-    let first = shadow_run(text, terms, contents, at + 24, inside, start + 24, b);
+    let first = shadow_run(
+        text,
+        terms,
+        contents,
+        at + 24,
+        inside,
+        start + 24,
+        b,
+        sure,
+        failed,
+    );
     if !first.ok {
         return first;
     }
     let more = first.bindings;
     let rest = &pattern[m..];
     let left = &row[n..];
-    shadow_run(text, terms, rest, at + m, left, start + n, more)
+    shadow_run(text, terms, rest, at + m, left, start + n, more, 0, failed)
 }
 
 // The first match of a pattern with a row.
@@ -95,10 +156,13 @@ fn shadow_run(
     row: &[u8],
     start: usize,
     b: Bindings,
+    sure: usize,
+    failed: &mut [u16; 2048],
 ) -> Matched
-    requires { ⌜ Asked (now text) (now terms) (now pattern) at (now row) start [] b ⌝ }
+    requires { ⌜ Asked (now text) (now terms) (now pattern) at (now row) start [] b × Sure (now text) (now terms) (now pattern) b sure × Remembers false (now text) (now terms) (now failed) ⌝ }
     ensures { λ r. ⌜ Kept (now (text .entry)) (now (terms .entry)) (r .bindings)
-        × (matchedValues (now (text .entry)) (now (terms .entry)) r ≡ firstIn (found false (rowOf (now (text .entry)) (now (pattern .entry))) (rowOf (now (text .entry)) (now (row .entry))) (valuesOf (now (text .entry)) (now (terms .entry)) b))) ⌝ }
+        × (matchedValues (now (text .entry)) (now (terms .entry)) r ≡ firstIn (found false (rowOf (now (text .entry)) (now (pattern .entry))) (rowOf (now (text .entry)) (now (row .entry))) (valuesOf (now (text .entry)) (now (terms .entry)) b)))
+        × Remembers false (now (text .entry)) (now (terms .entry)) (now (failed .exit)) ⌝ }
 {
     if pattern.len() < 24 {
         return Matched {
@@ -113,17 +177,37 @@ fn shadow_run(
             bindings: b,
         },
         First::Goes(m, n) => {
-            shadow_run(text, terms, &pattern[m..], at + m, &row[n..], start + n, b)
+            shadow_run(
+                text,
+                terms,
+                &pattern[m..],
+                at + m,
+                &row[n..],
+                start + n,
+                b,
+                sure,
+                failed,
+            )
         }
         First::Binds(n) => {
             let end = end_of(pattern);
             let rest = &pattern[end..];
             let left = &row[n..];
             let more = bind(b, at, start, n);
-            shadow_run(text, terms, rest, at + end, left, start + n, more)
+            shadow_run(
+                text,
+                terms,
+                rest,
+                at + end,
+                left,
+                start + n,
+                more,
+                sure,
+                failed,
+            )
         }
-        First::Tries => shadow_lengths(text, terms, pattern, at, row, start, b),
-        First::Inside => shadow_inside(text, terms, pattern, at, row, start, b),
+        First::Tries => shadow_tries(text, terms, pattern, at, row, start, b, sure, failed),
+        First::Inside => shadow_inside(text, terms, pattern, at, row, start, b, sure, failed),
     }
 }
 
@@ -140,5 +224,16 @@ pub fn search_shadow(
     requires { ⌜ distinct (variablesIn (rowOf (now text) (now earlier))) ≤ 32 ⌝ }
     ensures { λ r. ⌜ r ≡ shadows (rowOf (now (text .entry)) (now (earlier .entry))) (rowOf (now (text .entry)) (now (later .entry))) ⌝ }
 {
-    shadow_run(text, terms, earlier, at, later, start, none()).ok
+    let mut failed: [u16; 2048] = [0; 2048];
+    shadow_run(
+        text,
+        terms,
+        earlier,
+        at,
+        later,
+        start,
+        none(),
+        0,
+        &mut failed,
+    ).ok
 }

@@ -15,6 +15,7 @@ use Rattle.matching.proofs.SearchLaws.{none-kinded, in-when, when-in, in-each, 
 use Rattle.matching.proofs.SameLaws.{false-not-true, both-hold, variable-sound, variable-refl}
 use Rattle.matching.proofs.VariableLaws.{occurs-first, occurs-later, occurs-left, occurs-right}
 use Rattle.matching.proofs.FillLaws.{fills-of-match}
+use Rattle.matching.proofs.AgreeLaws.{noted-other, match-values, not-left}
 use Rattle.sentences.specs.Loose.{someEnd, someRest, loosely, onceEach}
 
 module _ {A : Type 0} (f : Terms A → Bool) where
@@ -62,29 +63,9 @@ module _ {A : Type 0} (same : A → A → Bool) (ofLaw : Symbol → A) (isSymbol
 
 -- ---- where no variable is repeated
 
-neither : (a b : Bool) → (a || b) ≡ false → (a ≡ false) × (b ≡ false)
-neither false false h = (refl, refl)
-neither false true h = (refl, h)
-neither true b h = absurd (false-not-true (sym h))
-
 is-false : (b : Bool) → not b ≡ true → b ≡ false
 is-false false h = refl
 is-false true h = absurd (false-not-true h)
-
--- what does not occur in two lists together occurs in neither
-not-left : (v : Variable) (l m : List Variable) → occurs v (l ++ m) ≡ false → occurs v l ≡ false
-not-left v l m h = go (occurs v l) refl
-  where
-    go : (b : Bool) → occurs v l ≡ b → b ≡ false
-    go false e = refl
-    go true e = absurd (false-not-true (sym h ∙ occurs-left v l m e))
-
-not-right : (v : Variable) (l m : List Variable) → occurs v (l ++ m) ≡ false → occurs v m ≡ false
-not-right v l m h = go (occurs v m) refl
-  where
-    go : (b : Bool) → occurs v m ≡ b → b ≡ false
-    go false e = refl
-    go true e = absurd (false-not-true (sym h ∙ occurs-right v l m e))
 
 -- lists without repeats
 once-left : (l m : List Variable) → onceEach (l ++ m) ≡ true → onceEach l ≡ true
@@ -114,16 +95,6 @@ once-apart w (v ∷ l) m h k = go (sameVariable w v) refl (λ o. once-apart w l 
         absurd (false-not-true (sym (is-false (occurs v (l ++ m)) (both .0)) ∙ occurs-right v l m (rw i at k)))
 
 module _ {A : Type 0} where
-  -- another variable's value stays as it was
-  noted-other : (o : Option (Terms A)) (v w : Variable) (y : Terms A) (vs : Values A) → sameVariable w v ≡ false → valueIn (noted o v y vs) w ≡ valueIn vs w
-  unfolding valueIn
-  noted-other (some z) v w y vs h = refl
-  noted-other none v w y vs h = go (sameVariable v w) refl
-    where
-      go : (b : Bool) → sameVariable v w ≡ b → cond b (some y) (valueIn vs w) ≡ valueIn vs w
-      go false e = refl
-      go true e = let i : v ≡ w = variable-sound v w e in absurd (false-not-true (sym h ∙ rw i (variable-refl w)))
-
   -- one of a list that is not empty is kept
   first-member : (back : Bool) (l : List (Values A)) → some-in l ≡ true → (u : Values A) × List·Memᴰ u (all-or-first back l)
   first-member true l h = some-member l h
@@ -153,22 +124,6 @@ module _ {A : Type 0} (same : A → A → Bool) (ofLaw : Symbol → A) (isSymbol
 
   abbrev found : Pattern → Terms A → Values A → List (Values A)
   found = matches same ofLaw isSymbol isSingle back
-
-  -- a match gives values to variables of its pattern only
-  match-values : (w : Variable) (p : Pattern) (x : Terms A) (vs : Values A) {us : Values A} → List·Memᴰ us (found p x vs)
-      → occurs w (variablesIn p) ≡ false → valueIn us w ≡ valueIn vs w
-  unfolding matches variablesIn occurs
-  match-values w nothing nothing vs (List·Memᴰ·head e) h = rw e
-  match-values w (symbol (literal a) p) (symbol b x) vs m h =
-      match-values w p x vs (in-when (same (ofLaw a) b) _ m .1) h
-  match-values w (symbol (variable v) p) x vs m h =
-      let (q, l, k) = in-each _ (may (valueIn vs v) (v .kind) x) m in
-      let (a, b) = neither (sameVariable w v) (occurs w (variablesIn p)) h in
-      match-values w p (q .1) (noted (valueIn vs v) v (q .0) vs) k b ∙ noted-other (valueIn vs v) v w (q .0) vs a
-  match-values w (brackets c p) (brackets d x) vs m h =
-      let (ws, l, k) = in-each _ (all-or-first back (found c d vs)) m in
-      match-values w p x ws k (not-right w (variablesIn c) (variablesIn p) h)
-      ∙ match-values w c d vs (in-all-or-first back _ l) (not-left w (variablesIn c) (variablesIn p) h)
 
   -- what a variable without a value may stand for, so that the test of what follows holds
   rest-choice : (k : Kind) (f : Terms A → Bool) (x : Terms A) → someRest isSymbol isSingle k f x ≡ true
@@ -234,7 +189,7 @@ module _ {A : Type 0} (same : A → A → Bool) (ofLaw : Symbol → A) (isSymbol
       let inside = loose-found c d vs (once-left (variablesIn c) (variablesIn p) o) (λ w k. u w (occurs-left w (variablesIn c) (variablesIn p) k)) i in
       let (ws, l) = first-member back (found c d vs) inside in
       let rest = loose-found p x ws (once-right (variablesIn c) (variablesIn p) o)
-      (λ w k. match-values w c d vs (in-all-or-first back _ l) (once-apart w (variablesIn c) (variablesIn p) o k)
+      (λ w k. match-values same ofLaw isSymbol isSingle back w c d vs (in-all-or-first back _ l) (once-apart w (variablesIn c) (variablesIn p) o k)
       ∙ u w (occurs-right w (variablesIn c) (variablesIn p) k)) j in
       let (us, m) = some-member (found p x ws) rest in
       member-some (each-in (λ (r : Values A). found p x r) l m)

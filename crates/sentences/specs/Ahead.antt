@@ -16,6 +16,7 @@ use Rattle.matching.specs.Pattern.{Atom, literal, variable, Pattern}
 use Rattle.matching.specs.Shadow.{sameAtom, symbolLike, singleTerm}
 use Rattle.matching.specs.Part.{rowOf, from, atomOf, isBracket}
 use Rattle.matching.specs.Step.{mayStand}
+use Rattle.matching.specs.Repeats.{atomAt}
 use Rattle.sentences.specs.Loose.{someEnd, loosely}
 use Rattle.sentences.specs.Greedy.{EndOf, termsIn, openAtom, frontOf, leftmostOf}
 use Rattle.sentences.specs.declared.loose.Ahead.{Ahead}
@@ -72,14 +73,6 @@ pub record Skipped (row : List ℕ) (count left n : ℕ) : Type 0 where
   pub within : n ≤ length row
   pub end : (text : List ℕ) → EndOf (rowOf text (from n row)) (rowOf text row)
   pub counted : (text : List ℕ) → termsIn (rowOf text (from n row)) + count ≡ termsIn (rowOf text row) + left
-
--- the atom that a record of a part is, by the record's number
-abbrev pub atomAt : List ℕ → List ℕ → ℕ → Atom
-atomAt text part n = atomOf text (termAt part (24 * n))
-
--- what follows has no record that is the same variable as this one
-abbrev pub Alone : List ℕ → Atom → List ℕ → Type 0
-Alone text a part = (n : ℕ) → 24 * n + 24 ≤ length part → sameAtom a (atomAt text part n) ≡ false
 
 -- no two records of a part, of which one is among the first k, are the same variable
 abbrev pub FreshBelow : List ℕ → List ℕ → ℕ → Type 0

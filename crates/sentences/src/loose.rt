@@ -6,18 +6,18 @@ use law::runs::end_of;
 use matching::atoms_same;
 use matching::is_bracket;
 use matching::may_stand;
+use matching::repeats::again;
 ghost use mathlib.Core.Path.{_≡_};
 ghost use mathlib.Core.Bool.{true, false};
 ghost use mathlib.Core.List.{List};
 ghost use Prim.Native.Nat.{ℕ, _+_, _≤_};
 ghost use lib.ListN.{length};
 ghost use Rattle.file.specs.Word.{wordAt};
-ghost use Rattle.file.specs.Head.{termAt};
-ghost use Rattle.matching.specs.Part.{rowOf, atomOf};
+ghost use Rattle.matching.specs.Part.{rowOf};
 ghost use Rattle.matching.specs.Capacity.{variablesIn};
 ghost use Rattle.sentences.specs.Loose.{onceEach};
 ghost use Rattle.sentences.specs.Greedy.{opens, termsIn};
-ghost use Rattle.sentences.specs.Ahead.{passes, frontIn, leftmostIn, endPasses, aheadOf, AheadIn, OpenStart, fitsFirst, Skipped, Alone};
+ghost use Rattle.sentences.specs.Ahead.{passes, frontIn, leftmostIn, endPasses, aheadOf, AheadIn, OpenStart, fitsFirst, Skipped};
 
 // Where a pattern and a row stand once the pattern's terms before its first e. variable are matched.
 pub enum Ahead {
@@ -216,24 +216,6 @@ pub fn parted(text: &[u8], pattern: &[u8], row: &[u8]) -> bool
         return false;
     }
     !atoms_same(text, pattern, row)
-}
-
-// Is the variable that stands first in one part a record of another, at any depth?
-fn again(text: &[u8], first: &[u8], part: &[u8]) -> bool
-    requires { ⌜ 24 ≤ length (now first) ⌝ }
-    ensures { λ r. ⌜ (r ≡ false → Alone (now (text .entry)) (atomOf (now (text .entry)) (termAt (now (first .entry)) 0)) (now (part .entry))) ⌝ }
-{
-    let mut i = 0;
-    loop {
-        let left = &part[i..];
-        if left.len() < 24 {
-            break false;
-        }
-        if atoms_same(text, first, left) {
-            break true;
-        }
-        i += 24;
-    }
 }
 
 // Does a pattern show that it has no variable twice? What stands inside calls is looked at too.

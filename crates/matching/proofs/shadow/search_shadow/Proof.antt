@@ -1,5 +1,8 @@
 -- `search_shadow` meets its contract: the search from no values.
 use Rattle.matching.proofs.ShadowStart.{shadow-start, shadow-answer}
+use mathlib.Core.Bool.{false}
+use Rattle.matching.proofs.SureLaws.{sure-none}
+use Rattle.matching.proofs.FailedLaws.{remembers-none}
 use borrow.Author.Needs.{needs}
 use Rattle.matching.proofs.shadow.search_shadow.Statement.{statement}
 use Rattle.matching.proofs.shadow.search_shadow.Tie as tie
@@ -8,12 +11,15 @@ pub search-shadow-spec : {M : Type 1} → statement M
 search-shadow-spec =
     tie.close (tie.spec
     (λ c κs. search needs)
-    (λ c κs. let start = c .before .before .before .before .before in
+    (λ c κs. let start = c .before .before .before .before .before .before in
     let a = start .args in
-    let (kept, unbound) = c .none .ensures (a .text .now) (a .terms .now) in
-    shadow-start (a .text .now) (a .terms .now) _ unbound (a .earlier .now) (a .at) (a .later .now) (a .start)
-    (start .pre .0 .0) (start .pre .0 .1) (start .pre .0 .2) (start .pre .1) kept)
-    (λ c. let start = c .before .before .before .before .before .before in
+    let (kept, unbound) = c .before .none .ensures (a .text .now) (a .terms .now) in (
+      shadow-start (a .text .now) (a .terms .now) _ unbound (a .earlier .now) (a .at) (a .later .now) (a .start)
+          (start .pre .0 .0) (start .pre .0 .1) (start .pre .0 .2) (start .pre .1) kept,
+      sure-none _ _,
+      remembers-none false (a .text .now) (a .terms .now),
+    ))
+    (λ c. let start = c .before .before .before .before .before .before .before in
     let a = start .args in
-    let (kept, unbound) = c .before .none .ensures (a .text .now) (a .terms .now) in
+    let (kept, unbound) = c .before .before .none .ensures (a .text .now) (a .terms .now) in
     shadow-answer (a .text .now) (a .terms .now) _ unbound (a .earlier .now) (a .later .now) (c .shadow-run .result) (c .shadow-run .ensures .1)))

@@ -1,16 +1,16 @@
--- `again` meets its contract, by a law of proofs/OnceLaws.antt for each turn and each way out of the loop.
+-- `again` meets its contract, by a law of proofs/RecordLaws.antt for each turn and each way out of the loop.
 use Prim.Native.Nat.{_-_}
 use mathlib.Core.Path.{sym}
 use native.Mathlib.Omega.{arith}
 use borrow.Author.Needs.{needs}
 use lib.ListN.{length}
 use Rattle.file.specs.Head.{termAt}
 use Rattle.matching.specs.Part.{atomOf}
 use Rattle.matching.proofs.CutLaws.{from-length}
 use Rattle.matching.proofs.SameLaws.{false-not-true}
-use Rattle.sentences.proofs.OnceLaws as laws
-use Rattle.sentences.proofs.loose.again.Statement.{statement}
-use Rattle.sentences.proofs.loose.again.Tie as tie
+use Rattle.matching.proofs.RecordLaws as laws
+use Rattle.matching.proofs.repeats.again.Statement.{statement}
+use Rattle.matching.proofs.repeats.again.Tie as tie
 
 abbrev Inv-loop : tie.InvT-loop
 Inv-loop text first part i₀ i = laws.Past text (atomOf text (termAt first 0)) part i

@@ -1,0 +1,384 @@
+-- `shadow_run`, `shadow_tries`, `shadow_lengths` and `shadow_inside` meet their contracts, by a law of proofs/ShadowSteps.antt for each return, and of proofs/AskedLaws.antt
+-- for each call. The measure is three times the pattern's length, with 2 more for
+-- `shadow_run` and 1 more for `shadow_tries`, which hand the same pattern on.
+use Prim.Native.Nat.{ℕ, _+_, _*_, _-_, _<_}
+use mathlib.Core.Bool.{false}
+use mathlib.Core.Path.{_≡_, refl, sym, ap, _∙_}
+use native.Mathlib.Omega.{arith}
+use borrow.Author.Needs.{needs}
+use borrow.Author.Tests.{not-true, not-false}
+use lib.ListN.{length}
+use Rattle.law.proofs.Forests.{inside-falls, after-falls}
+use Rattle.matching.specs.Step.{eachLength}
+use Rattle.matching.specs.Bound.{valuesOf}
+use Rattle.matching.specs.Asked.{firstIn}
+use Rattle.matching.specs.Failed.{Remembers}
+use Rattle.matching.specs.Part.{Begin, at-start, one-on}
+use Rattle.matching.proofs.CutLaws.{begin-inside, from-length}
+use Rattle.matching.proofs.LengthLaws.{leftAt}
+use Rattle.matching.proofs.AskedLaws as calls
+use Rattle.matching.proofs.ShadowSteps as returns
+use Rattle.matching.proofs.SureLaws as sure
+use Rattle.matching.proofs.FailedLaws as failed
+use borrow.Fn.Kinds.{In}
+use borrow.Fn.PlainCycle.{Measures, is, falls, and}
+use Rattle.matching.proofs.shadow.shadow_inside.Reads as shadow-inside
+use Rattle.matching.proofs.shadow.shadow_inside.Kinds as shadow-inside-kinds
+use Rattle.matching.proofs.shadow.+shadow_inside+shadow_lengths+shadow_run+shadow_tries.Lts-shadow_inside as shadow-inside-lts
+use Rattle.matching.proofs.shadow.shadow_lengths.Reads as shadow-lengths
+use Rattle.matching.proofs.shadow.shadow_lengths.Kinds as shadow-lengths-kinds
+use Rattle.matching.proofs.shadow.+shadow_inside+shadow_lengths+shadow_run+shadow_tries.Lts-shadow_lengths as shadow-lengths-lts
+use Rattle.matching.proofs.shadow.shadow_run.Reads as shadow-run
+use Rattle.matching.proofs.shadow.shadow_run.Kinds as shadow-run-kinds
+use Rattle.matching.proofs.shadow.+shadow_inside+shadow_lengths+shadow_run+shadow_tries.Lts-shadow_run as shadow-run-lts
+use Rattle.matching.proofs.shadow.shadow_tries.Reads as shadow-tries
+use Rattle.matching.proofs.shadow.shadow_tries.Kinds as shadow-tries-kinds
+use Rattle.matching.proofs.shadow.+shadow_inside+shadow_lengths+shadow_run+shadow_tries.Lts-shadow_tries as shadow-tries-lts
+use Rattle.law.proofs.runs.end_of.Reads as end-of-reads
+use Rattle.matching.proofs.bind.Reads as bind-reads
+use Rattle.matching.proofs.failed.failed_before.Reads as failed-before-reads
+use Rattle.matching.proofs.failed.note_failed.Reads as note-failed-reads
+use Rattle.matching.proofs.first_of.Reads as first-of-reads
+use Rattle.matching.proofs.repeats.closed.Reads as closed-reads
+use Rattle.matching.proofs.shadow.+shadow_inside+shadow_lengths+shadow_run+shadow_tries.{
+  statement,
+}
+use Rattle.matching.proofs.shadow.+shadow_inside+shadow_lengths+shadow_run+shadow_tries.Tie.{
+  close,
+}
+
+abbrev μ-shadow-inside : Measures 5 shadow-inside-kinds.ps ℕ
+μ-shadow-inside κs a = 3 * length (a .1 .1 .0 .now)
+
+abbrev μ-shadow-lengths : Measures 5 shadow-lengths-kinds.ps ℕ
+μ-shadow-lengths κs a = 3 * length (a .1 .1 .0 .now)
+
+abbrev μ-shadow-run : Measures 5 shadow-run-kinds.ps ℕ
+μ-shadow-run κs a = 3 * length (a .1 .1 .0 .now) + 2
+
+abbrev μ-shadow-tries : Measures 5 shadow-tries-kinds.ps ℕ
+μ-shadow-tries κs a = 3 * length (a .1 .1 .0 .now) + 1
+
+abbrev shadow-inside-at : ℕ → In 5 shadow-inside-kinds.ps
+shadow-inside-at t =
+    and 5 shadow-inside-kinds.ps (is 5 shadow-inside-kinds.ps μ-shadow-inside t) shadow-inside.Pre
+
+abbrev shadow-inside-below : ℕ → In 5 shadow-inside-kinds.ps
+shadow-inside-below t =
+    and
+    5
+    shadow-inside-kinds.ps
+    (falls 5 shadow-inside-kinds.ps _<_ μ-shadow-inside t)
+    shadow-inside.Pre
+
+abbrev shadow-lengths-at : ℕ → In 5 shadow-lengths-kinds.ps
+shadow-lengths-at t =
+    and
+    5
+    shadow-lengths-kinds.ps
+    (is 5 shadow-lengths-kinds.ps μ-shadow-lengths t)
+    shadow-lengths.Pre
+
+abbrev shadow-lengths-below : ℕ → In 5 shadow-lengths-kinds.ps
+shadow-lengths-below t =
+    and
+    5
+    shadow-lengths-kinds.ps
+    (falls 5 shadow-lengths-kinds.ps _<_ μ-shadow-lengths t)
+    shadow-lengths.Pre
+
+abbrev shadow-run-at : ℕ → In 5 shadow-run-kinds.ps
+shadow-run-at t =
+    and 5 shadow-run-kinds.ps (is 5 shadow-run-kinds.ps μ-shadow-run t) shadow-run.Pre
+
+abbrev shadow-run-below : ℕ → In 5 shadow-run-kinds.ps
+shadow-run-below t =
+    and 5 shadow-run-kinds.ps (falls 5 shadow-run-kinds.ps _<_ μ-shadow-run t) shadow-run.Pre
+
+abbrev shadow-tries-at : ℕ → In 5 shadow-tries-kinds.ps
+shadow-tries-at t =
+    and 5 shadow-tries-kinds.ps (is 5 shadow-tries-kinds.ps μ-shadow-tries t) shadow-tries.Pre
+
+abbrev shadow-tries-below : ℕ → In 5 shadow-tries-kinds.ps
+shadow-tries-below t =
+    and
+    5
+    shadow-tries-kinds.ps
+    (falls 5 shadow-tries-kinds.ps _<_ μ-shadow-tries t)
+    shadow-tries.Pre
+
+abbrev shadow-lengths-Inv-loop : shadow-lengths-lts.InvT-loop
+shadow-lengths-Inv-loop text terms pattern at row start b sure failed₀ end rest next n₀ failed n =
+    Begin row n × (firstIn (eachLength text false pattern row (valuesOf text terms b)) ≡ firstIn (leftAt text false pattern row (valuesOf text terms b) n))
+    × Remembers false text terms failed
+
+abbrev shadow-lengths-μ-loop : shadow-lengths-lts.MeasureT-loop
+shadow-lengths-μ-loop text terms pattern at row start b sure failed₀ end rest next n₀ failed n = length row - n
+
+pub +shadow-inside+shadow-lengths+shadow-run+shadow-tries-spec : {M : Type 1} → statement M
++shadow-inside+shadow-lengths+shadow-run+shadow-tries-spec =
+    close
+    μ-shadow-inside
+    μ-shadow-lengths
+    μ-shadow-run
+    μ-shadow-tries
+    (λ t. shadow-inside-lts.spec (
+      end-of-reads.Asked,
+      end-of-reads.Learnt,
+      shadow-run-below t,
+      shadow-run.Post,
+    )
+    (shadow-inside-at t)
+    shadow-inside.Post
+    (λ c κs. c .before .before .before .before .pre .1 .1)
+    (λ c κs. c .before .before .before .before .before .pre .1 .2 .some)
+    (λ c. c .before .end-of .ensures .1)
+    (λ c. search needs)
+    (λ c. search needs)
+    (λ c. c .before .end-of2 .ensures .1)
+    (λ c. search needs)
+    (λ c. search needs)
+    (λ c. let start = c .before .before .before .before .before .before .before .before .pre in
+    omega (arith, start .1 .0 .pattern-stands .inside, start .1 .0 .small, start .1 .1))
+    (λ c. let start = c .before .before .before .before .before .before .before .before .pre in
+    omega (arith, start .1 .0 .row-stands .inside, start .1 .0 .small, start .1 .2 .some))
+    (λ c κs. let start = c .before .before .before .before .before .before .before .before .before .pre in
+    let ends = c .before .before .before .before .end-of in (
+      omega (arith, inside-falls (c .before .before .before .before .before .before .before .before .before .args .pattern .now) (ends .result) (length (c .before .before .before .before .before .before .before .before .before .args .pattern .now)) (start .1 .1) (ends .ensures .0) refl, start .0),
+      (
+        calls.asked-alone (calls.asked-inside (start .1 .0) (start .1 .1) (start .1 .2) (ends .result) (c .before .before .before .end-of2 .result) (ends .ensures .0) (c .before .before .before .end-of2 .ensures .0)),
+        sure.sure-inside (start .1 .3) (ends .result) (ends .ensures .0) (calls.contents-within (start .1 .0) (start .1 .1) (start .1 .2)),
+        start .1 .4,
+      ),
+    ))
+    (λ c. let start = c .before .before .before .before .before .before .before .before .before .before .before .before .pre in
+    let inner = c .before .before .shadow-run in (
+      inner .ensures .0,
+      returns.inside-none (start .1 .0) (c .before .before .before .before .before .before .before .end-of .ensures .0) (c .before .before .before .before .before .before .end-of2 .ensures .0) (inner .result) (inner .ensures .1) (not-true _ (c .if1 .taken)),
+      inner .ensures .2,
+    ))
+    (λ c. c .before .before .before .before .before .before .before .before .end-of .ensures .2)
+    (λ c. search needs)
+    (λ c. search needs)
+    (λ c. c .before .before .before .before .before .before .before .before .end-of2 .ensures .2)
+    (λ c. search needs)
+    (λ c. search needs)
+    (λ c. let start = c .before .before .before .before .before .before .before .before .before .before .before .before .before .before .before .pre in
+    omega (arith, start .1 .0 .pattern-stands .inside, start .1 .0 .small, c .before .before .before .before .before .before .before .before .before .before .end-of .ensures .2))
+    (λ c. let start = c .before .before .before .before .before .before .before .before .before .before .before .before .before .before .before .pre in
+    omega (arith, start .1 .0 .row-stands .inside, start .1 .0 .small, c .before .before .before .before .before .before .before .before .before .end-of2 .ensures .2))
+    (λ c κs. let start = c .before .before .before .before .before .before .before .before .before .before .before .before .before .before .before .before .pre in
+    let ends = c .before .before .before .before .before .before .before .before .before .before .before .end-of in
+    let inner = c .before .before .before .before .before .before .shadow-run in (
+      omega (arith, after-falls (c .before .before .before .before .before .before .before .before .before .before .before .before .before .before .before .before .args .pattern .now) (ends .result) (length (c .before .before .before .before .before .before .before .before .before .before .before .before .before .before .before .before .args .pattern .now)) (start .1 .1) (ends .ensures .0) refl, start .0),
+      (
+        calls.asked-after (start .1 .0) (start .1 .1) (start .1 .2) (inner .result .bindings) (inner .ensures .0)
+            (returns.inside-first (start .1 .0) (ends .ensures .0) (c .before .before .before .before .before .before .before .before .before .before .end-of2 .ensures .0) (inner .result) (inner .ensures .1) (not-false _ (c .before .before .before .before .if1 .left)))
+            (ends .result) (c .before .before .before .before .before .before .before .before .before .before .end-of2 .result) (ends .ensures .0) (c .before .before .before .before .before .before .before .before .before .before .end-of2 .ensures .2),
+        sure.sure-none _ _,
+        inner .ensures .2,
+      ),
+    ))
+    (λ c. let start = c .before .before .before .before .before .before .before .before .before .before .before .before .before .before .before .before .before .pre in
+    let inner = c .before .before .before .before .before .before .before .shadow-run in (
+      c .shadow-run2 .ensures .0,
+      returns.inside-some (start .1 .0) (c .before .before .before .before .before .before .before .before .before .before .before .before .end-of .ensures .0) (c .before .before .before .before .before .before .before .before .before .before .before .end-of2 .ensures .0) (inner .result) (inner .ensures .1) _ (not-false _ (c .before .before .before .before .before .if1 .left)) (c .shadow-run2 .ensures .1),
+      c .shadow-run2 .ensures .2,
+    )))
+    (λ t. shadow-lengths-lts.spec (
+      end-of-reads.Asked,
+      end-of-reads.Learnt,
+      bind-reads.Asked,
+      bind-reads.Learnt,
+      shadow-run-below t,
+      shadow-run.Post,
+    )
+    (shadow-lengths-at t)
+    shadow-lengths.Post
+    shadow-lengths-Inv-loop
+    shadow-lengths-μ-loop
+    (λ c κs. c .before .before .before .before .pre .1 .0 .1)
+    (λ c. c .end-of .ensures .2)
+    (λ c. search needs)
+    (λ c. search needs)
+    (λ c. let asked = c .before .before .before .before .before .before .pre .1 .0 .0 in
+    omega (arith, asked .pattern-stands .inside, asked .small, c .before .end-of .ensures .2))
+    (λ c. let start = c .before .before .before .before .before .before .pre in
+    (at-start, returns.lengths-start (start .1 .0 .0) (start .1 .0 .1) (start .1 .1), start .1 .0 .3))
+    (λ c. begin-inside (c .loop .inv .0))
+    (λ c. begin-inside (c .loop .inv .0))
+    (λ c. search needs)
+    (λ c κs. let start = c .before .before .before .before .before .before .before .before .pre in
+    let asked = start .1 .0 .0 in (
+      (
+        omega (arith, asked .pattern-stands .inside, asked .small, start .1 .0 .1),
+        omega (arith, asked .row-stands .inside, asked .small),
+        omega (arith, asked .row-stands .inside, asked .small, begin-inside (c .before .loop .inv .0)),
+        calls.place-ready asked (start .1 .0 .1) (start .1 .1),
+      ),
+      (asked .kept .keys, asked .kept .starts, asked .kept .sizes),
+    ))
+    (λ c. let asked = c .before .before .before .before .before .before .before .before .before .pre .1 .0 .0 in
+    omega (arith, asked .row-stands .inside, asked .small, begin-inside (c .before .before .loop .inv .0)))
+    (λ c κs. let start = c .before .before .before .before .before .before .before .before .before .before .pre in
+    let ends = c .before .before .before .before .before .end-of in
+    let inside = begin-inside (c .before .before .before .loop .inv .0) in (
+      omega (arith, after-falls (c .before .before .before .before .before .before .before .before .before .before .args .pattern .now) (ends .result) (length (c .before .before .before .before .before .before .before .before .before .before .args .pattern .now)) (start .1 .0 .1) (ends .ensures .0) refl, start .0),
+      (
+        calls.asked-more (start .1 .0 .0) (start .1 .0 .1) (start .1 .1) inside (c .before .bind .ensures) (ends .result) (c .before .before .before .loop .n) (ends .ensures .0) inside,
+        sure.sure-later (sure.sure-more (start .1 .0 .2) (c .before .bind .ensures)) (sure.begin-second (start .1 .0 .1) (ends .ensures .0)),
+        c .before .before .before .loop .inv .2,
+      ),
+    ))
+    (λ c κs. c .if2 .left)
+    (λ c. let asked = c .before .before .before .before .before .before .before .before .before .before .before .before .before .before .pre .1 .0 .0 in
+    omega (arith, asked .row-stands .inside, asked .small, c .end-of2 .ensures .2, from-length (c .before .before .before .before .before .before .before .loop .n) (c .before .before .before .before .before .before .before .before .before .before .before .before .before .before .args .row .now), begin-inside (c .before .before .before .before .before .before .before .loop .inv .0)))
+    (λ c. let the-loop = c .before .before .before .before .before .before .before .loop in
+    omega (arith, c .end-of2 .ensures .1, c .end-of2 .ensures .2, from-length (the-loop .n) (c .before .before .before .before .before .before .before .before .before .before .before .before .before .before .args .row .now), begin-inside (the-loop .inv .0)))
+    (λ c. let start = c .before .before .before .before .before .before .before .before .before .before .before .before .before .before .pre in (
+      rw (c .end-of2 .ensures .0) (one-on (c .before .if2 .left) (c .before .before .before .before .before .before .before .loop .inv .0)),
+      rw (c .end-of2 .ensures .0) (returns.length-next (start .1 .0 .0) (start .1 .0 .1) (start .1 .1) (c .before .before .before .before .before .before .before .before .before .end-of .ensures .0) (c .before .before .before .before .before .before .before .loop .inv .0) (c .before .before .before .before .before .bind .ensures)
+          (c .before .before .before .shadow-run .result) (c .before .before .before .shadow-run .ensures .1) (c .before .before .before .before .before .before .before .loop .inv .1) (c .before .before .if1 .left) (c .before .if2 .left)),
+      c .before .before .before .shadow-run .ensures .2,
+    ))
+    (λ c. let start = c .before .before .before .before .before .before .before .before .before .before .before .before .pre in (
+      c .before .shadow-run .ensures .0,
+      returns.length-found (start .1 .0 .0) (start .1 .0 .1) (start .1 .1) (c .before .before .before .before .before .before .before .end-of .ensures .0) (c .before .before .before .before .before .loop .inv .0) (c .before .before .before .bind .ensures)
+          (c .before .shadow-run .result) (c .before .shadow-run .ensures .1) (c .before .before .before .before .before .loop .inv .1) (c .if1 .taken),
+      c .before .shadow-run .ensures .2,
+    ))
+    (λ c. let start = c .before .before .before .before .before .before .before .before .before .before .before .before .before .pre in (
+      c .before .before .shadow-run .ensures .0,
+      returns.length-none (start .1 .0 .0) (start .1 .0 .1) (start .1 .1) (c .before .before .before .before .before .before .before .before .end-of .ensures .0) (c .before .before .before .before .before .before .loop .inv .0) (c .before .before .before .before .bind .ensures)
+          (c .before .before .shadow-run .result) (c .before .before .shadow-run .ensures .1) (c .before .before .before .before .before .before .loop .inv .1) (c .before .if1 .left) (c .if2 .taken),
+      c .before .before .shadow-run .ensures .2,
+    )))
+    (λ t. shadow-run-lts.spec (
+      first-of-reads.Asked,
+      first-of-reads.Learnt,
+      shadow-run-below t,
+      shadow-run.Post,
+      end-of-reads.Asked,
+      end-of-reads.Learnt,
+      bind-reads.Asked,
+      bind-reads.Learnt,
+      shadow-tries-below t,
+      shadow-tries.Post,
+      shadow-inside-below t,
+      shadow-inside.Post,
+    )
+    (shadow-run-at t)
+    shadow-run.Post
+    (λ c. (c .before .before .before .before .before .pre .1 .0 .kept, returns.run-end _ _ _ _ _ (c .if1 .taken), c .before .before .before .before .before .pre .1 .2))
+    (λ c κs. (c .before .before .before .before .before .before .before .before .before .pre .1 .0 .kept, c .before .before .before .before .if1 .left))
+    (λ c. search needs)
+    (λ c. search needs)
+    (λ c. returns.goes-falls (c .before .before .before .first-of .ensures) false _ _ (c .before .m .given .1) .0)
+    (λ c. returns.goes-falls (c .before .before .before .first-of .ensures) false _ _ (c .before .m .given .1) .0)
+    (λ c. search needs)
+    (λ c. let asked = c .before .before .before .before .before .before .before .before .before .before .before .before .before .before .pre .1 .0 in
+    omega (arith, asked .pattern-stands .inside, asked .small, returns.goes-falls (c .before .before .before .before .first-of .ensures) false _ _ (c .before .before .m .given .1) .0))
+    (λ c. returns.goes-within (c .before .before .before .before .first-of .ensures) false _ _ (c .before .before .m .given .1) .2)
+    (λ c. returns.goes-within (c .before .before .before .before .first-of .ensures) false _ _ (c .before .before .m .given .1) .2)
+    (λ c. search needs)
+    (λ c. let asked = c .before .before .before .before .before .before .before .before .before .before .before .before .before .before .before .pre .1 .0 in
+    omega (arith, asked .row-stands .inside, asked .small, returns.goes-within (c .before .before .before .before .before .first-of .ensures) false _ _ (c .before .before .before .m .given .1) .2))
+    (λ c κs. let start = c .before .before .before .before .before .before .before .before .before .before .before .before .before .before .before .before .pre in
+    let goes = returns.goes-within (c .before .before .before .before .before .before .first-of .ensures) false _ _ (c .before .before .before .before .m .given .1) in (
+      omega (arith, returns.goes-falls (c .before .before .before .before .before .before .first-of .ensures) false _ _ (c .before .before .before .before .m .given .1) .1, start .0),
+      (calls.asked-later (start .1 .0) _ _ (goes .0) (goes .2), sure.sure-later (start .1 .1) (goes .0), start .1 .2),
+    ))
+    (λ c. search needs)
+    (λ c κs. c .before .before .before .before .before .before .before .before .if1 .left)
+    (λ c. c .end-of .ensures .2)
+    (λ c. search needs)
+    (λ c. search needs)
+    (λ c. returns.binds-within (c .before .before .before .before .before .first-of .ensures) false _ (c .before .before .before .n .given .1) .0)
+    (λ c. returns.binds-within (c .before .before .before .before .before .first-of .ensures) false _ (c .before .before .before .n .given .1) .0)
+    (λ c. search needs)
+    (λ c κs. let asked = c .before .before .before .before .before .before .before .before .before .before .before .before .before .before .before .before .pre .1 .0 in
+    let binds = returns.binds-within (c .before .before .before .before .before .before .first-of .ensures) false _ (c .before .before .before .before .n .given .1) in (
+      (
+        omega (arith, asked .pattern-stands .inside, asked .small, c .before .before .before .before .before .before .before .before .before .before .before .if1 .left),
+        omega (arith, asked .row-stands .inside, asked .small),
+        omega (arith, asked .row-stands .inside, asked .small, binds .0),
+        calls.place-ready asked (c .before .before .before .before .before .before .before .before .before .before .before .if1 .left) (binds .1),
+      ),
+      (asked .kept .keys, asked .kept .starts, asked .kept .sizes),
+    ))
+    (λ c. let asked = c .before .before .before .before .before .before .before .before .before .before .before .before .before .before .before .before .before .pre .1 .0 in
+    omega (arith, asked .pattern-stands .inside, asked .small, c .before .before .before .end-of .ensures .2))
+    (λ c. let asked = c .before .before .before .before .before .before .before .before .before .before .before .before .before .before .before .before .before .pre .1 .0 in
+    omega (arith, asked .row-stands .inside, asked .small, returns.binds-within (c .before .before .before .before .before .before .before .first-of .ensures) false _ (c .before .before .before .before .before .n .given .1) .0))
+    (λ c κs. let start = c .before .before .before .before .before .before .before .before .before .before .before .before .before .before .before .before .before .before in
+    let some = c .before .before .before .before .before .before .before .before .before .before .before .before .before .if1 .left in
+    let ends = c .before .before .before .before .end-of in
+    let binds = returns.binds-within (c .before .before .before .before .before .before .before .before .first-of .ensures) false _ (c .before .before .before .before .before .before .n .given .1) in (
+      omega (arith, after-falls (start .args .pattern .now) (ends .result) (length (start .args .pattern .now)) some (ends .ensures .0) refl, start .pre .0),
+      (
+        calls.asked-more (start .pre .1 .0) some (binds .1) (binds .0) (c .before .bind .ensures) (ends .result) (c .before .before .before .before .before .before .n .given .0 .0) (ends .ensures .0) (binds .0),
+        sure.sure-later (sure.sure-more (start .pre .1 .1) (c .before .bind .ensures)) (sure.begin-second some (ends .ensures .0)),
+        start .pre .1 .2,
+      ),
+    ))
+    (λ c. search needs)
+    (λ c κs. let start = c .before .before .before .before .before .before .before .before .before .before .before .before .before .pre in
+    (omega (arith, start .0), ((start .1 .0, c .before .before .before .before .before .before .before .before .if1 .left, start .1 .1, start .1 .2), (returns.tries-free (c .before .before .before .first-of .ensures) false (c .before .enum-told2 .given .1), λ back. returns.step-tries (c .before .before .before .first-of .ensures) back (c .before .enum-told2 .given .1)))))
+    (λ c. search needs)
+    (λ c κs. let start = c .before .before .before .before .before .before .before .before .before .before .before .before .before .pre in
+    (omega (arith, start .0), (start .1 .0, c .before .before .before .before .before .before .before .before .if1 .left, returns.inside-facing (c .before .before .before .first-of .ensures) false (c .before .enum-told3 .given .1), start .1 .1, start .1 .2)))
+    (λ c. (c .before .before .before .before .before .before .before .before .before .before .before .before .pre .1 .0 .kept, sym (ap firstIn (returns.step-fails (c .before .before .first-of .ensures) false (c .enum-told .given .1))), c .before .before .before .before .before .before .before .before .before .before .before .before .pre .1 .2))
+    (λ c. (c .shadow-run .ensures .0, c .shadow-run .ensures .1 ∙ sym (ap firstIn (returns.step-goes (c .before .before .before .before .before .before .before .first-of .ensures) false _ _ (c .before .before .before .before .before .m .given .1))), c .shadow-run .ensures .2))
+    (λ c. let binds = returns.binds-within (c .before .before .before .before .before .before .before .before .before .first-of .ensures) false _ (c .before .before .before .before .before .before .before .n .given .1) in
+    let values = calls.values-more (c .before .before .before .before .before .before .before .before .before .before .before .before .before .before .before .before .before .before .before .pre .1 .0) (c .before .before .before .before .before .before .before .before .before .before .before .before .before .before .if1 .left) (binds .1) (binds .0) (c .before .before .bind .ensures) in (
+      c .shadow-run2 .ensures .0,
+      c .shadow-run2 .ensures .1 ∙ sym (ap firstIn (returns.step-binds (c .before .before .before .before .before .before .before .before .before .first-of .ensures) false _ _ _ (c .before .before .before .before .before .before .before .n .given .1) (c .before .before .before .before .before .end-of .ensures .0) values)),
+      c .shadow-run2 .ensures .2,
+    ))
+    (λ c. (c .shadow-tries .ensures .0, c .shadow-tries .ensures .1 ∙ sym (ap firstIn (returns.step-tries (c .before .before .before .before .first-of .ensures) false (c .before .before .enum-told2 .given .1))), c .shadow-tries .ensures .2))
+    (λ c. (c .shadow-inside .ensures .0, c .shadow-inside .ensures .1 ∙ sym (ap firstIn (returns.step-inside (c .before .before .before .before .first-of .ensures) false (c .before .before .enum-told3 .given .1))), c .shadow-inside .ensures .2)))
+    λ t. shadow-tries-lts.spec (
+      closed-reads.Asked,
+      closed-reads.Learnt,
+      shadow-lengths-below t,
+      shadow-lengths.Post,
+      failed-before-reads.Asked,
+      failed-before-reads.Learnt,
+      note-failed-reads.Asked,
+      note-failed-reads.Learnt,
+    )
+    (shadow-tries-at t)
+    shadow-tries.Post
+    (λ c κs. let start = c .before .before .before .before .before .before .pre .1 .0 in (start .2 .few, start .0 .kept .few, start .0 .kept .keyed))
+    (λ c κs. let start = c .before .before .before .before .before .before .before .before .before .pre in (omega (arith, start .0), (start .1 .0, start .1 .1 .0)))
+    (λ c. c .shadow-lengths .ensures)
+    (λ c. let asked = c .before .before .before .before .before .before .before .before .pre .1 .0 .0 in omega (arith, asked .pattern-stands .inside, asked .small))
+    (λ c. let asked = c .before .before .before .before .before .before .before .before .pre .1 .0 .0 in omega (arith, asked .row-stands .inside, asked .small))
+    (λ c κs. tt)
+    (λ c. let start = c .before .before .before .before .before .before .before .before .before .before .before .pre .1 in
+    let asked = start .0 .0 in
+    let free = c .before .before .before .before .closed .ensures (not-false _ (c .before .before .before .if1 .left)) _ _ (asked .kept) (start .0 .2 .closed) in (
+      asked .kept,
+      sym (ap firstIn (failed.lengths-known asked free (start .1 .1) false (start .0 .1) (start .0 .3) (c .before .failed-before .ensures (c .if2 .taken)))),
+      start .0 .3,
+    ))
+    (λ c κs. let start = c .before .before .before .before .before .before .before .before .before .before .before .before .pre in
+    let asked = start .1 .0 .0 in
+    let free = c .before .before .before .before .before .closed .ensures (not-false _ (c .before .before .before .before .if1 .left)) _ _ (asked .kept) (start .1 .0 .2 .closed) in
+    (omega (arith, start .0), ((asked, start .1 .0 .1, sure.sure-all _ _ free, start .1 .0 .3), start .1 .1 .0)))
+    (λ c κs. let asked = c .before .before .before .before .before .before .before .before .before .before .before .before .before .before .before .before .pre .1 .0 .0 in (
+      omega (arith, asked .pattern-stands .inside, asked .small, c .before .before .before .before .before .before .before .before .before .before .before .before .before .before .before .before .pre .1 .0 .1),
+      omega (arith, asked .pattern-stands .inside, asked .small),
+      omega (arith, asked .row-stands .inside, asked .small),
+      omega (arith, asked .row-stands .inside, asked .small),
+      c .before .before .before .shadow-lengths2 .ensures .2 .long,
+    ))
+    (λ c. let start = c .before .before .before .before .before .before .before .before .before .before .before .before .before .before .before .before .before .pre .1 in
+    let asked = start .0 .0 in
+    let free = c .before .before .before .before .before .before .before .before .before .before .closed .ensures (not-false _ (c .before .before .before .before .before .before .before .before .before .if1 .left)) _ _ (asked .kept) (start .0 .2 .closed) in
+    let lengths = c .before .before .before .before .shadow-lengths2 in (
+      lengths .ensures .0,
+      lengths .ensures .1,
+      failed.lengths-noted asked free (start .1 .1) false (failed.none-matched _ _ (lengths .result) _ (lengths .ensures .1) (not-true _ (c .before .before .if3 .taken))) (lengths .ensures .2) (c .note-failed .ensures),
+    ))
+    (λ c. c .before .before .shadow-lengths2 .ensures)

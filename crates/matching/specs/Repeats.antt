@@ -1,0 +1,35 @@
+-- Variables that stand again among the records of a part, at any depth.
+use Prim.Native.Nat.{ℕ, _+_, _*_, _≤_}
+use mathlib.Core.Bool.{Bool, true, false}
+use mathlib.Core.List.{List}
+use mathlib.Core.Option.{none}
+use mathlib.Core.Path.{_≡_}
+use lib.ListN.{length}
+use Rattle.file.specs.Head.{termAt}
+use Rattle.law.specs.Variables.{Variable, occurs}
+use Rattle.matching.specs.Pattern.{Atom}
+use Rattle.matching.specs.Match.{Values, valueIn}
+use Rattle.matching.specs.Shadow.{sameAtom}
+use Rattle.matching.specs.Part.{rowOf, atomOf}
+use Rattle.matching.specs.Bound.{valuesUpTo}
+use Rattle.matching.specs.Capacity.{variablesIn}
+
+-- the atom that a record of a part is, by the record's number
+abbrev pub atomAt : List ℕ → List ℕ → ℕ → Atom
+atomAt text part n = atomOf text (termAt part (24 * n))
+
+-- what follows has no record that is the same variable as this one
+abbrev pub Alone : List ℕ → Atom → List ℕ → Type 0
+Alone text a part = (n : ℕ) → 24 * n + 24 ≤ length part → sameAtom a (atomAt text part n) ≡ false
+
+-- two lists have no variable in common
+abbrev pub Disjoint : List Variable → List Variable → Type 0
+Disjoint l m = (w : Variable) → occurs w m ≡ true → occurs w l ≡ false
+
+-- none of these variables has a value
+abbrev pub Unvalued : List Variable → Values Atom → Type 0
+Unvalued l vs = (w : Variable) → occurs w l ≡ true → valueIn vs w ≡ none
+
+-- none of a pattern's variables has a value in the first n places
+abbrev pub ClosedUpTo : List ℕ → List ℕ → List ℕ → List ℕ → List ℕ → List ℕ → ℕ → Type 0
+ClosedUpTo text terms pattern keys starts sizes n = Unvalued (variablesIn (rowOf text pattern)) (valuesUpTo text terms keys starts sizes n)

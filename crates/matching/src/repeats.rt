@@ -1,0 +1,78 @@
+// Variables that stand again elsewhere, or have a value already.
+use crate::atoms_same;
+use crate::wide;
+use file::word_at;
+ghost use mathlib.Core.Path.{_≡_};
+ghost use mathlib.Core.Bool.{true, false};
+ghost use mathlib.Core.List.{List};
+ghost use Prim.Native.Nat.{ℕ, _+_, _≤_, _<_};
+ghost use lib.ListN.{length, getD};
+ghost use Rattle.file.specs.Head.{termAt};
+ghost use Rattle.matching.specs.Part.{rowOf, atomOf};
+ghost use Rattle.matching.specs.Bound.{Kept, places};
+ghost use Rattle.matching.specs.Capacity.{variablesIn};
+ghost use Rattle.matching.specs.Repeats.{Alone, ClosedUpTo, Disjoint};
+
+// Is the variable that stands first in one part a record of another, at any depth?
+pub fn again(text: &[u8], first: &[u8], part: &[u8]) -> bool
+    requires { ⌜ 24 ≤ length (now first) ⌝ }
+    ensures { λ r. ⌜ (r ≡ false → Alone (now (text .entry)) (atomOf (now (text .entry)) (termAt (now (first .entry)) 0)) (now (part .entry))) ⌝ }
+{
+    let mut i = 0;
+    loop {
+        let left = &part[i..];
+        if left.len() < 24 {
+            break false;
+        }
+        if atoms_same(text, first, left) {
+            break true;
+        }
+        i += 24;
+    }
+}
+
+// Have a part and one behind it no variable in common? What stands inside calls is looked at too.
+pub fn disjoint_variables(text: &[u8], part: &[u8], behind: &[u8]) -> bool
+    ensures { λ r. ⌜ (r ≡ true → Disjoint (variablesIn (rowOf (now (text .entry)) (now (part .entry)))) (variablesIn (rowOf (now (text .entry)) (now (behind .entry))))) ⌝ }
+{
+    let mut i = 0;
+    loop {
+        let left = &part[i..];
+        if left.len() < 24 {
+            break true;
+        }
+        if 2 < word_at(left, 0) {
+            if again(text, left, behind) {
+                break false;
+            }
+        }
+        i += 24;
+    }
+}
+
+// Has no variable of a pattern a value? Of the first `sure` places it is known; only keys are looked at.
+pub fn closed(
+    text: &[u8],
+    terms: &[u8],
+    pattern: &[u8],
+    keys: &[u16; 32],
+    sure: usize,
+    count: usize,
+) -> bool
+    requires { ⌜ (sure ≤ count) × (count ≤ 32) × ((i : ℕ) → i < count → getD (now keys) i 0 + 24 ≤ length (now terms)) ⌝ }
+    ensures { λ r. ⌜ (r ≡ true → (starts sizes : List ℕ) → Kept (now (text .entry)) (now (terms .entry)) (places (now (keys .entry)) starts sizes count)
+        → ClosedUpTo (now (text .entry)) (now (terms .entry)) (now (pattern .entry)) (now (keys .entry)) starts sizes sure
+        → ClosedUpTo (now (text .entry)) (now (terms .entry)) (now (pattern .entry)) (now (keys .entry)) starts sizes count) ⌝ }
+{
+    let mut i = sure;
+    loop {
+        if i == count {
+            break true;
+        }
+        let key = wide(keys[i]);
+        if again(text, &terms[key..], pattern) {
+            break false;
+        }
+        i += 1;
+    }
+}
