@@ -12,6 +12,8 @@ mod differences;
 mod encode;
 mod examples;
 mod expression;
+mod families;
+mod family_laws;
 mod features;
 mod generate;
 mod limits;
@@ -37,6 +39,7 @@ mod small;
 mod stack;
 mod store;
 mod watch;
+mod worker;
 
 use std::env;
 use std::process::ExitCode;
@@ -55,6 +58,7 @@ const USAGE: &str = "usage:
   oracle law NOTATION         one law, such as 'F { s.A = <F 1>; }'
   oracle quick                a few seconds of all these
   oracle bench LAWS SEED      how long both take
+  oracle families             how long the findings call takes where a plain search takes for ever
   oracle stack LAWS SEED      how much stack the two calls take
   oracle sample               writes the stored sample of the Rust's answers
   oracle sample --check       whether the stored sample is what would be written
@@ -78,6 +82,8 @@ fn main() -> ExitCode {
         (Some("quick"), []) => quick(),
         (Some("small"), []) => small::run(),
         (Some("law"), []) if arguments.len() == 2 => small::show(&arguments[1]),
+        (Some("families"), []) if arguments.len() == 1 => families::run(),
+        (Some("families"), []) if arguments[1] == worker::SERVES => worker::serve(),
         (Some("sample"), []) if arguments.len() < 3 => sample(arguments.get(1)),
         _ => usage(),
     }
