@@ -14,6 +14,7 @@ mod examples;
 mod expression;
 mod families;
 mod family_laws;
+mod fast;
 mod features;
 mod generate;
 mod limits;
@@ -21,9 +22,11 @@ mod listed;
 mod machine;
 mod matching;
 mod ours;
+mod pair_terms;
 mod pairs;
 mod parse;
 mod places;
+mod plain;
 mod random;
 mod records;
 mod reduce;
@@ -54,6 +57,7 @@ const USAGE: &str = "usage:
   oracle damage FILES SEED    damaged law files
   oracle runs LAWS SEED       random laws run on random arguments: no finding is false
   oracle rerun SEED LAW       one of these laws again, with what is listed and its runs
+  oracle pairs PAIRS SEED     random small patterns and rows through the library and through a plain search
   oracle small                document 01's small laws
   oracle law NOTATION         one law, such as 'F { s.A = <F 1>; }'
   oracle quick                a few seconds of all these
@@ -77,6 +81,7 @@ fn main() -> ExitCode {
         (Some("damage"), [files, seed]) => damage::run(*files, *seed),
         (Some("runs"), [laws, seed]) => runs::run(*laws, *seed),
         (Some("rerun"), [seed, law]) => runs::show(*seed, *law),
+        (Some("pairs"), [pairs, seed]) => fast::run(*pairs, *seed),
         (Some("bench"), [laws, seed]) => bench::run(*laws, *seed),
         (Some("stack"), [laws, seed]) => stack::run(*laws, *seed),
         (Some("quick"), []) => quick(),
