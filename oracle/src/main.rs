@@ -50,6 +50,7 @@ use std::process::ExitCode;
 const QUICK_LAWS: u64 = 8_000;
 const QUICK_FILES: u64 = 8_000;
 const QUICK_RUN_LAWS: u64 = 6_000;
+const QUICK_PAIRS: u64 = 80_000;
 
 const USAGE: &str = "usage:
   oracle compare LAWS SEED    random laws through both
@@ -110,11 +111,12 @@ fn sample(what: Option<&String>) -> ExitCode {
 
 /// For the gate: all of them, the first that fails ends it.
 fn quick() -> ExitCode {
-    let all: [fn() -> ExitCode; 4] = [
+    let all: [fn() -> ExitCode; 5] = [
         small::run,
         || compare::run(QUICK_LAWS, 1),
         || damage::run(QUICK_FILES, 1),
         || runs::run(QUICK_RUN_LAWS, 1),
+        || fast::run(QUICK_PAIRS, 1),
     ];
     all.iter()
         .map(|one| one())

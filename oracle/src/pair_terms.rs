@@ -21,6 +21,8 @@ pub struct Maker<'r> {
     pub random: &'r mut Random,
     /// Whether what is made has no variables, calls and blocks.
     literal: bool,
+    /// Whether nearly all symbols are the same, so that rows divide in many ways.
+    alike: bool,
 }
 
 impl Maker<'_> {
@@ -28,11 +30,13 @@ impl Maker<'_> {
         Maker {
             random,
             literal: false,
+            alike: false,
         }
     }
 
     pub fn pattern(&mut self) -> Vec<Term> {
         self.literal = false;
+        self.alike = self.random.chance(40);
         match self.random.below(10) {
             0..=3 => self.terms(LONGEST, 0),
             4..=5 => self.crossed(),
@@ -84,6 +88,7 @@ impl Maker<'_> {
 
     fn symbol(&mut self) -> Term {
         let symbol = match self.random.below(20) {
+            0..=17 if self.alike => Symbol::Char('a'),
             0..=11 => Symbol::Char('a'),
             12..=16 => Symbol::Char('b'),
             17 => Symbol::Number("1".into()),
@@ -130,8 +135,8 @@ impl Maker<'_> {
         let mut all = Vec::new();
         for group in 0..self.random.within(1, GROUPS - depth) {
             let name = format!("{depth}{group}");
-            if self.random.chance(20) {
-                all.push(variable(VariableKind::Expression, &format!("{name}o")));
+            if self.random.chance(35) {
+                all.push(variable(VariableKind::Expression, &format!("{name}open")));
             }
             all.extend(self.group(&name, depth));
         }
@@ -147,8 +152,9 @@ impl Maker<'_> {
             variable(VariableKind::Term, name),
             variable(VariableKind::Expression, name),
         );
+        let free = variable(VariableKind::Expression, &format!("{name}free"));
         let inside = |terms: Vec<Term>| term(TermKind::Bracket(terms));
-        match self.random.below(12) {
+        match self.random.below(14) {
             0..=2 => vec![e.clone(), e],
             3 => vec![e.clone(), self.symbol(), e],
             4 => vec![s.clone(), s],
@@ -157,7 +163,10 @@ impl Maker<'_> {
             7 => vec![inside(vec![e.clone()]), e],
             8 => vec![e.clone(), inside(vec![e])],
             9 => vec![inside(vec![s.clone(), e]), s],
-            10 if depth + 1 < DEPTH => vec![inside(self.groups(depth + 1))],
+            // These match at times only where the bracket is gone back into.
+            10 => vec![inside(vec![e.clone(), free]), e],
+            11 => vec![inside(vec![free, s.clone(), e]), s],
+            12 if depth + 1 < DEPTH => vec![inside(self.groups(depth + 1))],
             _ => vec![self.symbol()],
         }
     }
@@ -204,7 +213,7 @@ impl Maker<'_> {
             VariableKind::Term if self.random.chance(30) => vec![self.bracket(DEPTH - 1)],
             VariableKind::Term => vec![self.symbol()],
             VariableKind::Expression => {
-                let count = *self.random.pick(&[0, 0, 0, 1, 1, 1, 1, 2, 2, 3]);
+                let count = *self.random.pick(&[0, 0, 0, 1, 1, 1, 1, 2, 2, 3, 5]);
                 (0..count).map(|_| self.term(DEPTH - 1)).collect()
             }
         }
