@@ -24,13 +24,19 @@ const MARK: u8 = 0x5c;
 
 /// What the findings call and the text call took.
 type Taken = [usize; 2];
+/// A law in Refal notation, and what it has.
+type Named = (&'static str, String);
 
 pub fn run(laws: u64, seed: u64) -> ExitCode {
     let measured = thread::Builder::new()
         .stack_size(THREAD)
         .spawn(move || {
-            by_hand();
-            at_random(laws, seed);
+            let [hand, random] = [by_hand(), at_random(laws, seed)];
+            println!(
+                "the most of all: findings call {} bytes, text call {} bytes",
+                hand[0].max(random[0]),
+                hand[1].max(random[1])
+            );
         })
         .map(|thread| thread.join());
     match measured {
@@ -39,61 +45,151 @@ pub fn run(laws: u64, seed: u64) -> ExitCode {
     }
 }
 
-/// Laws that go deep: long patterns, whose records are matched one inside the other, and terms in one another.
-fn by_hand() {
-    let again = |term: &str, times: usize| format!("{term} ").repeat(times);
-    let different: String = (1..=32).map(|index| format!("e.{index} ")).collect();
-    let within = |inside: &str| format!("{}{inside}{}", "(".repeat(31), ")".repeat(31));
-    let laws = [
-        (
-            "lint 1: 32 e. variables and one of them 480 times more, and an empty pattern",
-            format!("F {{ {different} {} = ; = ; }}", again("e.1", 480)),
-        ),
-        (
-            "lint 1 in a block inside 31 brackets: e.X 470 times, and an empty pattern",
-            format!(
-                "F {{ = {}; }}",
-                within(&format!("[ : {} = ; = ;]", again("e.X", 470)))
-            ),
-        ),
-        (
-            "lint 1: an e. variable and 255 empty brackets, and the same",
-            format!(
-                "F {{ {0} = ; {0} = ; }}",
-                format!("e.A {}", again("()", 255))
-            ),
-        ),
-        (
-            "lint 2: e.X 511 times, and a call with nothing",
-            format!("F {{ {} = ; }} G {{ = <F>; }}", again("e.X", 511)),
-        ),
-        (
-            "lint 2: 32 e. variables and 239 empty brackets, and a call with as many",
-            format!(
-                "F {{ {different} {0} = ; }} G {{ = <F {0}>; }}",
-                again("()", 239)
-            ),
-        ),
-        (
-            "a result of an e. variable and 510 symbols",
-            format!("F {{ e.A = e.A {}; }}", again("1", 510)),
-        ),
-    ];
+/// The most of laws that go deep.
+fn by_hand() -> Taken {
     let layout = Layout {
         share: true,
         junk: false,
         bytes: None,
     };
     let mut buffers = Buffers::new();
-    for (name, notation) in laws {
+    let mut most: Taken = [0; 2];
+    for (name, notation) in deep_laws() {
         let program = parse(&notation).expect("the notation is right");
         let encoded = encode(&program, layout, &mut Random::of(0, 0));
+        let settings = Settings::strict().ours();
+        let answer = bilzarko::findings(
+            &settings,
+            &encoded.bytes,
+            &mut buffers.store,
+            &mut buffers.words,
+        );
+        assert!(answer.is_ok(), "{name}: {answer:?}");
         let [findings, text] = taken(&encoded.bytes, &mut buffers);
         println!("{name}: findings call {findings} bytes, text call {text} bytes");
+        most = [most[0].max(findings), most[1].max(text)];
     }
+    most
 }
 
-fn at_random(laws: u64, seed: u64) {
+fn again(term: &str, times: usize) -> String {
+    format!("{term} ").repeat(times)
+}
+
+/// Terms inside so many brackets.
+fn bracketed(times: usize, inside: &str) -> String {
+    format!("{}{inside}{}", "(".repeat(times), ")".repeat(times))
+}
+
+/// Terms in the results of so many blocks, one in the other.
+fn blocks(times: usize, inside: &str) -> String {
+    format!("{}{inside}{}", "[ : = ".repeat(times), ";]".repeat(times))
+}
+
+/// A law with two sentences in a block. Of their patterns there are no formats, so that none is too large.
+fn in_block(around: fn(usize, &str) -> String, times: usize, earlier: &str, later: &str) -> String {
+    let block = format!("[ : {earlier} = ; {later} = ;]");
+    format!("F {{ = {}; }}", around(times, &block))
+}
+
+/// A law with a call of a literal argument. It matches, so that its format is not asked for.
+fn in_call(around: fn(usize, &str) -> String, times: usize, pattern: &str, row: &str) -> String {
+    let call = format!("<F {row}>");
+    format!("F {{ {pattern} = ; }} G {{ = {}; }}", around(times, &call))
+}
+
+/// 32 e. variables, and the first so many times more.
+fn repeated(times: usize) -> String {
+    let all: String = (1..=32).map(|index| format!("e.{index} ")).collect();
+    format!("{all}{}", again("e.1", times))
+}
+
+/// A pattern is searched only where it repeats a variable and passes the loose test. Each record of it is then matched inside the
+/// match of the one before; the terms around it go deeper before that.
+fn deep_laws() -> Vec<Named> {
+    let result = (
+        "a result of an e. variable and 510 symbols",
+        format!("F {{ e.A = e.A {}; }}", again("1", 510)),
+    );
+    let matched = deep_shadows().into_iter().chain(deep_literals());
+    matched.chain([result]).collect()
+}
+
+fn deep_shadows() -> [Named; 6] {
+    let empty = |times: usize| again("()", times);
+    let nested = again(&bracketed(31, ""), 7);
+    [
+        (
+            "lint 1: 32 e. variables and one of them 480 times more, and an empty pattern",
+            format!("F {{ {} = ; = ; }}", repeated(480)),
+        ),
+        (
+            "lint 1 in a block inside 31 brackets: 32 e. variables and one of them 448 times more, and an empty pattern",
+            in_block(bracketed, 31, &repeated(448), ""),
+        ),
+        (
+            "lint 1 in a block inside 31 blocks: the same",
+            in_block(blocks, 31, &repeated(448), ""),
+        ),
+        (
+            "lint 1 in a block inside 31 blocks: 32 e. variables, one of them again and () 223 times, and as many",
+            in_block(
+                blocks,
+                31,
+                &format!("{}{}", repeated(1), empty(223)),
+                &empty(223),
+            ),
+        ),
+        (
+            "lint 1: an e. variable twice and () 254 times, and the same",
+            format!("F {{ {0} = ; {0} = ; }}", format!("e.A e.A {}", empty(254))),
+        ),
+        (
+            "lint 1 in a block: 32 e. variables, one of them again and 7 times 31 brackets in each other, and as many",
+            in_block(bracketed, 0, &format!("{}{nested}", repeated(1)), &nested),
+        ),
+    ]
+}
+
+fn deep_literals() -> [Named; 7] {
+    let empty = |times: usize| again("()", times);
+    let brackets = |times: usize| format!("{}{}", repeated(1), empty(times));
+    let inside = format!("{}{}", repeated(0), again("(e.1)", 159));
+    let nested = again(&bracketed(31, ""), 7);
+    [
+        (
+            "lint 2: an e. variable 511 times, and a call with nothing",
+            in_call(bracketed, 0, &again("e.X", 511), ""),
+        ),
+        (
+            "lint 2: 32 e. variables and one of them 479 times more, and a call with nothing",
+            in_call(bracketed, 0, &repeated(479), ""),
+        ),
+        (
+            "lint 2 inside 31 blocks: 32 e. variables and one of them 448 times more, and a call with nothing",
+            in_call(blocks, 31, &repeated(448), ""),
+        ),
+        (
+            "lint 2: 32 e. variables, one of them again and () 239 times, and a call with as many",
+            in_call(bracketed, 0, &brackets(239), &empty(239)),
+        ),
+        (
+            "lint 2 inside 31 blocks: 32 e. variables, one of them again and () 223 times, and a call with as many",
+            in_call(blocks, 31, &brackets(223), &empty(223)),
+        ),
+        (
+            "lint 2: 32 e. variables and one of them in 159 brackets, and a call with () 159 times",
+            in_call(bracketed, 0, &inside, &empty(159)),
+        ),
+        (
+            "lint 2: 32 e. variables, one of them again and 7 times 31 brackets in each other, and a call with as many",
+            in_call(bracketed, 0, &format!("{}{nested}", repeated(1)), &nested),
+        ),
+    ]
+}
+
+/// The most of random laws.
+fn at_random(laws: u64, seed: u64) -> Taken {
     let mut buffers = Buffers::new();
     let all: Vec<Taken> = (0..laws)
         .map(|number| {
@@ -105,14 +201,17 @@ fn at_random(laws: u64, seed: u64) {
             )
         })
         .collect();
+    let mut most: Taken = [0; 2];
     for (call, name) in ["findings", "text"].iter().enumerate() {
-        if let Some((law, most)) = all.iter().enumerate().max_by_key(|(_, taken)| taken[call]) {
+        if let Some((law, deepest)) = all.iter().enumerate().max_by_key(|(_, taken)| taken[call]) {
+            most[call] = deepest[call];
             println!(
                 "{laws} laws of seed {seed}: {name} call {} bytes at most (law {law})",
                 most[call]
             );
         }
     }
+    most
 }
 
 fn taken(law: &[u8], buffers: &mut Buffers) -> Taken {

@@ -12,8 +12,10 @@ use crate::settings::Settings;
 
 /// How long a call may take, in seconds.
 pub const DEADLINE: u32 = 2;
-/// The least time of so many turns counts; of one turn, where that takes longer than `LONG`.
+/// The least time of so many turns counts, and of more until they took so long together; of one turn, where that takes longer than
+/// `LONG`.
 const TURNS: usize = 7;
+const TOGETHER: Duration = Duration::from_micros(500);
 const LONG: Duration = Duration::from_millis(50);
 /// The command's argument by which a process serves.
 pub const SERVES: &str = "worker";
@@ -130,7 +132,9 @@ fn timed(law: &[u8], buffers: &mut Buffers) -> (Duration, Listed) {
     let settings = Settings::strict().ours();
     let mut least = Duration::MAX;
     let mut listed = Listed::default();
-    for _ in 0..TURNS {
+    let (mut turns, began) = (0, Instant::now());
+    while turns < TURNS || began.elapsed() < TOGETHER {
+        turns += 1;
         let start = Instant::now();
         let answer = bilzarko::findings(&settings, law, &mut buffers.store, &mut buffers.words);
         let time = start.elapsed();
