@@ -26,7 +26,8 @@ const PASSES: usize = 5;
 const CLEARINGS: usize = 999;
 /// The ratios that the median, and that any law, shall not pass.
 const WISHED: [f64; 2] = [1.0, 2.0];
-/// The sizes, in term records, that are told apart: from each up to the next. Of a law without terms nearly all time goes to the store.
+/// The sizes, in term records, that are told apart: from each up to the next. Of a law without terms nearly all time goes to
+/// the store.
 const SIZES: [usize; 7] = [0, 1, 16, 48, 96, 192, 384];
 
 struct Time {

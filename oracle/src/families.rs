@@ -1,5 +1,5 @@
-//! How long the findings call takes for families of laws on which a search that tries every length takes ever longer, and whether it
-//! lists them rightly: none of their patterns matches its row.
+//! How long the findings call takes for families of laws on which a search that tries every length takes ever longer, and
+//! whether it lists them rightly: none of their patterns matches its row.
 use std::process::ExitCode;
 use std::time::Duration;
 

@@ -131,8 +131,8 @@ fn law(random: &mut Random) -> Vec<Pair> {
     all
 }
 
-/// Each pair has a function; where its row is literal, a call of it stands in one function more. The span of what a finding would be
-/// about is the pair's number.
+/// Each pair has a function; where its row is literal, a call of it stands in one function more. The span of what a finding
+/// would be about is the pair's number.
 fn program(pairs: &[Pair]) -> Program {
     let (mut items, mut calls) = (Vec::new(), Vec::new());
     for (number, pair) in pairs.iter().enumerate() {
@@ -215,8 +215,8 @@ fn of_pair(found: &[Words], number: usize) -> Vec<Words> {
     own.copied().collect()
 }
 
-/// A literal argument that matches is not compared by formats, so that its call is listed exactly where it does not match: by formats
-/// or by literals.
+/// A literal argument that matches is not compared by formats, so that its call is listed exactly where it does not match:
+/// by formats or by literals.
 fn is_right(pair: &Pair, matched: bool, own: &[Words]) -> bool {
     match own {
         [] => matched == pair.literal,

@@ -171,8 +171,8 @@ impl Maker<'_> {
         }
     }
 
-    /// The pattern with a value for each variable. At an occurrence after the first the value is the same so many times in a hundred;
-    /// where it never is, the row passes the loose test all the same.
+    /// The pattern with a value for each variable. At an occurrence after the first the value is the same so many times in
+    /// a hundred; where it never is, the row passes the loose test all the same.
     fn filled(&mut self, pattern: &[Term], kept: usize, values: &mut Values) -> Vec<Term> {
         let mut row = Vec::new();
         for one in pattern {

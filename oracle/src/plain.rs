@@ -1,6 +1,6 @@
 //! The plain search: `matches` of `crates/matching/specs/Match.antt`, case by case and with every length, and what `shadows`
-//! (`Shadow.antt`) and `literalMatches` (`Literal.antt`) make of it. Functions have the names of the definitions. A row of terms is
-//! a slice; a list of matches is gone through in its order, each handed on as it is found.
+//! (`Shadow.antt`) and `literalMatches` (`Literal.antt`) make of it. Functions have the names of the definitions. A row of
+//! terms is a slice; a list of matches is gone through in its order, each handed on as it is found.
 use std::rc::Rc;
 
 use refal_ast::{
@@ -81,30 +81,23 @@ fn matches<'t>(
         (Item::Symbol(Atom::Variable(kind, index)), _) => {
             let named = (*kind, index.as_str());
             let value = value_in(values, named);
-            choices(value, *kind, row)
-                .into_iter()
-                .any(|(taken, after)| {
-                    matches(
-                        back,
-                        rest,
-                        after,
-                        &noted(value, named, taken, values),
-                        wanted,
-                    )
-                })
+            let mut cuts = choices(value, *kind, row).into_iter();
+            cuts.any(|(taken, after)| {
+                let values = noted(value, named, taken, values);
+                matches(back, rest, after, &values, wanted)
+            })
         }
         (Item::Symbol(Atom::Other), _) => false,
         (Item::Symbol(own), Some((Item::Symbol(other), row))) => {
             same_atom(own, other) && matches(back, rest, row, values, wanted)
         }
         (Item::Brackets(inside), Some((Item::Brackets(contents), row))) => {
-            let mut found = None;
+            let mut answer = false;
             matches(back, inside, contents, values, &mut |values| {
-                let answer = matches(back, rest, row, values, wanted);
-                found = Some(answer);
+                answer = matches(back, rest, row, values, wanted);
                 answer || !back
             });
-            found.unwrap_or(false)
+            answer
         }
         (Item::Symbol(_) | Item::Brackets(_), _) => false,
     }
@@ -192,8 +185,8 @@ fn single_term(item: &Item) -> bool {
     }
 }
 
-/// Whether a pattern matches a row, each occurrence of a variable taken for a variable of its own: without values, so that a place in
-/// the row tells all. For counting alone.
+/// Whether a pattern matches a row, each occurrence of a variable taken for a variable of its own: without values, so that a
+/// place in the row tells all. For counting alone.
 pub fn loosely(pattern: &[Item], row: &[Item]) -> bool {
     let fits = |head: &Item, item: &Item| match (head, item) {
         (Item::Brackets(inside), Item::Brackets(contents)) => loosely(inside, contents),

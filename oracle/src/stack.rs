@@ -104,8 +104,8 @@ fn repeated(times: usize) -> String {
     format!("{all}{}", again("e.1", times))
 }
 
-/// A pattern is searched only where it repeats a variable and passes the loose test. Each record of it is then matched inside the
-/// match of the one before; the terms around it go deeper before that.
+/// A pattern is searched only where it repeats a variable and passes the loose test. Each record of it is then matched inside
+/// the match of the one before; the terms around it go deeper before that.
 fn deep_laws() -> Vec<Named> {
     let result = (
         "a result of an e. variable and 510 symbols",

@@ -1,5 +1,5 @@
-//! The findings call in a process of its own, which ends itself where one call takes too long: a thread could not be ended, and
-//! no process goes on where the one that started it is gone.
+//! The findings call in a process of its own, which ends itself where one call takes too long: a thread could not be ended,
+//! and no process goes on where the one that started it is gone.
 use std::io::{BufRead, BufReader, Read, Write, stdin, stdout};
 use std::os::unix::process::ExitStatusExt;
 use std::process::{Child, ChildStdin, ChildStdout, Command, ExitCode, Stdio};
@@ -12,8 +12,8 @@ use crate::settings::Settings;
 
 /// How long a call may take, in seconds.
 pub const DEADLINE: u32 = 2;
-/// The least time of so many turns counts, and of more until they took so long together; of one turn, where that takes longer than
-/// `LONG`.
+/// The least time of so many turns counts, and of more until they took so long together; of one turn, where that takes
+/// longer than `LONG`.
 const TURNS: usize = 7;
 const TOGETHER: Duration = Duration::from_micros(500);
 const LONG: Duration = Duration::from_millis(50);
