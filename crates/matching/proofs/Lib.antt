@@ -11,6 +11,7 @@ pub mod AskedLaws
 pub mod RecordLaws
 pub mod AgreeLaws
 pub mod ShadowSteps
+pub mod KnownLaws
 pub mod SureLaws
 pub mod FailedLaws
 pub mod ShadowStart

@@ -19,6 +19,8 @@ use Rattle.matching.specs.Part.{rowOf, from, Begin, atomOf}
 use Rattle.matching.specs.Bound.{variableIn}
 use Rattle.matching.specs.declared.Beginning.{Beginning}
 use Rattle.matching.specs.declared.Beginning.the-variants.{After, Differs}
+use Rattle.matching.specs.declared.Known.{Known}
+use Rattle.matching.specs.declared.Known.the-variants.{To, Fails as KnownFails}
 use Rattle.matching.specs.declared.First.{First}
 use Rattle.matching.specs.declared.First.the-variants.{Fails, Goes, Binds, Tries, Inside}
 
@@ -125,3 +127,16 @@ mayStand (Block n) t = false
 pub record Leaves (text pattern row : List ℕ) (vs : Values Atom) (r : First) : Type 0 where
   pub within : FirstIn text pattern row vs r
   pub search : (back : Bool) → found back (rowOf text pattern) (rowOf text row) vs ≡ leaves text back pattern row vs r
+
+-- a pattern's symbols and variables with a value, as many as it begins with, are passed over, or differ from the row
+pub record Passed (text pattern row : List ℕ) (vs : Values Atom) (m n : ℕ) : Type 0 where
+  pub begins : Begin pattern m
+  pub within : n ≤ length row
+  pub search : (back : Bool) → found back (rowOf text pattern) (rowOf text row) vs ≡ found back (rowOf text (from m pattern)) (rowOf text (from n row)) vs
+
+abbrev pub KnownIs : List ℕ → List ℕ → List ℕ → Values Atom → Known → Type 0
+KnownIs text pattern row vs (To m n) = Passed text pattern row vs m n
+KnownIs text pattern row vs KnownFails = (back : Bool) → found back (rowOf text pattern) (rowOf text row) vs ≡ []
+
+pub record KnownFront (text pattern row : List ℕ) (vs : Values Atom) (r : Known) : Type 0 where
+  pub front : KnownIs text pattern row vs r

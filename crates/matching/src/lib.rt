@@ -20,7 +20,7 @@ ghost use Rattle.matching.specs.Match.{Values, none-bound, valueIn, afte
 ghost use Rattle.matching.specs.Shadow.{sameAtom};
 ghost use Rattle.matching.specs.Part.{rowOf, isBracket, atomOf, sameFirst};
 ghost use Rattle.matching.specs.Bound.{rowAt, valuesOf, Kept, Bound, places, HasPlace};
-ghost use Rattle.matching.specs.Step.{beginsWith, BeginsIn, openTerm, symbolTerm, singleOne, mayStand, Leaves};
+ghost use Rattle.matching.specs.Step.{beginsWith, BeginsIn, openTerm, symbolTerm, singleOne, mayStand, Leaves, KnownFront};
 
 pub mod failed;
 pub mod literal;
@@ -55,6 +55,12 @@ pub enum First {
     Binds(usize),
     Tries,
     Inside,
+}
+
+// Where a pattern and a row stand after the symbols and the variables with a value that the pattern begins with.
+pub enum Known {
+    To(usize, usize),
+    Fails,
 }
 
 // The lesser of two numbers.
@@ -404,5 +410,49 @@ pub fn first_of<'a>(
         Term::Bracket => bracket_first(row),
         Term::Call(_, _) => First::Fails,
         Term::Block(_) => First::Fails,
+    }
+}
+
+// The symbols and the variables with a value that a pattern begins with: the row begins with the same. A loop, since there may be hundreds.
+pub fn known_front<'a>(
+    text: &[u8],
+    terms: &[u8],
+    pattern: &[u8],
+    row: &[u8],
+    keys: &'a [u16; 32],
+    starts: &'a [u16; 32],
+    sizes: &'a [u16; 32],
+    count: usize,
+) -> Known
+    requires { ⌜ Kept (now text) (now terms) (places (now keys) (now starts) (now sizes) count) ⌝ }
+    ensures { λ r. ⌜ KnownFront (now (text .entry)) (now (pattern .entry)) (now (row .entry))
+        (valuesOf (now (text .entry)) (now (terms .entry)) (places (now (keys .entry)) (now (starts .entry)) (now (sizes .entry)) count)) r ⌝ }
+{
+    let mut i = 0;
+    let mut j = 0;
+    loop {
+        let left = &pattern[i..];
+        let right = &row[j..];
+        if left.len() < 24 {
+            break Known::To(i, j);
+        }
+        match first_of(text, terms, left, right, keys, starts, sizes, count) {
+            First::Goes(m, n) => {
+                i += m;
+                j += n;
+            }
+            First::Fails => {
+                break Known::Fails;
+            }
+            First::Binds(_) => {
+                break Known::To(i, j);
+            }
+            First::Tries => {
+                break Known::To(i, j);
+            }
+            First::Inside => {
+                break Known::To(i, j);
+            }
+        }
     }
 }

@@ -1,10 +1,12 @@
 // Literal matching: does a pattern match a row without variables, calls and blocks? A bracket whose contents matched is gone back into.
 use crate::Bindings;
 use crate::First;
+use crate::Known;
 use crate::bind;
 use crate::failed::failed_before;
 use crate::failed::note_failed;
 use crate::first_of;
+use crate::known_front;
 use crate::narrow;
 use crate::none;
 use crate::repeats::closed;
@@ -329,8 +331,8 @@ fn literal_bracket(
     )
 }
 
-// Is there a match of a pattern with a row, and then of all that is around them?
-fn literal_run(
+// Is there a match of a pattern with a row, and then of all that is around them? By the pattern's first record.
+fn literal_first(
     text: &[u8],
     terms: &[u8],
     pattern: &[u8],
@@ -414,6 +416,46 @@ fn literal_run(
             sure,
             failed,
         ),
+    }
+}
+
+// Is there a match of a pattern with a row, and then of all that is around them?
+fn literal_run(
+    text: &[u8],
+    terms: &[u8],
+    pattern: &[u8],
+    at: usize,
+    row: &[u8],
+    start: usize,
+    pending: Pending,
+    b: Bindings,
+    sure: usize,
+    failed: &mut [u16; 2048],
+) -> bool
+    requires { ⌜ LiteralAsked (now text) (now terms) (now pattern) at (now row) start pending b × Sure (now text) (now terms) (now pattern) b sure × Remembers true (now text) (now terms) (now failed) ⌝ }
+    ensures { λ r. ⌜ (r ≡ someHolds (resume (levelsOf (now (text .entry)) (now (terms .entry)) pending (at + length (now (pattern .entry))) (start + length (now (row .entry)))))
+        (found true (rowOf (now (text .entry)) (now (pattern .entry))) (rowOf (now (text .entry)) (now (row .entry))) (valuesOf (now (text .entry)) (now (terms .entry)) b)))
+        × Remembers true (now (text .entry)) (now (terms .entry)) (now (failed .exit)) ⌝ }
+{
+    let len = b.count;
+    match known_front(text, terms, pattern, row, &b.keys, &b.starts, &b.sizes, len) {
+        Known::Fails => false,
+        Known::To(m, n) => {
+            let rest = &pattern[m..];
+            let left = &row[n..];
+            literal_first(
+                text,
+                terms,
+                rest,
+                at + m,
+                left,
+                start + n,
+                pending,
+                b,
+                sure,
+                failed,
+            )
+        }
     }
 }
 

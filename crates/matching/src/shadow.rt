@@ -1,10 +1,12 @@
 // Shadowing: does an earlier pattern match whatever a later one matches? A bracket whose contents matched is not gone back into.
 use crate::Bindings;
 use crate::First;
+use crate::Known;
 use crate::bind;
 use crate::failed::failed_before;
 use crate::failed::note_failed;
 use crate::first_of;
+use crate::known_front;
 use crate::none;
 use crate::repeats::closed;
 use law::runs::end_of;
@@ -147,8 +149,8 @@ fn shadow_inside(
     shadow_run(text, terms, rest, at + m, left, start + n, more, 0, failed)
 }
 
-// The first match of a pattern with a row.
-fn shadow_run(
+// The first match of a pattern with a row, by the pattern's first record.
+fn shadow_first(
     text: &[u8],
     terms: &[u8],
     pattern: &[u8],
@@ -208,6 +210,46 @@ fn shadow_run(
         }
         First::Tries => shadow_tries(text, terms, pattern, at, row, start, b, sure, failed),
         First::Inside => shadow_inside(text, terms, pattern, at, row, start, b, sure, failed),
+    }
+}
+
+// The first match of a pattern with a row.
+fn shadow_run(
+    text: &[u8],
+    terms: &[u8],
+    pattern: &[u8],
+    at: usize,
+    row: &[u8],
+    start: usize,
+    b: Bindings,
+    sure: usize,
+    failed: &mut [u16; 2048],
+) -> Matched
+    requires { ⌜ Asked (now text) (now terms) (now pattern) at (now row) start [] b × Sure (now text) (now terms) (now pattern) b sure × Remembers false (now text) (now terms) (now failed) ⌝ }
+    ensures { λ r. ⌜ Kept (now (text .entry)) (now (terms .entry)) (r .bindings)
+        × (matchedValues (now (text .entry)) (now (terms .entry)) r ≡ firstIn (found false (rowOf (now (text .entry)) (now (pattern .entry))) (rowOf (now (text .entry)) (now (row .entry))) (valuesOf (now (text .entry)) (now (terms .entry)) b)))
+        × Remembers false (now (text .entry)) (now (terms .entry)) (now (failed .exit)) ⌝ }
+{
+    let len = b.count;
+    match known_front(text, terms, pattern, row, &b.keys, &b.starts, &b.sizes, len) {
+        Known::Fails => Matched {
+            ok: false,
+            bindings: b,
+        },
+        Known::To(m, n) => {
+            let rest = &pattern[m..];
+            shadow_first(
+                text,
+                terms,
+                rest,
+                at + m,
+                &row[n..],
+                start + n,
+                b,
+                sure,
+                failed,
+            )
+        }
     }
 }
 

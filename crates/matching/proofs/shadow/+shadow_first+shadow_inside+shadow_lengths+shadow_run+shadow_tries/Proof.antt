@@ -18,46 +18,66 @@ use Rattle.matching.proofs.CutLaws.{begin-inside, from-length}
 use Rattle.matching.proofs.LengthLaws.{leftAt}
 use Rattle.matching.proofs.AskedLaws as calls
 use Rattle.matching.proofs.ShadowSteps as returns
+use Rattle.matching.proofs.KnownLaws as known
 use Rattle.matching.proofs.SureLaws as sure
 use Rattle.matching.proofs.FailedLaws as failed
 use borrow.Fn.Kinds.{In}
 use borrow.Fn.PlainCycle.{Measures, is, falls, and}
+use Rattle.matching.proofs.shadow.shadow_first.Reads as shadow-first
+use Rattle.matching.proofs.shadow.shadow_first.Kinds as shadow-first-kinds
+use Rattle.matching.proofs.shadow.+shadow_first+shadow_inside+shadow_lengths+shadow_run+shadow_tries.Lts-shadow_first as shadow-first-lts
 use Rattle.matching.proofs.shadow.shadow_inside.Reads as shadow-inside
 use Rattle.matching.proofs.shadow.shadow_inside.Kinds as shadow-inside-kinds
-use Rattle.matching.proofs.shadow.+shadow_inside+shadow_lengths+shadow_run+shadow_tries.Lts-shadow_inside as shadow-inside-lts
+use Rattle.matching.proofs.shadow.+shadow_first+shadow_inside+shadow_lengths+shadow_run+shadow_tries.Lts-shadow_inside as shadow-inside-lts
 use Rattle.matching.proofs.shadow.shadow_lengths.Reads as shadow-lengths
 use Rattle.matching.proofs.shadow.shadow_lengths.Kinds as shadow-lengths-kinds
-use Rattle.matching.proofs.shadow.+shadow_inside+shadow_lengths+shadow_run+shadow_tries.Lts-shadow_lengths as shadow-lengths-lts
+use Rattle.matching.proofs.shadow.+shadow_first+shadow_inside+shadow_lengths+shadow_run+shadow_tries.Lts-shadow_lengths as shadow-lengths-lts
 use Rattle.matching.proofs.shadow.shadow_run.Reads as shadow-run
 use Rattle.matching.proofs.shadow.shadow_run.Kinds as shadow-run-kinds
-use Rattle.matching.proofs.shadow.+shadow_inside+shadow_lengths+shadow_run+shadow_tries.Lts-shadow_run as shadow-run-lts
+use Rattle.matching.proofs.shadow.+shadow_first+shadow_inside+shadow_lengths+shadow_run+shadow_tries.Lts-shadow_run as shadow-run-lts
 use Rattle.matching.proofs.shadow.shadow_tries.Reads as shadow-tries
 use Rattle.matching.proofs.shadow.shadow_tries.Kinds as shadow-tries-kinds
-use Rattle.matching.proofs.shadow.+shadow_inside+shadow_lengths+shadow_run+shadow_tries.Lts-shadow_tries as shadow-tries-lts
+use Rattle.matching.proofs.shadow.+shadow_first+shadow_inside+shadow_lengths+shadow_run+shadow_tries.Lts-shadow_tries as shadow-tries-lts
 use Rattle.law.proofs.runs.end_of.Reads as end-of-reads
 use Rattle.matching.proofs.bind.Reads as bind-reads
 use Rattle.matching.proofs.failed.failed_before.Reads as failed-before-reads
 use Rattle.matching.proofs.failed.note_failed.Reads as note-failed-reads
 use Rattle.matching.proofs.first_of.Reads as first-of-reads
+use Rattle.matching.proofs.known_front.Reads as known-front-reads
 use Rattle.matching.proofs.repeats.closed.Reads as closed-reads
-use Rattle.matching.proofs.shadow.+shadow_inside+shadow_lengths+shadow_run+shadow_tries.{
+use Rattle.matching.proofs.shadow.+shadow_first+shadow_inside+shadow_lengths+shadow_run+shadow_tries.{
   statement,
 }
-use Rattle.matching.proofs.shadow.+shadow_inside+shadow_lengths+shadow_run+shadow_tries.Tie.{
+use Rattle.matching.proofs.shadow.+shadow_first+shadow_inside+shadow_lengths+shadow_run+shadow_tries.Tie.{
   close,
 }
 
+abbrev μ-shadow-first : Measures 5 shadow-first-kinds.ps ℕ
+μ-shadow-first κs a = 4 * length (a .1 .1 .0 .now) + 2
+
 abbrev μ-shadow-inside : Measures 5 shadow-inside-kinds.ps ℕ
-μ-shadow-inside κs a = 3 * length (a .1 .1 .0 .now)
+μ-shadow-inside κs a = 4 * length (a .1 .1 .0 .now)
 
 abbrev μ-shadow-lengths : Measures 5 shadow-lengths-kinds.ps ℕ
-μ-shadow-lengths κs a = 3 * length (a .1 .1 .0 .now)
+μ-shadow-lengths κs a = 4 * length (a .1 .1 .0 .now)
 
 abbrev μ-shadow-run : Measures 5 shadow-run-kinds.ps ℕ
-μ-shadow-run κs a = 3 * length (a .1 .1 .0 .now) + 2
+μ-shadow-run κs a = 4 * length (a .1 .1 .0 .now) + 3
 
 abbrev μ-shadow-tries : Measures 5 shadow-tries-kinds.ps ℕ
-μ-shadow-tries κs a = 3 * length (a .1 .1 .0 .now) + 1
+μ-shadow-tries κs a = 4 * length (a .1 .1 .0 .now) + 1
+
+abbrev shadow-first-at : ℕ → In 5 shadow-first-kinds.ps
+shadow-first-at t =
+    and 5 shadow-first-kinds.ps (is 5 shadow-first-kinds.ps μ-shadow-first t) shadow-first.Pre
+
+abbrev shadow-first-below : ℕ → In 5 shadow-first-kinds.ps
+shadow-first-below t =
+    and
+    5
+    shadow-first-kinds.ps
+    (falls 5 shadow-first-kinds.ps _<_ μ-shadow-first t)
+    shadow-first.Pre
 
 abbrev shadow-inside-at : ℕ → In 5 shadow-inside-kinds.ps
 shadow-inside-at t =
@@ -115,13 +135,99 @@ shadow-lengths-Inv-loop text terms pattern at row start b sure failed₀ end res
 abbrev shadow-lengths-μ-loop : shadow-lengths-lts.MeasureT-loop
 shadow-lengths-μ-loop text terms pattern at row start b sure failed₀ end rest next n₀ failed n = length row - n
 
-pub +shadow-inside+shadow-lengths+shadow-run+shadow-tries-spec : {M : Type 1} → statement M
-+shadow-inside+shadow-lengths+shadow-run+shadow-tries-spec =
+pub +shadow-first+shadow-inside+shadow-lengths+shadow-run+shadow-tries-spec :
+    {M : Type 1} → statement M
++shadow-first+shadow-inside+shadow-lengths+shadow-run+shadow-tries-spec =
     close
+    μ-shadow-first
     μ-shadow-inside
     μ-shadow-lengths
     μ-shadow-run
     μ-shadow-tries
+    (λ t. shadow-first-lts.spec (
+      first-of-reads.Asked,
+      first-of-reads.Learnt,
+      shadow-run-below t,
+      shadow-run.Post,
+      end-of-reads.Asked,
+      end-of-reads.Learnt,
+      bind-reads.Asked,
+      bind-reads.Learnt,
+      shadow-tries-below t,
+      shadow-tries.Post,
+      shadow-inside-below t,
+      shadow-inside.Post,
+    )
+    (shadow-first-at t)
+    shadow-first.Post
+    (λ c. (c .before .before .before .before .before .pre .1 .0 .kept, returns.run-end _ _ _ _ _ (c .if1 .taken), c .before .before .before .before .before .pre .1 .2))
+    (λ c κs. (c .before .before .before .before .before .before .before .before .before .pre .1 .0 .kept, c .before .before .before .before .if1 .left))
+    (λ c. search needs)
+    (λ c. search needs)
+    (λ c. returns.goes-falls (c .before .before .before .first-of .ensures) false _ _ (c .before .m .given .1) .0)
+    (λ c. returns.goes-falls (c .before .before .before .first-of .ensures) false _ _ (c .before .m .given .1) .0)
+    (λ c. search needs)
+    (λ c. let asked = c .before .before .before .before .before .before .before .before .before .before .before .before .before .before .pre .1 .0 in
+    omega (arith, asked .pattern-stands .inside, asked .small, returns.goes-falls (c .before .before .before .before .first-of .ensures) false _ _ (c .before .before .m .given .1) .0))
+    (λ c. returns.goes-within (c .before .before .before .before .first-of .ensures) false _ _ (c .before .before .m .given .1) .2)
+    (λ c. returns.goes-within (c .before .before .before .before .first-of .ensures) false _ _ (c .before .before .m .given .1) .2)
+    (λ c. search needs)
+    (λ c. let asked = c .before .before .before .before .before .before .before .before .before .before .before .before .before .before .before .pre .1 .0 in
+    omega (arith, asked .row-stands .inside, asked .small, returns.goes-within (c .before .before .before .before .before .first-of .ensures) false _ _ (c .before .before .before .m .given .1) .2))
+    (λ c κs. let start = c .before .before .before .before .before .before .before .before .before .before .before .before .before .before .before .before .pre in
+    let goes = returns.goes-within (c .before .before .before .before .before .before .first-of .ensures) false _ _ (c .before .before .before .before .m .given .1) in (
+      omega (arith, returns.goes-falls (c .before .before .before .before .before .before .first-of .ensures) false _ _ (c .before .before .before .before .m .given .1) .1, start .0),
+      (calls.asked-later (start .1 .0) _ _ (goes .0) (goes .2), sure.sure-later (start .1 .1) (goes .0), start .1 .2),
+    ))
+    (λ c. search needs)
+    (λ c κs. c .before .before .before .before .before .before .before .before .if1 .left)
+    (λ c. c .end-of .ensures .2)
+    (λ c. search needs)
+    (λ c. search needs)
+    (λ c. returns.binds-within (c .before .before .before .before .before .first-of .ensures) false _ (c .before .before .before .n .given .1) .0)
+    (λ c. returns.binds-within (c .before .before .before .before .before .first-of .ensures) false _ (c .before .before .before .n .given .1) .0)
+    (λ c. search needs)
+    (λ c κs. let asked = c .before .before .before .before .before .before .before .before .before .before .before .before .before .before .before .before .pre .1 .0 in
+    let binds = returns.binds-within (c .before .before .before .before .before .before .first-of .ensures) false _ (c .before .before .before .before .n .given .1) in (
+      (
+        omega (arith, asked .pattern-stands .inside, asked .small, c .before .before .before .before .before .before .before .before .before .before .before .if1 .left),
+        omega (arith, asked .row-stands .inside, asked .small),
+        omega (arith, asked .row-stands .inside, asked .small, binds .0),
+        calls.place-ready asked (c .before .before .before .before .before .before .before .before .before .before .before .if1 .left) (binds .1),
+      ),
+      (asked .kept .keys, asked .kept .starts, asked .kept .sizes),
+    ))
+    (λ c. let asked = c .before .before .before .before .before .before .before .before .before .before .before .before .before .before .before .before .before .pre .1 .0 in
+    omega (arith, asked .pattern-stands .inside, asked .small, c .before .before .before .end-of .ensures .2))
+    (λ c. let asked = c .before .before .before .before .before .before .before .before .before .before .before .before .before .before .before .before .before .pre .1 .0 in
+    omega (arith, asked .row-stands .inside, asked .small, returns.binds-within (c .before .before .before .before .before .before .before .first-of .ensures) false _ (c .before .before .before .before .before .n .given .1) .0))
+    (λ c κs. let start = c .before .before .before .before .before .before .before .before .before .before .before .before .before .before .before .before .before .before in
+    let some = c .before .before .before .before .before .before .before .before .before .before .before .before .before .if1 .left in
+    let ends = c .before .before .before .before .end-of in
+    let binds = returns.binds-within (c .before .before .before .before .before .before .before .before .first-of .ensures) false _ (c .before .before .before .before .before .before .n .given .1) in (
+      omega (arith, after-falls (start .args .pattern .now) (ends .result) (length (start .args .pattern .now)) some (ends .ensures .0) refl, start .pre .0),
+      (
+        calls.asked-more (start .pre .1 .0) some (binds .1) (binds .0) (c .before .bind .ensures) (ends .result) (c .before .before .before .before .before .before .n .given .0 .0) (ends .ensures .0) (binds .0),
+        sure.sure-later (sure.sure-more (start .pre .1 .1) (c .before .bind .ensures)) (sure.begin-second some (ends .ensures .0)),
+        start .pre .1 .2,
+      ),
+    ))
+    (λ c. search needs)
+    (λ c κs. let start = c .before .before .before .before .before .before .before .before .before .before .before .before .before .pre in
+    (omega (arith, start .0), ((start .1 .0, c .before .before .before .before .before .before .before .before .if1 .left, start .1 .1, start .1 .2), (returns.tries-free (c .before .before .before .first-of .ensures) false (c .before .enum-told2 .given .1), λ back. returns.step-tries (c .before .before .before .first-of .ensures) back (c .before .enum-told2 .given .1)))))
+    (λ c. search needs)
+    (λ c κs. let start = c .before .before .before .before .before .before .before .before .before .before .before .before .before .pre in
+    (omega (arith, start .0), (start .1 .0, c .before .before .before .before .before .before .before .before .if1 .left, returns.inside-facing (c .before .before .before .first-of .ensures) false (c .before .enum-told3 .given .1), start .1 .1, start .1 .2)))
+    (λ c. (c .before .before .before .before .before .before .before .before .before .before .before .before .pre .1 .0 .kept, sym (ap firstIn (returns.step-fails (c .before .before .first-of .ensures) false (c .enum-told .given .1))), c .before .before .before .before .before .before .before .before .before .before .before .before .pre .1 .2))
+    (λ c. (c .shadow-run .ensures .0, c .shadow-run .ensures .1 ∙ sym (ap firstIn (returns.step-goes (c .before .before .before .before .before .before .before .first-of .ensures) false _ _ (c .before .before .before .before .before .m .given .1))), c .shadow-run .ensures .2))
+    (λ c. let binds = returns.binds-within (c .before .before .before .before .before .before .before .before .before .first-of .ensures) false _ (c .before .before .before .before .before .before .before .n .given .1) in
+    let values = calls.values-more (c .before .before .before .before .before .before .before .before .before .before .before .before .before .before .before .before .before .before .before .pre .1 .0) (c .before .before .before .before .before .before .before .before .before .before .before .before .before .before .if1 .left) (binds .1) (binds .0) (c .before .before .bind .ensures) in (
+      c .shadow-run2 .ensures .0,
+      c .shadow-run2 .ensures .1 ∙ sym (ap firstIn (returns.step-binds (c .before .before .before .before .before .before .before .before .before .first-of .ensures) false _ _ _ (c .before .before .before .before .before .before .before .n .given .1) (c .before .before .before .before .before .end-of .ensures .0) values)),
+      c .shadow-run2 .ensures .2,
+    ))
+    (λ c. (c .shadow-tries .ensures .0, c .shadow-tries .ensures .1 ∙ sym (ap firstIn (returns.step-tries (c .before .before .before .before .first-of .ensures) false (c .before .before .enum-told2 .given .1))), c .shadow-tries .ensures .2))
+    (λ c. (c .shadow-inside .ensures .0, c .shadow-inside .ensures .1 ∙ sym (ap firstIn (returns.step-inside (c .before .before .before .before .first-of .ensures) false (c .before .before .enum-told3 .given .1))), c .shadow-inside .ensures .2)))
     (λ t. shadow-inside-lts.spec (
       end-of-reads.Asked,
       end-of-reads.Learnt,
@@ -254,89 +360,34 @@ pub +shadow-inside+shadow-lengths+shadow-run+shadow-tries-spec : {M : Type 1} �
       c .before .before .shadow-run .ensures .2,
     )))
     (λ t. shadow-run-lts.spec (
-      first-of-reads.Asked,
-      first-of-reads.Learnt,
-      shadow-run-below t,
-      shadow-run.Post,
-      end-of-reads.Asked,
-      end-of-reads.Learnt,
-      bind-reads.Asked,
-      bind-reads.Learnt,
-      shadow-tries-below t,
-      shadow-tries.Post,
-      shadow-inside-below t,
-      shadow-inside.Post,
+      known-front-reads.Asked,
+      known-front-reads.Learnt,
+      shadow-first-below t,
+      shadow-first.Post,
     )
     (shadow-run-at t)
     shadow-run.Post
-    (λ c. (c .before .before .before .before .before .pre .1 .0 .kept, returns.run-end _ _ _ _ _ (c .if1 .taken), c .before .before .before .before .before .pre .1 .2))
-    (λ c κs. (c .before .before .before .before .before .before .before .before .before .pre .1 .0 .kept, c .before .before .before .before .if1 .left))
+    (λ c κs. c .before .before .before .before .before .before .before .before .pre .1 .0 .kept)
     (λ c. search needs)
     (λ c. search needs)
-    (λ c. returns.goes-falls (c .before .before .before .first-of .ensures) false _ _ (c .before .m .given .1) .0)
-    (λ c. returns.goes-falls (c .before .before .before .first-of .ensures) false _ _ (c .before .m .given .1) .0)
+    (λ c. begin-inside (known.known-to (c .before .before .before .known-front .ensures) _ _ (c .before .m .given .1) .begins))
+    (λ c. begin-inside (known.known-to (c .before .before .before .known-front .ensures) _ _ (c .before .m .given .1) .begins))
+    (λ c. search needs)
+    (λ c. let asked = c .before .before .before .before .before .before .before .before .before .before .before .before .before .pre .1 .0 in
+    omega (arith, asked .pattern-stands .inside, asked .small, begin-inside (known.known-to (c .before .before .before .before .known-front .ensures) _ _ (c .before .before .m .given .1) .begins)))
+    (λ c. known.known-to (c .before .before .before .before .known-front .ensures) _ _ (c .before .before .m .given .1) .within)
+    (λ c. known.known-to (c .before .before .before .before .known-front .ensures) _ _ (c .before .before .m .given .1) .within)
     (λ c. search needs)
     (λ c. let asked = c .before .before .before .before .before .before .before .before .before .before .before .before .before .before .pre .1 .0 in
-    omega (arith, asked .pattern-stands .inside, asked .small, returns.goes-falls (c .before .before .before .before .first-of .ensures) false _ _ (c .before .before .m .given .1) .0))
-    (λ c. returns.goes-within (c .before .before .before .before .first-of .ensures) false _ _ (c .before .before .m .given .1) .2)
-    (λ c. returns.goes-within (c .before .before .before .before .first-of .ensures) false _ _ (c .before .before .m .given .1) .2)
-    (λ c. search needs)
-    (λ c. let asked = c .before .before .before .before .before .before .before .before .before .before .before .before .before .before .before .pre .1 .0 in
-    omega (arith, asked .row-stands .inside, asked .small, returns.goes-within (c .before .before .before .before .before .first-of .ensures) false _ _ (c .before .before .before .m .given .1) .2))
-    (λ c κs. let start = c .before .before .before .before .before .before .before .before .before .before .before .before .before .before .before .before .pre in
-    let goes = returns.goes-within (c .before .before .before .before .before .before .first-of .ensures) false _ _ (c .before .before .before .before .m .given .1) in (
-      omega (arith, returns.goes-falls (c .before .before .before .before .before .before .first-of .ensures) false _ _ (c .before .before .before .before .m .given .1) .1, start .0),
-      (calls.asked-later (start .1 .0) _ _ (goes .0) (goes .2), sure.sure-later (start .1 .1) (goes .0), start .1 .2),
+    omega (arith, asked .row-stands .inside, asked .small, known.known-to (c .before .before .before .before .before .known-front .ensures) _ _ (c .before .before .before .m .given .1) .within))
+    (λ c κs. let start = c .before .before .before .before .before .before .before .before .before .before .before .before .before .before .before .pre in
+    let passed = known.known-to (c .before .before .before .before .before .before .known-front .ensures) _ _ (c .before .before .before .before .m .given .1) in (
+      omega (arith, start .0, begin-inside (passed .begins), from-length (c .before .before .before .before .m .given .0 .0) (c .before .before .before .before .before .before .before .before .before .before .before .before .before .before .before .args .pattern .now)),
+      (calls.asked-later (start .1 .0) _ _ (passed .begins) (passed .within), sure.sure-later (start .1 .1) (passed .begins), start .1 .2),
     ))
-    (λ c. search needs)
-    (λ c κs. c .before .before .before .before .before .before .before .before .if1 .left)
-    (λ c. c .end-of .ensures .2)
-    (λ c. search needs)
-    (λ c. search needs)
-    (λ c. returns.binds-within (c .before .before .before .before .before .first-of .ensures) false _ (c .before .before .before .n .given .1) .0)
-    (λ c. returns.binds-within (c .before .before .before .before .before .first-of .ensures) false _ (c .before .before .before .n .given .1) .0)
-    (λ c. search needs)
-    (λ c κs. let asked = c .before .before .before .before .before .before .before .before .before .before .before .before .before .before .before .before .pre .1 .0 in
-    let binds = returns.binds-within (c .before .before .before .before .before .before .first-of .ensures) false _ (c .before .before .before .before .n .given .1) in (
-      (
-        omega (arith, asked .pattern-stands .inside, asked .small, c .before .before .before .before .before .before .before .before .before .before .before .if1 .left),
-        omega (arith, asked .row-stands .inside, asked .small),
-        omega (arith, asked .row-stands .inside, asked .small, binds .0),
-        calls.place-ready asked (c .before .before .before .before .before .before .before .before .before .before .before .if1 .left) (binds .1),
-      ),
-      (asked .kept .keys, asked .kept .starts, asked .kept .sizes),
-    ))
-    (λ c. let asked = c .before .before .before .before .before .before .before .before .before .before .before .before .before .before .before .before .before .pre .1 .0 in
-    omega (arith, asked .pattern-stands .inside, asked .small, c .before .before .before .end-of .ensures .2))
-    (λ c. let asked = c .before .before .before .before .before .before .before .before .before .before .before .before .before .before .before .before .before .pre .1 .0 in
-    omega (arith, asked .row-stands .inside, asked .small, returns.binds-within (c .before .before .before .before .before .before .before .first-of .ensures) false _ (c .before .before .before .before .before .n .given .1) .0))
-    (λ c κs. let start = c .before .before .before .before .before .before .before .before .before .before .before .before .before .before .before .before .before .before in
-    let some = c .before .before .before .before .before .before .before .before .before .before .before .before .before .if1 .left in
-    let ends = c .before .before .before .before .end-of in
-    let binds = returns.binds-within (c .before .before .before .before .before .before .before .before .first-of .ensures) false _ (c .before .before .before .before .before .before .n .given .1) in (
-      omega (arith, after-falls (start .args .pattern .now) (ends .result) (length (start .args .pattern .now)) some (ends .ensures .0) refl, start .pre .0),
-      (
-        calls.asked-more (start .pre .1 .0) some (binds .1) (binds .0) (c .before .bind .ensures) (ends .result) (c .before .before .before .before .before .before .n .given .0 .0) (ends .ensures .0) (binds .0),
-        sure.sure-later (sure.sure-more (start .pre .1 .1) (c .before .bind .ensures)) (sure.begin-second some (ends .ensures .0)),
-        start .pre .1 .2,
-      ),
-    ))
-    (λ c. search needs)
-    (λ c κs. let start = c .before .before .before .before .before .before .before .before .before .before .before .before .before .pre in
-    (omega (arith, start .0), ((start .1 .0, c .before .before .before .before .before .before .before .before .if1 .left, start .1 .1, start .1 .2), (returns.tries-free (c .before .before .before .first-of .ensures) false (c .before .enum-told2 .given .1), λ back. returns.step-tries (c .before .before .before .first-of .ensures) back (c .before .enum-told2 .given .1)))))
-    (λ c. search needs)
-    (λ c κs. let start = c .before .before .before .before .before .before .before .before .before .before .before .before .before .pre in
-    (omega (arith, start .0), (start .1 .0, c .before .before .before .before .before .before .before .before .if1 .left, returns.inside-facing (c .before .before .before .first-of .ensures) false (c .before .enum-told3 .given .1), start .1 .1, start .1 .2)))
-    (λ c. (c .before .before .before .before .before .before .before .before .before .before .before .before .pre .1 .0 .kept, sym (ap firstIn (returns.step-fails (c .before .before .first-of .ensures) false (c .enum-told .given .1))), c .before .before .before .before .before .before .before .before .before .before .before .before .pre .1 .2))
-    (λ c. (c .shadow-run .ensures .0, c .shadow-run .ensures .1 ∙ sym (ap firstIn (returns.step-goes (c .before .before .before .before .before .before .before .first-of .ensures) false _ _ (c .before .before .before .before .before .m .given .1))), c .shadow-run .ensures .2))
-    (λ c. let binds = returns.binds-within (c .before .before .before .before .before .before .before .before .before .first-of .ensures) false _ (c .before .before .before .before .before .before .before .n .given .1) in
-    let values = calls.values-more (c .before .before .before .before .before .before .before .before .before .before .before .before .before .before .before .before .before .before .before .pre .1 .0) (c .before .before .before .before .before .before .before .before .before .before .before .before .before .before .if1 .left) (binds .1) (binds .0) (c .before .before .bind .ensures) in (
-      c .shadow-run2 .ensures .0,
-      c .shadow-run2 .ensures .1 ∙ sym (ap firstIn (returns.step-binds (c .before .before .before .before .before .before .before .before .before .first-of .ensures) false _ _ _ (c .before .before .before .before .before .before .before .n .given .1) (c .before .before .before .before .before .end-of .ensures .0) values)),
-      c .shadow-run2 .ensures .2,
-    ))
-    (λ c. (c .shadow-tries .ensures .0, c .shadow-tries .ensures .1 ∙ sym (ap firstIn (returns.step-tries (c .before .before .before .before .first-of .ensures) false (c .before .before .enum-told2 .given .1))), c .shadow-tries .ensures .2))
-    (λ c. (c .shadow-inside .ensures .0, c .shadow-inside .ensures .1 ∙ sym (ap firstIn (returns.step-inside (c .before .before .before .before .first-of .ensures) false (c .before .before .enum-told3 .given .1))), c .shadow-inside .ensures .2)))
+    (λ c. (c .before .before .before .before .before .before .before .before .before .before .before .pre .1 .0 .kept, sym (ap firstIn (known.known-fails (c .before .before .known-front .ensures) (c .enum-told .given .1) false)), c .before .before .before .before .before .before .before .before .before .before .before .pre .1 .2))
+    (λ c. let passed = known.known-to (c .before .before .before .before .before .before .before .known-front .ensures) _ _ (c .before .before .before .before .before .m .given .1) in
+    (c .shadow-first .ensures .0, c .shadow-first .ensures .1 ∙ sym (ap firstIn (passed .search false)), c .shadow-first .ensures .2)))
     λ t. shadow-tries-lts.spec (
       closed-reads.Asked,
       closed-reads.Learnt,

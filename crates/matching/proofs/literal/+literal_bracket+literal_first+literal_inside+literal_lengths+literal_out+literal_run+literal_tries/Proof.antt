@@ -22,6 +22,7 @@ use Rattle.matching.proofs.LengthLaws.{leftAt}
 use Rattle.matching.proofs.AskedLaws as calls
 use Rattle.matching.proofs.LevelLaws as level
 use Rattle.matching.proofs.ShadowSteps as step
+use Rattle.matching.proofs.KnownLaws as known
 use Rattle.matching.proofs.SureLaws as sure
 use Rattle.matching.proofs.FailedLaws as failed
 use Rattle.matching.proofs.AloneLaws as alone
@@ -29,55 +30,62 @@ use borrow.Fn.Kinds.{In}
 use borrow.Fn.PlainCycle.{Measures, is, falls, and}
 use Rattle.matching.proofs.literal.literal_bracket.Reads as literal-bracket
 use Rattle.matching.proofs.literal.literal_bracket.Kinds as literal-bracket-kinds
-use Rattle.matching.proofs.literal.+literal_bracket+literal_inside+literal_lengths+literal_out+literal_run+literal_tries.Lts-literal_bracket as literal-bracket-lts
+use Rattle.matching.proofs.literal.+literal_bracket+literal_first+literal_inside+literal_lengths+literal_out+literal_run+literal_tries.Lts-literal_bracket as literal-bracket-lts
+use Rattle.matching.proofs.literal.literal_first.Reads as literal-first
+use Rattle.matching.proofs.literal.literal_first.Kinds as literal-first-kinds
+use Rattle.matching.proofs.literal.+literal_bracket+literal_first+literal_inside+literal_lengths+literal_out+literal_run+literal_tries.Lts-literal_first as literal-first-lts
 use Rattle.matching.proofs.literal.literal_inside.Reads as literal-inside
 use Rattle.matching.proofs.literal.literal_inside.Kinds as literal-inside-kinds
-use Rattle.matching.proofs.literal.+literal_bracket+literal_inside+literal_lengths+literal_out+literal_run+literal_tries.Lts-literal_inside as literal-inside-lts
+use Rattle.matching.proofs.literal.+literal_bracket+literal_first+literal_inside+literal_lengths+literal_out+literal_run+literal_tries.Lts-literal_inside as literal-inside-lts
 use Rattle.matching.proofs.literal.literal_lengths.Reads as literal-lengths
 use Rattle.matching.proofs.literal.literal_lengths.Kinds as literal-lengths-kinds
-use Rattle.matching.proofs.literal.+literal_bracket+literal_inside+literal_lengths+literal_out+literal_run+literal_tries.Lts-literal_lengths as literal-lengths-lts
+use Rattle.matching.proofs.literal.+literal_bracket+literal_first+literal_inside+literal_lengths+literal_out+literal_run+literal_tries.Lts-literal_lengths as literal-lengths-lts
 use Rattle.matching.proofs.literal.literal_out.Reads as literal-out
 use Rattle.matching.proofs.literal.literal_out.Kinds as literal-out-kinds
-use Rattle.matching.proofs.literal.+literal_bracket+literal_inside+literal_lengths+literal_out+literal_run+literal_tries.Lts-literal_out as literal-out-lts
+use Rattle.matching.proofs.literal.+literal_bracket+literal_first+literal_inside+literal_lengths+literal_out+literal_run+literal_tries.Lts-literal_out as literal-out-lts
 use Rattle.matching.proofs.literal.literal_run.Reads as literal-run
 use Rattle.matching.proofs.literal.literal_run.Kinds as literal-run-kinds
-use Rattle.matching.proofs.literal.+literal_bracket+literal_inside+literal_lengths+literal_out+literal_run+literal_tries.Lts-literal_run as literal-run-lts
+use Rattle.matching.proofs.literal.+literal_bracket+literal_first+literal_inside+literal_lengths+literal_out+literal_run+literal_tries.Lts-literal_run as literal-run-lts
 use Rattle.matching.proofs.literal.literal_tries.Reads as literal-tries
 use Rattle.matching.proofs.literal.literal_tries.Kinds as literal-tries-kinds
-use Rattle.matching.proofs.literal.+literal_bracket+literal_inside+literal_lengths+literal_out+literal_run+literal_tries.Lts-literal_tries as literal-tries-lts
+use Rattle.matching.proofs.literal.+literal_bracket+literal_first+literal_inside+literal_lengths+literal_out+literal_run+literal_tries.Lts-literal_tries as literal-tries-lts
 use Rattle.law.proofs.runs.end_of.Reads as end-of-reads
 use Rattle.matching.proofs.bind.Reads as bind-reads
 use Rattle.matching.proofs.failed.failed_before.Reads as failed-before-reads
 use Rattle.matching.proofs.failed.note_failed.Reads as note-failed-reads
 use Rattle.matching.proofs.first_of.Reads as first-of-reads
+use Rattle.matching.proofs.known_front.Reads as known-front-reads
 use Rattle.matching.proofs.literal.push.Reads as push-reads
 use Rattle.matching.proofs.repeats.closed.Reads as closed-reads
 use Rattle.matching.proofs.repeats.disjoint_variables.Reads as disjoint-variables-reads
 use Rattle.matching.proofs.wide.Reads as wide-reads
-use Rattle.matching.proofs.literal.+literal_bracket+literal_inside+literal_lengths+literal_out+literal_run+literal_tries.{
+use Rattle.matching.proofs.literal.+literal_bracket+literal_first+literal_inside+literal_lengths+literal_out+literal_run+literal_tries.{
   statement,
 }
-use Rattle.matching.proofs.literal.+literal_bracket+literal_inside+literal_lengths+literal_out+literal_run+literal_tries.Tie.{
+use Rattle.matching.proofs.literal.+literal_bracket+literal_first+literal_inside+literal_lengths+literal_out+literal_run+literal_tries.Tie.{
   close,
 }
 
 abbrev μ-literal-bracket : Measures 5 literal-bracket-kinds.ps ℕ
-μ-literal-bracket κs a = 4 * (length (a .1 .0 .now) - a .1 .1 .1 .0) + 3 * (a .1 .1 .1 .1 .1 .1 .0 .count) + 1
+μ-literal-bracket κs a = 4 * (length (a .1 .0 .now) - a .1 .1 .1 .0) + 4 * (a .1 .1 .1 .1 .1 .1 .0 .count) + 1
+
+abbrev μ-literal-first : Measures 5 literal-first-kinds.ps ℕ
+μ-literal-first κs a = 4 * (length (a .1 .0 .now) - a .1 .1 .1 .0) + 4 * (a .1 .1 .1 .1 .1 .1 .0 .count) + 2
 
 abbrev μ-literal-inside : Measures 5 literal-inside-kinds.ps ℕ
-μ-literal-inside κs a = 4 * (length (a .1 .0 .now) - a .1 .1 .1 .0) + 3 * (a .1 .1 .1 .1 .1 .1 .0 .count)
+μ-literal-inside κs a = 4 * (length (a .1 .0 .now) - a .1 .1 .1 .0) + 4 * (a .1 .1 .1 .1 .1 .1 .0 .count)
 
 abbrev μ-literal-lengths : Measures 5 literal-lengths-kinds.ps ℕ
-μ-literal-lengths κs a = 4 * (length (a .1 .0 .now) - a .1 .1 .1 .0) + 3 * (a .1 .1 .1 .1 .1 .1 .0 .count)
+μ-literal-lengths κs a = 4 * (length (a .1 .0 .now) - a .1 .1 .1 .0) + 4 * (a .1 .1 .1 .1 .1 .1 .0 .count)
 
 abbrev μ-literal-out : Measures 3 literal-out-kinds.ps ℕ
-μ-literal-out κs a = 4 * (length (a .1 .0 .now) - a .1 .1 .0) + 3 * (a .1 .1 .1 .1 .0 .count)
+μ-literal-out κs a = 4 * (length (a .1 .0 .now) - a .1 .1 .0) + 4 * (a .1 .1 .1 .1 .0 .count)
 
 abbrev μ-literal-run : Measures 5 literal-run-kinds.ps ℕ
-μ-literal-run κs a = 4 * (length (a .1 .0 .now) - a .1 .1 .1 .0) + 3 * (a .1 .1 .1 .1 .1 .1 .0 .count) + 2
+μ-literal-run κs a = 4 * (length (a .1 .0 .now) - a .1 .1 .1 .0) + 4 * (a .1 .1 .1 .1 .1 .1 .0 .count) + 3
 
 abbrev μ-literal-tries : Measures 5 literal-tries-kinds.ps ℕ
-μ-literal-tries κs a = 4 * (length (a .1 .0 .now) - a .1 .1 .1 .0) + 3 * (a .1 .1 .1 .1 .1 .1 .0 .count) + 1
+μ-literal-tries κs a = 4 * (length (a .1 .0 .now) - a .1 .1 .1 .0) + 4 * (a .1 .1 .1 .1 .1 .1 .0 .count) + 1
 
 abbrev literal-bracket-at : ℕ → In 5 literal-bracket-kinds.ps
 literal-bracket-at t =
@@ -94,6 +102,18 @@ literal-bracket-below t =
     literal-bracket-kinds.ps
     (falls 5 literal-bracket-kinds.ps _<_ μ-literal-bracket t)
     literal-bracket.Pre
+
+abbrev literal-first-at : ℕ → In 5 literal-first-kinds.ps
+literal-first-at t =
+    and 5 literal-first-kinds.ps (is 5 literal-first-kinds.ps μ-literal-first t) literal-first.Pre
+
+abbrev literal-first-below : ℕ → In 5 literal-first-kinds.ps
+literal-first-below t =
+    and
+    5
+    literal-first-kinds.ps
+    (falls 5 literal-first-kinds.ps _<_ μ-literal-first t)
+    literal-first.Pre
 
 abbrev literal-inside-at : ℕ → In 5 literal-inside-kinds.ps
 literal-inside-at t =
@@ -168,11 +188,12 @@ literal-lengths-Inv-loop text terms pattern at row start pending b sure failed�
 abbrev literal-lengths-μ-loop : literal-lengths-lts.MeasureT-loop
 literal-lengths-μ-loop text terms pattern at row start pending b sure failed₀ end rest next n₀ failed n = length row - n
 
-pub +literal-bracket+literal-inside+literal-lengths+literal-out+literal-run+literal-tries-spec :
+pub +literal-bracket+literal-first+literal-inside+literal-lengths+literal-out+literal-run+literal-tries-spec :
     {M : Type 1} → statement M
-+literal-bracket+literal-inside+literal-lengths+literal-out+literal-run+literal-tries-spec =
++literal-bracket+literal-first+literal-inside+literal-lengths+literal-out+literal-run+literal-tries-spec =
     close
     μ-literal-bracket
+    μ-literal-first
     μ-literal-inside
     μ-literal-lengths
     μ-literal-out
@@ -235,6 +256,104 @@ pub +literal-bracket+literal-inside+literal-lengths+literal-out+literal-run+lite
           _ _ _ _ _ _ (c .before .before .before .before .literal-run .ensures .0) (not-false _ (c .before .before .before .if3 .left)) (c .literal-run2 .ensures .0),
       c .literal-run2 .ensures .1,
     )))
+    (λ t. literal-first-lts.spec (
+      literal-out-below t,
+      literal-out.Post,
+      first-of-reads.Asked,
+      first-of-reads.Learnt,
+      literal-run-below t,
+      literal-run.Post,
+      end-of-reads.Asked,
+      end-of-reads.Learnt,
+      bind-reads.Asked,
+      bind-reads.Learnt,
+      literal-tries-below t,
+      literal-tries.Post,
+      literal-bracket-below t,
+      literal-bracket.Post,
+    )
+    (literal-first-at t)
+    literal-first.Post
+    (λ c. let asked = c .before .before .before .before .before .before .pre .1 .0 .asked in
+    omega (arith, asked .pattern-stands .inside, asked .small))
+    (λ c. let asked = c .before .before .before .before .before .before .pre .1 .0 .asked in
+    omega (arith, asked .row-stands .inside, asked .small))
+    (λ c κs. let start = c .before .before .before .before .before .before .before .pre in (
+      omega (arith, start .0),
+      ((start .1 .0 .asked .small, start .1 .0 .around, start .1 .0 .asked .kept, start .1 .2), level.out-capacity (start .1 .0) (c .before .before .if1 .taken)),
+    ))
+    (λ c. (level.run-out (c .before .before .before .before .before .before .before .before .pre .1 .0) (c .literal-out .result) (c .before .before .before .if1 .taken) (c .before .before .if2 .taken) (c .literal-out .ensures .0), c .literal-out .ensures .1))
+    (λ c. (level.run-none (c .before .before .before .before .before .before .pre .1 .0) (step.end-one _ _ _ true _ (c .before .if1 .taken) (c .if2 .left)), c .before .before .before .before .before .before .pre .1 .2))
+    (λ c κs. (c .before .before .before .before .before .before .before .before .before .pre .1 .0 .asked .kept, c .before .before .before .before .if1 .left))
+    (λ c. search needs)
+    (λ c. search needs)
+    (λ c. step.goes-falls (c .before .before .before .first-of .ensures) true _ _ (c .before .m .given .1) .0)
+    (λ c. step.goes-falls (c .before .before .before .first-of .ensures) true _ _ (c .before .m .given .1) .0)
+    (λ c. search needs)
+    (λ c. let asked = c .before .before .before .before .before .before .before .before .before .before .before .before .before .before .pre .1 .0 .asked in
+    omega (arith, asked .pattern-stands .inside, asked .small, step.goes-falls (c .before .before .before .before .first-of .ensures) true _ _ (c .before .before .m .given .1) .0))
+    (λ c. step.goes-within (c .before .before .before .before .first-of .ensures) true _ _ (c .before .before .m .given .1) .2)
+    (λ c. step.goes-within (c .before .before .before .before .first-of .ensures) true _ _ (c .before .before .m .given .1) .2)
+    (λ c. search needs)
+    (λ c. let asked = c .before .before .before .before .before .before .before .before .before .before .before .before .before .before .before .pre .1 .0 .asked in
+    omega (arith, asked .row-stands .inside, asked .small, step.goes-within (c .before .before .before .before .before .first-of .ensures) true _ _ (c .before .before .before .m .given .1) .2))
+    (λ c κs. let start = c .before .before .before .before .before .before .before .before .before .before .before .before .before .before .before .before .pre in
+    let goes = step.goes-within (c .before .before .before .before .before .before .first-of .ensures) true _ _ (c .before .before .before .before .m .given .1) in
+    let falls = step.goes-falls (c .before .before .before .before .before .before .first-of .ensures) true _ _ (c .before .before .before .before .m .given .1) in (
+      omega (arith, start .0, goes .1, falls .0, start .1 .0 .asked .pattern-stands .inside),
+      (level.literal-later (start .1 .0) _ _ (goes .0) (goes .2), sure.sure-later (start .1 .1) (goes .0), start .1 .2),
+    ))
+    (λ c. search needs)
+    (λ c κs. c .before .before .before .before .before .before .before .before .if1 .left)
+    (λ c. c .end-of .ensures .2)
+    (λ c. search needs)
+    (λ c. search needs)
+    (λ c. step.binds-within (c .before .before .before .before .before .first-of .ensures) true _ (c .before .before .before .n .given .1) .0)
+    (λ c. step.binds-within (c .before .before .before .before .before .first-of .ensures) true _ (c .before .before .before .n .given .1) .0)
+    (λ c. search needs)
+    (λ c κs. let asked = c .before .before .before .before .before .before .before .before .before .before .before .before .before .before .before .before .pre .1 .0 .asked in
+    let binds = step.binds-within (c .before .before .before .before .before .before .first-of .ensures) true _ (c .before .before .before .before .n .given .1) in (
+      (
+        omega (arith, asked .pattern-stands .inside, asked .small, c .before .before .before .before .before .before .before .before .before .before .before .if1 .left),
+        omega (arith, asked .row-stands .inside, asked .small),
+        omega (arith, asked .row-stands .inside, asked .small, binds .0),
+        calls.place-ready asked (c .before .before .before .before .before .before .before .before .before .before .before .if1 .left) (binds .1),
+      ),
+      (asked .kept .keys, asked .kept .starts, asked .kept .sizes),
+    ))
+    (λ c. let asked = c .before .before .before .before .before .before .before .before .before .before .before .before .before .before .before .before .before .pre .1 .0 .asked in
+    omega (arith, asked .pattern-stands .inside, asked .small, c .before .before .before .end-of .ensures .2))
+    (λ c. let asked = c .before .before .before .before .before .before .before .before .before .before .before .before .before .before .before .before .before .pre .1 .0 .asked in
+    omega (arith, asked .row-stands .inside, asked .small, step.binds-within (c .before .before .before .before .before .before .before .first-of .ensures) true _ (c .before .before .before .before .before .n .given .1) .0))
+    (λ c κs. let start = c .before .before .before .before .before .before .before .before .before .before .before .before .before .before .before .before .before .before .pre in
+    let ends = c .before .before .before .before .end-of in
+    let binds = step.binds-within (c .before .before .before .before .before .before .before .before .first-of .ensures) true _ (c .before .before .before .before .before .before .n .given .1) in (
+      omega (arith, start .0, ends .ensures .1, ends .ensures .2, start .1 .0 .asked .pattern-stands .inside),
+      (level.literal-more (start .1 .0) (c .before .before .before .before .before .before .before .before .before .before .before .before .before .if1 .left) (binds .1) (binds .0) (c .before .bind .ensures) (ends .result) (c .before .before .before .before .before .before .n .given .0 .0) (ends .ensures .0) (binds .0), sure.sure-later (sure.sure-more (start .1 .1) (c .before .bind .ensures)) (sure.begin-second (c .before .before .before .before .before .before .before .before .before .before .before .before .before .if1 .left) (ends .ensures .0)), start .1 .2),
+    ))
+    (λ c. search needs)
+    (λ c κs. let start = c .before .before .before .before .before .before .before .before .before .before .before .before .before .pre in
+    (omega (arith, start .0), ((start .1 .0, c .before .before .before .before .before .before .before .before .if1 .left, start .1 .1, start .1 .2), (step.tries-free (c .before .before .before .first-of .ensures) true (c .before .enum-told2 .given .1), λ back. step.step-tries (c .before .before .before .first-of .ensures) back (c .before .enum-told2 .given .1)))))
+    (λ c. search needs)
+    (λ c κs. let start = c .before .before .before .before .before .before .before .before .before .before .before .before .before .pre in
+    (omega (arith, start .0), (start .1 .0, c .before .before .before .before .before .before .before .before .if1 .left, step.inside-facing (c .before .before .before .first-of .ensures) true (c .before .enum-told3 .given .1), start .1 .1, start .1 .2)))
+    (λ c. (level.run-none (c .before .before .before .before .before .before .before .before .before .before .before .before .pre .1 .0) (step.step-fails (c .before .before .first-of .ensures) true (c .enum-told .given .1)), c .before .before .before .before .before .before .before .before .before .before .before .before .pre .1 .2))
+    (λ c. let goes = step.goes-within (c .before .before .before .before .before .before .before .first-of .ensures) true _ _ (c .before .before .before .before .before .m .given .1) in
+    let falls = step.goes-falls (c .before .before .before .before .before .before .before .first-of .ensures) true _ _ (c .before .before .before .before .before .m .given .1) in (
+      level.run-rest (c .before .before .before .before .before .before .before .before .before .before .before .before .before .before .before .before .before .pre .1 .0) (c .literal-run .result) _ _ _ (falls .0) (goes .2)
+          (step.step-goes (c .before .before .before .before .before .before .before .first-of .ensures) true _ _ (c .before .before .before .before .before .m .given .1)) (c .literal-run .ensures .0),
+      c .literal-run .ensures .1,
+    ))
+    (λ c. let start = c .before .before .before .before .before .before .before .before .before .before .before .before .before .before .before .before .before .before .before .pre in
+    let ends = c .before .before .before .before .before .end-of in
+    let binds = step.binds-within (c .before .before .before .before .before .before .before .before .before .first-of .ensures) true _ (c .before .before .before .before .before .before .before .n .given .1) in
+    let values = calls.values-more (start .1 .0 .asked) (c .before .before .before .before .before .before .before .before .before .before .before .before .before .before .if1 .left) (binds .1) (binds .0) (c .before .before .bind .ensures) in (
+      level.run-rest (start .1 .0) (c .literal-run2 .result) (ends .result) (c .before .before .before .before .before .before .before .n .given .0 .0) (c .before .before .bind .result) (ends .ensures .2) (binds .0)
+          (step.step-binds (c .before .before .before .before .before .before .before .before .before .first-of .ensures) true _ _ _ (c .before .before .before .before .before .before .before .n .given .1) (ends .ensures .0) values) (c .literal-run2 .ensures .0),
+      c .literal-run2 .ensures .1,
+    ))
+    (λ c. (level.run-same (c .before .before .before .before .before .before .before .before .before .before .before .before .before .before .pre .1 .0) (c .literal-tries .result) _ (c .literal-tries .ensures .0) (step.step-tries (c .before .before .before .before .first-of .ensures) true (c .before .before .enum-told2 .given .1)), c .literal-tries .ensures .1))
+    (λ c. (level.run-same (c .before .before .before .before .before .before .before .before .before .before .before .before .before .before .pre .1 .0) (c .literal-bracket .result) _ (c .literal-bracket .ensures .0) (step.step-inside (c .before .before .before .before .first-of .ensures) true (c .before .before .enum-told3 .given .1)), c .literal-bracket .ensures .1)))
     (λ t. literal-inside-lts.spec (
       end-of-reads.Asked,
       end-of-reads.Learnt,
@@ -381,103 +500,34 @@ pub +literal-bracket+literal-inside+literal-lengths+literal-out+literal-run+lite
       c .literal-run .ensures .1,
     )))
     (λ t. literal-run-lts.spec (
-      literal-out-below t,
-      literal-out.Post,
-      first-of-reads.Asked,
-      first-of-reads.Learnt,
-      literal-run-below t,
-      literal-run.Post,
-      end-of-reads.Asked,
-      end-of-reads.Learnt,
-      bind-reads.Asked,
-      bind-reads.Learnt,
-      literal-tries-below t,
-      literal-tries.Post,
-      literal-bracket-below t,
-      literal-bracket.Post,
+      known-front-reads.Asked,
+      known-front-reads.Learnt,
+      literal-first-below t,
+      literal-first.Post,
     )
     (literal-run-at t)
     literal-run.Post
-    (λ c. let asked = c .before .before .before .before .before .before .pre .1 .0 .asked in
-    omega (arith, asked .pattern-stands .inside, asked .small))
-    (λ c. let asked = c .before .before .before .before .before .before .pre .1 .0 .asked in
-    omega (arith, asked .row-stands .inside, asked .small))
-    (λ c κs. let start = c .before .before .before .before .before .before .before .pre in (
-      omega (arith, start .0),
-      ((start .1 .0 .asked .small, start .1 .0 .around, start .1 .0 .asked .kept, start .1 .2), level.out-capacity (start .1 .0) (c .before .before .if1 .taken)),
-    ))
-    (λ c. (level.run-out (c .before .before .before .before .before .before .before .before .pre .1 .0) (c .literal-out .result) (c .before .before .before .if1 .taken) (c .before .before .if2 .taken) (c .literal-out .ensures .0), c .literal-out .ensures .1))
-    (λ c. (level.run-none (c .before .before .before .before .before .before .pre .1 .0) (step.end-one _ _ _ true _ (c .before .if1 .taken) (c .if2 .left)), c .before .before .before .before .before .before .pre .1 .2))
-    (λ c κs. (c .before .before .before .before .before .before .before .before .before .pre .1 .0 .asked .kept, c .before .before .before .before .if1 .left))
+    (λ c κs. c .before .before .before .before .before .before .before .before .pre .1 .0 .asked .kept)
     (λ c. search needs)
     (λ c. search needs)
-    (λ c. step.goes-falls (c .before .before .before .first-of .ensures) true _ _ (c .before .m .given .1) .0)
-    (λ c. step.goes-falls (c .before .before .before .first-of .ensures) true _ _ (c .before .m .given .1) .0)
+    (λ c. begin-inside (known.known-to (c .before .before .before .known-front .ensures) _ _ (c .before .m .given .1) .begins))
+    (λ c. begin-inside (known.known-to (c .before .before .before .known-front .ensures) _ _ (c .before .m .given .1) .begins))
+    (λ c. search needs)
+    (λ c. known.known-to (c .before .before .before .before .known-front .ensures) _ _ (c .before .before .m .given .1) .within)
+    (λ c. known.known-to (c .before .before .before .before .known-front .ensures) _ _ (c .before .before .m .given .1) .within)
     (λ c. search needs)
     (λ c. let asked = c .before .before .before .before .before .before .before .before .before .before .before .before .before .before .pre .1 .0 .asked in
-    omega (arith, asked .pattern-stands .inside, asked .small, step.goes-falls (c .before .before .before .before .first-of .ensures) true _ _ (c .before .before .m .given .1) .0))
-    (λ c. step.goes-within (c .before .before .before .before .first-of .ensures) true _ _ (c .before .before .m .given .1) .2)
-    (λ c. step.goes-within (c .before .before .before .before .first-of .ensures) true _ _ (c .before .before .m .given .1) .2)
-    (λ c. search needs)
-    (λ c. let asked = c .before .before .before .before .before .before .before .before .before .before .before .before .before .before .before .pre .1 .0 .asked in
-    omega (arith, asked .row-stands .inside, asked .small, step.goes-within (c .before .before .before .before .before .first-of .ensures) true _ _ (c .before .before .before .m .given .1) .2))
-    (λ c κs. let start = c .before .before .before .before .before .before .before .before .before .before .before .before .before .before .before .before .pre in
-    let goes = step.goes-within (c .before .before .before .before .before .before .first-of .ensures) true _ _ (c .before .before .before .before .m .given .1) in
-    let falls = step.goes-falls (c .before .before .before .before .before .before .first-of .ensures) true _ _ (c .before .before .before .before .m .given .1) in (
-      omega (arith, start .0, goes .1, falls .0, start .1 .0 .asked .pattern-stands .inside),
-      (level.literal-later (start .1 .0) _ _ (goes .0) (goes .2), sure.sure-later (start .1 .1) (goes .0), start .1 .2),
+    omega (arith, asked .pattern-stands .inside, asked .small, begin-inside (known.known-to (c .before .before .before .before .before .known-front .ensures) _ _ (c .before .before .before .m .given .1) .begins)))
+    (λ c. let asked = c .before .before .before .before .before .before .before .before .before .before .before .before .before .before .pre .1 .0 .asked in
+    omega (arith, asked .row-stands .inside, asked .small, known.known-to (c .before .before .before .before .before .known-front .ensures) _ _ (c .before .before .before .m .given .1) .within))
+    (λ c κs. let start = c .before .before .before .before .before .before .before .before .before .before .before .before .before .before .before .pre in
+    let passed = known.known-to (c .before .before .before .before .before .before .known-front .ensures) _ _ (c .before .before .before .before .m .given .1) in (
+      omega (arith, start .0, begin-inside (passed .begins), start .1 .0 .asked .pattern-stands .inside),
+      (level.literal-later (start .1 .0) _ _ (passed .begins) (passed .within), sure.sure-later (start .1 .1) (passed .begins), start .1 .2),
     ))
-    (λ c. search needs)
-    (λ c κs. c .before .before .before .before .before .before .before .before .if1 .left)
-    (λ c. c .end-of .ensures .2)
-    (λ c. search needs)
-    (λ c. search needs)
-    (λ c. step.binds-within (c .before .before .before .before .before .first-of .ensures) true _ (c .before .before .before .n .given .1) .0)
-    (λ c. step.binds-within (c .before .before .before .before .before .first-of .ensures) true _ (c .before .before .before .n .given .1) .0)
-    (λ c. search needs)
-    (λ c κs. let asked = c .before .before .before .before .before .before .before .before .before .before .before .before .before .before .before .before .pre .1 .0 .asked in
-    let binds = step.binds-within (c .before .before .before .before .before .before .first-of .ensures) true _ (c .before .before .before .before .n .given .1) in (
-      (
-        omega (arith, asked .pattern-stands .inside, asked .small, c .before .before .before .before .before .before .before .before .before .before .before .if1 .left),
-        omega (arith, asked .row-stands .inside, asked .small),
-        omega (arith, asked .row-stands .inside, asked .small, binds .0),
-        calls.place-ready asked (c .before .before .before .before .before .before .before .before .before .before .before .if1 .left) (binds .1),
-      ),
-      (asked .kept .keys, asked .kept .starts, asked .kept .sizes),
-    ))
-    (λ c. let asked = c .before .before .before .before .before .before .before .before .before .before .before .before .before .before .before .before .before .pre .1 .0 .asked in
-    omega (arith, asked .pattern-stands .inside, asked .small, c .before .before .before .end-of .ensures .2))
-    (λ c. let asked = c .before .before .before .before .before .before .before .before .before .before .before .before .before .before .before .before .before .pre .1 .0 .asked in
-    omega (arith, asked .row-stands .inside, asked .small, step.binds-within (c .before .before .before .before .before .before .before .first-of .ensures) true _ (c .before .before .before .before .before .n .given .1) .0))
-    (λ c κs. let start = c .before .before .before .before .before .before .before .before .before .before .before .before .before .before .before .before .before .before .pre in
-    let ends = c .before .before .before .before .end-of in
-    let binds = step.binds-within (c .before .before .before .before .before .before .before .before .first-of .ensures) true _ (c .before .before .before .before .before .before .n .given .1) in (
-      omega (arith, start .0, ends .ensures .1, ends .ensures .2, start .1 .0 .asked .pattern-stands .inside),
-      (level.literal-more (start .1 .0) (c .before .before .before .before .before .before .before .before .before .before .before .before .before .if1 .left) (binds .1) (binds .0) (c .before .bind .ensures) (ends .result) (c .before .before .before .before .before .before .n .given .0 .0) (ends .ensures .0) (binds .0), sure.sure-later (sure.sure-more (start .1 .1) (c .before .bind .ensures)) (sure.begin-second (c .before .before .before .before .before .before .before .before .before .before .before .before .before .if1 .left) (ends .ensures .0)), start .1 .2),
-    ))
-    (λ c. search needs)
-    (λ c κs. let start = c .before .before .before .before .before .before .before .before .before .before .before .before .before .pre in
-    (omega (arith, start .0), ((start .1 .0, c .before .before .before .before .before .before .before .before .if1 .left, start .1 .1, start .1 .2), (step.tries-free (c .before .before .before .first-of .ensures) true (c .before .enum-told2 .given .1), λ back. step.step-tries (c .before .before .before .first-of .ensures) back (c .before .enum-told2 .given .1)))))
-    (λ c. search needs)
-    (λ c κs. let start = c .before .before .before .before .before .before .before .before .before .before .before .before .before .pre in
-    (omega (arith, start .0), (start .1 .0, c .before .before .before .before .before .before .before .before .if1 .left, step.inside-facing (c .before .before .before .first-of .ensures) true (c .before .enum-told3 .given .1), start .1 .1, start .1 .2)))
-    (λ c. (level.run-none (c .before .before .before .before .before .before .before .before .before .before .before .before .pre .1 .0) (step.step-fails (c .before .before .first-of .ensures) true (c .enum-told .given .1)), c .before .before .before .before .before .before .before .before .before .before .before .before .pre .1 .2))
-    (λ c. let goes = step.goes-within (c .before .before .before .before .before .before .before .first-of .ensures) true _ _ (c .before .before .before .before .before .m .given .1) in
-    let falls = step.goes-falls (c .before .before .before .before .before .before .before .first-of .ensures) true _ _ (c .before .before .before .before .before .m .given .1) in (
-      level.run-rest (c .before .before .before .before .before .before .before .before .before .before .before .before .before .before .before .before .before .pre .1 .0) (c .literal-run .result) _ _ _ (falls .0) (goes .2)
-          (step.step-goes (c .before .before .before .before .before .before .before .first-of .ensures) true _ _ (c .before .before .before .before .before .m .given .1)) (c .literal-run .ensures .0),
-      c .literal-run .ensures .1,
-    ))
-    (λ c. let start = c .before .before .before .before .before .before .before .before .before .before .before .before .before .before .before .before .before .before .before .pre in
-    let ends = c .before .before .before .before .before .end-of in
-    let binds = step.binds-within (c .before .before .before .before .before .before .before .before .before .first-of .ensures) true _ (c .before .before .before .before .before .before .before .n .given .1) in
-    let values = calls.values-more (start .1 .0 .asked) (c .before .before .before .before .before .before .before .before .before .before .before .before .before .before .if1 .left) (binds .1) (binds .0) (c .before .before .bind .ensures) in (
-      level.run-rest (start .1 .0) (c .literal-run2 .result) (ends .result) (c .before .before .before .before .before .before .before .n .given .0 .0) (c .before .before .bind .result) (ends .ensures .2) (binds .0)
-          (step.step-binds (c .before .before .before .before .before .before .before .before .before .first-of .ensures) true _ _ _ (c .before .before .before .before .before .before .before .n .given .1) (ends .ensures .0) values) (c .literal-run2 .ensures .0),
-      c .literal-run2 .ensures .1,
-    ))
-    (λ c. (level.run-same (c .before .before .before .before .before .before .before .before .before .before .before .before .before .before .pre .1 .0) (c .literal-tries .result) _ (c .literal-tries .ensures .0) (step.step-tries (c .before .before .before .before .first-of .ensures) true (c .before .before .enum-told2 .given .1)), c .literal-tries .ensures .1))
-    (λ c. (level.run-same (c .before .before .before .before .before .before .before .before .before .before .before .before .before .before .pre .1 .0) (c .literal-bracket .result) _ (c .literal-bracket .ensures .0) (step.step-inside (c .before .before .before .before .first-of .ensures) true (c .before .before .enum-told3 .given .1)), c .literal-bracket .ensures .1)))
+    (λ c. (level.run-none (c .before .before .before .before .before .before .before .before .before .before .before .pre .1 .0) (known.known-fails (c .before .before .known-front .ensures) (c .enum-told .given .1) true), c .before .before .before .before .before .before .before .before .before .before .before .pre .1 .2))
+    (λ c. let passed = known.known-to (c .before .before .before .before .before .before .before .known-front .ensures) _ _ (c .before .before .before .before .before .m .given .1) in
+    (level.run-rest (c .before .before .before .before .before .before .before .before .before .before .before .before .before .before .before .before .pre .1 .0) (c .literal-first .result) _ _ _ (begin-inside (passed .begins)) (passed .within) (passed .search true) (c .literal-first .ensures .0), c .literal-first .ensures .1)))
     λ t. literal-tries-lts.spec (
       literal-lengths-below t,
       literal-lengths.Post,

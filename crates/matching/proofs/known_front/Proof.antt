@@ -1,0 +1,47 @@
+-- `known_front` meets its contract, by a law of proofs/KnownLaws.antt for each turn and each way out of the loop.
+use Prim.Native.Nat.{_-_}
+use native.Mathlib.Omega.{arith}
+use borrow.Author.Needs.{needs}
+use lib.ListN.{length}
+use Rattle.matching.specs.Bound.{valuesOf, places}
+use Rattle.matching.specs.Step.{Passed}
+use Rattle.matching.proofs.CutLaws.{begin-inside}
+use Rattle.matching.proofs.KnownLaws as laws
+use Rattle.matching.proofs.known_front.Statement.{statement}
+use Rattle.matching.proofs.known_front.Tie as tie
+
+abbrev Inv-loop : tie.InvT-loop
+Inv-loop text terms pattern row keys starts sizes count i₀ j₀ i j = Passed text pattern row (valuesOf text terms (places keys starts sizes count)) i j
+
+abbrev μ-loop : tie.MeasureT-loop
+μ-loop text terms pattern row keys starts sizes count i₀ j₀ i j = length pattern - i
+
+pub known-front-spec : {M : Type 1} → statement M
+known-front-spec =
+    tie.close
+    (tie.spec
+    Inv-loop
+    μ-loop
+    (λ c. let a = c .before .before .before .before .args in
+    laws.passed-none (a .text .now) (a .pattern .now) (a .row .now) (valuesOf (a .text .now) (a .terms .now) (places (a .keys .now) (a .starts .now) (a .sizes .now) (a .count))))
+    (λ c. begin-inside (c .loop .inv .begins))
+    (λ c. begin-inside (c .loop .inv .begins))
+    (λ c. search needs)
+    (λ c. c .before .loop .inv .within)
+    (λ c. c .before .loop .inv .within)
+    (λ c. search needs)
+    (λ c κs. (c .before .before .before .before .before .before .before .before .pre, c .if1 .left))
+    (λ c. search needs)
+    (λ c. omega (arith, laws.passed-falls (c .before .before .before .before .before .before .before .loop .inv) (c .before .before .before .first-of .ensures) _ _ (c .before .m .given .1) .1))
+    (λ c. omega (arith, laws.passed-falls (c .before .before .before .before .before .before .before .loop .inv) (c .before .before .before .first-of .ensures) _ _ (c .before .m .given .1) .2))
+    (λ c. laws.passed-falls (c .before .before .before .before .before .before .before .loop .inv) (c .before .before .before .first-of .ensures) _ _ (c .before .m .given .1) .0)
+    (λ c. laws.passed-more (c .before .before .before .before .before .before .before .loop .inv) (c .before .before .before .first-of .ensures) _ _ (c .before .m .given .1))
+    (λ c. search needs)
+    (λ c. search needs)
+    (λ c. search needs)
+    (λ c. search needs)
+    (λ c. record { front = c .before .before .before .loop .inv })
+    (λ c. record { front = laws.passed-fails (c .before .before .before .before .before .before .loop .inv) (c .before .before .first-of .ensures) (c .enum-told .given .1) })
+    (λ c. record { front = c .before .before .before .before .before .before .loop .inv })
+    (λ c. record { front = c .before .before .before .before .before .before .loop .inv })
+    (λ c. record { front = c .before .before .before .before .before .before .loop .inv }))
