@@ -63,7 +63,7 @@ module _ (text terms : List ℕ) (p : Pending) (alone : p .count ≡ 0) where
         (ap (each (λ (us : Values Atom). found true (rowOf text (rest 24 endOf pattern)) (rowOf text (rest 24 endOf row)) us)) nothing)
 
     -- they do, and what follows answers
-    pub bracket-some : Disjoint (variablesIn (rowOf text (take (m - 24) (drop 24 pattern)))) (variablesIn (rowOf text (from m pattern)))
+    pub bracket-some : Disjoint (variablesIn (rowOf text (contents 24 endOf pattern))) (variablesIn (rowOf text (rest 24 endOf pattern)))
         → (a s a' s' a'' s'' : ℕ) {x y : Bool} → x ≡ someHolds (resume (levelsOf text terms p a s)) inside → x ≡ true
         → y ≡ someHolds (resume (levelsOf text terms p a' s')) after
         → y ≡ someHolds (resume (levelsOf text terms p a'' s'')) (eachInside text true pattern row vs)
@@ -73,7 +73,7 @@ module _ (text terms : List ℕ) (p : Pending) (alone : p .count ≡ 0) where
         let two : some-in (found true (rowOf text (rest 24 endOf pattern)) (rowOf text (rest 24 endOf row)) vs) ≡ some-in after = rw (p-end, r-end) in
         answer ∙ holds-some a' s' after ∙ sym two
         ∙ sym (brackets-apart sameAtom literal symbolLike singleTerm true (rowOf text (contents 24 endOf pattern)) (rowOf text (rest 24 endOf pattern))
-        (rowOf text (contents 24 endOf row)) (rowOf text (rest 24 endOf row)) vs (rw p-end at apart) one)
+        (rowOf text (contents 24 endOf row)) (rowOf text (rest 24 endOf row)) vs apart one)
         ∙ sym (holds-some a'' s'' (eachInside text true pattern row vs))
 
 module _ {text terms pattern : List ℕ} {at : ℕ} {row : List ℕ} {start : ℕ} {p : Pending} {b : Bindings}

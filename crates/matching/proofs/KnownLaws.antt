@@ -9,9 +9,9 @@ use Rattle.law.specs.Runs.{endOf}
 use Rattle.matching.specs.Pattern.{Atom}
 use Rattle.matching.specs.Match.{Values}
 use Rattle.matching.specs.Part.{rowOf, from, Begin, at-start, one-on}
-use Rattle.matching.specs.Step.{found, Leaves, Passed, KnownFront}
+use Rattle.matching.specs.Step.{found, Leaves, Passed, Stops, Stopped, KnownFront}
 use Rattle.matching.specs.declared.Known.{Known}
-use Rattle.matching.specs.declared.Known.the-variants.{To, Fails as KnownFails}
+use Rattle.matching.specs.declared.Known.the-variants.{End, Stop, Fails as KnownFails}
 use Rattle.matching.specs.declared.First.{First}
 use Rattle.matching.specs.declared.First.the-variants.{Fails, Goes}
 use Rattle.matching.proofs.CutLaws.{from-length, from-all, from-from, begin-inside}
@@ -54,9 +54,23 @@ module _ {text pattern row : List ℕ} {vs : Values Atom} {i j : ℕ} (so-far : 
   pub passed-fails : r ≡ Fails → (back : Bool) → found back (rowOf text pattern) (rowOf text row) vs ≡ []
   passed-fails e back = so-far .search back ∙ step-fails leaves back e
 
+  -- it is a variable without a value, or a bracket
+  pub passed-stop : 24 ≤ length (from i pattern) → (stop : First) → r ≡ stop → Stops stop → KnownFront text pattern row vs (Stop i j stop)
+  passed-stop long stop e stops = record { front = (so-far, record { some = long; stops = stops; leaves = rw e at leaves }) }
+
 module _ {text pattern row : List ℕ} {vs : Values Atom} {r : Known} (known : KnownFront text pattern row vs r) where
-  pub known-to : (m n : ℕ) → r ≡ To m n → Passed text pattern row vs m n
-  known-to m n e = rw e at (known .front)
+  pub known-end : (m n : ℕ) → r ≡ End m n → Passed text pattern row vs m n × (length (from m pattern) < 24)
+  known-end m n e = rw e at (known .front)
+
+  pub known-stop : (m n : ℕ) (first : First) → r ≡ Stop m n first → Passed text pattern row vs m n × Stopped text (from m pattern) (from n row) vs first
+  known-stop m n first e = rw e at (known .front)
 
   pub known-fails : r ≡ KnownFails → (back : Bool) → found back (rowOf text pattern) (rowOf text row) vs ≡ []
   known-fails e = rw e at (known .front)
+
+-- a record that is passed over is none that stops
+pub stops-not : {text pattern row : List ℕ} {vs : Values Atom} {r : First} → Stopped text pattern row vs r → (m n : ℕ) → r ≡ Goes m n → ⊥
+stops-not stopped m n e = rw e at (stopped .stops)
+
+pub stops-fails : {text pattern row : List ℕ} {vs : Values Atom} {r : First} → Stopped text pattern row vs r → r ≡ Fails → ⊥
+stops-fails stopped e = rw e at (stopped .stops)

@@ -128,9 +128,9 @@ module _ {text terms pattern : List ℕ} {at : ℕ} {row : List ℕ} {start : �
   same-end : (part : List ℕ) (here n : ℕ) → n ≤ length part → here + n + length (from n part) ≡ here + length part
   same-end part here n h = omega (arith, from-length n part)
 
-  -- nothing is left of the pattern: what comes is around it
-  pub out-capacity : length pattern < 24 → Capacity (comingIn (levelsOf text terms p (at + length pattern) (start + length row))) (valuesOf text terms b)
-  out-capacity h = capacity-right (variablesIn (rowOf text pattern)) _ (asked .asked .capacity)
+  -- what comes after the pattern is around it
+  pub out-capacity : Capacity (comingIn (levelsOf text terms p (at + length pattern) (start + length row))) (valuesOf text terms b)
+  out-capacity = capacity-right (variablesIn (rowOf text pattern)) _ (asked .asked .capacity)
 
   module _ {c : Bindings} (m n : ℕ) (within : m ≤ length pattern) (shallow : nesting (rowOf text (from m pattern)) ≤ nesting (rowOf text pattern)) (inside : n ≤ length row)
       (ready : Asked text terms (from m pattern) (at + m) (from n row) (start + n) (comingIn (levelsOf text terms p (at + length pattern) (start + length row))) c) where
@@ -390,11 +390,10 @@ module _ {text terms pattern : List ℕ} {at : ℕ} {row : List ℕ} {start : �
   abbrev wanted : List (Values Atom)
   wanted = found true (rowOf text pattern) (rowOf text row) (valuesOf text terms b)
 
-  -- nothing is left of both
-  pub run-out : (x : Bool) → length pattern < 24 → length row < 24
+  -- one match, with no more values
+  pub run-one : (x : Bool) → wanted ≡ valuesOf text terms b ∷ []
       → x ≡ resume (levelsOf text terms p (at + length pattern) (start + length row)) (valuesOf text terms b) → x ≡ answered wanted
-  run-out x h i e =
-      e ∙ sym (ap answered (end-both text pattern row true (valuesOf text terms b) h i) ∙ holds-one (resume (levelsOf text terms p (at + length pattern) (start + length row))) (valuesOf text terms b))
+  run-one x one e = e ∙ sym (ap answered one ∙ holds-one (resume (levelsOf text terms p (at + length pattern) (start + length row))) (valuesOf text terms b))
 
   -- there is no match
   pub run-none : wanted ≡ [] → false ≡ answered wanted

@@ -1,5 +1,5 @@
 -- What the first record of a pattern leaves of the search, from which both matchers go on.
-use Prim.Native.Nat.{ℕ, _≤_}
+use Prim.Native.Nat.{ℕ, _≤_, _<_}
 use mathlib.Core.Bool.{Bool, true, false}
 use mathlib.Core.List.{List, [], _∷_}
 use mathlib.Core.Option.{none}
@@ -20,7 +20,7 @@ use Rattle.matching.specs.Bound.{variableIn}
 use Rattle.matching.specs.declared.Beginning.{Beginning}
 use Rattle.matching.specs.declared.Beginning.the-variants.{After, Differs}
 use Rattle.matching.specs.declared.Known.{Known}
-use Rattle.matching.specs.declared.Known.the-variants.{To, Fails as KnownFails}
+use Rattle.matching.specs.declared.Known.the-variants.{End, Stop, Fails as KnownFails}
 use Rattle.matching.specs.declared.First.{First}
 use Rattle.matching.specs.declared.First.the-variants.{Fails, Goes, Binds, Tries, Inside}
 
@@ -134,8 +134,23 @@ pub record Passed (text pattern row : List ℕ) (vs : Values Atom) (m n : ℕ) :
   pub within : n ≤ length row
   pub search : (back : Bool) → found back (rowOf text pattern) (rowOf text row) vs ≡ found back (rowOf text (from m pattern)) (rowOf text (from n row)) vs
 
+-- the first record is a variable that has no value or a bracket
+abbrev pub Stops : First → Type 0
+Stops Fails = ⊥
+Stops (Goes m n) = ⊥
+Stops (Binds n) = Unit {0}
+Stops Tries = Unit {0}
+Stops Inside = Unit {0}
+
+-- what the first record leaves to do there
+pub record Stopped (text pattern row : List ℕ) (vs : Values Atom) (r : First) : Type 0 where
+  pub some : 24 ≤ length pattern
+  pub stops : Stops r
+  pub leaves : Leaves text pattern row vs r
+
 abbrev pub KnownIs : List ℕ → List ℕ → List ℕ → Values Atom → Known → Type 0
-KnownIs text pattern row vs (To m n) = Passed text pattern row vs m n
+KnownIs text pattern row vs (End m n) = Passed text pattern row vs m n × (length (from m pattern) < 24)
+KnownIs text pattern row vs (Stop m n r) = Passed text pattern row vs m n × Stopped text (from m pattern) (from n row) vs r
 KnownIs text pattern row vs KnownFails = (back : Bool) → found back (rowOf text pattern) (rowOf text row) vs ≡ []
 
 pub record KnownFront (text pattern row : List ℕ) (vs : Values Atom) (r : Known) : Type 0 where

@@ -57,9 +57,11 @@ pub enum First {
     Inside,
 }
 
-// Where a pattern and a row stand after the symbols and the variables with a value that the pattern begins with.
+// Where a pattern and a row stand after the symbols and the variables with a value that the pattern begins with, and what the record there leaves to do;
+// or the pattern ends there.
 pub enum Known {
-    To(usize, usize),
+    End(usize, usize),
+    Stop(usize, usize, First),
     Fails,
 }
 
@@ -434,7 +436,7 @@ pub fn known_front<'a>(
         let left = &pattern[i..];
         let right = &row[j..];
         if left.len() < 24 {
-            break Known::To(i, j);
+            break Known::End(i, j);
         }
         match first_of(text, terms, left, right, keys, starts, sizes, count) {
             First::Goes(m, n) => {
@@ -444,14 +446,14 @@ pub fn known_front<'a>(
             First::Fails => {
                 break Known::Fails;
             }
-            First::Binds(_) => {
-                break Known::To(i, j);
+            First::Binds(n) => {
+                break Known::Stop(i, j, First::Binds(n));
             }
             First::Tries => {
-                break Known::To(i, j);
+                break Known::Stop(i, j, First::Tries);
             }
             First::Inside => {
-                break Known::To(i, j);
+                break Known::Stop(i, j, First::Inside);
             }
         }
     }

@@ -5,12 +5,11 @@ use crate::Known;
 use crate::bind;
 use crate::failed::failed_before;
 use crate::failed::note_failed;
-use crate::first_of;
 use crate::known_front;
 use crate::narrow;
 use crate::none;
 use crate::repeats::closed;
-use crate::repeats::disjoint_variables;
+use crate::repeats::stands_apart;
 use crate::wide;
 use file::word_at;
 use law::runs::end_of;
@@ -19,13 +18,16 @@ ghost use mathlib.Core.Bool.{true, false};
 ghost use mathlib.Core.Option.{none};
 ghost use Prim.Native.Nat.{suc, _+_, _≤_, _<_};
 ghost use lib.ListN.{length, set};
+ghost use Rattle.file.specs.Forest.{contents, rest};
+ghost use Rattle.law.specs.Runs.{endOf};
 ghost use Rattle.law.specs.Variables.{distinct};
 ghost use Rattle.matching.specs.Literal.{literalMatches};
 ghost use Rattle.matching.specs.Part.{rowOf, literalPart, symbolsOf, Stands};
 ghost use Rattle.matching.specs.Bound.{valuesOf, Kept};
-ghost use Rattle.matching.specs.Step.{found, eachLength, eachInside, Free, Facing, TriesAll, firstVariable};
+ghost use Rattle.matching.specs.Step.{found, eachLength, eachInside, Free, Facing, TriesAll, Stopped, firstVariable};
 ghost use Rattle.matching.specs.Capacity.{variablesIn, Capacity};
 ghost use Rattle.matching.specs.Asked.{someHolds, nesting, resume, comingIn, levelsOf, Around, LiteralAsked};
+ghost use Rattle.matching.specs.Repeats.{Disjoint};
 ghost use Rattle.matching.specs.Failed.{Sure, Remembers};
 
 // `sure` says of how many places it is known that their variables do not stand in the pattern. `failed` is what is remembered.
@@ -68,24 +70,24 @@ fn literal_out(
     terms: &[u8],
     at: usize,
     start: usize,
-    pending: Pending,
+    outer: Pending,
     b: Bindings,
     failed: &mut [u16; 2048],
 ) -> bool
-    requires { ⌜ (length (now terms) < 65536) × Around (now text) (now terms) pending at start × Kept (now text) (now terms) b × Remembers true (now text) (now terms) (now failed) ⌝ }
-    requires { ⌜ Capacity (comingIn (levelsOf (now text) (now terms) pending at start)) (valuesOf (now text) (now terms) b) ⌝ }
-    ensures { λ r. ⌜ (r ≡ resume (levelsOf (now (text .entry)) (now (terms .entry)) pending at start) (valuesOf (now (text .entry)) (now (terms .entry)) b))
+    requires { ⌜ (length (now terms) < 65536) × Around (now text) (now terms) outer at start × Kept (now text) (now terms) b × Remembers true (now text) (now terms) (now failed) ⌝ }
+    requires { ⌜ Capacity (comingIn (levelsOf (now text) (now terms) outer at start)) (valuesOf (now text) (now terms) b) ⌝ }
+    ensures { λ r. ⌜ (r ≡ resume (levelsOf (now (text .entry)) (now (terms .entry)) outer at start) (valuesOf (now (text .entry)) (now (terms .entry)) b))
         × Remembers true (now (text .entry)) (now (terms .entry)) (now (failed .exit)) ⌝ }
 {
-    let n = pending.count;
+    let n = outer.count;
     if n == 0 {
         return true;
     }
     let top = n - 1;
-    let mut out = pending;
+    let mut out = outer;
     out.count = top;
-    let end = wide(pending.patterns[top]);
-    let row_end = wide(pending.rows[top]);
+    let end = wide(outer.patterns[top]);
+    let row_end = wide(outer.rows[top]);
     let pattern = &terms[at..end];
     let row = &terms[start..row_end];
     literal_run(text, terms, pattern, at, row, start, out, b, 0, failed)
@@ -99,14 +101,14 @@ fn literal_lengths(
     at: usize,
     row: &[u8],
     start: usize,
-    pending: Pending,
+    outer: Pending,
     b: Bindings,
     sure: usize,
     failed: &mut [u16; 2048],
 ) -> bool
-    requires { ⌜ LiteralAsked (now text) (now terms) (now pattern) at (now row) start pending b × (24 ≤ length (now pattern)) × Sure (now text) (now terms) (now pattern) b sure × Remembers true (now text) (now terms) (now failed) ⌝ }
+    requires { ⌜ LiteralAsked (now text) (now terms) (now pattern) at (now row) start outer b × (24 ≤ length (now pattern)) × Sure (now text) (now terms) (now pattern) b sure × Remembers true (now text) (now terms) (now failed) ⌝ }
     requires { ⌜ Free (rowOf (now text) (now pattern)) (firstVariable (now text) (now pattern)) (valuesOf (now text) (now terms) b) ⌝ }
-    ensures { λ r. ⌜ (r ≡ someHolds (resume (levelsOf (now (text .entry)) (now (terms .entry)) pending (at + length (now (pattern .entry))) (start + length (now (row .entry)))))
+    ensures { λ r. ⌜ (r ≡ someHolds (resume (levelsOf (now (text .entry)) (now (terms .entry)) outer (at + length (now (pattern .entry))) (start + length (now (row .entry)))))
         (eachLength (now (text .entry)) true (now (pattern .entry)) (now (row .entry)) (valuesOf (now (text .entry)) (now (terms .entry)) b)))
         × Remembers true (now (text .entry)) (now (terms .entry)) (now (failed .exit)) ⌝ }
 {
@@ -124,7 +126,7 @@ fn literal_lengths(
             next,
             left,
             start + n,
-            pending,
+            outer,
             more,
             sure,
             failed,
@@ -147,64 +149,31 @@ fn literal_tries(
     at: usize,
     row: &[u8],
     start: usize,
-    pending: Pending,
+    outer: Pending,
     b: Bindings,
     sure: usize,
     failed: &mut [u16; 2048],
 ) -> bool
-    requires { ⌜ LiteralAsked (now text) (now terms) (now pattern) at (now row) start pending b × (24 ≤ length (now pattern)) × Sure (now text) (now terms) (now pattern) b sure × Remembers true (now text) (now terms) (now failed) ⌝ }
+    requires { ⌜ LiteralAsked (now text) (now terms) (now pattern) at (now row) start outer b × (24 ≤ length (now pattern)) × Sure (now text) (now terms) (now pattern) b sure × Remembers true (now text) (now terms) (now failed) ⌝ }
     requires { ⌜ Free (rowOf (now text) (now pattern)) (firstVariable (now text) (now pattern)) (valuesOf (now text) (now terms) b) ⌝ }
     requires { ⌜ TriesAll (now text) (now pattern) (now row) (valuesOf (now text) (now terms) b) ⌝ }
-    ensures { λ r. ⌜ (r ≡ someHolds (resume (levelsOf (now (text .entry)) (now (terms .entry)) pending (at + length (now (pattern .entry))) (start + length (now (row .entry)))))
+    ensures { λ r. ⌜ (r ≡ someHolds (resume (levelsOf (now (text .entry)) (now (terms .entry)) outer (at + length (now (pattern .entry))) (start + length (now (row .entry)))))
         (eachLength (now (text .entry)) true (now (pattern .entry)) (now (row .entry)) (valuesOf (now (text .entry)) (now (terms .entry)) b)))
         × Remembers true (now (text .entry)) (now (terms .entry)) (now (failed .exit)) ⌝ }
 {
-    if pending.count != 0 {
-        return literal_lengths(
-            text,
-            terms,
-            pattern,
-            at,
-            row,
-            start,
-            pending,
-            b,
-            sure,
-            failed,
-        );
+    if outer.count != 0 {
+        return literal_lengths(text, terms, pattern, at, row, start, outer, b, sure, failed);
     }
     let len = b.count;
     if !closed(text, terms, pattern, &b.keys, sure, len) {
-        return literal_lengths(
-            text,
-            terms,
-            pattern,
-            at,
-            row,
-            start,
-            pending,
-            b,
-            sure,
-            failed,
-        );
+        return literal_lengths(text, terms, pattern, at, row, start, outer, b, sure, failed);
     }
     let end = at + pattern.len();
     let row_end = start + row.len();
     if failed_before(failed, at, end, start, row_end) {
         return false;
     }
-    let found = literal_lengths(
-        text,
-        terms,
-        pattern,
-        at,
-        row,
-        start,
-        pending,
-        b,
-        len,
-        failed,
-    );
+    let found = literal_lengths(text, terms, pattern, at, row, start, outer, b, len, failed);
     if !found {
         note_failed(failed, at, end, start, row_end);
     }
@@ -219,19 +188,19 @@ fn literal_inside(
     at: usize,
     row: &[u8],
     start: usize,
-    pending: Pending,
+    outer: Pending,
     b: Bindings,
     sure: usize,
     failed: &mut [u16; 2048],
 ) -> bool
-    requires { ⌜ LiteralAsked (now text) (now terms) (now pattern) at (now row) start pending b × (24 ≤ length (now pattern)) × Facing (rowOf (now text) (now pattern)) (now row) × Sure (now text) (now terms) (now pattern) b sure × Remembers true (now text) (now terms) (now failed) ⌝ }
-    ensures { λ r. ⌜ (r ≡ someHolds (resume (levelsOf (now (text .entry)) (now (terms .entry)) pending (at + length (now (pattern .entry))) (start + length (now (row .entry)))))
+    requires { ⌜ LiteralAsked (now text) (now terms) (now pattern) at (now row) start outer b × (24 ≤ length (now pattern)) × Facing (rowOf (now text) (now pattern)) (now row) × Sure (now text) (now terms) (now pattern) b sure × Remembers true (now text) (now terms) (now failed) ⌝ }
+    ensures { λ r. ⌜ (r ≡ someHolds (resume (levelsOf (now (text .entry)) (now (terms .entry)) outer (at + length (now (pattern .entry))) (start + length (now (row .entry)))))
         (eachInside (now (text .entry)) true (now (pattern .entry)) (now (row .entry)) (valuesOf (now (text .entry)) (now (terms .entry)) b)))
         × Remembers true (now (text .entry)) (now (terms .entry)) (now (failed .exit)) ⌝ }
 {
     let m = end_of(pattern);
     let n = end_of(row);
-    let around = push(pending, at + pattern.len(), start + row.len());
+    let around = push(outer, at + pattern.len(), start + row.len());
     let contents = &pattern[24..m];
     let inside = &row[24..n];
     let first = at + 24;
@@ -249,8 +218,53 @@ fn literal_inside(
     )
 }
 
-// A bracket against a bracket. Where nothing is around and the contents share no variable with the rest, one match of the contents is as good as another: both
-// are asked for by themselves, and nothing is gone back into.
+// A bracket against a bracket, with nothing around and no variable in common with the rest: one match of the contents is as good as another, so that contents and
+// rest are asked for by themselves, and nothing is gone back into.
+fn literal_apart(
+    text: &[u8],
+    terms: &[u8],
+    pattern: &[u8],
+    at: usize,
+    row: &[u8],
+    start: usize,
+    outer: Pending,
+    b: Bindings,
+    sure: usize,
+    failed: &mut [u16; 2048],
+) -> bool
+    requires { ⌜ LiteralAsked (now text) (now terms) (now pattern) at (now row) start outer b × (24 ≤ length (now pattern)) × Facing (rowOf (now text) (now pattern)) (now row) × Sure (now text) (now terms) (now pattern) b sure × Remembers true (now text) (now terms) (now failed) ⌝ }
+    requires { ⌜ (outer .count ≡ 0) × Disjoint (variablesIn (rowOf (now text) (contents 24 endOf (now pattern)))) (variablesIn (rowOf (now text) (rest 24 endOf (now pattern)))) ⌝ }
+    ensures { λ r. ⌜ (r ≡ someHolds (resume (levelsOf (now (text .entry)) (now (terms .entry)) outer (at + length (now (pattern .entry))) (start + length (now (row .entry)))))
+        (eachInside (now (text .entry)) true (now (pattern .entry)) (now (row .entry)) (valuesOf (now (text .entry)) (now (terms .entry)) b)))
+        × Remembers true (now (text .entry)) (now (terms .entry)) (now (failed .exit)) ⌝ }
+{
+    let m = end_of(pattern);
+    let n = end_of(row);
+    let contents = &pattern[24..m];
+    let inside = &row[24..n];
+    let i = at + 24;
+    let j = start + 24;
+    if !literal_run(text, terms, contents, i, inside, j, outer, b, sure, failed) {
+        return false;
+    }
+    let rest = &pattern[m..];
+    let left = &row[n..];
+    let next = at + m;
+    literal_run(
+        text,
+        terms,
+        rest,
+        next,
+        left,
+        start + n,
+        outer,
+        b,
+        sure,
+        failed,
+    )
+}
+
+// A bracket against a bracket.
 fn literal_bracket(
     text: &[u8],
     terms: &[u8],
@@ -258,80 +272,25 @@ fn literal_bracket(
     at: usize,
     row: &[u8],
     start: usize,
-    pending: Pending,
+    outer: Pending,
     b: Bindings,
     sure: usize,
     failed: &mut [u16; 2048],
 ) -> bool
-    requires { ⌜ LiteralAsked (now text) (now terms) (now pattern) at (now row) start pending b × (24 ≤ length (now pattern)) × Facing (rowOf (now text) (now pattern)) (now row) × Sure (now text) (now terms) (now pattern) b sure × Remembers true (now text) (now terms) (now failed) ⌝ }
-    ensures { λ r. ⌜ (r ≡ someHolds (resume (levelsOf (now (text .entry)) (now (terms .entry)) pending (at + length (now (pattern .entry))) (start + length (now (row .entry)))))
+    requires { ⌜ LiteralAsked (now text) (now terms) (now pattern) at (now row) start outer b × (24 ≤ length (now pattern)) × Facing (rowOf (now text) (now pattern)) (now row) × Sure (now text) (now terms) (now pattern) b sure × Remembers true (now text) (now terms) (now failed) ⌝ }
+    ensures { λ r. ⌜ (r ≡ someHolds (resume (levelsOf (now (text .entry)) (now (terms .entry)) outer (at + length (now (pattern .entry))) (start + length (now (row .entry)))))
         (eachInside (now (text .entry)) true (now (pattern .entry)) (now (row .entry)) (valuesOf (now (text .entry)) (now (terms .entry)) b)))
         × Remembers true (now (text .entry)) (now (terms .entry)) (now (failed .exit)) ⌝ }
 {
-    if pending.count != 0 {
-        return literal_inside(
-            text,
-            terms,
-            pattern,
-            at,
-            row,
-            start,
-            pending,
-            b,
-            sure,
-            failed,
-        );
-    }
     let m = end_of(pattern);
     let contents = &pattern[24..m];
-    let rest = &pattern[m..];
-    if !disjoint_variables(text, contents, rest) {
-        return literal_inside(
-            text,
-            terms,
-            pattern,
-            at,
-            row,
-            start,
-            pending,
-            b,
-            sure,
-            failed,
-        );
+    if stands_apart(text, contents, &pattern[m..], outer.count) {
+        return literal_apart(text, terms, pattern, at, row, start, outer, b, sure, failed);
     }
-    let n = end_of(row);
-    let inside = &row[24..n];
-    let first = at + 24;
-    if !literal_run(
-        text,
-        terms,
-        contents,
-        first,
-        inside,
-        start + 24,
-        pending,
-        b,
-        sure,
-        failed,
-    ) {
-        return false;
-    }
-    let next = at + m;
-    literal_run(
-        text,
-        terms,
-        rest,
-        next,
-        &row[n..],
-        start + n,
-        pending,
-        b,
-        sure,
-        failed,
-    )
+    literal_inside(text, terms, pattern, at, row, start, outer, b, sure, failed)
 }
 
-// Is there a match of a pattern with a row, and then of all that is around them? By the pattern's first record.
+// Is there a match of a pattern with a row, and then of all that is around them? By what the pattern's first record leaves to do.
 fn literal_first(
     text: &[u8],
     terms: &[u8],
@@ -339,83 +298,46 @@ fn literal_first(
     at: usize,
     row: &[u8],
     start: usize,
-    pending: Pending,
+    outer: Pending,
     b: Bindings,
     sure: usize,
     failed: &mut [u16; 2048],
+    first: First,
 ) -> bool
-    requires { ⌜ LiteralAsked (now text) (now terms) (now pattern) at (now row) start pending b × Sure (now text) (now terms) (now pattern) b sure × Remembers true (now text) (now terms) (now failed) ⌝ }
-    ensures { λ r. ⌜ (r ≡ someHolds (resume (levelsOf (now (text .entry)) (now (terms .entry)) pending (at + length (now (pattern .entry))) (start + length (now (row .entry)))))
+    requires { ⌜ LiteralAsked (now text) (now terms) (now pattern) at (now row) start outer b × Sure (now text) (now terms) (now pattern) b sure × Remembers true (now text) (now terms) (now failed) ⌝ }
+    requires { ⌜ Stopped (now text) (now pattern) (now row) (valuesOf (now text) (now terms) b) first ⌝ }
+    ensures { λ r. ⌜ (r ≡ someHolds (resume (levelsOf (now (text .entry)) (now (terms .entry)) outer (at + length (now (pattern .entry))) (start + length (now (row .entry)))))
         (found true (rowOf (now (text .entry)) (now (pattern .entry))) (rowOf (now (text .entry)) (now (row .entry))) (valuesOf (now (text .entry)) (now (terms .entry)) b)))
         × Remembers true (now (text .entry)) (now (terms .entry)) (now (failed .exit)) ⌝ }
 {
-    if pattern.len() < 24 {
-        if row.len() < 24 {
-            let next = at + pattern.len();
-            return literal_out(text, terms, next, start + row.len(), pending, b, failed);
-        }
-        return false;
-    }
-    let len = b.count;
-    match first_of(text, terms, pattern, row, &b.keys, &b.starts, &b.sizes, len) {
+    match first {
         First::Fails => false,
-        First::Goes(m, n) => {
-            let rest = &pattern[m..];
-            literal_run(
-                text,
-                terms,
-                rest,
-                at + m,
-                &row[n..],
-                start + n,
-                pending,
-                b,
-                sure,
-                failed,
-            )
-        }
+        First::Goes(_, _) => false,
         First::Binds(n) => {
             let end = end_of(pattern);
             let rest = &pattern[end..];
             let left = &row[n..];
+            let next = at + end;
             let more = bind(b, at, start, n);
             literal_run(
                 text,
                 terms,
                 rest,
-                at + end,
+                next,
                 left,
                 start + n,
-                pending,
+                outer,
                 more,
                 sure,
                 failed,
             )
         }
-        First::Tries => literal_tries(
-            text,
-            terms,
-            pattern,
-            at,
-            row,
-            start,
-            pending,
-            b,
-            sure,
-            failed,
-        ),
-        First::Inside => literal_bracket(
-            text,
-            terms,
-            pattern,
-            at,
-            row,
-            start,
-            pending,
-            b,
-            sure,
-            failed,
-        ),
+        First::Tries => {
+            literal_tries(text, terms, pattern, at, row, start, outer, b, sure, failed)
+        }
+        First::Inside => {
+            literal_bracket(text, terms, pattern, at, row, start, outer, b, sure, failed)
+        }
     }
 }
 
@@ -427,33 +349,43 @@ fn literal_run(
     at: usize,
     row: &[u8],
     start: usize,
-    pending: Pending,
+    outer: Pending,
     b: Bindings,
     sure: usize,
     failed: &mut [u16; 2048],
 ) -> bool
-    requires { ⌜ LiteralAsked (now text) (now terms) (now pattern) at (now row) start pending b × Sure (now text) (now terms) (now pattern) b sure × Remembers true (now text) (now terms) (now failed) ⌝ }
-    ensures { λ r. ⌜ (r ≡ someHolds (resume (levelsOf (now (text .entry)) (now (terms .entry)) pending (at + length (now (pattern .entry))) (start + length (now (row .entry)))))
+    requires { ⌜ LiteralAsked (now text) (now terms) (now pattern) at (now row) start outer b × Sure (now text) (now terms) (now pattern) b sure × Remembers true (now text) (now terms) (now failed) ⌝ }
+    ensures { λ r. ⌜ (r ≡ someHolds (resume (levelsOf (now (text .entry)) (now (terms .entry)) outer (at + length (now (pattern .entry))) (start + length (now (row .entry)))))
         (found true (rowOf (now (text .entry)) (now (pattern .entry))) (rowOf (now (text .entry)) (now (row .entry))) (valuesOf (now (text .entry)) (now (terms .entry)) b)))
         × Remembers true (now (text .entry)) (now (terms .entry)) (now (failed .exit)) ⌝ }
 {
     let len = b.count;
     match known_front(text, terms, pattern, row, &b.keys, &b.starts, &b.sizes, len) {
         Known::Fails => false,
-        Known::To(m, n) => {
+        Known::End(_, n) => {
+            let left = &row[n..];
+            if left.len() < 24 {
+                let next = at + pattern.len();
+                return literal_out(text, terms, next, start + row.len(), outer, b, failed);
+            }
+            false
+        }
+        Known::Stop(m, n, first) => {
             let rest = &pattern[m..];
             let left = &row[n..];
+            let next = at + m;
             literal_first(
                 text,
                 terms,
                 rest,
-                at + m,
+                next,
                 left,
                 start + n,
-                pending,
+                outer,
                 b,
                 sure,
                 failed,
+                first,
             )
         }
     }

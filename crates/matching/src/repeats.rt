@@ -32,7 +32,7 @@ pub fn again(text: &[u8], first: &[u8], part: &[u8]) -> bool
 }
 
 // Have a part and one behind it no variable in common? What stands inside calls is looked at too.
-pub fn disjoint_variables(text: &[u8], part: &[u8], behind: &[u8]) -> bool
+fn disjoint_variables(text: &[u8], part: &[u8], behind: &[u8]) -> bool
     ensures { λ r. ⌜ (r ≡ true → Disjoint (variablesIn (rowOf (now (text .entry)) (now (part .entry)))) (variablesIn (rowOf (now (text .entry)) (now (behind .entry))))) ⌝ }
 {
     let mut i = 0;
@@ -48,6 +48,16 @@ pub fn disjoint_variables(text: &[u8], part: &[u8], behind: &[u8]) -> bool
         }
         i += 24;
     }
+}
+
+// Is nothing around a part but what is behind it, with which it has no variable in common?
+pub fn stands_apart(text: &[u8], part: &[u8], behind: &[u8], around: usize) -> bool
+    ensures { λ r. ⌜ (r ≡ true → (around ≡ 0) × Disjoint (variablesIn (rowOf (now (text .entry)) (now (part .entry)))) (variablesIn (rowOf (now (text .entry)) (now (behind .entry))))) ⌝ }
+{
+    if around != 0 {
+        return false;
+    }
+    disjoint_variables(text, part, behind)
 }
 
 // Has no variable of a pattern a value? Of the first `sure` places it is known; only keys are looked at.

@@ -5,7 +5,6 @@ use crate::Known;
 use crate::bind;
 use crate::failed::failed_before;
 use crate::failed::note_failed;
-use crate::first_of;
 use crate::known_front;
 use crate::none;
 use crate::repeats::closed;
@@ -20,7 +19,7 @@ ghost use Rattle.law.specs.Variables.{distinct};
 ghost use Rattle.matching.specs.Shadow.{shadows};
 ghost use Rattle.matching.specs.Part.{rowOf, Stands};
 ghost use Rattle.matching.specs.Bound.{valuesOf, Kept};
-ghost use Rattle.matching.specs.Step.{found, eachLength, eachInside, Free, Facing, TriesAll, firstVariable};
+ghost use Rattle.matching.specs.Step.{found, eachLength, eachInside, Free, Facing, TriesAll, Stopped, firstVariable};
 ghost use Rattle.matching.specs.Capacity.{variablesIn};
 ghost use Rattle.matching.specs.Asked.{firstIn, Asked, matchedValues};
 ghost use Rattle.matching.specs.Failed.{Sure, Remembers};
@@ -149,7 +148,7 @@ fn shadow_inside(
     shadow_run(text, terms, rest, at + m, left, start + n, more, 0, failed)
 }
 
-// The first match of a pattern with a row, by the pattern's first record.
+// The first match of a pattern with a row, by what the pattern's first record leaves to do.
 fn shadow_first(
     text: &[u8],
     terms: &[u8],
@@ -160,37 +159,23 @@ fn shadow_first(
     b: Bindings,
     sure: usize,
     failed: &mut [u16; 2048],
+    first: First,
 ) -> Matched
     requires { ⌜ Asked (now text) (now terms) (now pattern) at (now row) start [] b × Sure (now text) (now terms) (now pattern) b sure × Remembers false (now text) (now terms) (now failed) ⌝ }
+    requires { ⌜ Stopped (now text) (now pattern) (now row) (valuesOf (now text) (now terms) b) first ⌝ }
     ensures { λ r. ⌜ Kept (now (text .entry)) (now (terms .entry)) (r .bindings)
         × (matchedValues (now (text .entry)) (now (terms .entry)) r ≡ firstIn (found false (rowOf (now (text .entry)) (now (pattern .entry))) (rowOf (now (text .entry)) (now (row .entry))) (valuesOf (now (text .entry)) (now (terms .entry)) b)))
         × Remembers false (now (text .entry)) (now (terms .entry)) (now (failed .exit)) ⌝ }
 {
-    if pattern.len() < 24 {
-        return Matched {
-            ok: row.len() < 24,
-            bindings: b,
-        };
-    }
-    let len = b.count;
-    match first_of(text, terms, pattern, row, &b.keys, &b.starts, &b.sizes, len) {
+    match first {
         First::Fails => Matched {
             ok: false,
             bindings: b,
         },
-        First::Goes(m, n) => {
-            shadow_run(
-                text,
-                terms,
-                &pattern[m..],
-                at + m,
-                &row[n..],
-                start + n,
-                b,
-                sure,
-                failed,
-            )
-        }
+        First::Goes(_, _) => Matched {
+            ok: false,
+            bindings: b,
+        },
         First::Binds(n) => {
             let end = end_of(pattern);
             let rest = &pattern[end..];
@@ -236,18 +221,27 @@ fn shadow_run(
             ok: false,
             bindings: b,
         },
-        Known::To(m, n) => {
+        Known::End(_, n) => {
+            let left = &row[n..];
+            Matched {
+                ok: left.len() < 24,
+                bindings: b,
+            }
+        }
+        Known::Stop(m, n, first) => {
             let rest = &pattern[m..];
+            let left = &row[n..];
             shadow_first(
                 text,
                 terms,
                 rest,
                 at + m,
-                &row[n..],
+                left,
                 start + n,
                 b,
                 sure,
                 failed,
+                first,
             )
         }
     }

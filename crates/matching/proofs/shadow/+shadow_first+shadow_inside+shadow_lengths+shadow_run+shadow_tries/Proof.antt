@@ -42,7 +42,6 @@ use Rattle.law.proofs.runs.end_of.Reads as end-of-reads
 use Rattle.matching.proofs.bind.Reads as bind-reads
 use Rattle.matching.proofs.failed.failed_before.Reads as failed-before-reads
 use Rattle.matching.proofs.failed.note_failed.Reads as note-failed-reads
-use Rattle.matching.proofs.first_of.Reads as first-of-reads
 use Rattle.matching.proofs.known_front.Reads as known-front-reads
 use Rattle.matching.proofs.repeats.closed.Reads as closed-reads
 use Rattle.matching.proofs.shadow.+shadow_first+shadow_inside+shadow_lengths+shadow_run+shadow_tries.{
@@ -145,14 +144,12 @@ pub +shadow-first+shadow-inside+shadow-lengths+shadow-run+shadow-tries-spec :
     μ-shadow-run
     μ-shadow-tries
     (λ t. shadow-first-lts.spec (
-      first-of-reads.Asked,
-      first-of-reads.Learnt,
-      shadow-run-below t,
-      shadow-run.Post,
       end-of-reads.Asked,
       end-of-reads.Learnt,
       bind-reads.Asked,
       bind-reads.Learnt,
+      shadow-run-below t,
+      shadow-run.Post,
       shadow-tries-below t,
       shadow-tries.Post,
       shadow-inside-below t,
@@ -160,74 +157,63 @@ pub +shadow-first+shadow-inside+shadow-lengths+shadow-run+shadow-tries-spec :
     )
     (shadow-first-at t)
     shadow-first.Post
-    (λ c. (c .before .before .before .before .before .pre .1 .0 .kept, returns.run-end _ _ _ _ _ (c .if1 .taken), c .before .before .before .before .before .pre .1 .2))
-    (λ c κs. (c .before .before .before .before .before .before .before .before .before .pre .1 .0 .kept, c .before .before .before .before .if1 .left))
     (λ c. search needs)
     (λ c. search needs)
-    (λ c. returns.goes-falls (c .before .before .before .first-of .ensures) false _ _ (c .before .m .given .1) .0)
-    (λ c. returns.goes-falls (c .before .before .before .first-of .ensures) false _ _ (c .before .m .given .1) .0)
     (λ c. search needs)
-    (λ c. let asked = c .before .before .before .before .before .before .before .before .before .before .before .before .before .before .pre .1 .0 in
-    omega (arith, asked .pattern-stands .inside, asked .small, returns.goes-falls (c .before .before .before .before .first-of .ensures) false _ _ (c .before .before .m .given .1) .0))
-    (λ c. returns.goes-within (c .before .before .before .before .first-of .ensures) false _ _ (c .before .before .m .given .1) .2)
-    (λ c. returns.goes-within (c .before .before .before .before .first-of .ensures) false _ _ (c .before .before .m .given .1) .2)
-    (λ c. search needs)
-    (λ c. let asked = c .before .before .before .before .before .before .before .before .before .before .before .before .before .before .before .pre .1 .0 in
-    omega (arith, asked .row-stands .inside, asked .small, returns.goes-within (c .before .before .before .before .before .first-of .ensures) false _ _ (c .before .before .before .m .given .1) .2))
-    (λ c κs. let start = c .before .before .before .before .before .before .before .before .before .before .before .before .before .before .before .before .pre in
-    let goes = returns.goes-within (c .before .before .before .before .before .before .first-of .ensures) false _ _ (c .before .before .before .before .m .given .1) in (
-      omega (arith, returns.goes-falls (c .before .before .before .before .before .before .first-of .ensures) false _ _ (c .before .before .before .before .m .given .1) .1, start .0),
-      (calls.asked-later (start .1 .0) _ _ (goes .0) (goes .2), sure.sure-later (start .1 .1) (goes .0), start .1 .2),
-    ))
-    (λ c. search needs)
-    (λ c κs. c .before .before .before .before .before .before .before .before .if1 .left)
+    (λ c κs. c .before .before .before .before .before .before .before .pre .1 .1 .some)
     (λ c. c .end-of .ensures .2)
     (λ c. search needs)
     (λ c. search needs)
-    (λ c. returns.binds-within (c .before .before .before .before .before .first-of .ensures) false _ (c .before .before .before .n .given .1) .0)
-    (λ c. returns.binds-within (c .before .before .before .before .before .first-of .ensures) false _ (c .before .before .before .n .given .1) .0)
+    (λ c. returns.binds-within (c .before .before .before .before .before .before .before .before .before .pre .1 .1 .leaves) false _ (c .before .before .before .first .given .1) .0)
+    (λ c. returns.binds-within (c .before .before .before .before .before .before .before .before .before .pre .1 .1 .leaves) false _ (c .before .before .before .first .given .1) .0)
     (λ c. search needs)
-    (λ c κs. let asked = c .before .before .before .before .before .before .before .before .before .before .before .before .before .before .before .before .pre .1 .0 in
-    let binds = returns.binds-within (c .before .before .before .before .before .before .first-of .ensures) false _ (c .before .before .before .before .n .given .1) in (
+    (λ c κs. let start = c .before .before .before .before .before .before .before .before .before .before .pre in
+    let asked = start .1 .0 .0 in
+    let binds = returns.binds-within (start .1 .1 .leaves) false _ (c .before .before .before .before .first .given .1) in (
       (
-        omega (arith, asked .pattern-stands .inside, asked .small, c .before .before .before .before .before .before .before .before .before .before .before .if1 .left),
+        omega (arith, asked .pattern-stands .inside, asked .small, start .1 .1 .some),
         omega (arith, asked .row-stands .inside, asked .small),
         omega (arith, asked .row-stands .inside, asked .small, binds .0),
-        calls.place-ready asked (c .before .before .before .before .before .before .before .before .before .before .before .if1 .left) (binds .1),
+        calls.place-ready asked (start .1 .1 .some) (binds .1),
       ),
       (asked .kept .keys, asked .kept .starts, asked .kept .sizes),
     ))
-    (λ c. let asked = c .before .before .before .before .before .before .before .before .before .before .before .before .before .before .before .before .before .pre .1 .0 in
+    (λ c. let asked = c .before .before .before .before .before .before .before .before .before .before .before .pre .1 .0 .0 in
     omega (arith, asked .pattern-stands .inside, asked .small, c .before .before .before .end-of .ensures .2))
-    (λ c. let asked = c .before .before .before .before .before .before .before .before .before .before .before .before .before .before .before .before .before .pre .1 .0 in
-    omega (arith, asked .row-stands .inside, asked .small, returns.binds-within (c .before .before .before .before .before .before .before .first-of .ensures) false _ (c .before .before .before .before .before .n .given .1) .0))
-    (λ c κs. let start = c .before .before .before .before .before .before .before .before .before .before .before .before .before .before .before .before .before .before in
-    let some = c .before .before .before .before .before .before .before .before .before .before .before .before .before .if1 .left in
+    (λ c. let start = c .before .before .before .before .before .before .before .before .before .before .before .pre in
+    omega (arith, start .1 .0 .0 .row-stands .inside, start .1 .0 .0 .small, returns.binds-within (start .1 .1 .leaves) false _ (c .before .before .before .before .before .first .given .1) .0))
+    (λ c κs. let start = c .before .before .before .before .before .before .before .before .before .before .before .before in
+    let stopped = start .pre .1 .1 in
     let ends = c .before .before .before .before .end-of in
-    let binds = returns.binds-within (c .before .before .before .before .before .before .before .before .first-of .ensures) false _ (c .before .before .before .before .before .before .n .given .1) in (
-      omega (arith, after-falls (start .args .pattern .now) (ends .result) (length (start .args .pattern .now)) some (ends .ensures .0) refl, start .pre .0),
+    let binds = returns.binds-within (start .pre .1 .1 .leaves) false _ (c .before .before .before .before .before .before .first .given .1) in (
+      omega (arith, after-falls (start .args .pattern .now) (ends .result) (length (start .args .pattern .now)) (stopped .some) (ends .ensures .0) refl, start .pre .0),
       (
-        calls.asked-more (start .pre .1 .0) some (binds .1) (binds .0) (c .before .bind .ensures) (ends .result) (c .before .before .before .before .before .before .n .given .0 .0) (ends .ensures .0) (binds .0),
-        sure.sure-later (sure.sure-more (start .pre .1 .1) (c .before .bind .ensures)) (sure.begin-second some (ends .ensures .0)),
-        start .pre .1 .2,
+        calls.asked-more (start .pre .1 .0 .0) (stopped .some) (binds .1) (binds .0) (c .before .bind .ensures) (ends .result) (c .before .before .before .before .before .before .first .given .0 .0) (ends .ensures .0) (binds .0),
+        sure.sure-later (sure.sure-more (start .pre .1 .0 .1) (c .before .bind .ensures)) (sure.begin-second (stopped .some) (ends .ensures .0)),
+        start .pre .1 .0 .2,
       ),
     ))
     (λ c. search needs)
-    (λ c κs. let start = c .before .before .before .before .before .before .before .before .before .before .before .before .before .pre in
-    (omega (arith, start .0), ((start .1 .0, c .before .before .before .before .before .before .before .before .if1 .left, start .1 .1, start .1 .2), (returns.tries-free (c .before .before .before .first-of .ensures) false (c .before .enum-told2 .given .1), λ back. returns.step-tries (c .before .before .before .first-of .ensures) back (c .before .enum-told2 .given .1)))))
+    (λ c κs. let start = c .before .before .before .before .before .before .before .pre in
+    let stopped = start .1 .1 in
+    let told = c .before .enum-told3 .given .1 in
+    (omega (arith, start .0), ((start .1 .0 .0, stopped .some, start .1 .0 .1, start .1 .0 .2), (returns.tries-free (stopped .leaves) false told, λ back. returns.step-tries (stopped .leaves) back told))))
     (λ c. search needs)
-    (λ c κs. let start = c .before .before .before .before .before .before .before .before .before .before .before .before .before .pre in
-    (omega (arith, start .0), (start .1 .0, c .before .before .before .before .before .before .before .before .if1 .left, returns.inside-facing (c .before .before .before .first-of .ensures) false (c .before .enum-told3 .given .1), start .1 .1, start .1 .2)))
-    (λ c. (c .before .before .before .before .before .before .before .before .before .before .before .before .pre .1 .0 .kept, sym (ap firstIn (returns.step-fails (c .before .before .first-of .ensures) false (c .enum-told .given .1))), c .before .before .before .before .before .before .before .before .before .before .before .before .pre .1 .2))
-    (λ c. (c .shadow-run .ensures .0, c .shadow-run .ensures .1 ∙ sym (ap firstIn (returns.step-goes (c .before .before .before .before .before .before .before .first-of .ensures) false _ _ (c .before .before .before .before .before .m .given .1))), c .shadow-run .ensures .2))
-    (λ c. let binds = returns.binds-within (c .before .before .before .before .before .before .before .before .before .first-of .ensures) false _ (c .before .before .before .before .before .before .before .n .given .1) in
-    let values = calls.values-more (c .before .before .before .before .before .before .before .before .before .before .before .before .before .before .before .before .before .before .before .pre .1 .0) (c .before .before .before .before .before .before .before .before .before .before .before .before .before .before .if1 .left) (binds .1) (binds .0) (c .before .before .bind .ensures) in (
-      c .shadow-run2 .ensures .0,
-      c .shadow-run2 .ensures .1 ∙ sym (ap firstIn (returns.step-binds (c .before .before .before .before .before .before .before .before .before .first-of .ensures) false _ _ _ (c .before .before .before .before .before .before .before .n .given .1) (c .before .before .before .before .before .end-of .ensures .0) values)),
-      c .shadow-run2 .ensures .2,
+    (λ c κs. let start = c .before .before .before .before .before .before .before .pre in
+    let stopped = start .1 .1 in
+    (omega (arith, start .0), (start .1 .0 .0, stopped .some, returns.inside-facing (stopped .leaves) false (c .before .enum-told4 .given .1), start .1 .0 .1, start .1 .0 .2)))
+    (λ c. absurd (known.stops-fails (c .before .before .before .before .before .before .pre .1 .1) (c .enum-told .given .1)))
+    (λ c. absurd (known.stops-not (c .before .before .before .before .before .before .pre .1 .1) _ _ (c .enum-told2 .given .1)))
+    (λ c. let start = c .before .before .before .before .before .before .before .before .before .before .before .before .before .pre in
+    let stopped = start .1 .1 in
+    let binds = returns.binds-within (start .1 .1 .leaves) false _ (c .before .before .before .before .before .before .before .first .given .1) in
+    let values = calls.values-more (start .1 .0 .0) (stopped .some) (binds .1) (binds .0) (c .before .before .bind .ensures) in (
+      c .shadow-run .ensures .0,
+      c .shadow-run .ensures .1 ∙ sym (ap firstIn (returns.step-binds (stopped .leaves) false _ _ _ (c .before .before .before .before .before .before .before .first .given .1) (c .before .before .before .before .before .end-of .ensures .0) values)),
+      c .shadow-run .ensures .2,
     ))
-    (λ c. (c .shadow-tries .ensures .0, c .shadow-tries .ensures .1 ∙ sym (ap firstIn (returns.step-tries (c .before .before .before .before .first-of .ensures) false (c .before .before .enum-told2 .given .1))), c .shadow-tries .ensures .2))
-    (λ c. (c .shadow-inside .ensures .0, c .shadow-inside .ensures .1 ∙ sym (ap firstIn (returns.step-inside (c .before .before .before .before .first-of .ensures) false (c .before .before .enum-told3 .given .1))), c .shadow-inside .ensures .2)))
+    (λ c. (c .shadow-tries .ensures .0, c .shadow-tries .ensures .1 ∙ sym (ap firstIn (returns.step-tries (c .before .before .before .before .before .before .before .before .pre .1 .1 .leaves) false (c .before .before .enum-told3 .given .1))), c .shadow-tries .ensures .2))
+    (λ c. (c .shadow-inside .ensures .0, c .shadow-inside .ensures .1 ∙ sym (ap firstIn (returns.step-inside (c .before .before .before .before .before .before .before .before .pre .1 .1 .leaves) false (c .before .before .enum-told4 .given .1))), c .shadow-inside .ensures .2)))
     (λ t. shadow-inside-lts.spec (
       end-of-reads.Asked,
       end-of-reads.Learnt,
@@ -370,23 +356,29 @@ pub +shadow-first+shadow-inside+shadow-lengths+shadow-run+shadow-tries-spec :
     (λ c κs. c .before .before .before .before .before .before .before .before .pre .1 .0 .kept)
     (λ c. search needs)
     (λ c. search needs)
-    (λ c. begin-inside (known.known-to (c .before .before .before .known-front .ensures) _ _ (c .before .m .given .1) .begins))
-    (λ c. begin-inside (known.known-to (c .before .before .before .known-front .ensures) _ _ (c .before .m .given .1) .begins))
+    (λ c. known.known-end (c .before .before .before .known-front .ensures) _ _ (c .before .n .given .1) .0 .within)
+    (λ c. known.known-end (c .before .before .before .known-front .ensures) _ _ (c .before .n .given .1) .0 .within)
     (λ c. search needs)
-    (λ c. let asked = c .before .before .before .before .before .before .before .before .before .before .before .before .before .pre .1 .0 in
-    omega (arith, asked .pattern-stands .inside, asked .small, begin-inside (known.known-to (c .before .before .before .before .known-front .ensures) _ _ (c .before .before .m .given .1) .begins)))
-    (λ c. known.known-to (c .before .before .before .before .known-front .ensures) _ _ (c .before .before .m .given .1) .within)
-    (λ c. known.known-to (c .before .before .before .before .known-front .ensures) _ _ (c .before .before .m .given .1) .within)
+    (λ c. search needs)
+    (λ c. begin-inside (known.known-stop (c .before .before .before .known-front .ensures) _ _ _ (c .before .m .given .1) .0 .begins))
+    (λ c. begin-inside (known.known-stop (c .before .before .before .known-front .ensures) _ _ _ (c .before .m .given .1) .0 .begins))
+    (λ c. search needs)
+    (λ c. known.known-stop (c .before .before .before .before .known-front .ensures) _ _ _ (c .before .before .m .given .1) .0 .within)
+    (λ c. known.known-stop (c .before .before .before .before .known-front .ensures) _ _ _ (c .before .before .m .given .1) .0 .within)
     (λ c. search needs)
     (λ c. let asked = c .before .before .before .before .before .before .before .before .before .before .before .before .before .before .pre .1 .0 in
-    omega (arith, asked .row-stands .inside, asked .small, known.known-to (c .before .before .before .before .before .known-front .ensures) _ _ (c .before .before .before .m .given .1) .within))
+    omega (arith, asked .pattern-stands .inside, asked .small, begin-inside (known.known-stop (c .before .before .before .before .before .known-front .ensures) _ _ _ (c .before .before .before .m .given .1) .0 .begins)))
+    (λ c. let asked = c .before .before .before .before .before .before .before .before .before .before .before .before .before .before .pre .1 .0 in
+    omega (arith, asked .row-stands .inside, asked .small, known.known-stop (c .before .before .before .before .before .known-front .ensures) _ _ _ (c .before .before .before .m .given .1) .0 .within))
     (λ c κs. let start = c .before .before .before .before .before .before .before .before .before .before .before .before .before .before .before .pre in
-    let passed = known.known-to (c .before .before .before .before .before .before .known-front .ensures) _ _ (c .before .before .before .before .m .given .1) in (
+    let (passed, stopped) = known.known-stop (c .before .before .before .before .before .before .known-front .ensures) _ _ _ (c .before .before .before .before .m .given .1) in (
       omega (arith, start .0, begin-inside (passed .begins), from-length (c .before .before .before .before .m .given .0 .0) (c .before .before .before .before .before .before .before .before .before .before .before .before .before .before .before .args .pattern .now)),
-      (calls.asked-later (start .1 .0) _ _ (passed .begins) (passed .within), sure.sure-later (start .1 .1) (passed .begins), start .1 .2),
+      ((calls.asked-later (start .1 .0) _ _ (passed .begins) (passed .within), sure.sure-later (start .1 .1) (passed .begins), start .1 .2), stopped),
     ))
     (λ c. (c .before .before .before .before .before .before .before .before .before .before .before .pre .1 .0 .kept, sym (ap firstIn (known.known-fails (c .before .before .known-front .ensures) (c .enum-told .given .1) false)), c .before .before .before .before .before .before .before .before .before .before .before .pre .1 .2))
-    (λ c. let passed = known.known-to (c .before .before .before .before .before .before .before .known-front .ensures) _ _ (c .before .before .before .before .before .m .given .1) in
+    (λ c. let (passed, short) = known.known-end (c .before .before .before .before .known-front .ensures) _ _ (c .before .before .n .given .1) in
+    (c .before .before .before .before .before .before .before .before .before .before .before .before .before .pre .1 .0 .kept, returns.run-end _ _ _ _ _ short ∙ sym (ap firstIn (passed .search false)), c .before .before .before .before .before .before .before .before .before .before .before .before .before .pre .1 .2))
+    (λ c. let passed = known.known-stop (c .before .before .before .before .before .before .before .known-front .ensures) _ _ _ (c .before .before .before .before .before .m .given .1) .0 in
     (c .shadow-first .ensures .0, c .shadow-first .ensures .1 ∙ sym (ap firstIn (passed .search false)), c .shadow-first .ensures .2)))
     λ t. shadow-tries-lts.spec (
       closed-reads.Asked,

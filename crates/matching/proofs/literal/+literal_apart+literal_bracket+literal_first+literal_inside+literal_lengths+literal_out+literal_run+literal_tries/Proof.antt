@@ -4,7 +4,7 @@
 use Prim.Native.Nat.{ℕ, _+_, _*_, _-_, _<_}
 use mathlib.Core.Bool.{Bool, true}
 use mathlib.Core.List.{List}
-use mathlib.Core.Path.{_≡_}
+use mathlib.Core.Path.{_≡_, _∙_}
 use native.Mathlib.Omega.{arith}
 use borrow.Author.Needs.{needs}
 use borrow.Author.Tests.{not-true, not-false}
@@ -28,43 +28,48 @@ use Rattle.matching.proofs.FailedLaws as failed
 use Rattle.matching.proofs.AloneLaws as alone
 use borrow.Fn.Kinds.{In}
 use borrow.Fn.PlainCycle.{Measures, is, falls, and}
+use Rattle.matching.proofs.literal.literal_apart.Reads as literal-apart
+use Rattle.matching.proofs.literal.literal_apart.Kinds as literal-apart-kinds
+use Rattle.matching.proofs.literal.+literal_apart+literal_bracket+literal_first+literal_inside+literal_lengths+literal_out+literal_run+literal_tries.Lts-literal_apart as literal-apart-lts
 use Rattle.matching.proofs.literal.literal_bracket.Reads as literal-bracket
 use Rattle.matching.proofs.literal.literal_bracket.Kinds as literal-bracket-kinds
-use Rattle.matching.proofs.literal.+literal_bracket+literal_first+literal_inside+literal_lengths+literal_out+literal_run+literal_tries.Lts-literal_bracket as literal-bracket-lts
+use Rattle.matching.proofs.literal.+literal_apart+literal_bracket+literal_first+literal_inside+literal_lengths+literal_out+literal_run+literal_tries.Lts-literal_bracket as literal-bracket-lts
 use Rattle.matching.proofs.literal.literal_first.Reads as literal-first
 use Rattle.matching.proofs.literal.literal_first.Kinds as literal-first-kinds
-use Rattle.matching.proofs.literal.+literal_bracket+literal_first+literal_inside+literal_lengths+literal_out+literal_run+literal_tries.Lts-literal_first as literal-first-lts
+use Rattle.matching.proofs.literal.+literal_apart+literal_bracket+literal_first+literal_inside+literal_lengths+literal_out+literal_run+literal_tries.Lts-literal_first as literal-first-lts
 use Rattle.matching.proofs.literal.literal_inside.Reads as literal-inside
 use Rattle.matching.proofs.literal.literal_inside.Kinds as literal-inside-kinds
-use Rattle.matching.proofs.literal.+literal_bracket+literal_first+literal_inside+literal_lengths+literal_out+literal_run+literal_tries.Lts-literal_inside as literal-inside-lts
+use Rattle.matching.proofs.literal.+literal_apart+literal_bracket+literal_first+literal_inside+literal_lengths+literal_out+literal_run+literal_tries.Lts-literal_inside as literal-inside-lts
 use Rattle.matching.proofs.literal.literal_lengths.Reads as literal-lengths
 use Rattle.matching.proofs.literal.literal_lengths.Kinds as literal-lengths-kinds
-use Rattle.matching.proofs.literal.+literal_bracket+literal_first+literal_inside+literal_lengths+literal_out+literal_run+literal_tries.Lts-literal_lengths as literal-lengths-lts
+use Rattle.matching.proofs.literal.+literal_apart+literal_bracket+literal_first+literal_inside+literal_lengths+literal_out+literal_run+literal_tries.Lts-literal_lengths as literal-lengths-lts
 use Rattle.matching.proofs.literal.literal_out.Reads as literal-out
 use Rattle.matching.proofs.literal.literal_out.Kinds as literal-out-kinds
-use Rattle.matching.proofs.literal.+literal_bracket+literal_first+literal_inside+literal_lengths+literal_out+literal_run+literal_tries.Lts-literal_out as literal-out-lts
+use Rattle.matching.proofs.literal.+literal_apart+literal_bracket+literal_first+literal_inside+literal_lengths+literal_out+literal_run+literal_tries.Lts-literal_out as literal-out-lts
 use Rattle.matching.proofs.literal.literal_run.Reads as literal-run
 use Rattle.matching.proofs.literal.literal_run.Kinds as literal-run-kinds
-use Rattle.matching.proofs.literal.+literal_bracket+literal_first+literal_inside+literal_lengths+literal_out+literal_run+literal_tries.Lts-literal_run as literal-run-lts
+use Rattle.matching.proofs.literal.+literal_apart+literal_bracket+literal_first+literal_inside+literal_lengths+literal_out+literal_run+literal_tries.Lts-literal_run as literal-run-lts
 use Rattle.matching.proofs.literal.literal_tries.Reads as literal-tries
 use Rattle.matching.proofs.literal.literal_tries.Kinds as literal-tries-kinds
-use Rattle.matching.proofs.literal.+literal_bracket+literal_first+literal_inside+literal_lengths+literal_out+literal_run+literal_tries.Lts-literal_tries as literal-tries-lts
+use Rattle.matching.proofs.literal.+literal_apart+literal_bracket+literal_first+literal_inside+literal_lengths+literal_out+literal_run+literal_tries.Lts-literal_tries as literal-tries-lts
 use Rattle.law.proofs.runs.end_of.Reads as end-of-reads
 use Rattle.matching.proofs.bind.Reads as bind-reads
 use Rattle.matching.proofs.failed.failed_before.Reads as failed-before-reads
 use Rattle.matching.proofs.failed.note_failed.Reads as note-failed-reads
-use Rattle.matching.proofs.first_of.Reads as first-of-reads
 use Rattle.matching.proofs.known_front.Reads as known-front-reads
 use Rattle.matching.proofs.literal.push.Reads as push-reads
 use Rattle.matching.proofs.repeats.closed.Reads as closed-reads
-use Rattle.matching.proofs.repeats.disjoint_variables.Reads as disjoint-variables-reads
+use Rattle.matching.proofs.repeats.stands_apart.Reads as stands-apart-reads
 use Rattle.matching.proofs.wide.Reads as wide-reads
-use Rattle.matching.proofs.literal.+literal_bracket+literal_first+literal_inside+literal_lengths+literal_out+literal_run+literal_tries.{
+use Rattle.matching.proofs.literal.+literal_apart+literal_bracket+literal_first+literal_inside+literal_lengths+literal_out+literal_run+literal_tries.{
   statement,
 }
-use Rattle.matching.proofs.literal.+literal_bracket+literal_first+literal_inside+literal_lengths+literal_out+literal_run+literal_tries.Tie.{
+use Rattle.matching.proofs.literal.+literal_apart+literal_bracket+literal_first+literal_inside+literal_lengths+literal_out+literal_run+literal_tries.Tie.{
   close,
 }
+
+abbrev μ-literal-apart : Measures 5 literal-apart-kinds.ps ℕ
+μ-literal-apart κs a = 4 * (length (a .1 .0 .now) - a .1 .1 .1 .0) + 4 * (a .1 .1 .1 .1 .1 .1 .0 .count)
 
 abbrev μ-literal-bracket : Measures 5 literal-bracket-kinds.ps ℕ
 μ-literal-bracket κs a = 4 * (length (a .1 .0 .now) - a .1 .1 .1 .0) + 4 * (a .1 .1 .1 .1 .1 .1 .0 .count) + 1
@@ -86,6 +91,18 @@ abbrev μ-literal-run : Measures 5 literal-run-kinds.ps ℕ
 
 abbrev μ-literal-tries : Measures 5 literal-tries-kinds.ps ℕ
 μ-literal-tries κs a = 4 * (length (a .1 .0 .now) - a .1 .1 .1 .0) + 4 * (a .1 .1 .1 .1 .1 .1 .0 .count) + 1
+
+abbrev literal-apart-at : ℕ → In 5 literal-apart-kinds.ps
+literal-apart-at t =
+    and 5 literal-apart-kinds.ps (is 5 literal-apart-kinds.ps μ-literal-apart t) literal-apart.Pre
+
+abbrev literal-apart-below : ℕ → In 5 literal-apart-kinds.ps
+literal-apart-below t =
+    and
+    5
+    literal-apart-kinds.ps
+    (falls 5 literal-apart-kinds.ps _<_ μ-literal-apart t)
+    literal-apart.Pre
 
 abbrev literal-bracket-at : ℕ → In 5 literal-bracket-kinds.ps
 literal-bracket-at t =
@@ -180,18 +197,19 @@ abbrev outside : List ℕ → List ℕ → Pending → List ℕ → ℕ → List
 outside text terms pending pattern at row start = resume (levelsOf text terms pending (at + length pattern) (start + length row))
 
 abbrev literal-lengths-Inv-loop : literal-lengths-lts.InvT-loop
-literal-lengths-Inv-loop text terms pattern at row start pending b sure failed₀ end rest next n₀ failed n =
-    Begin row n × (someHolds (outside text terms pending pattern at row start) (eachLength text true pattern row (valuesOf text terms b))
-    ≡ someHolds (outside text terms pending pattern at row start) (leftAt text true pattern row (valuesOf text terms b) n))
+literal-lengths-Inv-loop text terms pattern at row start outer b sure failed₀ end rest next n₀ failed n =
+    Begin row n × (someHolds (outside text terms outer pattern at row start) (eachLength text true pattern row (valuesOf text terms b))
+    ≡ someHolds (outside text terms outer pattern at row start) (leftAt text true pattern row (valuesOf text terms b) n))
     × Remembers true text terms failed
 
 abbrev literal-lengths-μ-loop : literal-lengths-lts.MeasureT-loop
-literal-lengths-μ-loop text terms pattern at row start pending b sure failed₀ end rest next n₀ failed n = length row - n
+literal-lengths-μ-loop text terms pattern at row start outer b sure failed₀ end rest next n₀ failed n = length row - n
 
-pub +literal-bracket+literal-first+literal-inside+literal-lengths+literal-out+literal-run+literal-tries-spec :
+pub +literal-apart+literal-bracket+literal-first+literal-inside+literal-lengths+literal-out+literal-run+literal-tries-spec :
     {M : Type 1} → statement M
-+literal-bracket+literal-first+literal-inside+literal-lengths+literal-out+literal-run+literal-tries-spec =
++literal-apart+literal-bracket+literal-first+literal-inside+literal-lengths+literal-out+literal-run+literal-tries-spec =
     close
+    μ-literal-apart
     μ-literal-bracket
     μ-literal-first
     μ-literal-inside
@@ -199,74 +217,88 @@ pub +literal-bracket+literal-first+literal-inside+literal-lengths+literal-out+li
     μ-literal-out
     μ-literal-run
     μ-literal-tries
-    (λ t. literal-bracket-lts.spec (
-      literal-inside-below t,
-      literal-inside.Post,
+    (λ t. literal-apart-lts.spec (
       end-of-reads.Asked,
       end-of-reads.Learnt,
-      disjoint-variables-reads.Asked,
-      disjoint-variables-reads.Learnt,
       literal-run-below t,
       literal-run.Post,
     )
+    (literal-apart-at t)
+    literal-apart.Post
+    (λ c κs. c .before .before .before .before .pre .1 .0 .1)
+    (λ c κs. c .before .before .before .before .before .pre .1 .0 .2 .some)
+    (λ c. c .before .end-of .ensures .1)
+    (λ c. search needs)
+    (λ c. search needs)
+    (λ c. c .before .end-of2 .ensures .1)
+    (λ c. search needs)
+    (λ c. search needs)
+    (λ c. let start = c .before .before .before .before .before .before .before .before .pre .1 .0 in omega (arith, start .0 .asked .pattern-stands .inside, start .0 .asked .small, start .1))
+    (λ c. let start = c .before .before .before .before .before .before .before .before .pre .1 .0 in omega (arith, start .0 .asked .row-stands .inside, start .0 .asked .small, start .2 .some))
+    (λ c κs. let start = c .before .before .before .before .before .before .before .before .before .pre .1 .0 in (
+      omega (arith, c .before .before .before .before .before .before .before .before .before .pre .0, start .0 .asked .pattern-stands .inside, start .1),
+      (
+        alone.contents-alone (start .0) (c .before .before .before .before .before .before .before .before .before .pre .1 .1 .0) (start .1) (start .2) _ _ (c .before .before .before .before .end-of .ensures .0) (c .before .before .before .end-of2 .ensures .0),
+        sure.sure-inside (start .3) _ (c .before .before .before .before .end-of .ensures .0) (calls.contents-within (start .0 .asked) (start .1) (start .2)),
+        start .4,
+      ),
+    ))
+    (λ c. (
+      alone.bracket-none _ _ _ (c .before .before .before .before .before .before .before .before .before .before .before .pre .1 .1 .0) _ _ _ _ _ (c .before .before .before .before .before .before .end-of .ensures .0) (c .before .before .before .before .before .end-of2 .ensures .0) _ _ _ _ (c .before .literal-run .ensures .0) (not-true _ (c .if1 .taken)),
+      c .before .literal-run .ensures .1,
+    ))
+    (λ c. c .before .before .before .before .before .before .end-of .ensures .2)
+    (λ c. search needs)
+    (λ c. search needs)
+    (λ c. c .before .before .before .before .before .before .end-of2 .ensures .2)
+    (λ c. search needs)
+    (λ c. search needs)
+    (λ c. let asked = c .before .before .before .before .before .before .before .before .before .before .before .before .before .pre .1 .0 .0 .asked in omega (arith, asked .pattern-stands .inside, asked .small, c .before .before .before .before .before .before .before .before .end-of .ensures .2))
+    (λ c. let asked = c .before .before .before .before .before .before .before .before .before .before .before .before .before .pre .1 .0 .0 .asked in omega (arith, asked .row-stands .inside, asked .small, c .before .before .before .before .before .before .before .end-of2 .ensures .2))
+    (λ c κs. let start = c .before .before .before .before .before .before .before .before .before .before .before .before .before .before .pre .1 .0 in
+    let ends = c .before .before .before .before .before .before .before .before .before .end-of .ensures in
+    let begins = sure.begin-second (start .1) (ends .0) in (
+      omega (arith, c .before .before .before .before .before .before .before .before .before .before .before .before .before .before .pre .0, start .0 .asked .pattern-stands .inside, ends .1, ends .2),
+      (level.literal-later (start .0) _ _ begins (c .before .before .before .before .before .before .before .before .end-of2 .ensures .2), sure.sure-later (start .3) begins, c .before .before .before .before .literal-run .ensures .1),
+    ))
+    (λ c. (
+      alone.bracket-some _ _ _ (c .before .before .before .before .before .before .before .before .before .before .before .before .before .before .before .pre .1 .1 .0) _ _ _ _ _ (c .before .before .before .before .before .before .before .before .before .before .end-of .ensures .0) (c .before .before .before .before .before .before .before .before .before .end-of2 .ensures .0) (c .before .before .before .before .before .before .before .before .before .before .before .before .before .before .before .pre .1 .1 .1)
+          _ _ _ _ _ _ (c .before .before .before .before .before .literal-run .ensures .0) (not-false _ (c .before .before .before .before .if1 .left)) (c .literal-run2 .ensures .0),
+      c .literal-run2 .ensures .1,
+    )))
+    (λ t. literal-bracket-lts.spec (
+      end-of-reads.Asked,
+      end-of-reads.Learnt,
+      stands-apart-reads.Asked,
+      stands-apart-reads.Learnt,
+      literal-apart-below t,
+      literal-apart.Post,
+      literal-inside-below t,
+      literal-inside.Post,
+    )
     (literal-bracket-at t)
     literal-bracket.Post
-    (λ c κs. let start = c .before .before .before .before .before .before .before .pre in (omega (arith, start .0), start .1))
-    (λ c. c .literal-inside .ensures)
-    (λ c κs. c .before .before .before .before .before .before .pre .1 .1)
+    (λ c κs. c .before .before .before .before .pre .1 .1)
     (λ c. c .end-of .ensures .1)
     (λ c. search needs)
     (λ c. search needs)
     (λ c. c .before .end-of .ensures .2)
-    (λ c. search needs)
+    (λ c. c .before .end-of .ensures .2)
     (λ c. search needs)
     (λ c κs. tt)
-    (λ c κs. let start = c .before .before .before .before .before .before .before .before .before .before .before .before .pre in (omega (arith, start .0), start .1))
-    (λ c. c .literal-inside2 .ensures)
-    (λ c κs. c .before .before .before .before .before .before .before .before .before .before .before .pre .1 .2 .some)
-    (λ c. c .end-of2 .ensures .1)
-    (λ c. search needs)
-    (λ c. search needs)
-    (λ c. let asked = c .before .before .before .before .before .before .before .before .before .before .before .before .before .pre .1 .0 .asked in omega (arith, asked .pattern-stands .inside, asked .small, c .before .before .before .before .before .before .before .before .before .before .before .before .before .pre .1 .1))
-    (λ c. let asked = c .before .before .before .before .before .before .before .before .before .before .before .before .before .pre .1 .0 .asked in omega (arith, asked .row-stands .inside, asked .small, c .before .before .before .before .before .before .before .before .before .before .before .before .before .pre .1 .2 .some))
-    (λ c κs. let start = c .before .before .before .before .before .before .before .before .before .before .before .before .before .before .pre in (
-      omega (arith, start .0, start .1 .0 .asked .pattern-stands .inside, start .1 .1),
-      (
-        alone.contents-alone (start .1 .0) (c .before .before .before .before .before .before .before .before .if1 .left) (start .1 .1) (start .1 .2) _ _ (c .before .before .before .before .before .before .before .end-of .ensures .0) (c .before .before .end-of2 .ensures .0),
-        sure.sure-inside (start .1 .3) _ (c .before .before .before .before .before .before .before .end-of .ensures .0) (calls.contents-within (start .1 .0 .asked) (start .1 .1) (start .1 .2)),
-        start .1 .4,
-      ),
-    ))
-    (λ c. (
-      alone.bracket-none _ _ _ (c .before .before .before .before .before .before .before .before .before .before .if1 .left) _ _ _ _ _ (c .before .before .before .before .before .before .before .before .before .end-of .ensures .0) (c .before .before .before .before .end-of2 .ensures .0) _ _ _ _ (c .before .literal-run .ensures .0) (not-true _ (c .if3 .taken)),
-      c .before .literal-run .ensures .1,
-    ))
-    (λ c. let asked = c .before .before .before .before .before .before .before .before .before .before .before .before .before .before .before .before .pre .1 .0 .asked in omega (arith, asked .pattern-stands .inside, asked .small, c .before .before .before .before .before .before .before .before .before .end-of .ensures .2))
-    (λ c. c .before .before .before .before .end-of2 .ensures .2)
-    (λ c. c .before .before .before .before .end-of2 .ensures .2)
-    (λ c. search needs)
-    (λ c. let asked = c .before .before .before .before .before .before .before .before .before .before .before .before .before .before .before .before .before .pre .1 .0 .asked in omega (arith, asked .row-stands .inside, asked .small, c .before .before .before .before .before .end-of2 .ensures .2))
-    (λ c κs. let start = c .before .before .before .before .before .before .before .before .before .before .before .before .before .before .before .before .before .before .pre in
-    let begins = sure.begin-second (start .1 .1) (c .before .before .before .before .before .before .before .before .before .before .before .end-of .ensures .0) in (
-      omega (arith, start .0, start .1 .0 .asked .pattern-stands .inside, c .before .before .before .before .before .before .before .before .before .before .before .end-of .ensures .1, c .before .before .before .before .before .before .before .before .before .before .before .end-of .ensures .2),
-      (level.literal-later (start .1 .0) _ _ begins (c .before .before .before .before .before .before .end-of2 .ensures .2), sure.sure-later (start .1 .3) begins, c .before .before .before .literal-run .ensures .1),
-    ))
-    (λ c. (
-      alone.bracket-some _ _ _ (c .before .before .before .before .before .before .before .before .before .before .before .before .before .if1 .left) _ _ _ _ _ (c .before .before .before .before .before .before .before .before .before .before .before .before .end-of .ensures .0) (c .before .before .before .before .before .before .before .end-of2 .ensures .0) (c .before .before .before .before .before .before .before .before .before .disjoint-variables .ensures (not-false _ (c .before .before .before .before .before .before .before .before .if2 .left)))
-          _ _ _ _ _ _ (c .before .before .before .before .literal-run .ensures .0) (not-false _ (c .before .before .before .if3 .left)) (c .literal-run2 .ensures .0),
-      c .literal-run2 .ensures .1,
-    )))
+    (λ c κs. let start = c .before .before .before .before .before .before .before .before .before .before .pre in
+    let apart = c .before .before .stands-apart .ensures (c .before .if1 .taken) in
+    (omega (arith, start .0), (start .1, (apart .0, rw (c .before .before .before .before .before .end-of .ensures .0) at (apart .1)))))
+    (λ c. c .literal-apart .ensures)
+    (λ c κs. let start = c .before .before .before .before .before .before .before .before .before .before .pre in (omega (arith, start .0), start .1))
+    (λ c. c .literal-inside .ensures))
     (λ t. literal-first-lts.spec (
-      literal-out-below t,
-      literal-out.Post,
-      first-of-reads.Asked,
-      first-of-reads.Learnt,
-      literal-run-below t,
-      literal-run.Post,
       end-of-reads.Asked,
       end-of-reads.Learnt,
       bind-reads.Asked,
       bind-reads.Learnt,
+      literal-run-below t,
+      literal-run.Post,
       literal-tries-below t,
       literal-tries.Post,
       literal-bracket-below t,
@@ -274,86 +306,65 @@ pub +literal-bracket+literal-first+literal-inside+literal-lengths+literal-out+li
     )
     (literal-first-at t)
     literal-first.Post
-    (λ c. let asked = c .before .before .before .before .before .before .pre .1 .0 .asked in
-    omega (arith, asked .pattern-stands .inside, asked .small))
-    (λ c. let asked = c .before .before .before .before .before .before .pre .1 .0 .asked in
-    omega (arith, asked .row-stands .inside, asked .small))
-    (λ c κs. let start = c .before .before .before .before .before .before .before .pre in (
-      omega (arith, start .0),
-      ((start .1 .0 .asked .small, start .1 .0 .around, start .1 .0 .asked .kept, start .1 .2), level.out-capacity (start .1 .0) (c .before .before .if1 .taken)),
-    ))
-    (λ c. (level.run-out (c .before .before .before .before .before .before .before .before .pre .1 .0) (c .literal-out .result) (c .before .before .before .if1 .taken) (c .before .before .if2 .taken) (c .literal-out .ensures .0), c .literal-out .ensures .1))
-    (λ c. (level.run-none (c .before .before .before .before .before .before .pre .1 .0) (step.end-one _ _ _ true _ (c .before .if1 .taken) (c .if2 .left)), c .before .before .before .before .before .before .pre .1 .2))
-    (λ c κs. (c .before .before .before .before .before .before .before .before .before .pre .1 .0 .asked .kept, c .before .before .before .before .if1 .left))
     (λ c. search needs)
     (λ c. search needs)
-    (λ c. step.goes-falls (c .before .before .before .first-of .ensures) true _ _ (c .before .m .given .1) .0)
-    (λ c. step.goes-falls (c .before .before .before .first-of .ensures) true _ _ (c .before .m .given .1) .0)
     (λ c. search needs)
-    (λ c. let asked = c .before .before .before .before .before .before .before .before .before .before .before .before .before .before .pre .1 .0 .asked in
-    omega (arith, asked .pattern-stands .inside, asked .small, step.goes-falls (c .before .before .before .before .first-of .ensures) true _ _ (c .before .before .m .given .1) .0))
-    (λ c. step.goes-within (c .before .before .before .before .first-of .ensures) true _ _ (c .before .before .m .given .1) .2)
-    (λ c. step.goes-within (c .before .before .before .before .first-of .ensures) true _ _ (c .before .before .m .given .1) .2)
-    (λ c. search needs)
-    (λ c. let asked = c .before .before .before .before .before .before .before .before .before .before .before .before .before .before .before .pre .1 .0 .asked in
-    omega (arith, asked .row-stands .inside, asked .small, step.goes-within (c .before .before .before .before .before .first-of .ensures) true _ _ (c .before .before .before .m .given .1) .2))
-    (λ c κs. let start = c .before .before .before .before .before .before .before .before .before .before .before .before .before .before .before .before .pre in
-    let goes = step.goes-within (c .before .before .before .before .before .before .first-of .ensures) true _ _ (c .before .before .before .before .m .given .1) in
-    let falls = step.goes-falls (c .before .before .before .before .before .before .first-of .ensures) true _ _ (c .before .before .before .before .m .given .1) in (
-      omega (arith, start .0, goes .1, falls .0, start .1 .0 .asked .pattern-stands .inside),
-      (level.literal-later (start .1 .0) _ _ (goes .0) (goes .2), sure.sure-later (start .1 .1) (goes .0), start .1 .2),
-    ))
-    (λ c. search needs)
-    (λ c κs. c .before .before .before .before .before .before .before .before .if1 .left)
+    (λ c κs. c .before .before .before .before .before .before .before .pre .1 .1 .some)
     (λ c. c .end-of .ensures .2)
     (λ c. search needs)
     (λ c. search needs)
-    (λ c. step.binds-within (c .before .before .before .before .before .first-of .ensures) true _ (c .before .before .before .n .given .1) .0)
-    (λ c. step.binds-within (c .before .before .before .before .before .first-of .ensures) true _ (c .before .before .before .n .given .1) .0)
+    (λ c. step.binds-within (c .before .before .before .before .before .before .before .before .before .pre .1 .1 .leaves) true _ (c .before .before .before .first .given .1) .0)
+    (λ c. step.binds-within (c .before .before .before .before .before .before .before .before .before .pre .1 .1 .leaves) true _ (c .before .before .before .first .given .1) .0)
     (λ c. search needs)
-    (λ c κs. let asked = c .before .before .before .before .before .before .before .before .before .before .before .before .before .before .before .before .pre .1 .0 .asked in
-    let binds = step.binds-within (c .before .before .before .before .before .before .first-of .ensures) true _ (c .before .before .before .before .n .given .1) in (
+    (λ c. let asked = c .before .before .before .before .before .before .before .before .before .before .pre .1 .0 .0 .asked in
+    omega (arith, asked .pattern-stands .inside, asked .small, c .before .before .end-of .ensures .2))
+    (λ c κs. let start = c .before .before .before .before .before .before .before .before .before .before .pre in
+    let asked = start .1 .0 .0 .asked in
+    let binds = step.binds-within (start .1 .1 .leaves) true _ (c .before .before .before .before .first .given .1) in (
       (
-        omega (arith, asked .pattern-stands .inside, asked .small, c .before .before .before .before .before .before .before .before .before .before .before .if1 .left),
+        omega (arith, asked .pattern-stands .inside, asked .small, start .1 .1 .some),
         omega (arith, asked .row-stands .inside, asked .small),
         omega (arith, asked .row-stands .inside, asked .small, binds .0),
-        calls.place-ready asked (c .before .before .before .before .before .before .before .before .before .before .before .if1 .left) (binds .1),
+        calls.place-ready asked (start .1 .1 .some) (binds .1),
       ),
       (asked .kept .keys, asked .kept .starts, asked .kept .sizes),
     ))
-    (λ c. let asked = c .before .before .before .before .before .before .before .before .before .before .before .before .before .before .before .before .before .pre .1 .0 .asked in
-    omega (arith, asked .pattern-stands .inside, asked .small, c .before .before .before .end-of .ensures .2))
-    (λ c. let asked = c .before .before .before .before .before .before .before .before .before .before .before .before .before .before .before .before .before .pre .1 .0 .asked in
-    omega (arith, asked .row-stands .inside, asked .small, step.binds-within (c .before .before .before .before .before .before .before .first-of .ensures) true _ (c .before .before .before .before .before .n .given .1) .0))
-    (λ c κs. let start = c .before .before .before .before .before .before .before .before .before .before .before .before .before .before .before .before .before .before .pre in
+    (λ c. let start = c .before .before .before .before .before .before .before .before .before .before .before .pre in
+    let asked = start .1 .0 .0 .asked in
+    omega (arith, asked .row-stands .inside, asked .small, step.binds-within (start .1 .1 .leaves) true _ (c .before .before .before .before .before .first .given .1) .0))
+    (λ c κs. let start = c .before .before .before .before .before .before .before .before .before .before .before .before .pre in
+    let stopped = start .1 .1 in
     let ends = c .before .before .before .before .end-of in
-    let binds = step.binds-within (c .before .before .before .before .before .before .before .before .first-of .ensures) true _ (c .before .before .before .before .before .before .n .given .1) in (
-      omega (arith, start .0, ends .ensures .1, ends .ensures .2, start .1 .0 .asked .pattern-stands .inside),
-      (level.literal-more (start .1 .0) (c .before .before .before .before .before .before .before .before .before .before .before .before .before .if1 .left) (binds .1) (binds .0) (c .before .bind .ensures) (ends .result) (c .before .before .before .before .before .before .n .given .0 .0) (ends .ensures .0) (binds .0), sure.sure-later (sure.sure-more (start .1 .1) (c .before .bind .ensures)) (sure.begin-second (c .before .before .before .before .before .before .before .before .before .before .before .before .before .if1 .left) (ends .ensures .0)), start .1 .2),
+    let binds = step.binds-within (start .1 .1 .leaves) true _ (c .before .before .before .before .before .before .first .given .1) in (
+      omega (arith, start .0, ends .ensures .1, ends .ensures .2, start .1 .0 .0 .asked .pattern-stands .inside),
+      (
+        level.literal-more (start .1 .0 .0) (stopped .some) (binds .1) (binds .0) (c .before .bind .ensures) (ends .result) (c .before .before .before .before .before .before .first .given .0 .0) (ends .ensures .0) (binds .0),
+        sure.sure-later (sure.sure-more (start .1 .0 .1) (c .before .bind .ensures)) (sure.begin-second (stopped .some) (ends .ensures .0)),
+        start .1 .0 .2,
+      ),
     ))
     (λ c. search needs)
-    (λ c κs. let start = c .before .before .before .before .before .before .before .before .before .before .before .before .before .pre in
-    (omega (arith, start .0), ((start .1 .0, c .before .before .before .before .before .before .before .before .if1 .left, start .1 .1, start .1 .2), (step.tries-free (c .before .before .before .first-of .ensures) true (c .before .enum-told2 .given .1), λ back. step.step-tries (c .before .before .before .first-of .ensures) back (c .before .enum-told2 .given .1)))))
+    (λ c κs. let start = c .before .before .before .before .before .before .before .pre in
+    let stopped = start .1 .1 in
+    let told = c .before .enum-told3 .given .1 in
+    (omega (arith, start .0), ((start .1 .0 .0, stopped .some, start .1 .0 .1, start .1 .0 .2), (step.tries-free (stopped .leaves) true told, λ back. step.step-tries (stopped .leaves) back told))))
     (λ c. search needs)
-    (λ c κs. let start = c .before .before .before .before .before .before .before .before .before .before .before .before .before .pre in
-    (omega (arith, start .0), (start .1 .0, c .before .before .before .before .before .before .before .before .if1 .left, step.inside-facing (c .before .before .before .first-of .ensures) true (c .before .enum-told3 .given .1), start .1 .1, start .1 .2)))
-    (λ c. (level.run-none (c .before .before .before .before .before .before .before .before .before .before .before .before .pre .1 .0) (step.step-fails (c .before .before .first-of .ensures) true (c .enum-told .given .1)), c .before .before .before .before .before .before .before .before .before .before .before .before .pre .1 .2))
-    (λ c. let goes = step.goes-within (c .before .before .before .before .before .before .before .first-of .ensures) true _ _ (c .before .before .before .before .before .m .given .1) in
-    let falls = step.goes-falls (c .before .before .before .before .before .before .before .first-of .ensures) true _ _ (c .before .before .before .before .before .m .given .1) in (
-      level.run-rest (c .before .before .before .before .before .before .before .before .before .before .before .before .before .before .before .before .before .pre .1 .0) (c .literal-run .result) _ _ _ (falls .0) (goes .2)
-          (step.step-goes (c .before .before .before .before .before .before .before .first-of .ensures) true _ _ (c .before .before .before .before .before .m .given .1)) (c .literal-run .ensures .0),
+    (λ c κs. let start = c .before .before .before .before .before .before .before .pre in
+    let stopped = start .1 .1 in
+    (omega (arith, start .0), (start .1 .0 .0, stopped .some, step.inside-facing (stopped .leaves) true (c .before .enum-told4 .given .1), start .1 .0 .1, start .1 .0 .2)))
+    (λ c. absurd (known.stops-fails (c .before .before .before .before .before .before .pre .1 .1) (c .enum-told .given .1)))
+    (λ c. absurd (known.stops-not (c .before .before .before .before .before .before .pre .1 .1) _ _ (c .enum-told2 .given .1)))
+    (λ c. let start = c .before .before .before .before .before .before .before .before .before .before .before .before .before .pre in
+    let stopped = start .1 .1 in
+    let ends = c .before .before .before .before .before .end-of in
+    let binds = step.binds-within (start .1 .1 .leaves) true _ (c .before .before .before .before .before .before .before .first .given .1) in
+    let values = calls.values-more (start .1 .0 .0 .asked) (stopped .some) (binds .1) (binds .0) (c .before .before .bind .ensures) in (
+      level.run-rest (start .1 .0 .0) (c .literal-run .result) (ends .result) (c .before .before .before .before .before .before .before .first .given .0 .0) (c .before .before .bind .result) (ends .ensures .2) (binds .0)
+          (step.step-binds (stopped .leaves) true _ _ _ (c .before .before .before .before .before .before .before .first .given .1) (ends .ensures .0) values) (c .literal-run .ensures .0),
       c .literal-run .ensures .1,
     ))
-    (λ c. let start = c .before .before .before .before .before .before .before .before .before .before .before .before .before .before .before .before .before .before .before .pre in
-    let ends = c .before .before .before .before .before .end-of in
-    let binds = step.binds-within (c .before .before .before .before .before .before .before .before .before .first-of .ensures) true _ (c .before .before .before .before .before .before .before .n .given .1) in
-    let values = calls.values-more (start .1 .0 .asked) (c .before .before .before .before .before .before .before .before .before .before .before .before .before .before .if1 .left) (binds .1) (binds .0) (c .before .before .bind .ensures) in (
-      level.run-rest (start .1 .0) (c .literal-run2 .result) (ends .result) (c .before .before .before .before .before .before .before .n .given .0 .0) (c .before .before .bind .result) (ends .ensures .2) (binds .0)
-          (step.step-binds (c .before .before .before .before .before .before .before .before .before .first-of .ensures) true _ _ _ (c .before .before .before .before .before .before .before .n .given .1) (ends .ensures .0) values) (c .literal-run2 .ensures .0),
-      c .literal-run2 .ensures .1,
-    ))
-    (λ c. (level.run-same (c .before .before .before .before .before .before .before .before .before .before .before .before .before .before .pre .1 .0) (c .literal-tries .result) _ (c .literal-tries .ensures .0) (step.step-tries (c .before .before .before .before .first-of .ensures) true (c .before .before .enum-told2 .given .1)), c .literal-tries .ensures .1))
-    (λ c. (level.run-same (c .before .before .before .before .before .before .before .before .before .before .before .before .before .before .pre .1 .0) (c .literal-bracket .result) _ (c .literal-bracket .ensures .0) (step.step-inside (c .before .before .before .before .first-of .ensures) true (c .before .before .enum-told3 .given .1)), c .literal-bracket .ensures .1)))
+    (λ c. (level.run-same (c .before .before .before .before .before .before .before .before .pre .1 .0 .0) (c .literal-tries .result) _ (c .literal-tries .ensures .0) (step.step-tries (c .before .before .before .before .before .before .before .before .pre .1 .1 .leaves) true (c .before .before .enum-told3 .given .1)), c .literal-tries .ensures .1))
+    (λ c. (level.run-same (c .before .before .before .before .before .before .before .before .pre .1 .0 .0) (c .literal-bracket .result) _ (c .literal-bracket .ensures .0) (step.step-inside (c .before .before .before .before .before .before .before .before .pre .1 .1 .leaves) true (c .before .before .enum-told4 .given .1)), c .literal-bracket .ensures .1)))
     (λ t. literal-inside-lts.spec (
       end-of-reads.Asked,
       end-of-reads.Learnt,
@@ -502,6 +513,8 @@ pub +literal-bracket+literal-first+literal-inside+literal-lengths+literal-out+li
     (λ t. literal-run-lts.spec (
       known-front-reads.Asked,
       known-front-reads.Learnt,
+      literal-out-below t,
+      literal-out.Post,
       literal-first-below t,
       literal-first.Post,
     )
@@ -510,23 +523,38 @@ pub +literal-bracket+literal-first+literal-inside+literal-lengths+literal-out+li
     (λ c κs. c .before .before .before .before .before .before .before .before .pre .1 .0 .asked .kept)
     (λ c. search needs)
     (λ c. search needs)
-    (λ c. begin-inside (known.known-to (c .before .before .before .known-front .ensures) _ _ (c .before .m .given .1) .begins))
-    (λ c. begin-inside (known.known-to (c .before .before .before .known-front .ensures) _ _ (c .before .m .given .1) .begins))
+    (λ c. known.known-end (c .before .before .before .known-front .ensures) _ _ (c .before .n .given .1) .0 .within)
+    (λ c. known.known-end (c .before .before .before .known-front .ensures) _ _ (c .before .n .given .1) .0 .within)
     (λ c. search needs)
-    (λ c. known.known-to (c .before .before .before .before .known-front .ensures) _ _ (c .before .before .m .given .1) .within)
-    (λ c. known.known-to (c .before .before .before .before .known-front .ensures) _ _ (c .before .before .m .given .1) .within)
-    (λ c. search needs)
-    (λ c. let asked = c .before .before .before .before .before .before .before .before .before .before .before .before .before .before .pre .1 .0 .asked in
-    omega (arith, asked .pattern-stands .inside, asked .small, begin-inside (known.known-to (c .before .before .before .before .before .known-front .ensures) _ _ (c .before .before .before .m .given .1) .begins)))
-    (λ c. let asked = c .before .before .before .before .before .before .before .before .before .before .before .before .before .before .pre .1 .0 .asked in
-    omega (arith, asked .row-stands .inside, asked .small, known.known-to (c .before .before .before .before .before .known-front .ensures) _ _ (c .before .before .before .m .given .1) .within))
+    (λ c. let asked = c .before .before .before .before .before .before .before .before .before .before .before .before .before .before .pre .1 .0 .asked in omega (arith, asked .pattern-stands .inside, asked .small))
+    (λ c. let asked = c .before .before .before .before .before .before .before .before .before .before .before .before .before .before .pre .1 .0 .asked in omega (arith, asked .row-stands .inside, asked .small))
     (λ c κs. let start = c .before .before .before .before .before .before .before .before .before .before .before .before .before .before .before .pre in
-    let passed = known.known-to (c .before .before .before .before .before .before .known-front .ensures) _ _ (c .before .before .before .before .m .given .1) in (
+    let asked = start .1 .0 in (
+      omega (arith, start .0),
+      ((asked .asked .small, asked .around, asked .asked .kept, start .1 .2), level.out-capacity asked),
+    ))
+    (λ c. let (passed, short) = known.known-end (c .before .before .before .before .before .before .before .known-front .ensures) _ _ (c .before .before .before .before .before .n .given .1) in
+    (level.run-one (c .before .before .before .before .before .before .before .before .before .before .before .before .before .before .before .before .pre .1 .0) (c .literal-out .result) (passed .search true ∙ step.end-both _ _ _ true _ short (c .before .before .if1 .taken)) (c .literal-out .ensures .0), c .literal-out .ensures .1))
+    (λ c. search needs)
+    (λ c. begin-inside (known.known-stop (c .before .before .before .known-front .ensures) _ _ _ (c .before .m .given .1) .0 .begins))
+    (λ c. begin-inside (known.known-stop (c .before .before .before .known-front .ensures) _ _ _ (c .before .m .given .1) .0 .begins))
+    (λ c. search needs)
+    (λ c. known.known-stop (c .before .before .before .before .known-front .ensures) _ _ _ (c .before .before .m .given .1) .0 .within)
+    (λ c. known.known-stop (c .before .before .before .before .known-front .ensures) _ _ _ (c .before .before .m .given .1) .0 .within)
+    (λ c. search needs)
+    (λ c. let asked = c .before .before .before .before .before .before .before .before .before .before .before .before .before .before .pre .1 .0 .asked in
+    omega (arith, asked .pattern-stands .inside, asked .small, begin-inside (known.known-stop (c .before .before .before .before .before .known-front .ensures) _ _ _ (c .before .before .before .m .given .1) .0 .begins)))
+    (λ c. let asked = c .before .before .before .before .before .before .before .before .before .before .before .before .before .before .pre .1 .0 .asked in
+    omega (arith, asked .row-stands .inside, asked .small, known.known-stop (c .before .before .before .before .before .known-front .ensures) _ _ _ (c .before .before .before .m .given .1) .0 .within))
+    (λ c κs. let start = c .before .before .before .before .before .before .before .before .before .before .before .before .before .before .before .pre in
+    let (passed, stopped) = known.known-stop (c .before .before .before .before .before .before .known-front .ensures) _ _ _ (c .before .before .before .before .m .given .1) in (
       omega (arith, start .0, begin-inside (passed .begins), start .1 .0 .asked .pattern-stands .inside),
-      (level.literal-later (start .1 .0) _ _ (passed .begins) (passed .within), sure.sure-later (start .1 .1) (passed .begins), start .1 .2),
+      ((level.literal-later (start .1 .0) _ _ (passed .begins) (passed .within), sure.sure-later (start .1 .1) (passed .begins), start .1 .2), stopped),
     ))
     (λ c. (level.run-none (c .before .before .before .before .before .before .before .before .before .before .before .pre .1 .0) (known.known-fails (c .before .before .known-front .ensures) (c .enum-told .given .1) true), c .before .before .before .before .before .before .before .before .before .before .before .pre .1 .2))
-    (λ c. let passed = known.known-to (c .before .before .before .before .before .before .before .known-front .ensures) _ _ (c .before .before .before .before .before .m .given .1) in
+    (λ c. let (passed, short) = known.known-end (c .before .before .before .before .before .known-front .ensures) _ _ (c .before .before .before .n .given .1) in
+    (level.run-none (c .before .before .before .before .before .before .before .before .before .before .before .before .before .before .pre .1 .0) (passed .search true ∙ step.end-one _ _ _ true _ short (c .if1 .left)), c .before .before .before .before .before .before .before .before .before .before .before .before .before .before .pre .1 .2))
+    (λ c. let passed = known.known-stop (c .before .before .before .before .before .before .before .known-front .ensures) _ _ _ (c .before .before .before .before .before .m .given .1) .0 in
     (level.run-rest (c .before .before .before .before .before .before .before .before .before .before .before .before .before .before .before .before .pre .1 .0) (c .literal-first .result) _ _ _ (begin-inside (passed .begins)) (passed .within) (passed .search true) (c .literal-first .ensures .0), c .literal-first .ensures .1)))
     λ t. literal-tries-lts.spec (
       literal-lengths-below t,
