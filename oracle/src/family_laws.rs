@@ -8,8 +8,8 @@ use crate::parse::parse;
 const TERMS: usize = 512;
 const VARIABLES: usize = 32;
 const SHAPES: usize = 64;
-/// The numbers of the last family: it stays slow.
-const CROSSED: usize = 16;
+/// The numbers of the last two families: they stay slow.
+const SLOW: usize = 16;
 
 /// Terms in Refal notation, and how many records they are.
 #[derive(Clone, Default)]
@@ -129,11 +129,18 @@ pub fn families() -> Vec<Family> {
             each: false,
         })
         .collect();
-    all.push(Family {
-        name: "f: e.1 .. e.k 'c' e.k .. e.1, 'a' k times, 'c', 'a' k + 1 times",
-        pairs: crossed(),
+    let slow = [
+        (
+            "f: e.1 .. e.k 'c' e.k .. e.1, 'a' k times, 'c', 'a' k + 1 times",
+            crossed(),
+        ),
+        ("g: s.A e.1 .. e.k s.A, 'a', 'b' k times", around()),
+    ];
+    all.extend(slow.into_iter().map(|(name, pairs)| Family {
+        name,
+        pairs,
         each: true,
-    });
+    }));
     all
 }
 
@@ -266,5 +273,16 @@ fn crossed() -> Vec<Pair> {
         let row = a(k).then(&middle).then(&a(k + 1));
         Pair::new(format!("k = {k}"), pattern, row)
     };
-    (1..=CROSSED).map(pair).collect()
+    (1..=SLOW).map(pair).collect()
+}
+
+/// The first and the last symbol differ: every rest between them holds a variable that has a value.
+fn around() -> Vec<Pair> {
+    let pair = |k: usize| {
+        let symbol = Part::one("s.A");
+        let pattern = symbol.clone().then(&e(1..=k)).then(&symbol);
+        let row = a(1).then(&Part::one("'b'").times(k));
+        Pair::new(format!("k = {k}"), pattern, row)
+    };
+    (1..=SLOW).map(pair).collect()
 }
