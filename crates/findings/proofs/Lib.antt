@@ -6,6 +6,7 @@ pub mod ArgumentParts
 pub mod RecognitionLaws
 pub mod CallLaws
 pub mod WalkLaws
+pub mod NoneMetLaws
 pub mod WalkSteps
 pub mod WalkEvents
 pub mod EventLaws

@@ -617,3 +617,6 @@ module _ {bytes index slots store : List ℕ} {limit : ℕ} (prepared : Prepared
 
   pub functions-read : (count : ℕ) → count ≡ getD index 4 0 → count ≡ fileOf bytes .functions .count
   functions-read count e = e ∙ indexed .words .functions
+
+  pub functions-few : getD index 4 0 ≤ 64
+  functions-few = omega (arith, indexed .words .functions, functions-limit bytes index indexed)

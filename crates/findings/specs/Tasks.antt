@@ -1,8 +1,9 @@
 -- What each lint meets, by the task that the code is given: the lint's number, the severity that its findings have, whether they are shown, the position
 -- of the function that is gone through, the words that there is room for, and the most shapes of a format.
-use Prim.Native.Nat.{ℕ, suc, _*_}
-use mathlib.Core.Bool.{Bool, cond}
+use Prim.Native.Nat.{ℕ, suc, _+_, _*_}
+use mathlib.Core.Bool.{Bool, cond, _&&_}
 use mathlib.Core.List.{List, [], _∷_, _++_, map}
+use lib.ListN.{getD}
 use lib.Dec.{eqb, ltb}
 use Rattle.file.specs.Word.{wordAt}
 use Rattle.file.specs.Sections.{File}
@@ -75,6 +76,10 @@ unfoldable pub functionEvents : Law → Inferred → Task → Sentences → List
 functionEvents law formats task ss =
     cond (eqb (task .lint) 4) (remarkEvents task (openIn ss))
     (when (eqb (task .lint) 1) (remarkEvents task (ownDead ss)) ++ insideEvents law formats task ss)
+
+-- lint 1 where the functions have all sentences, by the words of the index: no block has any
+abbrev pub ownAlone : List ℕ → ℕ → Bool
+ownAlone index lint = eqb lint 1 && eqb (getD index (8 + getD index 4 0) 0) (getD index 5 0)
 
 -- a task at another position
 abbrev pub atPosition : Task → ℕ → Task

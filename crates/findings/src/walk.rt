@@ -18,11 +18,12 @@ use law::places::pattern;
 use law::places::pattern_at;
 use law::places::result;
 use law::places::result_at;
+use law::places::sentences;
 use law::places::wanted;
 use law::runs::end_of;
 ghost use mathlib.Core.Path.{_≡_};
 ghost use Prim.Native.Nat.{_+_, _≤_, _<_};
-ghost use lib.ListN.{length};
+ghost use lib.ListN.{length, getD};
 ghost use lib.Dec.{eqb};
 ghost use Rattle.file.specs.Sections.{fileOf};
 ghost use Rattle.law.specs.Tree.{keep};
@@ -33,7 +34,7 @@ ghost use Rattle.law.specs.Index.{Indexed, PartAt};
 ghost use Rattle.law.specs.Law.{Accepted};
 ghost use Rattle.lints.specs.Records.{Prepared, formatsIn, conditionsAt};
 ghost use Rattle.findings.specs.Events.{sinkOf, collect};
-ghost use Rattle.findings.specs.Tasks.{blockEvents, termEvents, runEvents, insideEvents, conditionEvents, functionEvents, lintEvents};
+ghost use Rattle.findings.specs.Tasks.{ownAlone, blockEvents, termEvents, runEvents, insideEvents, conditionEvents, functionEvents, lintEvents};
 
 // Notes the dead ones of a block's own sentences, where the task is lint 1.
 fn note_block(
@@ -224,6 +225,17 @@ fn walk_conditions(
     so_far
 }
 
+// Does lint 1 meet nothing but the functions' own sentences? Where the functions have all sentences, no block has any.
+fn own_alone(index: &[u16; 972], lint: u32) -> bool
+    requires { ⌜ getD (now index) 4 0 ≤ 64 ⌝ }
+    ensures { λ r. ⌜ r ≡ ownAlone (now (index .entry)) lint ⌝ }
+{
+    if lint != 1 {
+        return false;
+    }
+    first_sentence(index, functions(index)) == sentences(index)
+}
+
 // Notes what the task's lint says of a function.
 fn lint_function(
     law: &[u8],
@@ -246,6 +258,9 @@ fn lint_function(
         return note_open(law, index, task, first, count, out, tally);
     }
     let own = note_block(law, index, task, first, count, out, tally);
+    if own_alone(index, task.lint) {
+        return own;
+    }
     walk_sentences(law, index, slots, store, task, first, count, out, own)
 }
 

@@ -1,9 +1,12 @@
 use Prim.Native.Nat.{_-_}
+use mathlib.Core.Path.{sym, _∙_}
 use native.Mathlib.Omega.{arith}
 use borrow.Author.Needs.{needs}
 use Rattle.file.specs.Sections.{fileOf}
 use Rattle.lints.specs.Records.{formatsIn}
 use Rattle.findings.specs.Events.{sinkOf}
+use Rattle.law.specs.Reading.{treeOf}
+use Rattle.findings.proofs.NoneMetLaws.{nothing-inside}
 use Rattle.findings.proofs.WalkSteps as steps
 use Rattle.findings.proofs.walk.lint_function.Statement.{statement}
 use Rattle.findings.proofs.walk.lint_function.Tie as tie
@@ -45,16 +48,28 @@ lint-function-spec =
     let the-first-sentence2 = c .before .before .before .first-sentence2 in
     (start .pre .0 .asked .indexed, start .pre .0 .accepted, steps.sentences-inside (start .pre .0) (start .args .f) (start .pre .1) (the-first-sentence .result) (the-first-sentence2 .result) (the-first-sentence .ensures) (the-first-sentence2 .ensures)))
     (λ c κs.
-    let start = c .before .before .before .before .before .before .before .before .before .before .before .before in
-    let the-first-sentence = c .before .before .before .before .before .before .before .before .first-sentence in
-    let the-first-sentence2 = c .before .before .before .before .before .before .before .first-sentence2 in
-    ((start .pre .0), steps.sentences-inside (start .pre .0) (start .args .f) (start .pre .1) (the-first-sentence .result) (the-first-sentence2 .result) (the-first-sentence .ensures) (the-first-sentence2 .ensures)))
+    let start = c .before .before .before .before .before .before .before .before .before .before .before in
+    steps.functions-few (start .pre .0))
     (λ c. search needs)
     (λ c.
-    let start = c .before .before .before .before .before .before .before .before .before .before .before .before .before .before .before in
-    let the-first-sentence2 = c .before .before .before .before .before .before .before .before .before .before .first-sentence2 in
-    let the-first-sentence = c .before .before .before .before .before .before .before .before .before .before .before .first-sentence in
-    let the-note-block = c .before .before .before .before .before .before .note-block in
+    let start = c .before .before .before .before .before .before .before .before .before .before .before .before .before in
+    let the-first-sentence = c .before .before .before .before .before .before .before .before .before .first-sentence in
+    let the-first-sentence2 = c .before .before .before .before .before .before .before .before .first-sentence2 in
+    let the-if1 = c .before .before .before .before .before .before .if1 in
+    let the-note-block = c .before .before .before .before .note-block in
+    let alone = sym (c .before .own-alone .ensures) ∙ c .if2 .taken in
+    steps.function-steps (fileOf (start .args .law .now)) (formatsIn (fileOf (start .args .law .now)) (start .args .task .limit) (start .args .store .now)) (start .args .task) (start .args .f) (the-first-sentence2 .result - the-first-sentence .result) (the-first-sentence .result) (steps.sentences-count (start .pre .0) (start .args .f) (start .pre .1) (the-first-sentence .result) (the-first-sentence2 .result) (the-first-sentence .ensures) (the-first-sentence2 .ensures)) (steps.sentences-first-reads (start .pre .0) (start .args .f) (start .pre .1) (the-first-sentence .result) (the-first-sentence2 .result) (the-first-sentence .ensures) (the-first-sentence2 .ensures)) (sinkOf (start .args .tally) (start .args .out .now)) (sinkOf (the-note-block .result) (the-note-block .last .1 .1 .1 .1 .1 .0)) (sinkOf (the-note-block .result) (the-note-block .last .1 .1 .1 .1 .1 .0)) (the-if1 .left) (the-note-block .ensures) (nothing-inside (start .args .law .now) (start .args .index .now) (treeOf (fileOf (start .args .law .now))) (formatsIn (fileOf (start .args .law .now)) (start .args .task .limit) (start .args .store .now)) (start .args .task) (start .pre .0 .asked .indexed) (start .pre .0 .asked .readable) alone (the-first-sentence2 .result - the-first-sentence .result) (the-first-sentence .result) (steps.sentences-inside (start .pre .0) (start .args .f) (start .pre .1) (the-first-sentence .result) (the-first-sentence2 .result) (the-first-sentence .ensures) (the-first-sentence2 .ensures)) (sinkOf (the-note-block .result) (the-note-block .last .1 .1 .1 .1 .1 .0))))
+    (λ c κs.
+    let start = c .before .before .before .before .before .before .before .before .before .before .before .before .before .before in
+    let the-first-sentence = c .before .before .before .before .before .before .before .before .before .before .first-sentence in
+    let the-first-sentence2 = c .before .before .before .before .before .before .before .before .before .first-sentence2 in
+    (start .pre .0, steps.sentences-inside (start .pre .0) (start .args .f) (start .pre .1) (the-first-sentence .result) (the-first-sentence2 .result) (the-first-sentence .ensures) (the-first-sentence2 .ensures)))
+    (λ c. search needs)
+    (λ c.
+    let start = c .before .before .before .before .before .before .before .before .before .before .before .before .before .before .before .before .before in
+    let the-first-sentence = c .before .before .before .before .before .before .before .before .before .before .before .before .before .first-sentence in
+    let the-first-sentence2 = c .before .before .before .before .before .before .before .before .before .before .before .before .first-sentence2 in
+    let the-if1 = c .before .before .before .before .before .before .before .before .before .before .if1 in
+    let the-note-block = c .before .before .before .before .before .before .before .before .note-block in
     let the-walk-sentences = c .before .before .walk-sentences in
-    let the-if1 = c .before .before .before .before .before .before .before .before .if1 in
     steps.function-steps (fileOf (start .args .law .now)) (formatsIn (fileOf (start .args .law .now)) (start .args .task .limit) (start .args .store .now)) (start .args .task) (start .args .f) (the-first-sentence2 .result - the-first-sentence .result) (the-first-sentence .result) (steps.sentences-count (start .pre .0) (start .args .f) (start .pre .1) (the-first-sentence .result) (the-first-sentence2 .result) (the-first-sentence .ensures) (the-first-sentence2 .ensures)) (steps.sentences-first-reads (start .pre .0) (start .args .f) (start .pre .1) (the-first-sentence .result) (the-first-sentence2 .result) (the-first-sentence .ensures) (the-first-sentence2 .ensures)) (sinkOf (start .args .tally) (start .args .out .now)) (sinkOf (the-note-block .result) (the-note-block .last .1 .1 .1 .1 .1 .0)) (sinkOf (the-walk-sentences .result) (the-walk-sentences .last .1 .1 .1 .1 .1 .1 .1 .0)) (the-if1 .left) (the-note-block .ensures) (the-walk-sentences .ensures)))
