@@ -6,11 +6,11 @@ use mathlib.Core.List.{List, [], _∷_, _++_, append-nil, append-assoc}
 use mathlib.Core.Option.{Option, none, some}
 use mathlib.Core.Path.{_≡_, refl, sym, ap, _∙_}
 use native.Mathlib.Omega.{arith}
-use native.Mathlib.Nat.{add-zero}
+use native.Mathlib.Nat.{add-zero, add-assoc}
 use native.Mathlib.Numerals.{add-one}
 use native.Mathlib.Decide.{decLe, decLt}
-use lib.ListN.{length, take, drop, getD, set, replicate, length-take, length-drop}
-use lib.Seq.{length-take-le, take-suc, take-take, take-at, getD-take, getD-drop, drop-drop}
+use lib.ListN.{length, take, drop, getD, set, replicate, length-take, length-drop, length-set}
+use lib.Seq.{length-take-le, take-suc, take-all, take-take, take-at, getD-take, getD-drop, drop-drop}
 use lib.Dec.{leb}
 use borrow.Author.Tests.{le-leb, lt-leb, lt-ltb, le-ltb}
 use Rattle.names.specs.Name.{folded}
@@ -24,7 +24,7 @@ use Rattle.law.specs.Runs.{endOf}
 use Rattle.law.specs.Reading.{termRun, own}
 use Rattle.law.specs.Index.{Readable, PartAt}
 use Rattle.law.proofs.RunLaws.{run-empty, run-node}
-use Rattle.law.proofs.PartLaws.{part-at, part-term, contents-part, rest-part}
+use Rattle.law.proofs.PartLaws.{part-at, part-term, part-leaf, part-end, contents-part, rest-part}
 use Rattle.shapes.specs.Leaf.{leafWord, leafAt, leafOf}
 use Rattle.shapes.specs.Format.{Shapes, end, item, group, Format, never, of, size, formatSize, isOpen}
 use Rattle.shapes.specs.Words.{bracketWord, shapeWords, formatWords, FormatIn}
@@ -33,7 +33,7 @@ use Rattle.shapes.proofs.WordLaws.{words-length, format-words-length, read-writ
 use Rattle.shapes.proofs.WrittenLaws.{written-none, written-more, written-one, written-front, written-length}
 use Rattle.formats.specs.FormatOf.{variableShapes, patternShapes, chain, extend, Results, resultShapes}
 use Rattle.formats.specs.Slots.{callFolded}
-use Rattle.formats.specs.Rows.{formatAt, Knows, RowIs, Between, Stored, storedAt, stepOf, calleeShapes, stepShapes, partShapes, firstShapes, RowAsked}
+use Rattle.formats.specs.Rows.{formatAt, Knows, RowIs, Between, Stored, storedAt, stepOf, calleeShapes, stepShapes, partShapes, firstShapes, RowAsked, LeafKind, leftOf, Onward, LeavesAre}
 use Rattle.formats.specs.declared.Row.{Row}
 use Rattle.formats.specs.declared.Row.the-variants.{Over, Ends}
 use Rattle.formats.specs.declared.rows.Step as steps
@@ -549,3 +549,82 @@ stored-none store limit h = record {
   limited = h;
   results = λ p k. absurd (omega arith);
 }
+
+-- ---- the leaves that a part begins with
+
+left-drop : (n : ℕ) (p : List ℕ) → leftOf n p ≡ drop (24 * n) p
+left-drop n p = take-all (length p - 24 * n) (drop (24 * n) p) (omega (arith, length-drop (24 * n) p))
+
+pub left-length : (n : ℕ) (p : List ℕ) → length (leftOf n p) ≡ length p - 24 * n
+left-length n p = rw (left-drop n p) (length-drop (24 * n) p)
+
+left-none : (p : List ℕ) → leftOf 0 p ≡ p
+left-none p = left-drop 0 p
+
+left-next : (n : ℕ) (p : List ℕ) → take (length (leftOf n p) - 24) (drop 24 (leftOf n p)) ≡ leftOf (n + 1) p
+left-next n p =
+    let place : 24 * n + 24 ≡ 24 * (n + 1) = omega arith in
+    take-all (length (leftOf n p) - 24) (drop 24 (leftOf n p)) (omega (arith, length-drop 24 (leftOf n p)))
+    ∙ ap (drop 24) (left-drop n p)
+    ∙ drop-drop 24 (24 * n) p
+    ∙ rw place (sym (left-drop (n + 1) p))
+
+-- the words of the kinds
+pub kind-identifier : (kind : ℕ) → kind ≡ 1 → LeafKind kind 2
+unfolding termFrom
+kind-identifier kind e a b = rw e
+
+pub kind-number : (kind : ℕ) → kind ≡ 2 → LeafKind kind 1
+unfolding termFrom
+kind-number kind e a b = rw e
+
+pub kind-itself : (kind : ℕ) → kind < 5 → (kind ≡ 1 → ⊥) → (kind ≡ 2 → ⊥) → LeafKind kind kind
+unfolding termFrom
+kind-itself zero h i j a b = refl
+kind-itself (suc zero) h i j a b = absurd (i refl)
+kind-itself (suc (suc zero)) h i j a b = absurd (j refl)
+kind-itself (suc (suc (suc zero))) h i j a b = refl
+kind-itself (suc (suc (suc (suc zero)))) h i j a b = refl
+kind-itself (suc (suc (suc (suc (suc kind))))) h i j a b = absurd (omega arith)
+
+-- no record yet
+pub leaves-none : (part before : List ℕ) (from most : ℕ) → LeavesAre part before before from most 0
+leaves-none part before from most file at store limit count asked = record {
+  asked = rw (left-none part, add-zero at, add-zero from) asked;
+  goes = λ results after row r. rw (left-none part, add-zero at, add-zero from) at r;
+}
+
+-- one record more
+pub leaves-next : (part before middle : List ℕ) (from most n word : ℕ) → LeavesAre part before middle from most n
+    → from + n < most → 24 * n + 24 ≤ length part → wordAt (leftOf n part) 0 < 5 → LeafKind (wordAt (leftOf n part) 0) word
+    → LeavesAre part before (set middle (from + n) word) from most (n + 1)
+unfolding termAt
+leaves-next part before middle from most n word so-far room enough kind leaf file at store limit count asked = record {
+  asked = rw (left-next n part, add-zero (at + n + 1), add-assoc at n 1) at (asked-rest now whole {n = 0} {next = from + (n + 1)} {out = set middle (from + n) word} ends none-inside (omega arith) (length-set middle (from + n) word));
+  goes = λ results after row r. onward .goes results after row (row-first-rest now whole results refl refl ends none-inside (written results) (rw (left-next n part, add-zero (at + n + 1), add-assoc at n 1, add-assoc from n 1) r));
+}
+  where
+    onward : Onward file at part store limit count before middle from most n
+    onward = so-far file at store limit count asked
+
+    now : RowAsked file (at + n) (leftOf n part) store limit count middle (from + n) most
+    now = onward .asked
+
+    whole : 24 ≤ length (leftOf n part)
+    whole = omega (arith, left-length n part)
+
+    none-inside : 0 ≡ wordAt (leftOf n part) 12
+    none-inside = sym (part-leaf file (now .readable) (at + n) (leftOf n part) (now .here) whole (omega arith))
+
+    ends : 24 ≡ endOf (leftOf n part)
+    ends = omega (arith, part-end file (now .readable) (at + n) (leftOf n part) (now .here) whole, none-inside)
+
+    step : stepOf (termAt (leftOf n part) 0) ≡ steps.the-variants.Leaf word
+    step = leaf _ _
+
+    written : (results : Results) → RowIs (firstShapes file results (at + n) (leftOf n part)) middle (set middle (from + n) word) (from + n) most (Ends (from + n + 1) false)
+    written results = first-leaf now whole results step (row-leaf word middle (from + n) most (leaf-small (leftOf n part) word step) room (now .room))
+
+-- a record's number is small
+pub asked-place : {file : File} {at : ℕ} {p store : List ℕ} {limit count : ℕ} {out : List ℕ} {from most : ℕ} → RowAsked file at p store limit count out from most → at ≤ 512
+asked-place asked = omega (arith, asked .here .inside, asked .terms)

@@ -1,5 +1,5 @@
 -- What the code that writes the shapes of a run of term records promises.
-use Prim.Native.Nat.{ℕ, _+_, _*_, _≤_, _<_}
+use Prim.Native.Nat.{ℕ, _+_, _*_, _-_, _≤_, _<_}
 use mathlib.Core.Bool.{true, false, cond}
 use mathlib.Core.List.{List}
 use mathlib.Core.Option.{Option, none, some}
@@ -9,7 +9,7 @@ use lib.Dec.{ltb}
 use Rattle.file.specs.Word.{wordAt}
 use Rattle.file.specs.Sections.{File}
 use Rattle.file.specs.Forest.{contents}
-use Rattle.file.specs.Head.{termAt}
+use Rattle.file.specs.Head.{termFrom, termAt}
 use Rattle.file.specs.declared.Symbol.{Symbol}
 use Rattle.file.specs.declared.Symbol.the-variants.{Character, Identifier, Number}
 use Rattle.file.specs.declared.Term.{Term}
@@ -77,6 +77,10 @@ stepOf Bracket = steps.the-variants.Bracket
 stepOf (Call a b) = steps.the-variants.Call
 stepOf (Block n) = steps.the-variants.Open
 
+-- every record of a kind adds the shape of one word
+abbrev pub LeafKind : ℕ → ℕ → Type 0
+LeafKind kind word = (a b : ℕ) → stepOf (termFrom kind a b) ≡ steps.the-variants.Leaf word
+
 -- the shapes of a call of which this is known
 abbrev pub calleeShapes : Option Format → Shapes
 calleeShapes none = end true
@@ -109,3 +113,19 @@ pub record RowAsked (file : File) (at : ℕ) (part store : List ℕ) (limit coun
   pub begins : from ≤ most
   pub room : most ≤ length out
   pub small : most < 65536
+
+-- the records of a part after its first n
+abbrev pub leftOf : ℕ → List ℕ → List ℕ
+leftOf n part = take (length part - 24 * n) (drop (24 * n) part)
+
+-- what is asked for the records after the first n, once these are written, and that their row is then the row of the whole part
+pub record Onward (file : File) (at : ℕ) (part store : List ℕ) (limit count : ℕ) (before middle : List ℕ) (from most n : ℕ) : Type 0 where
+  pub asked : RowAsked file (at + n) (leftOf n part) store limit count middle (from + n) most
+  pub goes : (results : Results) (after : List ℕ) (row : Row) → RowIs (partShapes file results (at + n) (leftOf n part)) middle after (from + n) most row
+      → RowIs (partShapes file results at part) before after from most row
+
+-- the first n records of a part are written, a word each, wherever the part stands
+abbrev pub LeavesAre : List ℕ → List ℕ → List ℕ → ℕ → ℕ → ℕ → Type 0
+LeavesAre part before middle from most n =
+    (file : File) (at : ℕ) (store : List ℕ) (limit count : ℕ) → RowAsked file at part store limit count before from most
+    → Onward file at part store limit count before middle from most n

@@ -8,7 +8,7 @@ use file::word_at;
 use law::runs::end_of;
 ghost use mathlib.Core.Path.{_≡_};
 ghost use mathlib.Core.Bool.{false};
-ghost use Prim.Native.Nat.{_+_, _≤_, _<_};
+ghost use Prim.Native.Nat.{_+_, _*_, _≤_, _<_};
 ghost use lib.ListN.{length, take, drop};
 ghost use Rattle.file.specs.Sections.{fileOf};
 ghost use Rattle.file.specs.Forest.{contents};
@@ -18,7 +18,7 @@ ghost use Rattle.shapes.specs.Format.{end, item, group};
 ghost use Rattle.shapes.specs.Words.{bracketWord};
 ghost use Rattle.shapes.specs.Written.{written};
 ghost use Rattle.formats.specs.FormatOf.{Results};
-ghost use Rattle.formats.specs.Rows.{Knows, RowIs, Between, Stored, storedAt, symbolStep, stepOf, calleeShapes, partShapes, firstShapes, RowAsked};
+ghost use Rattle.formats.specs.Rows.{Knows, RowIs, Between, LeafKind, LeavesAre, Stored, storedAt, symbolStep, stepOf, calleeShapes, partShapes, firstShapes, RowAsked};
 
 // What a term record adds to a row: a shape of one word, an open end, a bracket, or what the store has for a call.
 enum Step {
@@ -88,6 +88,38 @@ fn write_leaf(word: u32, out: &mut [u32], to: usize, most: usize) -> Row
     }
     out[to] = word;
     Row::Ends(to + 1, false)
+}
+
+// The word of a symbol, an s. or a t. variable, by its kind.
+fn leaf_word(kind: u32) -> u32
+    requires { ⌜ kind < 5 ⌝ }
+    ensures { λ r. ⌜ LeafKind kind r ⌝ }
+{
+    if kind == 1 {
+        return 2;
+    }
+    if kind == 2 {
+        return 1;
+    }
+    kind
+}
+
+// Writes the words of the symbols, s. and t. variables that a part begins with, while there is room, and answers how many. They are
+// most of what a row has, and need no call each.
+fn write_leaves(part: &[u8], out: &mut [u32], to: usize, most: usize) -> usize
+    requires { ⌜ (to ≤ most) × (most ≤ length (now out)) ⌝ }
+    ensures { λ r. ⌜ (24 * r ≤ length (now (part .entry))) × (to + r ≤ most) × LeavesAre (now (part .entry)) (now (out .entry)) (now (out .exit)) to most r ⌝ }
+{
+    let mut n = 0;
+    while n < most - to && 24 * n + 24 <= part.len() {
+        let kind = word_at(&part[24 * n..], 0);
+        if 5 <= kind {
+            return n;
+        }
+        out[to + n] = leaf_word(kind);
+        n += 1;
+    }
+    n
 }
 
 // The shapes that the store has for a call, by the place of its name. From `count` on no function has the name, and the row ends open.
@@ -196,18 +228,22 @@ pub fn write_row(
     ensures { λ r. ⌜ Between to most r × ((t : Results) → Knows (fileOf (now (law .entry))) (now (slots .entry)) (now (store .entry)) limit count t
         → RowIs (partShapes (fileOf (now (law .entry))) t at (now (part .entry))) (now (out .entry)) (now (out .exit)) to most r) ⌝ }
 {
-    if part.len() < 24 {
-        return Row::Ends(to, false);
+    let n = write_leaves(part, out, to, most);
+    let left = &part[24 * n..];
+    let here = at + n;
+    let from = to + n;
+    if left.len() < 24 {
+        return Row::Ends(from, false);
     }
-    let first = write_first(law, part, at, store, slots, limit, count, out, to, most);
+    let first = write_first(law, left, here, store, slots, limit, count, out, from, most);
     let Row::Ends(next, opened) = first else {
         return Row::Over;
     };
     if opened {
         return Row::Ends(next, true);
     }
-    let end = end_of(part);
-    let rest = &part[end..];
-    let past = at + 1 + word_at(part, 12) as usize;
+    let end = end_of(left);
+    let rest = &left[end..];
+    let past = here + 1 + word_at(left, 12) as usize;
     write_row(law, rest, past, store, slots, limit, count, out, next, most)
 }

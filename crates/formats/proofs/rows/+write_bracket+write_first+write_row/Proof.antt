@@ -1,11 +1,13 @@
 -- `rows::write_row`, `write_first` and `write_bracket` meet their contracts, by a law of proofs/RowLaws.antt for each return. The measure is three times
--- the part's length, with 2, 1 and 0 more, since they hand the same part on in that order; the contents and the rest of a part are shorter.
+-- the part's length, with 2, 1 and 0 more, since they hand the same part, or what is left of it after its leaves, on in that order; the contents and the rest
+-- of a part are shorter.
 use Prim.Native.Nat.{ℕ, _+_, _*_, _<_}
 use native.Mathlib.Omega.{arith}
 use borrow.Author.Needs.{needs}
 use mathlib.Core.Path.{refl, _∙_}
 use lib.ListN.{length, length-set}
 use Rattle.law.proofs.Forests.{inside-falls, after-falls}
+use Rattle.formats.specs.Rows.{leftOf}
 use Rattle.formats.proofs.RowLaws as laws
 use borrow.Fn.Kinds.{In}
 use borrow.Fn.PlainCycle.{Measures, is, falls, and}
@@ -25,6 +27,7 @@ use Rattle.formats.proofs.rows.step_of.Reads as step-of-reads
 use Rattle.formats.proofs.slots.wide.Reads as wide-reads
 use Rattle.formats.proofs.rows.write_call.Reads as write-call-reads
 use Rattle.formats.proofs.rows.write_leaf.Reads as write-leaf-reads
+use Rattle.formats.proofs.rows.write_leaves.Reads as write-leaves-reads
 use Rattle.law.proofs.runs.end_of.Reads as end-of-reads
 use Rattle.formats.proofs.rows.+write_bracket+write_first+write_row.{statement}
 use Rattle.formats.proofs.rows.+write_bracket+write_first+write_row.Tie.{close}
@@ -180,6 +183,8 @@ pub +write-bracket+write-first+write-row-spec : {M : Type 1} → statement M
       λ results knows. laws.first-call (start .pre .1 .0) (start .pre .1 .1) results step (c .before .before .before .before .wide .ensures .0) knows (c .before .before .write-call .ensures .1),
     )))
     λ t. write-row-lts.spec (
+      write-leaves-reads.Asked,
+      write-leaves-reads.Learnt,
       write-first-below t,
       write-first.Post,
       end-of-reads.Asked,
@@ -191,49 +196,77 @@ pub +write-bracket+write-first+write-row-spec : {M : Type 1} → statement M
     )
     (write-row-at t)
     write-row.Post
-    (λ c. let start = c .before .before .before .before .before in
-    let a = start .args in
-    let asked = start .pre .1 in (
+    (λ c κs. let asked = c .before .before .before .before .before .pre .1 in
+    (asked .begins, asked .room))
+    (λ c. omega (arith, c .before .before .write-leaves .ensures .0))
+    (λ c. c .before .before .write-leaves .ensures .0)
+    (λ c. search needs)
+    (λ c. search needs)
+    (λ c. let start = c .before .before .before .before .before .before .before .before .before in
+    let leaves = c .before .before .before .write-leaves in
+    let onward = leaves .ensures .2 _ (start .args .at) (start .args .store .now) (start .args .limit) (start .args .count) (start .pre .1) in
+    omega (arith, laws.asked-place (onward .asked)))
+    (λ c. omega (arith, c .before .before .before .write-leaves .ensures .1))
+    (λ c. c .before .before .before .before .write-leaves .kept .1 .0)
+    (λ c. let start = c .before .before .before .before .before .before .before .before .before .before in
+    let leaves = c .before .before .before .before .write-leaves in
+    let onward = leaves .ensures .2 _ (start .args .at) (start .args .store .now) (start .args .limit) (start .args .count) (start .pre .1) in
+    let asked = onward .asked in (
       (omega arith, asked .begins),
-      λ results knows. laws.row-none _ results _ (a .part .now) (a .out .now) (a .to) (a .most) (c .if1 .taken) (asked .begins) (asked .room),
+      λ results knows. onward .goes results _ _ (laws.row-none _ results _ (leftOf (leaves .result) (start .args .part .now)) (leaves .last .1 .0) (start .args .to + leaves .result) (start .args .most) (c .if1 .taken) (asked .begins) (asked .room)),
     ))
-    (λ c κs. let start = c .before .before .before .before .before .before in
-    (omega (arith, start .pre .0), (start .pre .1, c .before .if1 .left)))
+    (λ c κs. let start = c .before .before .before .before .before .before .before .before .before .before .before in
+    let leaves = c .before .before .before .before .before .write-leaves in
+    let onward = leaves .ensures .2 _ (start .args .at) (start .args .store .now) (start .args .limit) (start .args .count) (start .pre .1) in
+    (omega (arith, laws.left-length (leaves .result) (start .args .part .now), start .pre .0), (onward .asked, c .before .if1 .left)))
     (λ c. search needs)
     (λ c. search needs)
-    (λ c. c .before .before .before .before .write-first .kept .1 .1 .1 .1 .1 .1 .1 .0)
-    (λ c. let start = c .before .before .before .before .before .before .before .before .before .before .before in
-    (tt, λ results knows. laws.row-first-over (start .pre .1) (c .before .before .before .before .before .before .if1 .left) results (c .enum-told .given .1) (c .before .before .before .before .write-first .ensures .1 results knows)))
-    (λ c. c .before .before .before .before .before .before .write-first .kept .1 .1 .1 .1 .1 .1 .1 .0)
-    (λ c. let start = c .before .before .before .before .before .before .before .before .before .before .before .before .before in
-    let first = c .before .before .before .before .before .before .write-first in
-    let ends = c .before .before .first .given .1 in (
-      laws.ends-between ends (first .ensures .0),
-      λ results knows. laws.row-first-open (start .pre .1) (c .before .before .before .before .before .before .before .before .if1 .left) results ends (c .if2 .taken) (first .ensures .1 results knows),
-    ))
-    (λ c κs. search needs)
-    (λ c. search needs)
-    (λ c. search needs)
-    (λ c. search needs)
-    (λ c. let start = c .before .before .before .before .before .before .before .before .before .before .before .before .before .before .before in
-    omega (arith, laws.asked-small (start .pre .1) (c .before .before .before .before .before .before .before .before .before .before .if1 .left)))
-    (λ c κs. search needs)
-    (λ c. search needs)
+    (λ c. c .before .before .before .before .write-first .kept .1 .1 .1 .1 .1 .1 .1 .0 ∙ c .before .before .before .before .before .before .before .before .before .before .write-leaves .kept .1 .0)
     (λ c. let start = c .before .before .before .before .before .before .before .before .before .before .before .before .before .before .before .before in
-    omega (arith, laws.rest-small (start .pre .1) (c .before .before .before .before .before .before .before .before .before .before .before .if1 .left) (c .word-at .ensures)))
-    (λ c κs. let start = c .before .before .before .before .before .before .before .before .before .before .before .before .before .before .before .before .before in
+    let leaves = c .before .before .before .before .before .before .before .before .before .before .write-leaves in
+    let onward = leaves .ensures .2 _ (start .args .at) (start .args .store .now) (start .args .limit) (start .args .count) (start .pre .1) in
+    (tt, λ results knows. onward .goes results _ _ (laws.row-first-over (onward .asked) (c .before .before .before .before .before .before .if1 .left) results (c .enum-told .given .1) (c .before .before .before .before .write-first .ensures .1 results knows))))
+    (λ c. c .before .before .before .before .before .before .write-first .kept .1 .1 .1 .1 .1 .1 .1 .0 ∙ c .before .before .before .before .before .before .before .before .before .before .before .before .write-leaves .kept .1 .0)
+    (λ c. let start = c .before .before .before .before .before .before .before .before .before .before .before .before .before .before .before .before .before .before in
+    let leaves = c .before .before .before .before .before .before .before .before .before .before .before .before .write-leaves in
+    let onward = leaves .ensures .2 _ (start .args .at) (start .args .store .now) (start .args .limit) (start .args .count) (start .pre .1) in
+    let first = c .before .before .before .before .before .before .write-first in
+    let ends = c .before .before .first .given .1 in
+    let between = laws.ends-between ends (first .ensures .0) in (
+      (omega (arith, between .0), between .1),
+      λ results knows. onward .goes results _ _ (laws.row-first-open (onward .asked) (c .before .before .before .before .before .before .before .before .if1 .left) results ends (c .if2 .taken) (first .ensures .1 results knows)),
+    ))
+    (λ c κs. search needs)
+    (λ c. search needs)
+    (λ c. search needs)
+    (λ c. search needs)
+    (λ c. let start = c .before .before .before .before .before .before .before .before .before .before .before .before .before .before .before .before .before .before .before .before in
+    let leaves = c .before .before .before .before .before .before .before .before .before .before .before .before .before .before .write-leaves in
+    let onward = leaves .ensures .2 _ (start .args .at) (start .args .store .now) (start .args .limit) (start .args .count) (start .pre .1) in
+    omega (arith, laws.asked-small (onward .asked) (c .before .before .before .before .before .before .before .before .before .before .if1 .left)))
+    (λ c κs. search needs)
+    (λ c. search needs)
+    (λ c. let start = c .before .before .before .before .before .before .before .before .before .before .before .before .before .before .before .before .before .before .before .before .before in
+    let leaves = c .before .before .before .before .before .before .before .before .before .before .before .before .before .before .before .write-leaves in
+    let onward = leaves .ensures .2 _ (start .args .at) (start .args .store .now) (start .args .limit) (start .args .count) (start .pre .1) in
+    omega (arith, laws.rest-small (onward .asked) (c .before .before .before .before .before .before .before .before .before .before .before .if1 .left) (c .word-at .ensures)))
+    (λ c κs. let start = c .before .before .before .before .before .before .before .before .before .before .before .before .before .before .before .before .before .before .before .before .before .before in
+    let leaves = c .before .before .before .before .before .before .before .before .before .before .before .before .before .before .before .before .write-leaves in
+    let onward = leaves .ensures .2 _ (start .args .at) (start .args .store .now) (start .args .limit) (start .args .count) (start .pre .1) in
     let the-end = c .before .before .before .end-of in
     let first = c .before .before .before .before .before .before .before .before .before .before .write-first in
     let some = c .before .before .before .before .before .before .before .before .before .before .before .before .if1 .left in
-    let part = start .args .part .now in (
-      omega (arith, after-falls part (the-end .result) (length part) some (the-end .ensures .0) refl, start .pre .0),
-      laws.asked-rest (start .pre .1) some (the-end .ensures .0) (c .before .word-at .ensures) (laws.ends-between (c .before .before .before .before .before .before .first .given .1) (first .ensures .0) .1) (first .kept .1 .1 .1 .1 .1 .1 .1 .0),
+    let left = leftOf (leaves .result) (start .args .part .now) in (
+      omega (arith, after-falls left (the-end .result) (length left) some (the-end .ensures .0) refl, laws.left-length (leaves .result) (start .args .part .now), start .pre .0),
+      laws.asked-rest (onward .asked) some (the-end .ensures .0) (c .before .word-at .ensures) (laws.ends-between (c .before .before .before .before .before .before .first .given .1) (first .ensures .0) .1) (first .kept .1 .1 .1 .1 .1 .1 .1 .0),
     ))
-    (λ c. c .before .before .write-row .kept .1 .1 .1 .1 .1 .1 .1 .0 ∙ c .before .before .before .before .before .before .before .before .before .before .before .before .before .write-first .kept .1 .1 .1 .1 .1 .1 .1 .0)
-    (λ c. let start = c .before .before .before .before .before .before .before .before .before .before .before .before .before .before .before .before .before .before .before .before in
+    (λ c. c .before .before .write-row .kept .1 .1 .1 .1 .1 .1 .1 .0 ∙ c .before .before .before .before .before .before .before .before .before .before .before .before .before .write-first .kept .1 .1 .1 .1 .1 .1 .1 .0 ∙ c .before .before .before .before .before .before .before .before .before .before .before .before .before .before .before .before .before .before .before .write-leaves .kept .1 .0)
+    (λ c. let start = c .before .before .before .before .before .before .before .before .before .before .before .before .before .before .before .before .before .before .before .before .before .before .before .before .before in
+    let leaves = c .before .before .before .before .before .before .before .before .before .before .before .before .before .before .before .before .before .before .before .write-leaves in
+    let onward = leaves .ensures .2 _ (start .args .at) (start .args .store .now) (start .args .limit) (start .args .count) (start .pre .1) in
     let first = c .before .before .before .before .before .before .before .before .before .before .before .before .before .write-first in
     let rest = c .before .before .write-row in
     let ends = c .before .before .before .before .before .before .before .before .before .first .given .1 in (
-      laws.between-later _ (start .args .most) _ (rest .result) (laws.ends-between ends (first .ensures .0) .0) (rest .ensures .0),
-      λ results knows. laws.row-first-rest (start .pre .1) (c .before .before .before .before .before .before .before .before .before .before .before .before .before .before .before .if1 .left) results ends (c .before .before .before .before .before .before .before .if2 .left) (c .before .before .before .before .before .before .end-of .ensures .0) (c .before .before .before .before .word-at .ensures) (first .ensures .1 results knows) (rest .ensures .1 results knows),
+      laws.between-later _ (start .args .most) _ (rest .result) (omega (arith, laws.ends-between ends (first .ensures .0) .0)) (rest .ensures .0),
+      λ results knows. onward .goes results _ _ (laws.row-first-rest (onward .asked) (c .before .before .before .before .before .before .before .before .before .before .before .before .before .before .before .if1 .left) results ends (c .before .before .before .before .before .before .before .if2 .left) (c .before .before .before .before .before .before .end-of .ensures .0) (c .before .before .before .before .word-at .ensures) (first .ensures .1 results knows) (rest .ensures .1 results knows)),
     ))
