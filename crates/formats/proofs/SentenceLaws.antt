@@ -154,31 +154,28 @@ module _ (limit : ℕ) (file : File) where
   rows-end true t g left s l = patterns-end limit file g left s l
   rows-end false t g left s l = results-end limit file t g left s l
 
--- after i of so many sentences: the words of a format, and the join of all is that of this format with the sentences left
-pub record RowsLeft (limit : ℕ) (file : File) (patterns : Bool) (t : Results) (first number i : ℕ) (joined : List ℕ) : Type 0 where
+-- after i of so many sentences: the words of a format, and the join of all with what was joined before is that of this format with the sentences left
+pub record RowsLeft (limit : ℕ) (file : File) (patterns : Bool) (t : Results) (before : Format) (first number i : ℕ) (joined : List ℕ) : Type 0 where
   pub format : Format
   pub small : Small limit format
   pub words : joined ≡ formatWords limit format
-  pub left : rowsJoined limit patterns t never (keep number (sentencesAt file first))
+  pub left : rowsJoined limit patterns t before (keep number (sentencesAt file first))
       ≡ rowsJoined limit patterns t format (keep (number - i) (sentencesAt file (first + i)))
 
--- before the first sentence: zeros with the header of never
-pub rows-start : {limit : ℕ} {file : File} {patterns : Bool} {t : Results} {first number : ℕ} {zeros : List ℕ} (n : ℕ) → zeros ≡ replicate n 0 → n ≡ limit + 1
-    → RowsLeft limit file patterns t first number 0 (set zeros 0 512)
-rows-start {limit} {file} {patterns} {t} {first} {number} {zeros} n zero-words size-is =
-    let one : limit + 1 ≡ suc limit = omega arith in
-    let less : limit + 1 - 1 ≡ limit = omega arith in
+-- before the first sentence
+pub rows-start : {limit : ℕ} {file : File} {patterns : Bool} {t : Results} {first number : ℕ} {joined : List ℕ} → limit ≤ 64 → FormatIn limit joined
+    → RowsLeft limit file patterns t (readFormat joined) first number 0 joined
+rows-start {limit} {file} {patterns} {t} {first} {number} {joined} few h =
+    let said : readFormat joined ≡ h .format = ap readFormat (h .same) ∙ read-write limit (h .format) (h .small) (omega arith) in
     record {
-      format = never;
-      small = omega arith;
-      words =
-          ap (λ s. set s 0 512) (zero-words ∙ ap (λ k. replicate k 0) (size-is ∙ one))
-          ∙ ap (λ k. 512 ∷ replicate k 0) (sym less);
-      left = cc (sub-zero number, add-zero first);
+      format = h .format;
+      small = h .small;
+      words = h .same;
+      left = cc (said, sub-zero number, add-zero first);
     }
 
-module _ {limit : ℕ} {file : File} {patterns : Bool} {t : Results} {first number i : ℕ} {joined : List ℕ}
-    (h : RowsLeft limit file patterns t first number i joined) where
+module _ {limit : ℕ} {file : File} {patterns : Bool} {t : Results} {before : Format} {first number i : ℕ} {joined : List ℕ}
+    (h : RowsLeft limit file patterns t before first number i joined) where
   -- the words are a format's
   pub rows-format : FormatIn limit joined
   rows-format = record { format = h .format; small = h .small; same = h .words }
@@ -188,13 +185,13 @@ module _ {limit : ℕ} {file : File} {patterns : Bool} {t : Results} {first numb
   rows-length = ap length (h .words) ∙ format-words-length limit (h .format) (h .small)
 
   -- after the last sentence
-  pub rows-all : number ≤ i → JoinedIs limit (rowsJoined limit patterns t never (keep number (sentencesAt file first))) true joined
+  pub rows-all : number ≤ i → JoinedIs limit (rowsJoined limit patterns t before (keep number (sentencesAt file first))) true joined
   rows-all done = rw (h .left ∙ rows-end limit file patterns t (h .format) (number - i) (first + i) (omega arith)) (refl, h .words)
 
   module _ {ok : Bool} {row : List ℕ} (made : FormatMade limit (rowOf file patterns t (first + i)) ok row) where
     -- the row of the next sentence does not fit
     pub rows-refused : ok ≡ false → Readable file → first + number ≤ file .sentences .count → i < number
-        → JoinedIs limit (rowsJoined limit patterns t never (keep number (sentencesAt file first))) false joined
+        → JoinedIs limit (rowsJoined limit patterns t before (keep number (sentencesAt file first))) false joined
     rows-refused bad readable inside here =
         rw (h .left ∙ rows-over limit file patterns t (h .format) (number - i) (first + i) readable (omega arith) (omega arith) (made-passes made bad))
         (refl, rows-length)
@@ -211,18 +208,55 @@ module _ {limit : ℕ} {file : File} {patterns : Bool} {t : Results} {first numb
       -- the row is joined
       pub rows-more : {after : ℕ} {next : List ℕ} → limit ≤ 64 → Readable file → first + number ≤ file .sentences .count → i < number → after ≡ i + 1
           → next ≡ formatWords limit (join (readFormat joined) (readFormat (take (limit + 1) (row ++ rest))))
-          → RowsLeft limit file patterns t first number after next
+          → RowsLeft limit file patterns t before first number after next
       rows-more {after} {next} few readable inside here a is =
           let shapes : Shapes = rowOf file patterns t (first + i) in
           let fits : size shapes ≤ limit = made-fits made good in
-          let before : readFormat joined ≡ h .format = ap readFormat (h .words) ∙ read-write limit (h .format) (h .small) (omega arith) in
+          let said : readFormat joined ≡ h .format = ap readFormat (h .words) ∙ read-write limit (h .format) (h .small) (omega arith) in
           let new : readFormat (take (limit + 1) (row ++ rest)) ≡ of shapes = ap readFormat front ∙ read-write limit (of shapes) fits (omega arith) in
           record {
             format = join (h .format) (of shapes);
             small = join-small limit (h .format) (of shapes) (h .small) fits;
-            words = is ∙ rw (before, new);
+            words = is ∙ rw (said, new);
             left =
                 h .left
                 ∙ rows-next limit file patterns t (h .format) (number - i) (first + i) (number - after) (first + after) readable (omega arith) (omega arith)
                 (omega arith) fits;
           }
+
+module _ (limit : ℕ) (file : File) (patterns : Bool) (t : Results) (first number : ℕ) where
+  -- no sentence: zeros with the header of never
+  pub rows-none : {zeros : List ℕ} (n : ℕ) → number ≡ 0 → zeros ≡ replicate n 0 → n ≡ limit + 1
+      → JoinedIs limit (rowsJoined limit patterns t never (keep number (sentencesAt file first))) true (set zeros 0 512)
+  rows-none n empty zero-words size-is =
+      let one : limit + 1 ≡ suc limit = omega arith in
+      let less : limit + 1 - 1 ≡ limit = omega arith in
+      rw (rows-end limit file patterns t never number first empty)
+      (refl, ap (λ s. set s 0 512) (zero-words ∙ ap (λ k. replicate k 0) (size-is ∙ one)) ∙ ap (λ k. 512 ∷ replicate k 0) (sym less))
+
+  -- the row of the first sentence: it does not fit, or its words are those of the join so far
+  module _ {ok : Bool} {row : List ℕ} (made : FormatMade limit (rowOf file patterns t first) ok row) (readable : Readable file)
+      (inside : first + number ≤ file .sentences .count) (some : 0 < number) where
+    pub first-refused : ok ≡ false → JoinedIs limit (rowsJoined limit patterns t never (keep number (sentencesAt file first))) false row
+    first-refused bad = rw (rows-over limit file patterns t never number first readable (omega arith) some (made-passes made bad)) (refl, made .kept)
+
+    module _ (few : limit ≤ 64) (good : ok ≡ true) where
+      pub first-format : FormatIn limit row
+      first-format = record { format = of (rowOf file patterns t first); small = made-fits made good; same = made-words made good }
+
+      said : readFormat row ≡ of (rowOf file patterns t first)
+      said = ap readFormat (made-words made good) ∙ read-write limit (of (rowOf file patterns t first)) (made-fits made good) (omega arith)
+
+      next : rowsJoined limit patterns t never (keep number (sentencesAt file first))
+          ≡ rowsJoined limit patterns t (of (rowOf file patterns t first)) (keep (number - 1) (sentencesAt file (first + 1)))
+      next = rows-next limit file patterns t never number first (number - 1) (first + 1) readable (omega arith) (omega arith) (omega arith) (made-fits made good)
+
+      -- there is no other, or the others are joined to it
+      pub first-alone : number ≡ 1 → JoinedIs limit (rowsJoined limit patterns t never (keep number (sentencesAt file first))) true row
+      first-alone one =
+          rw (next, rows-end limit file patterns t (of (rowOf file patterns t first)) (number - 1) (first + 1) (omega arith)) (refl, made-words made good)
+
+      pub first-joined : (r : Bool) (words : List ℕ)
+          → JoinedIs limit (rowsJoined limit patterns t (readFormat row) (keep (number - 1) (sentencesAt file (first + 1)))) r words
+          → JoinedIs limit (rowsJoined limit patterns t never (keep number (sentencesAt file first))) r words
+      first-joined r words h = rw next (rw said at h)

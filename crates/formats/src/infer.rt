@@ -115,8 +115,8 @@ fn sentence_format(
     )
 }
 
-// The join of the formats of so many sentences' patterns or results, from a sentence on.
-fn sentences_format(
+// Joins the formats of so many sentences' patterns or results, from a sentence on, into a format.
+fn join_sentences(
     law: &[u8],
     index: &[u16; 972],
     slots: &[u8; 577],
@@ -128,12 +128,10 @@ fn sentences_format(
     count: usize,
     joined: &mut [u32],
 ) -> bool
-    requires { ⌜ Asked (now law) (now index) (now slots) limit count × Holding limit (fileNames (fileOf (now law))) (now store) × (first + number ≤ fileOf (now law) .sentences .count) × (length (now joined) ≡ limit + 1) ⌝ }
-    ensures { λ r. ⌜ JoinedIs limit (rowsJoined limit patterns (find (resultsIn limit (fileNames (fileOf (now (law .entry)))) (now (store .entry)))) Format.never
+    requires { ⌜ Asked (now law) (now index) (now slots) limit count × Holding limit (fileNames (fileOf (now law))) (now store) × (first + number ≤ fileOf (now law) .sentences .count) × FormatIn limit (now joined) ⌝ }
+    ensures { λ r. ⌜ JoinedIs limit (rowsJoined limit patterns (find (resultsIn limit (fileNames (fileOf (now (law .entry)))) (now (store .entry)))) (readFormat (now (joined .entry)))
         (keep number (sentencesAt (fileOf (now (law .entry))) first))) r (now (joined .exit)) ⌝ }
 {
-    clear_words(joined);
-    joined[0] = 512;
     let mut row = [0u32; 65];
     let end = limit + 1;
     let mut i = 0;
@@ -155,6 +153,49 @@ fn sentences_format(
         i += 1;
     }
     true
+}
+
+// The join of the formats of so many sentences' patterns or results, from a sentence on. The first one's row is written where the
+// join is made, since a join with never would only copy it.
+fn sentences_format(
+    law: &[u8],
+    index: &[u16; 972],
+    slots: &[u8; 577],
+    store: &[u32],
+    from: usize,
+    number: usize,
+    patterns: bool,
+    limit: usize,
+    count: usize,
+    out: &mut [u32],
+) -> bool
+    requires { ⌜ Asked (now law) (now index) (now slots) limit count × Holding limit (fileNames (fileOf (now law))) (now store) × (from + number ≤ fileOf (now law) .sentences .count) × (length (now out) ≡ limit + 1) ⌝ }
+    ensures { λ r. ⌜ JoinedIs limit (rowsJoined limit patterns (find (resultsIn limit (fileNames (fileOf (now (law .entry)))) (now (store .entry)))) Format.never
+        (keep number (sentencesAt (fileOf (now (law .entry))) from))) r (now (out .exit)) ⌝ }
+{
+    if number == 0 {
+        clear_words(out);
+        out[0] = 512;
+        return true;
+    }
+    if !sentence_format(law, index, slots, store, from, patterns, limit, count, out) {
+        return false;
+    }
+    if number == 1 {
+        return true;
+    }
+    join_sentences(
+        law,
+        index,
+        slots,
+        store,
+        from + 1,
+        number - 1,
+        patterns,
+        limit,
+        count,
+        out,
+    )
 }
 
 // Joins a format into the format number k of a store, and answers whether that one changed.
