@@ -1,23 +1,27 @@
 -- Laws of what the functions that infer formats promise (specs/Turns.antt): a format that was made of a row, and the join of two formats by a local buffer.
 use Prim.Native.Nat.{ℕ, _+_, _*_, _-_, _≤_}
 use mathlib.Core.Bool.{Bool, true, false, cond, not}
-use mathlib.Core.List.{List, _++_}
+use mathlib.Core.List.{List, _++_, append-assoc}
 use mathlib.Core.Path.{_≡_, refl, sym, ap, _∙_}
 use native.Mathlib.Omega.{arith}
 use native.Mathlib.Nat.{add-sub-cancel-left}
-use lib.ListN.{length, take, drop, set, replicate, length-append, length-set, length-replicate}
-use lib.Seq.{take-at, length-take-le}
+use lib.ListN.{length, take, drop, getD, set, replicate, length-append, length-drop, length-set, length-replicate, take-append-drop}
+use lib.Seq.{take-at, take-take, getD-take, drop-drop, length-take-le}
+use lib.Dec.{leb}
 use Rattle.file.specs.Sections.{File, fileOf}
 use Rattle.law.specs.Index.{PartAt}
+use Rattle.law.proofs.Parts.{drop-take}
 use Rattle.law.proofs.IndexLaws.{terms-limit}
 use Rattle.shapes.specs.Format.{Shapes, Format, of, size, formatSize, isOpen}
 use Rattle.shapes.specs.Join.{join}
 use Rattle.shapes.specs.Same.{sameFormat}
-use Rattle.shapes.specs.Words.{shapeWords, usedWords, formatWords, readFormat, FormatIn}
+use Rattle.shapes.specs.Words.{shapeWords, usedWords, formatWords, readFormat, rowEnd, FormatIn}
 use Rattle.shapes.specs.Written.{written}
 use Rattle.shapes.proofs.WordLaws.{words-length, read-write}
 use Rattle.shapes.proofs.WrittenLaws.{written-front}
-use Rattle.shapes.proofs.FormatLaws.{written-filled, format-in-length, format-in-read, join-small, join-format-in, same-words-format}
+use Rattle.shapes.proofs.JoinLaws.{within-join}
+use Rattle.shapes.proofs.SameLaws.{same-itself}
+use Rattle.shapes.proofs.FormatLaws.{written-filled, format-in-length, format-in-read, format-in-words, read-never, read-row, join-small, join-format-in, same-words-format}
 use Rattle.formats.specs.Rows.{formatAt, RowIs, RowAsked, Stored}
 use Rattle.formats.specs.Turns.{Asked, FormatMade}
 use Rattle.formats.specs.declared.Row.{Row}
@@ -161,3 +165,52 @@ module _ (limit : ℕ) (store : List ℕ) (k : ℕ) where
           let read : readFormat joined ≡ joinedAt limit store k other = rw words (read-write limit (joinedAt limit store k other) (join-small limit (readFormat old) (readFormat other) (read-small limit old l x) (read-small limit other l y)) few) in
           let test : same ≡ sameFormat (readFormat joined) (readFormat old) = same-words-format limit joined old same few (join-format-in limit old other joined few x y words) x (λ e. sym front ∙ (p e ∙ lent-is)) (λ e. q (front ∙ (e ∙ sym lent-is))) in
           ap not (rw read at test)
+
+-- ---- a format that the store already has
+
+-- words that agree up to where the one's shapes end say the same format
+front-read : (s t : List ℕ) (n : ℕ) → 1 ≤ length s → length t ≡ length s → n ≡ rowEnd s → take n s ≡ take n t → readFormat t ≡ readFormat s
+unfolding rowEnd
+front-read s t n some long end same = go (leb 512 (getD s 0 0)) refl
+  where
+    first : getD t 0 0 ≡ getD s 0 0
+    first = sym (getD-take n t 0 0 (omega arith)) ∙ ap (λ l. getD l 0 0) (sym same) ∙ getD-take n s 0 0 (omega arith)
+
+    also : n ≡ rowEnd t
+    also = rw (first, long) end
+
+    rows : take (n - 1) (drop 1 t) ≡ take (n - 1) (drop 1 s)
+    rows = sym (drop-take 1 n t) ∙ ap (drop 1) (sym same) ∙ drop-take 1 n s
+
+    go : (b : Bool) → leb 512 (getD s 0 0) ≡ b → readFormat t ≡ readFormat s
+    go true e = read-never t true (rw first (sym e)) refl ∙ sym (read-never s true (sym e) refl)
+    go false e =
+        read-row t false n (leb 256 (getD s 0 0)) (omega arith) (rw first (sym e)) refl also (rw first refl)
+        ∙ rw rows (sym (read-row s false n (leb 256 (getD s 0 0)) some (sym e) refl end refl))
+
+-- words written over themselves
+written-same : (s : List ℕ) (a n : ℕ) → a + n ≤ length s → s ≡ written s a (take n (drop a s))
+unfolding written
+written-same s a n h =
+    let long : length (take n (drop a s)) ≡ n = length-take-le n (drop a s) (omega (arith, length-drop a s)) in
+    rw (long, ← drop-drop n a s, append-assoc, take-append-drop n (drop a s), take-append-drop a s)
+
+module _ (limit : ℕ) (store : List ℕ) (k n : ℕ) (other : List ℕ) (l : limit ≤ 64) (x : FormatIn limit (formatAt limit store k)) (y : FormatIn limit other)
+    (end : n ≡ rowEnd other) (few : n ≤ length other) (same : take n other ≡ take (k * (limit + 1) + n - k * (limit + 1)) (drop (k * (limit + 1)) store)) where
+  kept-read : readFormat (formatAt limit store k) ≡ readFormat other
+  kept-read =
+      let long : length other ≡ limit + 1 = format-in-length limit other y in
+      let front : take n other ≡ take n (formatAt limit store k) =
+      same ∙ rw (add-sub-cancel-left (k * (limit + 1)) n) (sym (take-take n (limit + 1) (drop (k * (limit + 1)) store) (omega arith))) in
+      front-read other (formatAt limit store k) n (omega arith) (format-in-length limit (formatAt limit store k) x ∙ sym long) end front
+
+  kept-join : joinedAt limit store k other ≡ readFormat (formatAt limit store k)
+  kept-join = rw (← kept-read) (within-join (readFormat (formatAt limit store k)) (readFormat (formatAt limit store k)) (λ e h. h))
+
+  -- nothing is to be written
+  pub kept-words : k * (limit + 1) + (limit + 1) ≤ length store → store ≡ written store (k * (limit + 1)) (formatWords limit (joinedAt limit store k other))
+  kept-words inside =
+      rw (kept-join, ← format-in-words limit (formatAt limit store k) (omega arith) x) (written-same store (k * (limit + 1)) (limit + 1) inside)
+
+  pub kept-test : false ≡ not (sameFormat (joinedAt limit store k other) (readFormat (formatAt limit store k)))
+  kept-test = rw (kept-join, same-itself (readFormat (formatAt limit store k))) refl

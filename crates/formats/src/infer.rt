@@ -12,6 +12,7 @@ use shapes::clear_words;
 use shapes::copy_words;
 use shapes::header_word;
 use shapes::join_formats;
+use shapes::row_end;
 use shapes::same_words;
 ghost use mathlib.Core.Bool.{false, not};
 ghost use mathlib.Core.List.{List};
@@ -199,7 +200,7 @@ fn sentences_format(
 }
 
 // Joins a format into the format number k of a store, and answers whether that one changed.
-fn renew_format(store: &mut [u32], k: usize, limit: usize, other: &[u32]) -> bool
+fn renew_joined(store: &mut [u32], k: usize, limit: usize, other: &[u32]) -> bool
     requires { ⌜ (limit ≤ 64) × (k < 128) × (k * (limit + 1) + (limit + 1) ≤ length (now store)) × FormatIn limit (formatAt limit (now store) k) × FormatIn limit (now other) ⌝ }
     ensures { λ r. ⌜ (now (store .exit) ≡ written (now (store .entry)) (k * (limit + 1)) (formatWords limit (join (readFormat (formatAt limit (now (store .entry)) k)) (readFormat (now (other .entry))))))
         × (r ≡ not (sameFormat (join (readFormat (formatAt limit (now (store .entry)) k)) (readFormat (now (other .entry)))) (readFormat (formatAt limit (now (store .entry)) k)))) ⌝ }
@@ -212,6 +213,20 @@ fn renew_format(store: &mut [u32], k: usize, limit: usize, other: &[u32]) -> boo
     let same = same_words(&joined[..end], &store[a..e]);
     copy_words(&joined[..end], &mut store[a..e]);
     !same
+}
+
+// The same, where a look at the words in use comes first: in a last round every format is already there.
+fn renew_format(store: &mut [u32], k: usize, limit: usize, other: &[u32]) -> bool
+    requires { ⌜ (limit ≤ 64) × (k < 128) × (k * (limit + 1) + (limit + 1) ≤ length (now store)) × FormatIn limit (formatAt limit (now store) k) × FormatIn limit (now other) ⌝ }
+    ensures { λ r. ⌜ (now (store .exit) ≡ written (now (store .entry)) (k * (limit + 1)) (formatWords limit (join (readFormat (formatAt limit (now (store .entry)) k)) (readFormat (now (other .entry))))))
+        × (r ≡ not (sameFormat (join (readFormat (formatAt limit (now (store .entry)) k)) (readFormat (now (other .entry)))) (readFormat (formatAt limit (now (store .entry)) k)))) ⌝ }
+{
+    let a = k * (limit + 1);
+    let n = row_end(other);
+    if same_words(&other[..n], &store[a..a + n]) {
+        return false;
+    }
+    renew_joined(store, k, limit, other)
 }
 
 // Joins the patterns or the results of a function into its name's format in the store.

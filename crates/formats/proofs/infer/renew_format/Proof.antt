@@ -1,11 +1,17 @@
--- `infer::renew_format` meets its contract: the words that `join_formats` wrote are the front of the local buffer, and `copy_words` copies that front over the format
--- (`renewed-words`), after it was compared with it (`renewed-test`).
-use mathlib.Core.Path.{sym, _∙_}
+-- `infer::renew_format` meets its contract: where the words in use are already there, nothing changes (`kept-words`, `kept-test`).
+use mathlib.Core.Path.{sym}
 use native.Mathlib.Omega.{arith}
+use lib.Seq.{length-take-le}
 use borrow.Author.Needs.{needs}
-use Rattle.formats.proofs.TurnLaws.{lent-length, back-inside, back-length, lent-format, lent-format-length, renewed-words, renewed-test}
+use Rattle.shapes.proofs.FormatLaws.{format-in-length}
+use Rattle.formats.proofs.TurnLaws.{kept-words, kept-test}
 use Rattle.formats.proofs.infer.renew_format.Statement.{statement}
 use Rattle.formats.proofs.infer.renew_format.Tie as tie
+use Rattle.formats.proofs.infer.renew_format.Reads as reads
+use Rattle.formats.proofs.infer.renew_format.Lts as lts
+use Rattle.formats.proofs.infer.renew_joined.Reads as renew-joined-reads
+use Rattle.shapes.proofs.row_end.Reads as row-end-reads
+use Rattle.shapes.proofs.same_words.Reads as same-words-reads
 
 pub renew-format-spec : {M : Type 1} → statement M
 renew-format-spec =
@@ -13,42 +19,28 @@ renew-format-spec =
     (tie.spec
     (λ c. search needs)
     (λ c. search needs)
-    (λ c. search needs)
-    (λ c. search needs)
+    (λ c κs.
+    let start = c .before .before in
+    omega (arith, format-in-length (start .args .limit) (start .args .other .now) (start .pre .4)))
+    (λ c.
+    let the-end = c .before .row-end in
+    sym (length-take-le (the-end .result) (c .before .before .before .before .args .other .now) (the-end .ensures .2)))
     (λ c. search needs)
     (λ c. search needs)
     (λ c. search needs)
     (λ c. search needs)
     (λ c.
     let start = c .before .before .before .before .before in
-    sym (lent-length (start .args .limit) (start .pre .0)))
-    (λ c κs.
-    let p = c .before .before .before .before .before .pre in
-    let a = c .before .before .before .before .before .args in
-    (omega (arith, p .0), lent-format (a .limit) (a .store .now) (a .k) (p .3), p .4, lent-length (a .limit) (p .0)))
-    (λ c. let joined = c .before .join-formats in back-inside (c .before .before .before .before .before .before .before .pre .0) (joined .last .1 .1 .1 .0) _ (joined .kept .1 .1 .1 .0))
-    (λ c. let joined = c .before .before .join-formats in sym (back-length (c .before .before .before .before .before .before .before .before .pre .0) (joined .last .1 .1 .1 .0) _ (joined .kept .1 .1 .1 .0)))
-    (λ c. search needs)
-    (λ c. search needs)
-    (λ c. search needs)
-    (λ c. search needs)
+    omega (arith, c .before .before .row-end .ensures .2, format-in-length (start .args .limit) (start .args .other .now) (start .pre .4), start .pre .2))
     (λ c κs. search needs)
-    (λ c. let joined = c .before .before .before .before .before .join-formats in back-inside (c .before .before .before .before .before .before .before .before .before .before .before .pre .0) (joined .last .1 .1 .1 .0) _ (joined .kept .1 .1 .1 .0))
-    (λ c. let joined = c .before .before .before .before .before .before .join-formats in sym (back-length (c .before .before .before .before .before .before .before .before .before .before .before .before .pre .0) (joined .last .1 .1 .1 .0) _ (joined .kept .1 .1 .1 .0)))
-    (λ c. search needs)
-    (λ c. search needs)
-    (λ c. search needs)
-    (λ c. search needs)
-    (λ c κs.
-    let joined = c .before .before .before .before .before .before .before .join-formats in
-    let start = c .before .before .before .before .before .before .before .before .before .before .before .before .before in
-    let a = start .args in
-    back-length (start .pre .0) (joined .last .1 .1 .1 .0) _ (joined .kept .1 .1 .1 .0) ∙ sym (lent-format-length (a .limit) (a .store .now) (a .k) (start .pre .3)))
     (λ c. search needs)
     (λ c.
-    let p = c .before .before .before .before .before .before .before .before .before .before .before .before .before .before .before .before .pre in
-    let a = c .before .before .before .before .before .before .before .before .before .before .before .before .before .before .before .before .args in
-    let joined = c .before .before .before .before .before .before .before .before .before .before .join-formats in (
-      renewed-words (a .limit) (a .store .now) (a .k) (p .3) _ (p .0) (p .4) (joined .kept .1 .1 .1 .0) (joined .ensures) (c .before .before .copy-words .ensures),
-      renewed-test (a .limit) (a .store .now) (a .k) (p .3) _ (p .0) (p .4) (joined .kept .1 .1 .1 .0) (joined .ensures) (c .before .before .before .before .before .same-words .ensures .0) (c .before .before .before .before .before .same-words .ensures .1),
-    )))
+    let start = c .before .before .before .before .before .before .before .before in
+    let the-end = c .before .before .before .before .before .row-end in
+    let same = c .before .same-words .ensures .0 (c .if1 .taken) in (
+      kept-words (start .args .limit) (start .args .store .now) (start .args .k) (the-end .result) (start .args .other .now) (start .pre .0) (start .pre .3) (start .pre .4) (the-end .ensures .0) (the-end .ensures .2) same (start .pre .2),
+      kept-test (start .args .limit) (start .args .store .now) (start .args .k) (the-end .result) (start .args .other .now) (start .pre .0) (start .pre .3) (start .pre .4) (the-end .ensures .0) (the-end .ensures .2) same,
+    ))
+    (λ c κs. search needs)
+    (λ c. search needs)
+    (λ c. search needs))

@@ -1,0 +1,54 @@
+-- `infer::renew_joined` meets its contract: the words that `join_formats` wrote are the front of the local buffer, and `copy_words` copies that front over the format
+-- (`renewed-words`), after it was compared with it (`renewed-test`).
+use mathlib.Core.Path.{sym, _∙_}
+use native.Mathlib.Omega.{arith}
+use borrow.Author.Needs.{needs}
+use Rattle.formats.proofs.TurnLaws.{lent-length, back-inside, back-length, lent-format, lent-format-length, renewed-words, renewed-test}
+use Rattle.formats.proofs.infer.renew_joined.Statement.{statement}
+use Rattle.formats.proofs.infer.renew_joined.Tie as tie
+
+pub renew-joined-spec : {M : Type 1} → statement M
+renew-joined-spec =
+    tie.close
+    (tie.spec
+    (λ c. search needs)
+    (λ c. search needs)
+    (λ c. search needs)
+    (λ c. search needs)
+    (λ c. search needs)
+    (λ c. search needs)
+    (λ c. search needs)
+    (λ c. search needs)
+    (λ c.
+    let start = c .before .before .before .before .before in
+    sym (lent-length (start .args .limit) (start .pre .0)))
+    (λ c κs.
+    let p = c .before .before .before .before .before .pre in
+    let a = c .before .before .before .before .before .args in
+    (omega (arith, p .0), lent-format (a .limit) (a .store .now) (a .k) (p .3), p .4, lent-length (a .limit) (p .0)))
+    (λ c. let joined = c .before .join-formats in back-inside (c .before .before .before .before .before .before .before .pre .0) (joined .last .1 .1 .1 .0) _ (joined .kept .1 .1 .1 .0))
+    (λ c. let joined = c .before .before .join-formats in sym (back-length (c .before .before .before .before .before .before .before .before .pre .0) (joined .last .1 .1 .1 .0) _ (joined .kept .1 .1 .1 .0)))
+    (λ c. search needs)
+    (λ c. search needs)
+    (λ c. search needs)
+    (λ c. search needs)
+    (λ c κs. search needs)
+    (λ c. let joined = c .before .before .before .before .before .join-formats in back-inside (c .before .before .before .before .before .before .before .before .before .before .before .pre .0) (joined .last .1 .1 .1 .0) _ (joined .kept .1 .1 .1 .0))
+    (λ c. let joined = c .before .before .before .before .before .before .join-formats in sym (back-length (c .before .before .before .before .before .before .before .before .before .before .before .before .pre .0) (joined .last .1 .1 .1 .0) _ (joined .kept .1 .1 .1 .0)))
+    (λ c. search needs)
+    (λ c. search needs)
+    (λ c. search needs)
+    (λ c. search needs)
+    (λ c κs.
+    let joined = c .before .before .before .before .before .before .before .join-formats in
+    let start = c .before .before .before .before .before .before .before .before .before .before .before .before .before in
+    let a = start .args in
+    back-length (start .pre .0) (joined .last .1 .1 .1 .0) _ (joined .kept .1 .1 .1 .0) ∙ sym (lent-format-length (a .limit) (a .store .now) (a .k) (start .pre .3)))
+    (λ c. search needs)
+    (λ c.
+    let p = c .before .before .before .before .before .before .before .before .before .before .before .before .before .before .before .before .pre in
+    let a = c .before .before .before .before .before .before .before .before .before .before .before .before .before .before .before .before .args in
+    let joined = c .before .before .before .before .before .before .before .before .before .before .join-formats in (
+      renewed-words (a .limit) (a .store .now) (a .k) (p .3) _ (p .0) (p .4) (joined .kept .1 .1 .1 .0) (joined .ensures) (c .before .before .copy-words .ensures),
+      renewed-test (a .limit) (a .store .now) (a .k) (p .3) _ (p .0) (p .4) (joined .kept .1 .1 .1 .0) (joined .ensures) (c .before .before .before .before .before .same-words .ensures .0) (c .before .before .before .before .before .same-words .ensures .1),
+    )))
