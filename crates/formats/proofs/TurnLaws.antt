@@ -4,15 +4,15 @@ use mathlib.Core.Bool.{Bool, true, false, cond, not}
 use mathlib.Core.List.{List, _++_, append-assoc}
 use mathlib.Core.Path.{_≡_, refl, sym, ap, _∙_}
 use native.Mathlib.Omega.{arith}
-use native.Mathlib.Nat.{add-sub-cancel-left}
+use native.Mathlib.Nat.{add-zero, add-sub-cancel-left}
 use lib.ListN.{length, take, drop, getD, set, replicate, length-append, length-drop, length-set, length-replicate, take-append-drop}
-use lib.Seq.{take-at, take-take, getD-take, drop-drop, length-take-le}
+use lib.Seq.{take-at, take-take, getD-take, getD-drop, drop-drop, length-take-le}
 use lib.Dec.{leb}
 use Rattle.file.specs.Sections.{File, fileOf}
 use Rattle.law.specs.Index.{PartAt}
 use Rattle.law.proofs.Parts.{drop-take}
 use Rattle.law.proofs.IndexLaws.{terms-limit}
-use Rattle.shapes.specs.Format.{Shapes, Format, of, size, formatSize, isOpen}
+use Rattle.shapes.specs.Format.{Shapes, Format, never, of, size, formatSize, isOpen}
 use Rattle.shapes.specs.Join.{join}
 use Rattle.shapes.specs.Same.{sameFormat}
 use Rattle.shapes.specs.Words.{shapeWords, usedWords, formatWords, readFormat, rowEnd, FormatIn}
@@ -214,3 +214,29 @@ module _ (limit : ℕ) (store : List ℕ) (k n : ℕ) (other : List ℕ) (l : li
 
   pub kept-test : false ≡ not (sameFormat (joinedAt limit store k other) (readFormat (formatAt limit store k)))
   kept-test = rw (kept-join, same-itself (readFormat (formatAt limit store k))) refl
+
+-- ---- a format that is still never
+
+never-told : (s : List ℕ) → leb 512 (getD s 0 0) ≡ sameFormat (readFormat s) never
+unfolding readFormat
+never-told s = go (leb 512 (getD s 0 0)) refl
+  where
+    go : (b : Bool) → leb 512 (getD s 0 0) ≡ b → leb 512 (getD s 0 0) ≡ sameFormat (readFormat s) never
+    go true e = rw e
+    go false e = rw e
+
+module _ (limit : ℕ) (store : List ℕ) (k : ℕ) (other : List ℕ) {header : Bool} (l : limit ≤ 64) (y : FormatIn limit other)
+    (here : header ≡ leb 512 (getD store (k * (limit + 1)) 0)) (said : header ≡ true) where
+  started : readFormat (formatAt limit store k) ≡ never
+  started = read-never (formatAt limit store k) true (rw (getD-take (limit + 1) (drop (k * (limit + 1)) store) 0 0 (omega arith), getD-drop (k * (limit + 1)) store 0 0, add-zero) (sym said ∙ here)) refl
+
+  -- the other one is copied
+  pub started-words : {copied : List ℕ} → copied ≡ other
+      → take (k * (limit + 1)) store ++ (copied ++ drop (k * (limit + 1) + (limit + 1) - k * (limit + 1)) (drop (k * (limit + 1)) store))
+      ≡ written store (k * (limit + 1)) (formatWords limit (joinedAt limit store k other))
+  started-words {copied = copied} e =
+      let words : other ≡ formatWords limit (joinedAt limit store k other) = rw started (format-in-words limit other (omega arith) y) in
+      lent-written store copied (k * (limit + 1)) (k * (limit + 1) + (limit + 1)) (rw (e, format-in-length limit other y)) ∙ ap (written store (k * (limit + 1))) (e ∙ words)
+
+  pub started-test : {test : Bool} → test ≡ leb 512 (getD other 0 0) → not test ≡ not (sameFormat (joinedAt limit store k other) (readFormat (formatAt limit store k)))
+  started-test e = rw started (ap not (e ∙ never-told other))

@@ -11,6 +11,7 @@ use law::places::result_at;
 use shapes::clear_words;
 use shapes::copy_words;
 use shapes::header_word;
+use shapes::is_never;
 use shapes::join_formats;
 use shapes::row_end;
 use shapes::same_words;
@@ -215,13 +216,18 @@ fn renew_joined(store: &mut [u32], k: usize, limit: usize, other: &[u32]) -> boo
     !same
 }
 
-// The same, where a look at the words in use comes first: in a last round every format is already there.
+// The same, where a look comes first: at the start the format is never, and in a last round it is already there.
 fn renew_format(store: &mut [u32], k: usize, limit: usize, other: &[u32]) -> bool
     requires { ⌜ (limit ≤ 64) × (k < 128) × (k * (limit + 1) + (limit + 1) ≤ length (now store)) × FormatIn limit (formatAt limit (now store) k) × FormatIn limit (now other) ⌝ }
     ensures { λ r. ⌜ (now (store .exit) ≡ written (now (store .entry)) (k * (limit + 1)) (formatWords limit (join (readFormat (formatAt limit (now (store .entry)) k)) (readFormat (now (other .entry))))))
         × (r ≡ not (sameFormat (join (readFormat (formatAt limit (now (store .entry)) k)) (readFormat (now (other .entry)))) (readFormat (formatAt limit (now (store .entry)) k)))) ⌝ }
 {
-    let a = k * (limit + 1);
+    let end = limit + 1;
+    let a = k * end;
+    if is_never(store[a]) {
+        copy_words(other, &mut store[a..a + end]);
+        return !is_never(other[0]);
+    }
     let n = row_end(other);
     if same_words(&other[..n], &store[a..a + n]) {
         return false;

@@ -1,15 +1,18 @@
--- `infer::renew_format` meets its contract: where the words in use are already there, nothing changes (`kept-words`, `kept-test`).
-use mathlib.Core.Path.{sym}
+-- `infer::renew_format` meets its contract: where the format is never, the other is copied (`started-words`, `started-test`), and where the words in use are
+-- already there, nothing changes (`kept-words`, `kept-test`).
+use mathlib.Core.Path.{sym, _∙_}
 use native.Mathlib.Omega.{arith}
 use lib.Seq.{length-take-le}
 use borrow.Author.Needs.{needs}
 use Rattle.shapes.proofs.FormatLaws.{format-in-length}
-use Rattle.formats.proofs.TurnLaws.{kept-words, kept-test}
+use Rattle.formats.proofs.TurnLaws.{lent-format-length, kept-words, kept-test, started-words, started-test}
 use Rattle.formats.proofs.infer.renew_format.Statement.{statement}
 use Rattle.formats.proofs.infer.renew_format.Tie as tie
 use Rattle.formats.proofs.infer.renew_format.Reads as reads
 use Rattle.formats.proofs.infer.renew_format.Lts as lts
 use Rattle.formats.proofs.infer.renew_joined.Reads as renew-joined-reads
+use Rattle.shapes.proofs.copy_words.Reads as copy-words-reads
+use Rattle.shapes.proofs.is_never.Reads as is-never-reads
 use Rattle.shapes.proofs.row_end.Reads as row-end-reads
 use Rattle.shapes.proofs.same_words.Reads as same-words-reads
 
@@ -19,25 +22,46 @@ renew-format-spec =
     (tie.spec
     (λ c. search needs)
     (λ c. search needs)
+    (λ c. search needs)
+    (λ c. search needs)
+    (λ c κs. search needs)
+    (λ c. search needs)
+    (λ c. search needs)
+    (λ c. search needs)
+    (λ c. search needs)
+    (λ c. search needs)
     (λ c κs.
-    let start = c .before .before in
+    let start = c .before .before .before .before .before .before in
+    format-in-length (start .args .limit) (start .args .other .now) (start .pre .4) ∙ sym (lent-format-length (start .args .limit) (start .args .store .now) (start .args .k) (start .pre .3)))
+    (λ c.
+    let start = c .before .before .before .before .before .before .before .before .before .before in
+    omega (arith, format-in-length (start .args .limit) (start .args .other .now) (start .pre .4)))
+    (λ c κs. search needs)
+    (λ c. search needs)
+    (λ c.
+    let start = c .before .before .before .before .before .before .before .before .before .before .before in (
+      started-words (start .args .limit) (start .args .store .now) (start .args .k) (start .args .other .now) (start .pre .0) (start .pre .4) (c .before .before .before .before .before .before .before .is-never .ensures) (c .before .before .before .before .before .before .if1 .taken) (c .before .before .before .before .copy-words .ensures),
+      started-test (start .args .limit) (start .args .store .now) (start .args .k) (start .args .other .now) (start .pre .0) (start .pre .4) (c .before .before .before .before .before .before .before .is-never .ensures) (c .before .before .before .before .before .before .if1 .taken) (c .is-never2 .ensures),
+    ))
+    (λ c κs.
+    let start = c .before .before .before .before .before in
     omega (arith, format-in-length (start .args .limit) (start .args .other .now) (start .pre .4)))
     (λ c.
     let the-end = c .before .row-end in
-    sym (length-take-le (the-end .result) (c .before .before .before .before .args .other .now) (the-end .ensures .2)))
+    sym (length-take-le (the-end .result) (c .before .before .before .before .before .before .before .args .other .now) (the-end .ensures .2)))
     (λ c. search needs)
     (λ c. search needs)
     (λ c. search needs)
     (λ c. search needs)
     (λ c.
-    let start = c .before .before .before .before .before in
+    let start = c .before .before .before .before .before .before .before .before in
     omega (arith, c .before .before .row-end .ensures .2, format-in-length (start .args .limit) (start .args .other .now) (start .pre .4), start .pre .2))
     (λ c κs. search needs)
     (λ c. search needs)
     (λ c.
-    let start = c .before .before .before .before .before .before .before .before in
+    let start = c .before .before .before .before .before .before .before .before .before .before .before in
     let the-end = c .before .before .before .before .before .row-end in
-    let same = c .before .same-words .ensures .0 (c .if1 .taken) in (
+    let same = c .before .same-words .ensures .0 (c .if2 .taken) in (
       kept-words (start .args .limit) (start .args .store .now) (start .args .k) (the-end .result) (start .args .other .now) (start .pre .0) (start .pre .3) (start .pre .4) (the-end .ensures .0) (the-end .ensures .2) same (start .pre .2),
       kept-test (start .args .limit) (start .args .store .now) (start .args .k) (the-end .result) (start .args .other .now) (start .pre .0) (start .pre .3) (start .pre .4) (the-end .ensures .0) (the-end .ensures .2) same,
     ))
