@@ -62,6 +62,10 @@ module _ {f : ℕ → ℕ} {a b : List ℕ} {i : ℕ} (h : SameFrom f a b i) whe
         left = h .left ∙ rw (drop-cons a i 0 l, drop-cons b i 0 lb, add-one, eq-eqb (f (getD a i 0)) (f (getD b i 0)) (cc));
       }
 
+  -- they are equal before they are folded
+  pub same-alike : i < length a → getD a i 0 ≡ getD b i 0 → SameFrom f a b (i + 1)
+  same-alike l e = same-next l refl refl (ap f e)
+
   -- the bytes at `i` differ
   pub same-differ : {x y : ℕ} → i < length a → x ≡ f (getD a i 0) → y ≡ f (getD b i 0) → (x ≡ y → ⊥) → false ≡ sameBytes (map f a) (map f b)
   unfolding sameBytes
@@ -105,6 +109,10 @@ module _ {f : ℕ → ℕ} {a b : List ℕ} {i : ℕ} (h : OrderFrom f a b i) wh
         inside-too = omega arith;
         left = h .left ∙ rw (drop-cons a i 0 l, drop-cons b i 0 lb, add-one, eq-eqb (f (getD a i 0)) (f (getD b i 0)) (omega arith));
       }
+
+  -- they are equal before they are folded
+  pub order-alike : i < length a → i < length b → getD a i 0 ≡ getD b i 0 → OrderFrom f a b (i + 1)
+  order-alike l lb e = order-next l lb refl refl (omega (arith, ap f e)) (omega (arith, ap f e))
 
   -- the byte of the first is less at `i`
   pub order-less : {x y : ℕ} → i < length a → i < length b → x ≡ f (getD a i 0) → y ≡ f (getD b i 0) → x < y → Less ≡ orderBytes (map f a) (map f b)

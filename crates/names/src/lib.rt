@@ -64,7 +64,7 @@ pub fn fold_byte(c: u8) -> u8
     upper_byte(c)
 }
 
-// Are these the same name or identifier?
+// Are these the same name or identifier? Only bytes that differ are folded: long names share most of theirs.
 pub fn names_equal(a: &[u8], b: &[u8]) -> bool
     ensures { λ r. ⌜ r ≡ sameBytes (folded (now (a .entry))) (folded (now (b .entry))) ⌝ }
 {
@@ -73,8 +73,10 @@ pub fn names_equal(a: &[u8], b: &[u8]) -> bool
     }
     let mut i = 0;
     while i < a.len() {
-        if fold_byte(a[i]) != fold_byte(b[i]) {
-            return false;
+        if a[i] != b[i] {
+            if fold_byte(a[i]) != fold_byte(b[i]) {
+                return false;
+            }
         }
         i += 1;
     }
@@ -125,13 +127,15 @@ pub fn names_order(a: &[u8], b: &[u8]) -> Order
         if b.len() <= i {
             return Order::Greater;
         }
-        let x = fold_byte(a[i]);
-        let y = fold_byte(b[i]);
-        if x < y {
-            return Order::Less;
-        }
-        if y < x {
-            return Order::Greater;
+        if a[i] != b[i] {
+            let x = fold_byte(a[i]);
+            let y = fold_byte(b[i]);
+            if x < y {
+                return Order::Less;
+            }
+            if y < x {
+                return Order::Greater;
+            }
         }
         i += 1;
     }

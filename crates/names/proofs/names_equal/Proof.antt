@@ -1,10 +1,11 @@
 -- Rests on the invariant `SameFrom`, that the bytes left from `i` on decide, and on one law of it for each way through the loop.
 use borrow.Author.Needs.{needs}
+use mathlib.Core.Logic.{⊎-elim}
 use native.Mathlib.Omega.{arith}
 use Prim.Native.Nat.{_-_}
 use lib.ListN.{length}
 use Rattle.names.specs.Name.{foldByte}
-use Rattle.names.proofs.Laws.{SameFrom, same-longer, same-start, same-next, same-differ, same-end}
+use Rattle.names.proofs.Laws.{SameFrom, same-longer, same-start, same-next, same-alike, same-differ, same-end}
 use Rattle.names.proofs.names_equal.Statement.{statement}
 use Rattle.names.proofs.names_equal.Tie as tie
 
@@ -27,11 +28,15 @@ names-equal-spec =
     let start = c .before .before .before in
     same-start foldByte (start .args .a .now) (start .args .b .now) (c .if1 .left))
     (λ c. omega arith)
+    (λ c. omega arith)
+    (λ c. omega arith)
     (λ c κs. search needs)
     (λ c. omega arith)
     (λ c κs. search needs)
-    (λ c. same-differ (c .before .before .before .before .before .before .loop .inv) (omega arith) (search needs) (search needs) (c .if2 .taken))
+    (λ c. same-differ (c .before .before .before .before .before .before .before .before .before .loop .inv) (omega arith) (search needs) (search needs) (c .if3 .taken))
     (λ c. omega arith)
     (λ c. omega arith)
-    (λ c. same-next (c .before .before .before .before .before .before .loop .inv) (omega arith) (search needs) (search needs) (c .if2 .left))
+    (λ c.
+    let inv = c .before .before .before .before .loop .inv in
+    ⊎-elim (λ w. same-next inv (omega arith) (w .2 .ensures) (w .4 .ensures) (w .5 .left)) (λ w. same-alike inv (omega arith) (w .left)) (c .if2 .came))
     (λ c. same-end (c .before .loop .inv) (c .loop-test .left)))

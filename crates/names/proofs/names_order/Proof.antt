@@ -1,10 +1,11 @@
 -- Rests on the invariant `OrderFrom`, that the bytes left from `i` on decide, and on one law of it for each way through the loop.
 use borrow.Author.Needs.{needs}
+use mathlib.Core.Logic.{⊎-elim}
 use native.Mathlib.Omega.{arith}
 use Prim.Native.Nat.{_-_}
 use lib.ListN.{length}
 use Rattle.names.specs.Name.{foldByte}
-use Rattle.names.proofs.Laws.{OrderFrom, order-start, order-next, order-less, order-greater, order-shorter, order-longer, order-end}
+use Rattle.names.proofs.Laws.{OrderFrom, order-start, order-next, order-alike, order-less, order-greater, order-shorter, order-longer, order-end}
 use Rattle.names.proofs.names_order.Statement.{statement}
 use Rattle.names.proofs.names_order.Tie as tie
 
@@ -25,13 +26,17 @@ names-order-spec =
     order-start foldByte (start .args .a .now) (start .args .b .now))
     (λ c. order-longer (c .before .before .loop .inv) (c .before .loop-test .taken) (c .if1 .taken))
     (λ c. omega arith)
+    (λ c. omega arith)
+    (λ c. omega arith)
     (λ c κs. search needs)
     (λ c. omega arith)
     (λ c κs. search needs)
-    (λ c. order-less (c .before .before .before .before .before .before .before .loop .inv) (omega arith) (omega arith) (search needs) (search needs) (c .if2 .taken))
-    (λ c. order-greater (c .before .before .before .before .before .before .before .before .loop .inv) (omega arith) (omega arith) (search needs) (search needs) (c .if3 .taken))
+    (λ c. order-less (c .before .before .before .before .before .before .before .before .before .before .loop .inv) (omega arith) (omega arith) (search needs) (search needs) (c .if3 .taken))
+    (λ c. order-greater (c .before .before .before .before .before .before .before .before .before .before .before .loop .inv) (omega arith) (omega arith) (search needs) (search needs) (c .if4 .taken))
     (λ c. omega arith)
     (λ c. omega arith)
-    (λ c. order-next (c .before .before .before .before .before .before .before .before .loop .inv) (omega arith) (omega arith) (search needs) (search needs) (c .before .if2 .left) (c .if3 .left))
-    (λ c. order-shorter (c .before .before .loop .inv) (c .before .loop-test .left) (c .if4 .taken))
-    (λ c. order-end (c .before .before .loop .inv) (c .before .loop-test .left) (c .if4 .left)))
+    (λ c.
+    let inv = c .before .before .before .before .before .loop .inv in
+    ⊎-elim (λ w. order-next inv (omega arith) (omega arith) (w .2 .ensures) (w .4 .ensures) (w .5 .left) (w .6 .left)) (λ w. order-alike inv (omega arith) (omega arith) (w .left)) (c .if2 .came))
+    (λ c. order-shorter (c .before .before .loop .inv) (c .before .loop-test .left) (c .if5 .taken))
+    (λ c. order-end (c .before .before .loop .inv) (c .before .loop-test .left) (c .if5 .left)))
