@@ -12,7 +12,12 @@
  *   reads or writes it before the call returns; nothing writes the overrides and the law before then;
  * - where the number of elements is 0 the pointer is not used: it may be null or point anywhere;
  * - `answer` is never null;
- * - a call needs up to 1.2 MiB of stack. With less, the system ends the process at the guard page.
+ * - a call needs up to 1 MiB of stack. With less, the system ends the process at the guard page.
+ *
+ * A call returns, but it can take for ever: matching with repeated variables is NP-complete. The smallest law known to do so
+ * has a sentence `s.A e.1 .. e.k s.A` and a call of its function with 'a' and k times 'b'; it takes 2 seconds at k = 13 or
+ * 14 and four times as long for each step of k. Where laws come from strangers, make the call in a process of its own and
+ * end that process: a call keeps nothing, and holds nothing but what it is lent.
  */
 #ifndef BILZARKO_H
 #define BILZARKO_H
