@@ -9,6 +9,7 @@ use Rattle.law.specs.Variables.{Variable, sameVariable, occurs}
 use Rattle.matching.specs.Pattern.{Symbol, literal, variable, other, Pattern}
 use Rattle.matching.specs.Match.{Values, bound, valueIn, noted, when, each, all-or-first, some-in, choices, matches}
 use Rattle.matching.specs.Capacity.{variablesIn}
+use Rattle.matching.specs.Repeats.{Agree}
 use Rattle.matching.proofs.SearchLaws.{in-when, in-each, each-in, in-all-or-first, some-member, member-some}
 use Rattle.matching.proofs.SameLaws.{false-not-true, variable-sound, variable-refl}
 use Rattle.matching.proofs.VariableLaws.{occurs-first, occurs-later, occurs-left, occurs-right}
@@ -38,16 +39,12 @@ not-right v l m h = go (occurs v m) refl
 -- ---- values that agree
 
 module _ {A : Type 0} (l : List Variable) where
-  -- these variables have the same values, or have none
-  abbrev pub Agree : Values A → Values A → Type 0
-  Agree vs us = (w : Variable) → occurs w l ≡ true → valueIn vs w ≡ valueIn us w
-
   -- as many in one list as in the other, one agreeing with the other
   abbrev Paired : List (Values A) → List (Values A) → Type 0
   Paired [] [] = Unit {0}
   Paired [] (us ∷ n) = ⊥
   Paired (vs ∷ m) [] = ⊥
-  Paired (vs ∷ m) (us ∷ n) = Agree vs us × Paired m n
+  Paired (vs ∷ m) (us ∷ n) = Agree l vs us × Paired m n
 
   paired-append : (m n o p : List (Values A)) → Paired m n → Paired o p → Paired (m ++ o) (n ++ p)
   paired-append [] [] o p h k = k
@@ -66,7 +63,7 @@ module _ {A : Type 0} (l : List Variable) where
   paired-some [] [] h = refl
   paired-some (vs ∷ m) (us ∷ n) h = refl
 
-  paired-each : (f : Values A → List (Values A)) → ((vs us : Values A) → Agree vs us → Paired (f vs) (f us))
+  paired-each : (f : Values A → List (Values A)) → ((vs us : Values A) → Agree l vs us → Paired (f vs) (f us))
       → (m n : List (Values A)) → Paired m n → Paired (each f m) (each f n)
   paired-each f alike [] [] h = tt
   paired-each f alike (vs ∷ m) (us ∷ n) h = paired-append (f vs) (f us) (each f m) (each f n) (alike vs us (h .0)) (paired-each f alike m n (h .1))
@@ -76,7 +73,7 @@ module _ {A : Type 0} (l : List Variable) where
   paired-same f g alike (x ∷ xs) = paired-append (f x) (g x) (each f xs) (each g xs) (alike x) (paired-same f g alike xs)
 
   -- one more variable gets the same value
-  noted-agree : (o : Option (Terms A)) (v : Variable) (y : Terms A) (vs us : Values A) → Agree vs us → Agree (noted o v y vs) (noted o v y us)
+  noted-agree : (o : Option (Terms A)) (v : Variable) (y : Terms A) (vs us : Values A) → Agree l vs us → Agree l (noted o v y vs) (noted o v y us)
   unfolding valueIn
   noted-agree (some z) v y vs us h w k = h w k
   noted-agree none v y vs us h w k = ap (λ o. cond (sameVariable v w) (some y) o) (h w k)

@@ -20,7 +20,7 @@ use Rattle.matching.specs.Bound.{valuesOf}
 use Rattle.matching.specs.Step.{found, eachLength, TriesAll}
 use Rattle.matching.specs.Capacity.{variablesIn}
 use Rattle.matching.specs.Asked.{firstIn, Asked, matchedValues, between}
-use Rattle.matching.specs.Repeats.{Unvalued}
+use Rattle.matching.specs.Repeats.{Agree}
 use Rattle.matching.specs.Failed.{Rest, restOf, restAt, Within, Noted, Failed, Remembers}
 use Rattle.matching.proofs.SameLaws.{false-not-true}
 use Rattle.matching.specs.declared.Bindings.{Bindings}
@@ -100,23 +100,28 @@ rest-within words k {t} {z} p a q e r s u last = (k, rw (← p, ← q, ← r, �
 
 -- ---- what is remembered
 
-module _ (back : Bool) (text terms : List ℕ) where
+no-match : (l m : List (Values Atom)) → some-in l ≡ some-in m → l ≡ [] → m ≡ []
+no-match l [] e k = refl
+no-match l (us ∷ m) e k = absurd (false-not-true (sym (ap some-in k) ∙ e))
+
+module _ (back : Bool) (text terms : List ℕ) (base : Values Atom) where
   -- nothing is remembered
-  pub remembers-none : Remembers back text terms (replicate 2048 0)
+  pub remembers-none : Remembers back text terms base (replicate 2048 0)
   remembers-none = record {
     long = length-replicate {A = ℕ} 2048 0;
     all = λ i. record { none = λ h. absurd (omega (arith, zero-word 2048 (4 * i), zero-word 2048 (4 * i + 1))) };
   }
 
   -- what is remembered has no match
-  pub remembered : {words : List ℕ} {r : Rest} → Remembers back text terms words → Within words r → Failed back text terms r
+  pub remembered : {words : List ℕ} {r : Rest} → Remembers back text terms base words → Within words r → Failed back text terms base r
   remembered so (i, e) = rw e at (so .all i)
 
   -- one more is remembered
-  pub remembers-more : {words now : List ℕ} {r : Rest} → Remembers back text terms words → Failed back text terms r → Noted words r now → Remembers back text terms now
+  pub remembers-more : {words now : List ℕ} {r : Rest} → Remembers back text terms base words → Failed back text terms base r → Noted words r now
+      → Remembers back text terms base now
   remembers-more {words} {now} {r} so new noted = record { long = noted .0 ∙ so .long; all = λ i. go i (noted .1 i) }
     where
-      go : (i : ℕ) → (restAt now i ≡ r) ⊎ (restAt now i ≡ restAt words i) → Failed back text terms (restAt now i)
+      go : (i : ℕ) → (restAt now i ≡ r) ⊎ (restAt now i ≡ restAt words i) → Failed back text terms base (restAt now i)
       go i (inl e) = rw e new
       go i (inr e) = rw e (so .all i)
 
@@ -126,21 +131,17 @@ module _ (back : Bool) (text terms : List ℕ) where
       let size : at + length part - at ≡ length part = omega arith in
       rw size (ap (rowOf text) (sym (stands .same)))
 
-  no-match : (l m : List (Values Atom)) → some-in l ≡ some-in m → l ≡ [] → m ≡ []
-  no-match l [] e k = refl
-  no-match l (us ∷ m) e k = absurd (false-not-true (sym (ap some-in k) ∙ e))
-
   module _ {pattern row : List ℕ} {at start : ℕ} (here : Stands terms pattern at) (there : Stands terms row start)
-      (vs : Values Atom) (closed : Unvalued (variablesIn (rowOf text pattern)) vs) where
+      (vs : Values Atom) (closed : Agree (variablesIn (rowOf text pattern)) vs base) where
     -- they are known to have no match
-    pub none-left : 24 ≤ length pattern → Failed back text terms (restOf at (at + length pattern) start (start + length row))
+    pub none-left : 24 ≤ length pattern → Failed back text terms base (restOf at (at + length pattern) start (start + length row))
         → found back (rowOf text pattern) (rowOf text row) vs ≡ []
     none-left long failed =
         rw (part-between pattern at here, part-between row start there) at
         (failed .none (omega arith) vs (rw (part-between pattern at here) closed))
 
     -- they are found to have none
-    pub none-found : found back (rowOf text pattern) (rowOf text row) vs ≡ [] → Failed back text terms (restOf at (at + length pattern) start (start + length row))
+    pub none-found : found back (rowOf text pattern) (rowOf text row) vs ≡ [] → Failed back text terms base (restOf at (at + length pattern) start (start + length row))
     none-found e = record {
       none = λ long us free. rw (part-between pattern at here, part-between row start there)
           (no-match (found back (rowOf text pattern) (rowOf text row) vs) (found back (rowOf text pattern) (rowOf text row) us)
@@ -155,20 +156,20 @@ first-nothing [] e = refl
 first-nothing (x ∷ l) e = absurd (Option·none-ne-some x (sym e))
 
 module _ {text terms pattern : List ℕ} {at : ℕ} {row : List ℕ} {start : ℕ} {coming : List Variable} {b : Bindings} (asked : Asked text terms pattern at row start coming b)
-    (closed : Unvalued (variablesIn (rowOf text pattern)) (valuesOf text terms b)) (tries : TriesAll text pattern row (valuesOf text terms b)) where
+    (base : Values Atom) (closed : Agree (variablesIn (rowOf text pattern)) (valuesOf text terms b) base) (tries : TriesAll text pattern row (valuesOf text terms b)) where
   -- it is remembered that no length matches
-  pub lengths-known : (back : Bool) {words : List ℕ} → 24 ≤ length pattern → Remembers back text terms words
+  pub lengths-known : (back : Bool) {words : List ℕ} → 24 ≤ length pattern → Remembers back text terms base words
       → Within words (restOf at (at + length pattern) start (start + length row)) → eachLength text back pattern row (valuesOf text terms b) ≡ []
   lengths-known back long so within =
       sym (tries back)
-      ∙ none-left back text terms (asked .pattern-stands) (asked .row-stands) (valuesOf text terms b) closed long (remembered back text terms so within)
+      ∙ none-left back text terms base (asked .pattern-stands) (asked .row-stands) (valuesOf text terms b) closed long (remembered back text terms base so within)
 
   -- no length matches, which is remembered
-  pub lengths-noted : (back : Bool) {words now : List ℕ} → eachLength text back pattern row (valuesOf text terms b) ≡ [] → Remembers back text terms words
-      → Noted words (restOf at (at + length pattern) start (start + length row)) now → Remembers back text terms now
+  pub lengths-noted : (back : Bool) {words now : List ℕ} → eachLength text back pattern row (valuesOf text terms b) ≡ [] → Remembers back text terms base words
+      → Noted words (restOf at (at + length pattern) start (start + length row)) now → Remembers back text terms base now
   lengths-noted back e so noted =
-      remembers-more back text terms so
-      (none-found back text terms (asked .pattern-stands) (asked .row-stands) (valuesOf text terms b) closed (tries back ∙ e)) noted
+      remembers-more back text terms base so
+      (none-found back text terms base (asked .pattern-stands) (asked .row-stands) (valuesOf text terms b) closed (tries back ∙ e)) noted
 
 -- the first match of none
 pub none-matched : (text terms : List ℕ) (m : Matched) (l : List (Values Atom)) → matchedValues text terms m ≡ firstIn l → m .ok ≡ false → l ≡ []

@@ -21,9 +21,9 @@ use Rattle.matching.specs.Pattern.{Atom, literal, variable, other, Patte
 use Rattle.matching.specs.Shadow.{sameAtom}
 use Rattle.matching.specs.Part.{rowOf, from, Stands, atomOf, termRow}
 use Rattle.matching.specs.Capacity.{variablesIn}
-use Rattle.matching.specs.Match.{valueIn}
+use Rattle.matching.specs.Match.{Values, valueIn}
 use Rattle.matching.specs.Bound.{variableAt, valuesUpTo, Kept, places}
-use Rattle.matching.specs.Repeats.{atomAt, Alone, Disjoint, ClosedUpTo}
+use Rattle.matching.specs.Repeats.{atomAt, Alone, Disjoint, AgreeUpTo}
 use Rattle.matching.proofs.SameLaws.{false-not-true, variable-refl}
 use Rattle.matching.proofs.PartLaws.{row-empty, row-node}
 use Rattle.matching.proofs.CutLaws.{from-length, stands-part, stands-from, stands-term}
@@ -269,7 +269,7 @@ module _ {text part behind : List ℕ} {i : ℕ} (so-far : Across text part behi
     pub across-alone : Alone text (atomOf text (termAt (from i part) 0)) behind → Across text part behind (i + 24)
     across-alone alone = across-next (λ v e. rw e at alone)
 
--- ---- what `closed` has gone through: none of a pattern's variables has a value in the first so many places
+-- ---- what `closed` has gone through: none of a pattern's variables has a value in so many places more
 
 module _ {text terms keys starts sizes : List ℕ} {count : ℕ} (pattern : List ℕ) (kept : Kept text terms (places keys starts sizes count)) {i key : ℕ}
     (low : i < count) (is-key : key ≡ getD keys i 0) (alone : Alone text (atomOf text (termAt (from key terms) 0)) pattern) where
@@ -279,8 +279,8 @@ module _ {text terms keys starts sizes : List ℕ} {count : ℕ} (pattern : List
       let (m, inside, e) = occurs-at text (length pattern) pattern (omega arith) w o in
       rw (is-key, term-from terms (getD keys i 0) (kept .keyed i low), kept .named i low, e) at (alone m inside)
 
-  pub closed-next : ClosedUpTo text terms pattern keys starts sizes i → ClosedUpTo text terms pattern keys starts sizes (i + 1)
+  pub closed-next : (vs : Values Atom) → AgreeUpTo text terms pattern keys starts sizes i vs → AgreeUpTo text terms pattern keys starts sizes (i + 1) vs
   unfolding valuesUpTo valueIn
-  closed-next so-far w o =
+  closed-next vs so-far w o =
       let e : i + 1 ≡ suc i = omega arith in
       rw (e, other-variable w o) (so-far w o)

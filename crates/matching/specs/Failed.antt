@@ -1,4 +1,5 @@
--- Rests of a pattern and of a row that a search remembers: they have no match, whatever the values, as long as no variable of the pattern's rest has one.
+-- Rests of a pattern and of a row that a search remembers: they have no match, as long as the variables of the pattern's rest have the values that they had when
+-- the search began to remember, or none.
 use Prim.Native.Nat.{ℕ, _+_, _*_, _≤_, _<_}
 use mathlib.Core.Bool.{Bool}
 use mathlib.Core.List.{List, []}
@@ -7,16 +8,24 @@ use mathlib.Core.Path.{_≡_}
 use lib.ListN.{length, getD}
 use Rattle.matching.specs.Pattern.{Atom}
 use Rattle.matching.specs.Match.{Values}
+use Rattle.matching.specs.Part.{rowOf}
 use Rattle.matching.specs.Step.{found}
 use Rattle.matching.specs.Capacity.{variablesIn}
 use Rattle.matching.specs.Asked.{between}
-use Rattle.matching.specs.Repeats.{Unvalued, ClosedUpTo}
+use Rattle.matching.specs.Bound.{valuesUpTo}
+use Rattle.matching.specs.Repeats.{Agree}
 use Rattle.matching.specs.declared.Bindings.{Bindings}
+use Rattle.matching.specs.declared.repeats.Sure.{Sure}
 
--- so many places are known to have no value of a variable of the pattern
-pub record Sure (text terms pattern : List ℕ) (b : Bindings) (sure : ℕ) : Type 0 where
-  pub few : sure ≤ b .count
-  pub closed : ClosedUpTo text terms pattern (b .keys) (b .starts) (b .sizes) sure
+-- the values in the first n places
+abbrev pub firstValues : List ℕ → List ℕ → Bindings → ℕ → Values Atom
+firstValues text terms b n = valuesUpTo text terms (b .keys) (b .starts) (b .sizes) n
+
+-- the places up to `fixed` keep their values as long as the search remembers; those from there up to `places` have no variable of the pattern
+pub record Settled (text terms pattern : List ℕ) (b : Bindings) (s : Sure) : Type 0 where
+  pub low : s .fixed ≤ s .places
+  pub few : s .places ≤ b .count
+  pub same : Agree (variablesIn (rowOf text pattern)) (firstValues text terms b (s .places)) (firstValues text terms b (s .fixed))
 
 -- the positions among the term records where a pattern's rest begins and ends, and where a row's rest does
 pub record Rest : Type 0 where
@@ -40,13 +49,18 @@ Within words r = (i : ℕ) × (restAt words i ≡ r)
 abbrev pub Noted : List ℕ → Rest → List ℕ → Type 0
 Noted words r now = (length now ≡ length words) × ((i : ℕ) → (restAt now i ≡ r) ⊎ (restAt now i ≡ restAt words i))
 
--- a pattern's rest that is not empty has no match with a row's rest
-pub record Failed (back : Bool) (text terms : List ℕ) (r : Rest) : Type 0 where
+-- a pattern's rest that is not empty has no match with a row's rest, where its variables have these values or none
+pub record Failed (back : Bool) (text terms : List ℕ) (base : Values Atom) (r : Rest) : Type 0 where
   pub none : r .at < r .end
-      → (vs : Values Atom) → Unvalued (variablesIn (between text terms (r .at) (r .end))) vs
+      → (vs : Values Atom) → Agree (variablesIn (between text terms (r .at) (r .end))) vs base
       → found back (between text terms (r .at) (r .end)) (between text terms (r .start) (r .row-end)) vs ≡ []
 
 -- there are words for 512 rests, and all that is remembered is so
-pub record Remembers (back : Bool) (text terms words : List ℕ) : Type 0 where
+pub record Remembers (back : Bool) (text terms : List ℕ) (base : Values Atom) (words : List ℕ) : Type 0 where
   pub long : length words ≡ 2048
-  pub all : (i : ℕ) → Failed back text terms (restAt words i)
+  pub all : (i : ℕ) → Failed back text terms base (restAt words i)
+
+-- the first places keep their values
+pub record Fixed (text terms : List ℕ) (b : Bindings) (n : ℕ) (r : Bindings) : Type 0 where
+  pub few : n ≤ r .count
+  pub same : firstValues text terms r n ≡ firstValues text terms b n

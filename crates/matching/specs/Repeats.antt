@@ -2,7 +2,6 @@
 use Prim.Native.Nat.{ℕ, _+_, _*_, _≤_}
 use mathlib.Core.Bool.{Bool, true, false}
 use mathlib.Core.List.{List}
-use mathlib.Core.Option.{none}
 use mathlib.Core.Path.{_≡_}
 use lib.ListN.{length}
 use Rattle.file.specs.Head.{termAt}
@@ -26,10 +25,11 @@ Alone text a part = (n : ℕ) → 24 * n + 24 ≤ length part → sameAtom a (at
 abbrev pub Disjoint : List Variable → List Variable → Type 0
 Disjoint l m = (w : Variable) → occurs w m ≡ true → occurs w l ≡ false
 
--- none of these variables has a value
-abbrev pub Unvalued : List Variable → Values Atom → Type 0
-Unvalued l vs = (w : Variable) → occurs w l ≡ true → valueIn vs w ≡ none
+-- these variables have the same values, or have none
+module _ {A : Type 0} where
+  abbrev pub Agree : List Variable → Values A → Values A → Type 0
+  Agree l vs us = (w : Variable) → occurs w l ≡ true → valueIn vs w ≡ valueIn us w
 
--- none of a pattern's variables has a value in the first n places
-abbrev pub ClosedUpTo : List ℕ → List ℕ → List ℕ → List ℕ → List ℕ → List ℕ → ℕ → Type 0
-ClosedUpTo text terms pattern keys starts sizes n = Unvalued (variablesIn (rowOf text pattern)) (valuesUpTo text terms keys starts sizes n)
+-- for a pattern's variables, the values in the first n places are these
+abbrev pub AgreeUpTo : List ℕ → List ℕ → List ℕ → List ℕ → List ℕ → List ℕ → ℕ → Values Atom → Type 0
+AgreeUpTo text terms pattern keys starts sizes n vs = Agree (variablesIn (rowOf text pattern)) (valuesUpTo text terms keys starts sizes n) vs

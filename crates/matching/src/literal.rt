@@ -8,6 +8,7 @@ use crate::failed::note_failed;
 use crate::known_front;
 use crate::narrow;
 use crate::none;
+use crate::repeats::Sure;
 use crate::repeats::closed;
 use crate::repeats::stands_apart;
 use crate::wide;
@@ -28,9 +29,9 @@ ghost use Rattle.matching.specs.Step.{found, eachLength, eachInside, Fre
 ghost use Rattle.matching.specs.Capacity.{variablesIn, Capacity};
 ghost use Rattle.matching.specs.Asked.{someHolds, nesting, resume, comingIn, levelsOf, Around, LiteralAsked};
 ghost use Rattle.matching.specs.Repeats.{Disjoint};
-ghost use Rattle.matching.specs.Failed.{Sure, Remembers};
+ghost use Rattle.matching.specs.Failed.{firstValues, Settled, Remembers};
 
-// `sure` says of how many places it is known that their variables do not stand in the pattern. `failed` is what is remembered.
+// `failed` is what is remembered, of rests whose variables have the values of the fixed places of `sure`, or none.
 
 // What is still to be matched around the brackets that were gone into: the positions among the term records where each level of the pattern and of the
 // row ends, the outermost first. A level begins where the one inside it ends.
@@ -72,12 +73,13 @@ fn literal_out(
     start: usize,
     outer: Pending,
     b: Bindings,
+    fixed: usize,
     failed: &mut [u16; 2048],
 ) -> bool
-    requires { ⌜ (length (now terms) < 65536) × Around (now text) (now terms) outer at start × Kept (now text) (now terms) b × Remembers true (now text) (now terms) (now failed) ⌝ }
+    requires { ⌜ (length (now terms) < 65536) × Around (now text) (now terms) outer at start × Kept (now text) (now terms) b × (fixed ≤ b .count) × Remembers true (now text) (now terms) (firstValues (now text) (now terms) b fixed) (now failed) ⌝ }
     requires { ⌜ Capacity (comingIn (levelsOf (now text) (now terms) outer at start)) (valuesOf (now text) (now terms) b) ⌝ }
     ensures { λ r. ⌜ (r ≡ resume (levelsOf (now (text .entry)) (now (terms .entry)) outer at start) (valuesOf (now (text .entry)) (now (terms .entry)) b))
-        × Remembers true (now (text .entry)) (now (terms .entry)) (now (failed .exit)) ⌝ }
+        × Remembers true (now (text .entry)) (now (terms .entry)) (firstValues (now (text .entry)) (now (terms .entry)) b fixed) (now (failed .exit)) ⌝ }
 {
     let n = outer.count;
     if n == 0 {
@@ -90,7 +92,11 @@ fn literal_out(
     let row_end = wide(outer.rows[top]);
     let pattern = &terms[at..end];
     let row = &terms[start..row_end];
-    literal_run(text, terms, pattern, at, row, start, out, b, 0, failed)
+    let sure = Sure {
+        fixed: fixed,
+        places: fixed,
+    };
+    literal_run(text, terms, pattern, at, row, start, out, b, sure, failed)
 }
 
 // An e. variable without a value, then the rest of the pattern: every length in turn.
@@ -103,14 +109,14 @@ fn literal_lengths(
     start: usize,
     outer: Pending,
     b: Bindings,
-    sure: usize,
+    sure: Sure,
     failed: &mut [u16; 2048],
 ) -> bool
-    requires { ⌜ LiteralAsked (now text) (now terms) (now pattern) at (now row) start outer b × (24 ≤ length (now pattern)) × Sure (now text) (now terms) (now pattern) b sure × Remembers true (now text) (now terms) (now failed) ⌝ }
+    requires { ⌜ LiteralAsked (now text) (now terms) (now pattern) at (now row) start outer b × (24 ≤ length (now pattern)) × Settled (now text) (now terms) (now pattern) b sure × Remembers true (now text) (now terms) (firstValues (now text) (now terms) b (sure .fixed)) (now failed) ⌝ }
     requires { ⌜ Free (rowOf (now text) (now pattern)) (firstVariable (now text) (now pattern)) (valuesOf (now text) (now terms) b) ⌝ }
     ensures { λ r. ⌜ (r ≡ someHolds (resume (levelsOf (now (text .entry)) (now (terms .entry)) outer (at + length (now (pattern .entry))) (start + length (now (row .entry)))))
         (eachLength (now (text .entry)) true (now (pattern .entry)) (now (row .entry)) (valuesOf (now (text .entry)) (now (terms .entry)) b)))
-        × Remembers true (now (text .entry)) (now (terms .entry)) (now (failed .exit)) ⌝ }
+        × Remembers true (now (text .entry)) (now (terms .entry)) (firstValues (now (text .entry)) (now (terms .entry)) b (sure .fixed)) (now (failed .exit)) ⌝ }
 {
     let end = end_of(pattern);
     let rest = &pattern[end..];
@@ -140,8 +146,44 @@ fn literal_lengths(
     }
 }
 
-// The same, unless it is remembered that there is no match: where nothing is around and no variable of the pattern has a value, this does not depend on
-// the values.
+// The same, with a search that remembers anew, from the values that there are now.
+fn literal_anew(
+    text: &[u8],
+    terms: &[u8],
+    pattern: &[u8],
+    at: usize,
+    row: &[u8],
+    start: usize,
+    outer: Pending,
+    b: Bindings,
+) -> bool
+    requires { ⌜ LiteralAsked (now text) (now terms) (now pattern) at (now row) start outer b × (24 ≤ length (now pattern)) ⌝ }
+    requires { ⌜ Free (rowOf (now text) (now pattern)) (firstVariable (now text) (now pattern)) (valuesOf (now text) (now terms) b) ⌝ }
+    ensures { λ r. ⌜ r ≡ someHolds (resume (levelsOf (now (text .entry)) (now (terms .entry)) outer (at + length (now (pattern .entry))) (start + length (now (row .entry)))))
+        (eachLength (now (text .entry)) true (now (pattern .entry)) (now (row .entry)) (valuesOf (now (text .entry)) (now (terms .entry)) b)) ⌝ }
+{
+    let mut failed: [u16; 2048] = [0; 2048];
+    let len = b.count;
+    let all = Sure {
+        fixed: len,
+        places: len,
+    };
+    literal_lengths(
+        text,
+        terms,
+        pattern,
+        at,
+        row,
+        start,
+        outer,
+        b,
+        all,
+        &mut failed,
+    )
+}
+
+// The same, unless it is remembered that there is no match: where nothing is around and the variables of the pattern have the values of the fixed places, or
+// none, this does not depend on the others.
 fn literal_tries(
     text: &[u8],
     terms: &[u8],
@@ -151,29 +193,34 @@ fn literal_tries(
     start: usize,
     outer: Pending,
     b: Bindings,
-    sure: usize,
+    sure: Sure,
     failed: &mut [u16; 2048],
 ) -> bool
-    requires { ⌜ LiteralAsked (now text) (now terms) (now pattern) at (now row) start outer b × (24 ≤ length (now pattern)) × Sure (now text) (now terms) (now pattern) b sure × Remembers true (now text) (now terms) (now failed) ⌝ }
+    requires { ⌜ LiteralAsked (now text) (now terms) (now pattern) at (now row) start outer b × (24 ≤ length (now pattern)) × Settled (now text) (now terms) (now pattern) b sure × Remembers true (now text) (now terms) (firstValues (now text) (now terms) b (sure .fixed)) (now failed) ⌝ }
     requires { ⌜ Free (rowOf (now text) (now pattern)) (firstVariable (now text) (now pattern)) (valuesOf (now text) (now terms) b) ⌝ }
     requires { ⌜ TriesAll (now text) (now pattern) (now row) (valuesOf (now text) (now terms) b) ⌝ }
     ensures { λ r. ⌜ (r ≡ someHolds (resume (levelsOf (now (text .entry)) (now (terms .entry)) outer (at + length (now (pattern .entry))) (start + length (now (row .entry)))))
         (eachLength (now (text .entry)) true (now (pattern .entry)) (now (row .entry)) (valuesOf (now (text .entry)) (now (terms .entry)) b)))
-        × Remembers true (now (text .entry)) (now (terms .entry)) (now (failed .exit)) ⌝ }
+        × Remembers true (now (text .entry)) (now (terms .entry)) (firstValues (now (text .entry)) (now (terms .entry)) b (sure .fixed)) (now (failed .exit)) ⌝ }
 {
     if outer.count != 0 {
         return literal_lengths(text, terms, pattern, at, row, start, outer, b, sure, failed);
     }
     let len = b.count;
-    if !closed(text, terms, pattern, &b.keys, sure, len) {
-        return literal_lengths(text, terms, pattern, at, row, start, outer, b, sure, failed);
+    let places = sure.places;
+    if !closed(text, terms, pattern, &b.keys, places, len) {
+        return literal_anew(text, terms, pattern, at, row, start, outer, b);
     }
     let end = at + pattern.len();
     let row_end = start + row.len();
     if failed_before(failed, at, end, start, row_end) {
         return false;
     }
-    let found = literal_lengths(text, terms, pattern, at, row, start, outer, b, len, failed);
+    let all = Sure {
+        fixed: sure.fixed,
+        places: len,
+    };
+    let found = literal_lengths(text, terms, pattern, at, row, start, outer, b, all, failed);
     if !found {
         note_failed(failed, at, end, start, row_end);
     }
@@ -190,13 +237,13 @@ fn literal_inside(
     start: usize,
     outer: Pending,
     b: Bindings,
-    sure: usize,
+    sure: Sure,
     failed: &mut [u16; 2048],
 ) -> bool
-    requires { ⌜ LiteralAsked (now text) (now terms) (now pattern) at (now row) start outer b × (24 ≤ length (now pattern)) × Facing (rowOf (now text) (now pattern)) (now row) × Sure (now text) (now terms) (now pattern) b sure × Remembers true (now text) (now terms) (now failed) ⌝ }
+    requires { ⌜ LiteralAsked (now text) (now terms) (now pattern) at (now row) start outer b × (24 ≤ length (now pattern)) × Facing (rowOf (now text) (now pattern)) (now row) × Settled (now text) (now terms) (now pattern) b sure × Remembers true (now text) (now terms) (firstValues (now text) (now terms) b (sure .fixed)) (now failed) ⌝ }
     ensures { λ r. ⌜ (r ≡ someHolds (resume (levelsOf (now (text .entry)) (now (terms .entry)) outer (at + length (now (pattern .entry))) (start + length (now (row .entry)))))
         (eachInside (now (text .entry)) true (now (pattern .entry)) (now (row .entry)) (valuesOf (now (text .entry)) (now (terms .entry)) b)))
-        × Remembers true (now (text .entry)) (now (terms .entry)) (now (failed .exit)) ⌝ }
+        × Remembers true (now (text .entry)) (now (terms .entry)) (firstValues (now (text .entry)) (now (terms .entry)) b (sure .fixed)) (now (failed .exit)) ⌝ }
 {
     let m = end_of(pattern);
     let n = end_of(row);
@@ -229,14 +276,14 @@ fn literal_apart(
     start: usize,
     outer: Pending,
     b: Bindings,
-    sure: usize,
+    sure: Sure,
     failed: &mut [u16; 2048],
 ) -> bool
-    requires { ⌜ LiteralAsked (now text) (now terms) (now pattern) at (now row) start outer b × (24 ≤ length (now pattern)) × Facing (rowOf (now text) (now pattern)) (now row) × Sure (now text) (now terms) (now pattern) b sure × Remembers true (now text) (now terms) (now failed) ⌝ }
+    requires { ⌜ LiteralAsked (now text) (now terms) (now pattern) at (now row) start outer b × (24 ≤ length (now pattern)) × Facing (rowOf (now text) (now pattern)) (now row) × Settled (now text) (now terms) (now pattern) b sure × Remembers true (now text) (now terms) (firstValues (now text) (now terms) b (sure .fixed)) (now failed) ⌝ }
     requires { ⌜ (outer .count ≡ 0) × Disjoint (variablesIn (rowOf (now text) (contents 24 endOf (now pattern)))) (variablesIn (rowOf (now text) (rest 24 endOf (now pattern)))) ⌝ }
     ensures { λ r. ⌜ (r ≡ someHolds (resume (levelsOf (now (text .entry)) (now (terms .entry)) outer (at + length (now (pattern .entry))) (start + length (now (row .entry)))))
         (eachInside (now (text .entry)) true (now (pattern .entry)) (now (row .entry)) (valuesOf (now (text .entry)) (now (terms .entry)) b)))
-        × Remembers true (now (text .entry)) (now (terms .entry)) (now (failed .exit)) ⌝ }
+        × Remembers true (now (text .entry)) (now (terms .entry)) (firstValues (now (text .entry)) (now (terms .entry)) b (sure .fixed)) (now (failed .exit)) ⌝ }
 {
     let m = end_of(pattern);
     let n = end_of(row);
@@ -274,13 +321,13 @@ fn literal_bracket(
     start: usize,
     outer: Pending,
     b: Bindings,
-    sure: usize,
+    sure: Sure,
     failed: &mut [u16; 2048],
 ) -> bool
-    requires { ⌜ LiteralAsked (now text) (now terms) (now pattern) at (now row) start outer b × (24 ≤ length (now pattern)) × Facing (rowOf (now text) (now pattern)) (now row) × Sure (now text) (now terms) (now pattern) b sure × Remembers true (now text) (now terms) (now failed) ⌝ }
+    requires { ⌜ LiteralAsked (now text) (now terms) (now pattern) at (now row) start outer b × (24 ≤ length (now pattern)) × Facing (rowOf (now text) (now pattern)) (now row) × Settled (now text) (now terms) (now pattern) b sure × Remembers true (now text) (now terms) (firstValues (now text) (now terms) b (sure .fixed)) (now failed) ⌝ }
     ensures { λ r. ⌜ (r ≡ someHolds (resume (levelsOf (now (text .entry)) (now (terms .entry)) outer (at + length (now (pattern .entry))) (start + length (now (row .entry)))))
         (eachInside (now (text .entry)) true (now (pattern .entry)) (now (row .entry)) (valuesOf (now (text .entry)) (now (terms .entry)) b)))
-        × Remembers true (now (text .entry)) (now (terms .entry)) (now (failed .exit)) ⌝ }
+        × Remembers true (now (text .entry)) (now (terms .entry)) (firstValues (now (text .entry)) (now (terms .entry)) b (sure .fixed)) (now (failed .exit)) ⌝ }
 {
     let m = end_of(pattern);
     let contents = &pattern[24..m];
@@ -300,15 +347,15 @@ fn literal_first(
     start: usize,
     outer: Pending,
     b: Bindings,
-    sure: usize,
+    sure: Sure,
     failed: &mut [u16; 2048],
     first: First,
 ) -> bool
-    requires { ⌜ LiteralAsked (now text) (now terms) (now pattern) at (now row) start outer b × Sure (now text) (now terms) (now pattern) b sure × Remembers true (now text) (now terms) (now failed) ⌝ }
+    requires { ⌜ LiteralAsked (now text) (now terms) (now pattern) at (now row) start outer b × Settled (now text) (now terms) (now pattern) b sure × Remembers true (now text) (now terms) (firstValues (now text) (now terms) b (sure .fixed)) (now failed) ⌝ }
     requires { ⌜ Stopped (now text) (now pattern) (now row) (valuesOf (now text) (now terms) b) first ⌝ }
     ensures { λ r. ⌜ (r ≡ someHolds (resume (levelsOf (now (text .entry)) (now (terms .entry)) outer (at + length (now (pattern .entry))) (start + length (now (row .entry)))))
         (found true (rowOf (now (text .entry)) (now (pattern .entry))) (rowOf (now (text .entry)) (now (row .entry))) (valuesOf (now (text .entry)) (now (terms .entry)) b)))
-        × Remembers true (now (text .entry)) (now (terms .entry)) (now (failed .exit)) ⌝ }
+        × Remembers true (now (text .entry)) (now (terms .entry)) (firstValues (now (text .entry)) (now (terms .entry)) b (sure .fixed)) (now (failed .exit)) ⌝ }
 {
     match first {
         First::Fails => false,
@@ -351,13 +398,13 @@ fn literal_run(
     start: usize,
     outer: Pending,
     b: Bindings,
-    sure: usize,
+    sure: Sure,
     failed: &mut [u16; 2048],
 ) -> bool
-    requires { ⌜ LiteralAsked (now text) (now terms) (now pattern) at (now row) start outer b × Sure (now text) (now terms) (now pattern) b sure × Remembers true (now text) (now terms) (now failed) ⌝ }
+    requires { ⌜ LiteralAsked (now text) (now terms) (now pattern) at (now row) start outer b × Settled (now text) (now terms) (now pattern) b sure × Remembers true (now text) (now terms) (firstValues (now text) (now terms) b (sure .fixed)) (now failed) ⌝ }
     ensures { λ r. ⌜ (r ≡ someHolds (resume (levelsOf (now (text .entry)) (now (terms .entry)) outer (at + length (now (pattern .entry))) (start + length (now (row .entry)))))
         (found true (rowOf (now (text .entry)) (now (pattern .entry))) (rowOf (now (text .entry)) (now (row .entry))) (valuesOf (now (text .entry)) (now (terms .entry)) b)))
-        × Remembers true (now (text .entry)) (now (terms .entry)) (now (failed .exit)) ⌝ }
+        × Remembers true (now (text .entry)) (now (terms .entry)) (firstValues (now (text .entry)) (now (terms .entry)) b (sure .fixed)) (now (failed .exit)) ⌝ }
 {
     let len = b.count;
     match known_front(text, terms, pattern, row, &b.keys, &b.starts, &b.sizes, len) {
@@ -366,7 +413,8 @@ fn literal_run(
             let left = &row[n..];
             if left.len() < 24 {
                 let next = at + pattern.len();
-                return literal_out(text, terms, next, start + row.len(), outer, b, failed);
+                let end = start + row.len();
+                return literal_out(text, terms, next, end, outer, b, sure.fixed, failed);
             }
             false
         }
@@ -429,6 +477,11 @@ pub fn search_literal(
     ensures { λ r. ⌜ r ≡ literalMatches (rowOf (now (text .entry)) (now (pattern .entry))) (symbolsOf (now (text .entry)) (now (row .entry))) ⌝ }
 {
     let mut failed: [u16; 2048] = [0; 2048];
+    let sure = Sure {
+        fixed: 0,
+        places: 0,
+    };
+    let outer = alone();
     literal_run(
         text,
         terms,
@@ -436,9 +489,9 @@ pub fn search_literal(
         at,
         row,
         start,
-        alone(),
+        outer,
         none(),
-        0,
+        sure,
         &mut failed,
     )
 }

@@ -8,10 +8,18 @@ ghost use mathlib.Core.List.{List};
 ghost use Prim.Native.Nat.{ℕ, _+_, _≤_, _<_};
 ghost use lib.ListN.{length, getD};
 ghost use Rattle.file.specs.Head.{termAt};
+ghost use Rattle.matching.specs.Pattern.{Atom};
+ghost use Rattle.matching.specs.Match.{Values};
 ghost use Rattle.matching.specs.Part.{rowOf, atomOf};
 ghost use Rattle.matching.specs.Bound.{Kept, places};
 ghost use Rattle.matching.specs.Capacity.{variablesIn};
-ghost use Rattle.matching.specs.Repeats.{Alone, ClosedUpTo, Disjoint};
+ghost use Rattle.matching.specs.Repeats.{Alone, AgreeUpTo, Disjoint};
+
+// Of a search's places, how many keep their values as long as it remembers, and of how many more it is known that their variables do not stand in the pattern.
+pub struct Sure {
+    pub fixed: usize,
+    pub places: usize,
+}
 
 // Is the variable that stands first in one part a record of another, at any depth?
 pub fn again(text: &[u8], first: &[u8], part: &[u8]) -> bool
@@ -60,7 +68,7 @@ pub fn stands_apart(text: &[u8], part: &[u8], behind: &[u8], around: usize) -> b
     disjoint_variables(text, part, behind)
 }
 
-// Has no variable of a pattern a value? Of the first `sure` places it is known; only keys are looked at.
+// Has no variable of a pattern a value in the places from `sure` on? Only keys are looked at.
 pub fn closed(
     text: &[u8],
     terms: &[u8],
@@ -70,9 +78,9 @@ pub fn closed(
     count: usize,
 ) -> bool
     requires { ⌜ (sure ≤ count) × (count ≤ 32) × ((i : ℕ) → i < count → getD (now keys) i 0 + 24 ≤ length (now terms)) ⌝ }
-    ensures { λ r. ⌜ (r ≡ true → (starts sizes : List ℕ) → Kept (now (text .entry)) (now (terms .entry)) (places (now (keys .entry)) starts sizes count)
-        → ClosedUpTo (now (text .entry)) (now (terms .entry)) (now (pattern .entry)) (now (keys .entry)) starts sizes sure
-        → ClosedUpTo (now (text .entry)) (now (terms .entry)) (now (pattern .entry)) (now (keys .entry)) starts sizes count) ⌝ }
+    ensures { λ r. ⌜ (r ≡ true → (starts sizes : List ℕ) (vs : Values Atom) → Kept (now (text .entry)) (now (terms .entry)) (places (now (keys .entry)) starts sizes count)
+        → AgreeUpTo (now (text .entry)) (now (terms .entry)) (now (pattern .entry)) (now (keys .entry)) starts sizes sure vs
+        → AgreeUpTo (now (text .entry)) (now (terms .entry)) (now (pattern .entry)) (now (keys .entry)) starts sizes count vs) ⌝ }
 {
     let mut i = sure;
     loop {

@@ -7,6 +7,7 @@ use crate::failed::failed_before;
 use crate::failed::note_failed;
 use crate::known_front;
 use crate::none;
+use crate::repeats::Sure;
 use crate::repeats::closed;
 use law::runs::end_of;
 ghost use mathlib.Core.Path.{_≡_};
@@ -22,10 +23,9 @@ ghost use Rattle.matching.specs.Bound.{valuesOf, Kept};
 ghost use Rattle.matching.specs.Step.{found, eachLength, eachInside, Free, Facing, TriesAll, Stopped, firstVariable};
 ghost use Rattle.matching.specs.Capacity.{variablesIn};
 ghost use Rattle.matching.specs.Asked.{firstIn, Asked, matchedValues};
-ghost use Rattle.matching.specs.Failed.{Sure, Remembers};
+ghost use Rattle.matching.specs.Failed.{firstValues, Settled, Remembers, Fixed};
 
-// `sure` says of how many places it is known that their variables do not stand in the pattern: none of these is looked for again. `failed` is what is
-// remembered.
+// `failed` is what is remembered, of rests whose variables have the values of the fixed places of `sure`, or none.
 
 // Whether there is a match, and the values of the first.
 pub struct Matched {
@@ -42,14 +42,15 @@ fn shadow_lengths(
     row: &[u8],
     start: usize,
     b: Bindings,
-    sure: usize,
+    sure: Sure,
     failed: &mut [u16; 2048],
 ) -> Matched
-    requires { ⌜ Asked (now text) (now terms) (now pattern) at (now row) start [] b × (24 ≤ length (now pattern)) × Sure (now text) (now terms) (now pattern) b sure × Remembers false (now text) (now terms) (now failed) ⌝ }
+    requires { ⌜ Asked (now text) (now terms) (now pattern) at (now row) start [] b × (24 ≤ length (now pattern)) × Settled (now text) (now terms) (now pattern) b sure × Remembers false (now text) (now terms) (firstValues (now text) (now terms) b (sure .fixed)) (now failed) ⌝ }
     requires { ⌜ Free (rowOf (now text) (now pattern)) (firstVariable (now text) (now pattern)) (valuesOf (now text) (now terms) b) ⌝ }
     ensures { λ r. ⌜ Kept (now (text .entry)) (now (terms .entry)) (r .bindings)
         × (matchedValues (now (text .entry)) (now (terms .entry)) r ≡ firstIn (eachLength (now (text .entry)) false (now (pattern .entry)) (now (row .entry)) (valuesOf (now (text .entry)) (now (terms .entry)) b)))
-        × Remembers false (now (text .entry)) (now (terms .entry)) (now (failed .exit)) ⌝ }
+        × Remembers false (now (text .entry)) (now (terms .entry)) (firstValues (now (text .entry)) (now (terms .entry)) b (sure .fixed)) (now (failed .exit))
+        × Fixed (now (text .entry)) (now (terms .entry)) b (sure .fixed) (r .bindings) ⌝ }
 {
     let end = end_of(pattern);
     let rest = &pattern[end..];
@@ -69,7 +70,33 @@ fn shadow_lengths(
     }
 }
 
-// The same, unless it is remembered that there is no match: where no variable of the pattern has a value, this does not depend on the values.
+// The same, with a search that remembers anew, from the values that there are now.
+fn shadow_anew(
+    text: &[u8],
+    terms: &[u8],
+    pattern: &[u8],
+    at: usize,
+    row: &[u8],
+    start: usize,
+    b: Bindings,
+) -> Matched
+    requires { ⌜ Asked (now text) (now terms) (now pattern) at (now row) start [] b × (24 ≤ length (now pattern)) ⌝ }
+    requires { ⌜ Free (rowOf (now text) (now pattern)) (firstVariable (now text) (now pattern)) (valuesOf (now text) (now terms) b) ⌝ }
+    ensures { λ r. ⌜ Kept (now (text .entry)) (now (terms .entry)) (r .bindings)
+        × (matchedValues (now (text .entry)) (now (terms .entry)) r ≡ firstIn (eachLength (now (text .entry)) false (now (pattern .entry)) (now (row .entry)) (valuesOf (now (text .entry)) (now (terms .entry)) b)))
+        × Fixed (now (text .entry)) (now (terms .entry)) b (b .count) (r .bindings) ⌝ }
+{
+    let mut failed: [u16; 2048] = [0; 2048];
+    let len = b.count;
+    let all = Sure {
+        fixed: len,
+        places: len,
+    };
+    shadow_lengths(text, terms, pattern, at, row, start, b, all, &mut failed)
+}
+
+// The same, unless it is remembered that there is no match: where the variables of the pattern have the values of the fixed places, or none, this does not
+// depend on the others.
 fn shadow_tries(
     text: &[u8],
     terms: &[u8],
@@ -78,19 +105,21 @@ fn shadow_tries(
     row: &[u8],
     start: usize,
     b: Bindings,
-    sure: usize,
+    sure: Sure,
     failed: &mut [u16; 2048],
 ) -> Matched
-    requires { ⌜ Asked (now text) (now terms) (now pattern) at (now row) start [] b × (24 ≤ length (now pattern)) × Sure (now text) (now terms) (now pattern) b sure × Remembers false (now text) (now terms) (now failed) ⌝ }
+    requires { ⌜ Asked (now text) (now terms) (now pattern) at (now row) start [] b × (24 ≤ length (now pattern)) × Settled (now text) (now terms) (now pattern) b sure × Remembers false (now text) (now terms) (firstValues (now text) (now terms) b (sure .fixed)) (now failed) ⌝ }
     requires { ⌜ Free (rowOf (now text) (now pattern)) (firstVariable (now text) (now pattern)) (valuesOf (now text) (now terms) b) ⌝ }
     requires { ⌜ TriesAll (now text) (now pattern) (now row) (valuesOf (now text) (now terms) b) ⌝ }
     ensures { λ r. ⌜ Kept (now (text .entry)) (now (terms .entry)) (r .bindings)
         × (matchedValues (now (text .entry)) (now (terms .entry)) r ≡ firstIn (eachLength (now (text .entry)) false (now (pattern .entry)) (now (row .entry)) (valuesOf (now (text .entry)) (now (terms .entry)) b)))
-        × Remembers false (now (text .entry)) (now (terms .entry)) (now (failed .exit)) ⌝ }
+        × Remembers false (now (text .entry)) (now (terms .entry)) (firstValues (now (text .entry)) (now (terms .entry)) b (sure .fixed)) (now (failed .exit))
+        × Fixed (now (text .entry)) (now (terms .entry)) b (sure .fixed) (r .bindings) ⌝ }
 {
     let len = b.count;
-    if !closed(text, terms, pattern, &b.keys, sure, len) {
-        return shadow_lengths(text, terms, pattern, at, row, start, b, sure, failed);
+    let places = sure.places;
+    if !closed(text, terms, pattern, &b.keys, places, len) {
+        return shadow_anew(text, terms, pattern, at, row, start, b);
     }
     let end = at + pattern.len();
     let row_end = start + row.len();
@@ -100,7 +129,11 @@ fn shadow_tries(
             bindings: b,
         };
     }
-    let m = shadow_lengths(text, terms, pattern, at, row, start, b, len, failed);
+    let all = Sure {
+        fixed: sure.fixed,
+        places: len,
+    };
+    let m = shadow_lengths(text, terms, pattern, at, row, start, b, all, failed);
     if !m.ok {
         note_failed(failed, at, end, start, row_end);
     }
@@ -116,13 +149,14 @@ fn shadow_inside(
     row: &[u8],
     start: usize,
     b: Bindings,
-    sure: usize,
+    sure: Sure,
     failed: &mut [u16; 2048],
 ) -> Matched
-    requires { ⌜ Asked (now text) (now terms) (now pattern) at (now row) start [] b × (24 ≤ length (now pattern)) × Facing (rowOf (now text) (now pattern)) (now row) × Sure (now text) (now terms) (now pattern) b sure × Remembers false (now text) (now terms) (now failed) ⌝ }
+    requires { ⌜ Asked (now text) (now terms) (now pattern) at (now row) start [] b × (24 ≤ length (now pattern)) × Facing (rowOf (now text) (now pattern)) (now row) × Settled (now text) (now terms) (now pattern) b sure × Remembers false (now text) (now terms) (firstValues (now text) (now terms) b (sure .fixed)) (now failed) ⌝ }
     ensures { λ r. ⌜ Kept (now (text .entry)) (now (terms .entry)) (r .bindings)
         × (matchedValues (now (text .entry)) (now (terms .entry)) r ≡ firstIn (eachInside (now (text .entry)) false (now (pattern .entry)) (now (row .entry)) (valuesOf (now (text .entry)) (now (terms .entry)) b)))
-        × Remembers false (now (text .entry)) (now (terms .entry)) (now (failed .exit)) ⌝ }
+        × Remembers false (now (text .entry)) (now (terms .entry)) (firstValues (now (text .entry)) (now (terms .entry)) b (sure .fixed)) (now (failed .exit))
+        × Fixed (now (text .entry)) (now (terms .entry)) b (sure .fixed) (r .bindings) ⌝ }
 {
     let m = end_of(pattern);
     let n = end_of(row);
@@ -143,9 +177,23 @@ fn shadow_inside(
         return first;
     }
     let more = first.bindings;
+    let fixed = Sure {
+        fixed: sure.fixed,
+        places: sure.fixed,
+    };
     let rest = &pattern[m..];
     let left = &row[n..];
-    shadow_run(text, terms, rest, at + m, left, start + n, more, 0, failed)
+    shadow_run(
+        text,
+        terms,
+        rest,
+        at + m,
+        left,
+        start + n,
+        more,
+        fixed,
+        failed,
+    )
 }
 
 // The first match of a pattern with a row, by what the pattern's first record leaves to do.
@@ -157,15 +205,16 @@ fn shadow_first(
     row: &[u8],
     start: usize,
     b: Bindings,
-    sure: usize,
+    sure: Sure,
     failed: &mut [u16; 2048],
     first: First,
 ) -> Matched
-    requires { ⌜ Asked (now text) (now terms) (now pattern) at (now row) start [] b × Sure (now text) (now terms) (now pattern) b sure × Remembers false (now text) (now terms) (now failed) ⌝ }
+    requires { ⌜ Asked (now text) (now terms) (now pattern) at (now row) start [] b × Settled (now text) (now terms) (now pattern) b sure × Remembers false (now text) (now terms) (firstValues (now text) (now terms) b (sure .fixed)) (now failed) ⌝ }
     requires { ⌜ Stopped (now text) (now pattern) (now row) (valuesOf (now text) (now terms) b) first ⌝ }
     ensures { λ r. ⌜ Kept (now (text .entry)) (now (terms .entry)) (r .bindings)
         × (matchedValues (now (text .entry)) (now (terms .entry)) r ≡ firstIn (found false (rowOf (now (text .entry)) (now (pattern .entry))) (rowOf (now (text .entry)) (now (row .entry))) (valuesOf (now (text .entry)) (now (terms .entry)) b)))
-        × Remembers false (now (text .entry)) (now (terms .entry)) (now (failed .exit)) ⌝ }
+        × Remembers false (now (text .entry)) (now (terms .entry)) (firstValues (now (text .entry)) (now (terms .entry)) b (sure .fixed)) (now (failed .exit))
+        × Fixed (now (text .entry)) (now (terms .entry)) b (sure .fixed) (r .bindings) ⌝ }
 {
     match first {
         First::Fails => Matched {
@@ -207,13 +256,14 @@ fn shadow_run(
     row: &[u8],
     start: usize,
     b: Bindings,
-    sure: usize,
+    sure: Sure,
     failed: &mut [u16; 2048],
 ) -> Matched
-    requires { ⌜ Asked (now text) (now terms) (now pattern) at (now row) start [] b × Sure (now text) (now terms) (now pattern) b sure × Remembers false (now text) (now terms) (now failed) ⌝ }
+    requires { ⌜ Asked (now text) (now terms) (now pattern) at (now row) start [] b × Settled (now text) (now terms) (now pattern) b sure × Remembers false (now text) (now terms) (firstValues (now text) (now terms) b (sure .fixed)) (now failed) ⌝ }
     ensures { λ r. ⌜ Kept (now (text .entry)) (now (terms .entry)) (r .bindings)
         × (matchedValues (now (text .entry)) (now (terms .entry)) r ≡ firstIn (found false (rowOf (now (text .entry)) (now (pattern .entry))) (rowOf (now (text .entry)) (now (row .entry))) (valuesOf (now (text .entry)) (now (terms .entry)) b)))
-        × Remembers false (now (text .entry)) (now (terms .entry)) (now (failed .exit)) ⌝ }
+        × Remembers false (now (text .entry)) (now (terms .entry)) (firstValues (now (text .entry)) (now (terms .entry)) b (sure .fixed)) (now (failed .exit))
+        × Fixed (now (text .entry)) (now (terms .entry)) b (sure .fixed) (r .bindings) ⌝ }
 {
     let len = b.count;
     match known_front(text, terms, pattern, row, &b.keys, &b.starts, &b.sizes, len) {
@@ -261,6 +311,10 @@ pub fn search_shadow(
     ensures { λ r. ⌜ r ≡ shadows (rowOf (now (text .entry)) (now (earlier .entry))) (rowOf (now (text .entry)) (now (later .entry))) ⌝ }
 {
     let mut failed: [u16; 2048] = [0; 2048];
+    let sure = Sure {
+        fixed: 0,
+        places: 0,
+    };
     shadow_run(
         text,
         terms,
@@ -269,7 +323,7 @@ pub fn search_shadow(
         later,
         start,
         none(),
-        0,
+        sure,
         &mut failed,
     ).ok
 }

@@ -5,8 +5,10 @@ use mathlib.Core.Path.{_≡_}
 use native.Mathlib.Omega.{arith}
 use borrow.Author.Needs.{needs}
 use lib.ListN.{length, getD}
+use Rattle.matching.specs.Pattern.{Atom}
+use Rattle.matching.specs.Match.{Values}
 use Rattle.matching.specs.Bound.{Kept, places}
-use Rattle.matching.specs.Repeats.{ClosedUpTo}
+use Rattle.matching.specs.Repeats.{AgreeUpTo}
 use Rattle.matching.proofs.CutLaws.{from-length}
 use Rattle.matching.proofs.SameLaws.{false-not-true}
 use Rattle.matching.proofs.RecordLaws as laws
@@ -15,8 +17,8 @@ use Rattle.matching.proofs.repeats.closed.Tie as tie
 
 abbrev Inv-loop : tie.InvT-loop
 Inv-loop text terms pattern keys sure count i₀ i =
-    (i ≤ count) × ((starts sizes : List ℕ) → Kept text terms (places keys starts sizes count) → ClosedUpTo text terms pattern keys starts sizes sure
-    → ClosedUpTo text terms pattern keys starts sizes i)
+    (i ≤ count) × ((starts sizes : List ℕ) (vs : Values Atom) → Kept text terms (places keys starts sizes count) → AgreeUpTo text terms pattern keys starts sizes sure vs
+    → AgreeUpTo text terms pattern keys starts sizes i vs)
 
 abbrev μ-loop : tie.MeasureT-loop
 μ-loop text terms pattern keys sure count i₀ i = count - i
@@ -35,7 +37,7 @@ closed-spec =
     (tie.spec
     Inv-loop
     μ-loop
-    (λ c. let start = c .before .before .before in (start .pre .0, λ starts sizes kept known. known))
+    (λ c. let start = c .before .before .before in (start .pre .0, λ starts sizes vs kept known. known))
     (λ c. omega (arith, c .before .loop .inv .0, c .before .before .before .before .before .pre .1))
     (λ c. let low : c .before .loop .i < c .before .before .before .before .before .args .count = strict (c .before .loop .inv .0) (c .if1 .left) in
     omega (arith, low, c .before .before .before .before .before .pre .1))
@@ -49,7 +51,7 @@ closed-spec =
     omega (arith, low))
     (λ c. let low : c .before .before .before .before .before .before .loop .i < c .before .before .before .before .before .before .before .before .before .before .args .count = strict (c .before .before .before .before .before .before .loop .inv .0) (c .before .before .before .before .before .if1 .left) in (
       omega (arith, low),
-      λ starts sizes kept known. laws.closed-next (c .before .before .before .before .before .before .before .before .before .before .args .pattern .now) kept low (c .before .before .before .wide .ensures .0) (c .before .again .ensures (c .if2 .left)) (c .before .before .before .before .before .before .loop .inv .1 starts sizes kept known),
+      λ starts sizes vs kept known. laws.closed-next (c .before .before .before .before .before .before .before .before .before .before .args .pattern .now) kept low (c .before .before .before .wide .ensures .0) (c .before .again .ensures (c .if2 .left)) vs (c .before .before .before .before .before .before .loop .inv .1 starts sizes vs kept known),
     ))
-    (λ c. λ e starts sizes kept known. rw (c .if1 .taken) at (c .before .loop .inv .1 starts sizes kept known))
+    (λ c. λ e starts sizes vs kept known. rw (c .if1 .taken) at (c .before .loop .inv .1 starts sizes vs kept known))
     (λ c. λ e. absurd (false-not-true e)))

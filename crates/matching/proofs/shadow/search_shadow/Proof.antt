@@ -1,8 +1,9 @@
 -- `search_shadow` meets its contract: the search from no values.
 use Rattle.matching.proofs.ShadowStart.{shadow-start, shadow-answer}
 use mathlib.Core.Bool.{false}
-use Rattle.matching.proofs.SureLaws.{sure-none}
+use Rattle.matching.proofs.SureLaws.{settled-fixed}
 use Rattle.matching.proofs.FailedLaws.{remembers-none}
+use native.Mathlib.Omega.{arith}
 use borrow.Author.Needs.{needs}
 use Rattle.matching.proofs.shadow.search_shadow.Statement.{statement}
 use Rattle.matching.proofs.shadow.search_shadow.Tie as tie
@@ -16,8 +17,8 @@ search-shadow-spec =
     let (kept, unbound) = c .before .none .ensures (a .text .now) (a .terms .now) in (
       shadow-start (a .text .now) (a .terms .now) _ unbound (a .earlier .now) (a .at) (a .later .now) (a .start)
           (start .pre .0 .0) (start .pre .0 .1) (start .pre .0 .2) (start .pre .1) kept,
-      sure-none _ _,
-      remembers-none false (a .text .now) (a .terms .now),
+      settled-fixed _ _ 0 (omega arith),
+      remembers-none false (a .text .now) (a .terms .now) _,
     ))
     (λ c. let start = c .before .before .before .before .before .before .before in
     let a = start .args in

@@ -12,7 +12,7 @@ use Rattle.law.proofs.Forests.{inside-falls, after-falls}
 use Rattle.matching.specs.Step.{eachLength}
 use Rattle.matching.specs.Bound.{valuesOf}
 use Rattle.matching.specs.Asked.{firstIn}
-use Rattle.matching.specs.Failed.{Remembers}
+use Rattle.matching.specs.Failed.{firstValues, Remembers}
 use Rattle.matching.specs.Part.{Begin, at-start, one-on}
 use Rattle.matching.proofs.CutLaws.{begin-inside, from-length}
 use Rattle.matching.proofs.LengthLaws.{leftAt}
@@ -23,48 +23,62 @@ use Rattle.matching.proofs.SureLaws as sure
 use Rattle.matching.proofs.FailedLaws as failed
 use borrow.Fn.Kinds.{In}
 use borrow.Fn.PlainCycle.{Measures, is, falls, and}
+use Rattle.matching.proofs.shadow.shadow_anew.Reads as shadow-anew
+use Rattle.matching.proofs.shadow.shadow_anew.Kinds as shadow-anew-kinds
+use Rattle.matching.proofs.shadow.+shadow_anew+shadow_first+shadow_inside+shadow_lengths+shadow_run+shadow_tries.Lts-shadow_anew as shadow-anew-lts
 use Rattle.matching.proofs.shadow.shadow_first.Reads as shadow-first
 use Rattle.matching.proofs.shadow.shadow_first.Kinds as shadow-first-kinds
-use Rattle.matching.proofs.shadow.+shadow_first+shadow_inside+shadow_lengths+shadow_run+shadow_tries.Lts-shadow_first as shadow-first-lts
+use Rattle.matching.proofs.shadow.+shadow_anew+shadow_first+shadow_inside+shadow_lengths+shadow_run+shadow_tries.Lts-shadow_first as shadow-first-lts
 use Rattle.matching.proofs.shadow.shadow_inside.Reads as shadow-inside
 use Rattle.matching.proofs.shadow.shadow_inside.Kinds as shadow-inside-kinds
-use Rattle.matching.proofs.shadow.+shadow_first+shadow_inside+shadow_lengths+shadow_run+shadow_tries.Lts-shadow_inside as shadow-inside-lts
+use Rattle.matching.proofs.shadow.+shadow_anew+shadow_first+shadow_inside+shadow_lengths+shadow_run+shadow_tries.Lts-shadow_inside as shadow-inside-lts
 use Rattle.matching.proofs.shadow.shadow_lengths.Reads as shadow-lengths
 use Rattle.matching.proofs.shadow.shadow_lengths.Kinds as shadow-lengths-kinds
-use Rattle.matching.proofs.shadow.+shadow_first+shadow_inside+shadow_lengths+shadow_run+shadow_tries.Lts-shadow_lengths as shadow-lengths-lts
+use Rattle.matching.proofs.shadow.+shadow_anew+shadow_first+shadow_inside+shadow_lengths+shadow_run+shadow_tries.Lts-shadow_lengths as shadow-lengths-lts
 use Rattle.matching.proofs.shadow.shadow_run.Reads as shadow-run
 use Rattle.matching.proofs.shadow.shadow_run.Kinds as shadow-run-kinds
-use Rattle.matching.proofs.shadow.+shadow_first+shadow_inside+shadow_lengths+shadow_run+shadow_tries.Lts-shadow_run as shadow-run-lts
+use Rattle.matching.proofs.shadow.+shadow_anew+shadow_first+shadow_inside+shadow_lengths+shadow_run+shadow_tries.Lts-shadow_run as shadow-run-lts
 use Rattle.matching.proofs.shadow.shadow_tries.Reads as shadow-tries
 use Rattle.matching.proofs.shadow.shadow_tries.Kinds as shadow-tries-kinds
-use Rattle.matching.proofs.shadow.+shadow_first+shadow_inside+shadow_lengths+shadow_run+shadow_tries.Lts-shadow_tries as shadow-tries-lts
+use Rattle.matching.proofs.shadow.+shadow_anew+shadow_first+shadow_inside+shadow_lengths+shadow_run+shadow_tries.Lts-shadow_tries as shadow-tries-lts
 use Rattle.law.proofs.runs.end_of.Reads as end-of-reads
 use Rattle.matching.proofs.bind.Reads as bind-reads
 use Rattle.matching.proofs.failed.failed_before.Reads as failed-before-reads
 use Rattle.matching.proofs.failed.note_failed.Reads as note-failed-reads
 use Rattle.matching.proofs.known_front.Reads as known-front-reads
 use Rattle.matching.proofs.repeats.closed.Reads as closed-reads
-use Rattle.matching.proofs.shadow.+shadow_first+shadow_inside+shadow_lengths+shadow_run+shadow_tries.{
+use Rattle.matching.proofs.shadow.+shadow_anew+shadow_first+shadow_inside+shadow_lengths+shadow_run+shadow_tries.{
   statement,
 }
-use Rattle.matching.proofs.shadow.+shadow_first+shadow_inside+shadow_lengths+shadow_run+shadow_tries.Tie.{
+use Rattle.matching.proofs.shadow.+shadow_anew+shadow_first+shadow_inside+shadow_lengths+shadow_run+shadow_tries.Tie.{
   close,
 }
 
+abbrev μ-shadow-anew : Measures 4 shadow-anew-kinds.ps ℕ
+μ-shadow-anew κs a = 5 * length (a .1 .1 .0 .now) + 1
+
 abbrev μ-shadow-first : Measures 5 shadow-first-kinds.ps ℕ
-μ-shadow-first κs a = 4 * length (a .1 .1 .0 .now) + 2
+μ-shadow-first κs a = 5 * length (a .1 .1 .0 .now) + 3
 
 abbrev μ-shadow-inside : Measures 5 shadow-inside-kinds.ps ℕ
-μ-shadow-inside κs a = 4 * length (a .1 .1 .0 .now)
+μ-shadow-inside κs a = 5 * length (a .1 .1 .0 .now)
 
 abbrev μ-shadow-lengths : Measures 5 shadow-lengths-kinds.ps ℕ
-μ-shadow-lengths κs a = 4 * length (a .1 .1 .0 .now)
+μ-shadow-lengths κs a = 5 * length (a .1 .1 .0 .now)
 
 abbrev μ-shadow-run : Measures 5 shadow-run-kinds.ps ℕ
-μ-shadow-run κs a = 4 * length (a .1 .1 .0 .now) + 3
+μ-shadow-run κs a = 5 * length (a .1 .1 .0 .now) + 4
 
 abbrev μ-shadow-tries : Measures 5 shadow-tries-kinds.ps ℕ
-μ-shadow-tries κs a = 4 * length (a .1 .1 .0 .now) + 1
+μ-shadow-tries κs a = 5 * length (a .1 .1 .0 .now) + 2
+
+abbrev shadow-anew-at : ℕ → In 4 shadow-anew-kinds.ps
+shadow-anew-at t =
+    and 4 shadow-anew-kinds.ps (is 4 shadow-anew-kinds.ps μ-shadow-anew t) shadow-anew.Pre
+
+abbrev shadow-anew-below : ℕ → In 4 shadow-anew-kinds.ps
+shadow-anew-below t =
+    and 4 shadow-anew-kinds.ps (falls 4 shadow-anew-kinds.ps _<_ μ-shadow-anew t) shadow-anew.Pre
 
 abbrev shadow-first-at : ℕ → In 5 shadow-first-kinds.ps
 shadow-first-at t =
@@ -129,20 +143,29 @@ shadow-tries-below t =
 abbrev shadow-lengths-Inv-loop : shadow-lengths-lts.InvT-loop
 shadow-lengths-Inv-loop text terms pattern at row start b sure failed₀ end rest next n₀ failed n =
     Begin row n × (firstIn (eachLength text false pattern row (valuesOf text terms b)) ≡ firstIn (leftAt text false pattern row (valuesOf text terms b) n))
-    × Remembers false text terms failed
+    × Remembers false text terms (firstValues text terms b (sure .fixed)) failed
 
 abbrev shadow-lengths-μ-loop : shadow-lengths-lts.MeasureT-loop
 shadow-lengths-μ-loop text terms pattern at row start b sure failed₀ end rest next n₀ failed n = length row - n
 
-pub +shadow-first+shadow-inside+shadow-lengths+shadow-run+shadow-tries-spec :
+pub +shadow-anew+shadow-first+shadow-inside+shadow-lengths+shadow-run+shadow-tries-spec :
     {M : Type 1} → statement M
-+shadow-first+shadow-inside+shadow-lengths+shadow-run+shadow-tries-spec =
++shadow-anew+shadow-first+shadow-inside+shadow-lengths+shadow-run+shadow-tries-spec =
     close
+    μ-shadow-anew
     μ-shadow-first
     μ-shadow-inside
     μ-shadow-lengths
     μ-shadow-run
     μ-shadow-tries
+    (λ t. shadow-anew-lts.spec
+    (shadow-lengths-below t, shadow-lengths.Post)
+    (shadow-anew-at t)
+    shadow-anew.Post
+    (λ c κs. let start = c .before .before .before .before .before .pre in
+    let a = c .before .before .before .before .before .args in
+    (omega (arith, start .0), ((start .1 .0 .0, start .1 .0 .1, sure.settled-fixed _ _ _ (omega arith), failed.remembers-none false (a .text .now) (a .terms .now) _), start .1 .1)))
+    (λ c. let lengths = c .shadow-lengths .ensures in (lengths .0, lengths .1, lengths .3)))
     (λ t. shadow-first-lts.spec (
       end-of-reads.Asked,
       end-of-reads.Learnt,
@@ -189,8 +212,8 @@ pub +shadow-first+shadow-inside+shadow-lengths+shadow-run+shadow-tries-spec :
       omega (arith, after-falls (start .args .pattern .now) (ends .result) (length (start .args .pattern .now)) (stopped .some) (ends .ensures .0) refl, start .pre .0),
       (
         calls.asked-more (start .pre .1 .0 .0) (stopped .some) (binds .1) (binds .0) (c .before .bind .ensures) (ends .result) (c .before .before .before .before .before .before .first .given .0 .0) (ends .ensures .0) (binds .0),
-        sure.sure-later (sure.sure-more (start .pre .1 .0 .1) (c .before .bind .ensures)) (sure.begin-second (stopped .some) (ends .ensures .0)),
-        start .pre .1 .0 .2,
+        sure.settled-later (sure.settled-more (start .pre .1 .0 .1) (c .before .bind .ensures)) (sure.begin-second (stopped .some) (ends .ensures .0)),
+        sure.remembers-fixed (sure.fixed-bound (c .before .bind .ensures) _ (sure.settled-low (start .pre .1 .0 .1))) (start .pre .1 .0 .2),
       ),
     ))
     (λ c. search needs)
@@ -210,10 +233,11 @@ pub +shadow-first+shadow-inside+shadow-lengths+shadow-run+shadow-tries-spec :
     let values = calls.values-more (start .1 .0 .0) (stopped .some) (binds .1) (binds .0) (c .before .before .bind .ensures) in (
       c .shadow-run .ensures .0,
       c .shadow-run .ensures .1 ∙ sym (ap firstIn (returns.step-binds (stopped .leaves) false _ _ _ (c .before .before .before .before .before .before .before .first .given .1) (c .before .before .before .before .before .end-of .ensures .0) values)),
-      c .shadow-run .ensures .2,
+      sure.remembers-back (sure.fixed-bound (c .before .before .bind .ensures) _ (sure.settled-low (start .1 .0 .1))) (c .shadow-run .ensures .2),
+      sure.fixed-more (c .before .before .bind .ensures) (sure.settled-low (start .1 .0 .1)) (c .shadow-run .ensures .3),
     ))
-    (λ c. (c .shadow-tries .ensures .0, c .shadow-tries .ensures .1 ∙ sym (ap firstIn (returns.step-tries (c .before .before .before .before .before .before .before .before .pre .1 .1 .leaves) false (c .before .before .enum-told3 .given .1))), c .shadow-tries .ensures .2))
-    (λ c. (c .shadow-inside .ensures .0, c .shadow-inside .ensures .1 ∙ sym (ap firstIn (returns.step-inside (c .before .before .before .before .before .before .before .before .pre .1 .1 .leaves) false (c .before .before .enum-told4 .given .1))), c .shadow-inside .ensures .2)))
+    (λ c. (c .shadow-tries .ensures .0, c .shadow-tries .ensures .1 ∙ sym (ap firstIn (returns.step-tries (c .before .before .before .before .before .before .before .before .pre .1 .1 .leaves) false (c .before .before .enum-told3 .given .1))), c .shadow-tries .ensures .2, c .shadow-tries .ensures .3))
+    (λ c. (c .shadow-inside .ensures .0, c .shadow-inside .ensures .1 ∙ sym (ap firstIn (returns.step-inside (c .before .before .before .before .before .before .before .before .pre .1 .1 .leaves) false (c .before .before .enum-told4 .given .1))), c .shadow-inside .ensures .2, c .shadow-inside .ensures .3)))
     (λ t. shadow-inside-lts.spec (
       end-of-reads.Asked,
       end-of-reads.Learnt,
@@ -239,7 +263,7 @@ pub +shadow-first+shadow-inside+shadow-lengths+shadow-run+shadow-tries-spec :
       omega (arith, inside-falls (c .before .before .before .before .before .before .before .before .before .args .pattern .now) (ends .result) (length (c .before .before .before .before .before .before .before .before .before .args .pattern .now)) (start .1 .1) (ends .ensures .0) refl, start .0),
       (
         calls.asked-alone (calls.asked-inside (start .1 .0) (start .1 .1) (start .1 .2) (ends .result) (c .before .before .before .end-of2 .result) (ends .ensures .0) (c .before .before .before .end-of2 .ensures .0)),
-        sure.sure-inside (start .1 .3) (ends .result) (ends .ensures .0) (calls.contents-within (start .1 .0) (start .1 .1) (start .1 .2)),
+        sure.settled-inside (start .1 .3) (ends .result) (ends .ensures .0) (calls.contents-within (start .1 .0) (start .1 .1) (start .1 .2)),
         start .1 .4,
       ),
     ))
@@ -248,6 +272,7 @@ pub +shadow-first+shadow-inside+shadow-lengths+shadow-run+shadow-tries-spec :
       inner .ensures .0,
       returns.inside-none (start .1 .0) (c .before .before .before .before .before .before .before .end-of .ensures .0) (c .before .before .before .before .before .before .end-of2 .ensures .0) (inner .result) (inner .ensures .1) (not-true _ (c .if1 .taken)),
       inner .ensures .2,
+      inner .ensures .3,
     ))
     (λ c. c .before .before .before .before .before .before .before .before .end-of .ensures .2)
     (λ c. search needs)
@@ -267,15 +292,16 @@ pub +shadow-first+shadow-inside+shadow-lengths+shadow-run+shadow-tries-spec :
         calls.asked-after (start .1 .0) (start .1 .1) (start .1 .2) (inner .result .bindings) (inner .ensures .0)
             (returns.inside-first (start .1 .0) (ends .ensures .0) (c .before .before .before .before .before .before .before .before .before .before .end-of2 .ensures .0) (inner .result) (inner .ensures .1) (not-false _ (c .before .before .before .before .if1 .left)))
             (ends .result) (c .before .before .before .before .before .before .before .before .before .before .end-of2 .result) (ends .ensures .0) (c .before .before .before .before .before .before .before .before .before .before .end-of2 .ensures .2),
-        sure.sure-none _ _,
-        inner .ensures .2,
+        sure.settled-fixed _ _ _ (inner .ensures .3 .few),
+        sure.remembers-fixed (inner .ensures .3) (inner .ensures .2),
       ),
     ))
     (λ c. let start = c .before .before .before .before .before .before .before .before .before .before .before .before .before .before .before .before .before .pre in
     let inner = c .before .before .before .before .before .before .before .shadow-run in (
       c .shadow-run2 .ensures .0,
       returns.inside-some (start .1 .0) (c .before .before .before .before .before .before .before .before .before .before .before .before .end-of .ensures .0) (c .before .before .before .before .before .before .before .before .before .before .before .end-of2 .ensures .0) (inner .result) (inner .ensures .1) _ (not-false _ (c .before .before .before .before .before .if1 .left)) (c .shadow-run2 .ensures .1),
-      c .shadow-run2 .ensures .2,
+      sure.remembers-back (inner .ensures .3) (c .shadow-run2 .ensures .2),
+      sure.fixed-after (inner .ensures .3) (c .shadow-run2 .ensures .3),
     )))
     (λ t. shadow-lengths-lts.spec (
       end-of-reads.Asked,
@@ -318,8 +344,8 @@ pub +shadow-first+shadow-inside+shadow-lengths+shadow-run+shadow-tries-spec :
       omega (arith, after-falls (c .before .before .before .before .before .before .before .before .before .before .args .pattern .now) (ends .result) (length (c .before .before .before .before .before .before .before .before .before .before .args .pattern .now)) (start .1 .0 .1) (ends .ensures .0) refl, start .0),
       (
         calls.asked-more (start .1 .0 .0) (start .1 .0 .1) (start .1 .1) inside (c .before .bind .ensures) (ends .result) (c .before .before .before .loop .n) (ends .ensures .0) inside,
-        sure.sure-later (sure.sure-more (start .1 .0 .2) (c .before .bind .ensures)) (sure.begin-second (start .1 .0 .1) (ends .ensures .0)),
-        c .before .before .before .loop .inv .2,
+        sure.settled-later (sure.settled-more (start .1 .0 .2) (c .before .bind .ensures)) (sure.begin-second (start .1 .0 .1) (ends .ensures .0)),
+        sure.remembers-fixed (sure.fixed-bound (c .before .bind .ensures) _ (sure.settled-low (start .1 .0 .2))) (c .before .before .before .loop .inv .2),
       ),
     ))
     (λ c κs. c .if2 .left)
@@ -331,19 +357,21 @@ pub +shadow-first+shadow-inside+shadow-lengths+shadow-run+shadow-tries-spec :
       rw (c .end-of2 .ensures .0) (one-on (c .before .if2 .left) (c .before .before .before .before .before .before .before .loop .inv .0)),
       rw (c .end-of2 .ensures .0) (returns.length-next (start .1 .0 .0) (start .1 .0 .1) (start .1 .1) (c .before .before .before .before .before .before .before .before .before .end-of .ensures .0) (c .before .before .before .before .before .before .before .loop .inv .0) (c .before .before .before .before .before .bind .ensures)
           (c .before .before .before .shadow-run .result) (c .before .before .before .shadow-run .ensures .1) (c .before .before .before .before .before .before .before .loop .inv .1) (c .before .before .if1 .left) (c .before .if2 .left)),
-      c .before .before .before .shadow-run .ensures .2,
+      sure.remembers-back (sure.fixed-bound (c .before .before .before .before .before .bind .ensures) _ (sure.settled-low (start .1 .0 .2))) (c .before .before .before .shadow-run .ensures .2),
     ))
     (λ c. let start = c .before .before .before .before .before .before .before .before .before .before .before .before .pre in (
       c .before .shadow-run .ensures .0,
       returns.length-found (start .1 .0 .0) (start .1 .0 .1) (start .1 .1) (c .before .before .before .before .before .before .before .end-of .ensures .0) (c .before .before .before .before .before .loop .inv .0) (c .before .before .before .bind .ensures)
           (c .before .shadow-run .result) (c .before .shadow-run .ensures .1) (c .before .before .before .before .before .loop .inv .1) (c .if1 .taken),
-      c .before .shadow-run .ensures .2,
+      sure.remembers-back (sure.fixed-bound (c .before .before .before .bind .ensures) _ (sure.settled-low (start .1 .0 .2))) (c .before .shadow-run .ensures .2),
+      sure.fixed-more (c .before .before .before .bind .ensures) (sure.settled-low (start .1 .0 .2)) (c .before .shadow-run .ensures .3),
     ))
     (λ c. let start = c .before .before .before .before .before .before .before .before .before .before .before .before .before .pre in (
       c .before .before .shadow-run .ensures .0,
       returns.length-none (start .1 .0 .0) (start .1 .0 .1) (start .1 .1) (c .before .before .before .before .before .before .before .before .end-of .ensures .0) (c .before .before .before .before .before .before .loop .inv .0) (c .before .before .before .before .bind .ensures)
           (c .before .before .shadow-run .result) (c .before .before .shadow-run .ensures .1) (c .before .before .before .before .before .before .loop .inv .1) (c .before .if1 .left) (c .if2 .taken),
-      c .before .before .shadow-run .ensures .2,
+      sure.remembers-back (sure.fixed-bound (c .before .before .before .before .bind .ensures) _ (sure.settled-low (start .1 .0 .2))) (c .before .before .shadow-run .ensures .2),
+      sure.fixed-more (c .before .before .before .before .bind .ensures) (sure.settled-low (start .1 .0 .2)) (c .before .before .shadow-run .ensures .3),
     )))
     (λ t. shadow-run-lts.spec (
       known-front-reads.Asked,
@@ -373,55 +401,61 @@ pub +shadow-first+shadow-inside+shadow-lengths+shadow-run+shadow-tries-spec :
     (λ c κs. let start = c .before .before .before .before .before .before .before .before .before .before .before .before .before .before .before .pre in
     let (passed, stopped) = known.known-stop (c .before .before .before .before .before .before .known-front .ensures) _ _ _ (c .before .before .before .before .m .given .1) in (
       omega (arith, start .0, begin-inside (passed .begins), from-length (c .before .before .before .before .m .given .0 .0) (c .before .before .before .before .before .before .before .before .before .before .before .before .before .before .before .args .pattern .now)),
-      ((calls.asked-later (start .1 .0) _ _ (passed .begins) (passed .within), sure.sure-later (start .1 .1) (passed .begins), start .1 .2), stopped),
+      ((calls.asked-later (start .1 .0) _ _ (passed .begins) (passed .within), sure.settled-later (start .1 .1) (passed .begins), start .1 .2), stopped),
     ))
-    (λ c. (c .before .before .before .before .before .before .before .before .before .before .before .pre .1 .0 .kept, sym (ap firstIn (known.known-fails (c .before .before .known-front .ensures) (c .enum-told .given .1) false)), c .before .before .before .before .before .before .before .before .before .before .before .pre .1 .2))
+    (λ c. (c .before .before .before .before .before .before .before .before .before .before .before .pre .1 .0 .kept, sym (ap firstIn (known.known-fails (c .before .before .known-front .ensures) (c .enum-told .given .1) false)), c .before .before .before .before .before .before .before .before .before .before .before .pre .1 .2, sure.fixed-same _ _ (sure.settled-low (c .before .before .before .before .before .before .before .before .before .before .before .pre .1 .1))))
     (λ c. let (passed, short) = known.known-end (c .before .before .before .before .known-front .ensures) _ _ (c .before .before .n .given .1) in
-    (c .before .before .before .before .before .before .before .before .before .before .before .before .before .pre .1 .0 .kept, returns.run-end _ _ _ _ _ short ∙ sym (ap firstIn (passed .search false)), c .before .before .before .before .before .before .before .before .before .before .before .before .before .pre .1 .2))
+    (c .before .before .before .before .before .before .before .before .before .before .before .before .before .pre .1 .0 .kept, returns.run-end _ _ _ _ _ short ∙ sym (ap firstIn (passed .search false)), c .before .before .before .before .before .before .before .before .before .before .before .before .before .pre .1 .2, sure.fixed-same _ _ (sure.settled-low (c .before .before .before .before .before .before .before .before .before .before .before .before .before .pre .1 .1))))
     (λ c. let passed = known.known-stop (c .before .before .before .before .before .before .before .known-front .ensures) _ _ _ (c .before .before .before .before .before .m .given .1) .0 in
-    (c .shadow-first .ensures .0, c .shadow-first .ensures .1 ∙ sym (ap firstIn (passed .search false)), c .shadow-first .ensures .2)))
+    (c .shadow-first .ensures .0, c .shadow-first .ensures .1 ∙ sym (ap firstIn (passed .search false)), c .shadow-first .ensures .2, c .shadow-first .ensures .3)))
     λ t. shadow-tries-lts.spec (
       closed-reads.Asked,
       closed-reads.Learnt,
-      shadow-lengths-below t,
-      shadow-lengths.Post,
+      shadow-anew-below t,
+      shadow-anew.Post,
       failed-before-reads.Asked,
       failed-before-reads.Learnt,
+      shadow-lengths-below t,
+      shadow-lengths.Post,
       note-failed-reads.Asked,
       note-failed-reads.Learnt,
     )
     (shadow-tries-at t)
     shadow-tries.Post
     (λ c κs. let start = c .before .before .before .before .before .before .pre .1 .0 in (start .2 .few, start .0 .kept .few, start .0 .kept .keyed))
-    (λ c κs. let start = c .before .before .before .before .before .before .before .before .before .pre in (omega (arith, start .0), (start .1 .0, start .1 .1 .0)))
-    (λ c. c .shadow-lengths .ensures)
+    (λ c κs. let start = c .before .before .before .before .before .before .before .before .pre in (omega (arith, start .0), ((start .1 .0 .0, start .1 .0 .1), start .1 .1 .0)))
+    (λ c. let start = c .before .before .before .before .before .before .before .before .before .pre .1 .0 in
+    (c .shadow-anew .ensures .0, c .shadow-anew .ensures .1, start .3, sure.fixed-fewer (c .shadow-anew .ensures .2) _ (sure.settled-low (start .2))))
     (λ c. let asked = c .before .before .before .before .before .before .before .before .pre .1 .0 .0 in omega (arith, asked .pattern-stands .inside, asked .small))
     (λ c. let asked = c .before .before .before .before .before .before .before .before .pre .1 .0 .0 in omega (arith, asked .row-stands .inside, asked .small))
     (λ c κs. tt)
     (λ c. let start = c .before .before .before .before .before .before .before .before .before .before .before .pre .1 in
     let asked = start .0 .0 in
-    let free = c .before .before .before .before .closed .ensures (not-false _ (c .before .before .before .if1 .left)) _ _ (asked .kept) (start .0 .2 .closed) in (
+    let free = c .before .before .before .before .closed .ensures (not-false _ (c .before .before .before .if1 .left)) _ _ _ (asked .kept) (start .0 .2 .same) in (
       asked .kept,
-      sym (ap firstIn (failed.lengths-known asked free (start .1 .1) false (start .0 .1) (start .0 .3) (c .before .failed-before .ensures (c .if2 .taken)))),
+      sym (ap firstIn (failed.lengths-known asked _ free (start .1 .1) false (start .0 .1) (start .0 .3) (c .before .failed-before .ensures (c .if2 .taken)))),
       start .0 .3,
+      sure.fixed-same _ _ (sure.settled-low (start .0 .2)),
     ))
     (λ c κs. let start = c .before .before .before .before .before .before .before .before .before .before .before .before .pre in
     let asked = start .1 .0 .0 in
-    let free = c .before .before .before .before .before .closed .ensures (not-false _ (c .before .before .before .before .if1 .left)) _ _ (asked .kept) (start .1 .0 .2 .closed) in
-    (omega (arith, start .0), ((asked, start .1 .0 .1, sure.sure-all _ _ free, start .1 .0 .3), start .1 .1 .0)))
-    (λ c κs. let asked = c .before .before .before .before .before .before .before .before .before .before .before .before .before .before .before .before .pre .1 .0 .0 in (
-      omega (arith, asked .pattern-stands .inside, asked .small, c .before .before .before .before .before .before .before .before .before .before .before .before .before .before .before .before .pre .1 .0 .1),
+    let free = c .before .before .before .before .before .closed .ensures (not-false _ (c .before .before .before .before .if1 .left)) _ _ _ (asked .kept) (start .1 .0 .2 .same) in
+    (omega (arith, start .0), ((asked, start .1 .0 .1, sure.settled-all (start .1 .0 .2) free, start .1 .0 .3), start .1 .1 .0)))
+    (λ c κs. let start = c .before .before .before .before .before .before .before .before .before .before .before .before .before .before .before .before .pre .1 .0 in
+    let asked = start .0 in (
+      omega (arith, asked .pattern-stands .inside, asked .small, start .1),
       omega (arith, asked .pattern-stands .inside, asked .small),
       omega (arith, asked .row-stands .inside, asked .small),
       omega (arith, asked .row-stands .inside, asked .small),
-      c .before .before .before .shadow-lengths2 .ensures .2 .long,
+      c .before .before .before .shadow-lengths .ensures .2 .long,
     ))
     (λ c. let start = c .before .before .before .before .before .before .before .before .before .before .before .before .before .before .before .before .before .pre .1 in
     let asked = start .0 .0 in
-    let free = c .before .before .before .before .before .before .before .before .before .before .closed .ensures (not-false _ (c .before .before .before .before .before .before .before .before .before .if1 .left)) _ _ (asked .kept) (start .0 .2 .closed) in
-    let lengths = c .before .before .before .before .shadow-lengths2 in (
+    let free = c .before .before .before .before .before .before .before .before .before .before .closed .ensures (not-false _ (c .before .before .before .before .before .before .before .before .before .if1 .left)) _ _ _ (asked .kept) (start .0 .2 .same) in
+    let lengths = c .before .before .before .before .shadow-lengths in (
       lengths .ensures .0,
       lengths .ensures .1,
-      failed.lengths-noted asked free (start .1 .1) false (failed.none-matched _ _ (lengths .result) _ (lengths .ensures .1) (not-true _ (c .before .before .if3 .taken))) (lengths .ensures .2) (c .note-failed .ensures),
+      failed.lengths-noted asked _ free (start .1 .1) false (failed.none-matched _ _ (lengths .result) _ (lengths .ensures .1) (not-true _ (c .before .before .if3 .taken))) (lengths .ensures .2) (c .note-failed .ensures),
+      lengths .ensures .3,
     ))
-    (λ c. c .before .before .shadow-lengths2 .ensures)
+    (λ c. c .before .before .shadow-lengths .ensures)

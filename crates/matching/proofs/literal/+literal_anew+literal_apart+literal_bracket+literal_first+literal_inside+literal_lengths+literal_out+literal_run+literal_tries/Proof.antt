@@ -14,7 +14,7 @@ use Rattle.matching.specs.Match.{Values}
 use Rattle.matching.specs.Step.{eachLength}
 use Rattle.matching.specs.Bound.{valuesOf}
 use Rattle.matching.specs.Asked.{someHolds, resume, levelsOf}
-use Rattle.matching.specs.Failed.{Remembers}
+use Rattle.matching.specs.Failed.{firstValues, Remembers}
 use Rattle.matching.specs.declared.literal.Pending.{Pending}
 use Rattle.matching.specs.Part.{Begin, at-start, one-on}
 use Rattle.matching.proofs.CutLaws.{begin-inside, from-length}
@@ -28,30 +28,33 @@ use Rattle.matching.proofs.FailedLaws as failed
 use Rattle.matching.proofs.AloneLaws as alone
 use borrow.Fn.Kinds.{In}
 use borrow.Fn.PlainCycle.{Measures, is, falls, and}
+use Rattle.matching.proofs.literal.literal_anew.Reads as literal-anew
+use Rattle.matching.proofs.literal.literal_anew.Kinds as literal-anew-kinds
+use Rattle.matching.proofs.literal.+literal_anew+literal_apart+literal_bracket+literal_first+literal_inside+literal_lengths+literal_out+literal_run+literal_tries.Lts-literal_anew as literal-anew-lts
 use Rattle.matching.proofs.literal.literal_apart.Reads as literal-apart
 use Rattle.matching.proofs.literal.literal_apart.Kinds as literal-apart-kinds
-use Rattle.matching.proofs.literal.+literal_apart+literal_bracket+literal_first+literal_inside+literal_lengths+literal_out+literal_run+literal_tries.Lts-literal_apart as literal-apart-lts
+use Rattle.matching.proofs.literal.+literal_anew+literal_apart+literal_bracket+literal_first+literal_inside+literal_lengths+literal_out+literal_run+literal_tries.Lts-literal_apart as literal-apart-lts
 use Rattle.matching.proofs.literal.literal_bracket.Reads as literal-bracket
 use Rattle.matching.proofs.literal.literal_bracket.Kinds as literal-bracket-kinds
-use Rattle.matching.proofs.literal.+literal_apart+literal_bracket+literal_first+literal_inside+literal_lengths+literal_out+literal_run+literal_tries.Lts-literal_bracket as literal-bracket-lts
+use Rattle.matching.proofs.literal.+literal_anew+literal_apart+literal_bracket+literal_first+literal_inside+literal_lengths+literal_out+literal_run+literal_tries.Lts-literal_bracket as literal-bracket-lts
 use Rattle.matching.proofs.literal.literal_first.Reads as literal-first
 use Rattle.matching.proofs.literal.literal_first.Kinds as literal-first-kinds
-use Rattle.matching.proofs.literal.+literal_apart+literal_bracket+literal_first+literal_inside+literal_lengths+literal_out+literal_run+literal_tries.Lts-literal_first as literal-first-lts
+use Rattle.matching.proofs.literal.+literal_anew+literal_apart+literal_bracket+literal_first+literal_inside+literal_lengths+literal_out+literal_run+literal_tries.Lts-literal_first as literal-first-lts
 use Rattle.matching.proofs.literal.literal_inside.Reads as literal-inside
 use Rattle.matching.proofs.literal.literal_inside.Kinds as literal-inside-kinds
-use Rattle.matching.proofs.literal.+literal_apart+literal_bracket+literal_first+literal_inside+literal_lengths+literal_out+literal_run+literal_tries.Lts-literal_inside as literal-inside-lts
+use Rattle.matching.proofs.literal.+literal_anew+literal_apart+literal_bracket+literal_first+literal_inside+literal_lengths+literal_out+literal_run+literal_tries.Lts-literal_inside as literal-inside-lts
 use Rattle.matching.proofs.literal.literal_lengths.Reads as literal-lengths
 use Rattle.matching.proofs.literal.literal_lengths.Kinds as literal-lengths-kinds
-use Rattle.matching.proofs.literal.+literal_apart+literal_bracket+literal_first+literal_inside+literal_lengths+literal_out+literal_run+literal_tries.Lts-literal_lengths as literal-lengths-lts
+use Rattle.matching.proofs.literal.+literal_anew+literal_apart+literal_bracket+literal_first+literal_inside+literal_lengths+literal_out+literal_run+literal_tries.Lts-literal_lengths as literal-lengths-lts
 use Rattle.matching.proofs.literal.literal_out.Reads as literal-out
 use Rattle.matching.proofs.literal.literal_out.Kinds as literal-out-kinds
-use Rattle.matching.proofs.literal.+literal_apart+literal_bracket+literal_first+literal_inside+literal_lengths+literal_out+literal_run+literal_tries.Lts-literal_out as literal-out-lts
+use Rattle.matching.proofs.literal.+literal_anew+literal_apart+literal_bracket+literal_first+literal_inside+literal_lengths+literal_out+literal_run+literal_tries.Lts-literal_out as literal-out-lts
 use Rattle.matching.proofs.literal.literal_run.Reads as literal-run
 use Rattle.matching.proofs.literal.literal_run.Kinds as literal-run-kinds
-use Rattle.matching.proofs.literal.+literal_apart+literal_bracket+literal_first+literal_inside+literal_lengths+literal_out+literal_run+literal_tries.Lts-literal_run as literal-run-lts
+use Rattle.matching.proofs.literal.+literal_anew+literal_apart+literal_bracket+literal_first+literal_inside+literal_lengths+literal_out+literal_run+literal_tries.Lts-literal_run as literal-run-lts
 use Rattle.matching.proofs.literal.literal_tries.Reads as literal-tries
 use Rattle.matching.proofs.literal.literal_tries.Kinds as literal-tries-kinds
-use Rattle.matching.proofs.literal.+literal_apart+literal_bracket+literal_first+literal_inside+literal_lengths+literal_out+literal_run+literal_tries.Lts-literal_tries as literal-tries-lts
+use Rattle.matching.proofs.literal.+literal_anew+literal_apart+literal_bracket+literal_first+literal_inside+literal_lengths+literal_out+literal_run+literal_tries.Lts-literal_tries as literal-tries-lts
 use Rattle.law.proofs.runs.end_of.Reads as end-of-reads
 use Rattle.matching.proofs.bind.Reads as bind-reads
 use Rattle.matching.proofs.failed.failed_before.Reads as failed-before-reads
@@ -61,36 +64,51 @@ use Rattle.matching.proofs.literal.push.Reads as push-reads
 use Rattle.matching.proofs.repeats.closed.Reads as closed-reads
 use Rattle.matching.proofs.repeats.stands_apart.Reads as stands-apart-reads
 use Rattle.matching.proofs.wide.Reads as wide-reads
-use Rattle.matching.proofs.literal.+literal_apart+literal_bracket+literal_first+literal_inside+literal_lengths+literal_out+literal_run+literal_tries.{
+use Rattle.matching.proofs.literal.+literal_anew+literal_apart+literal_bracket+literal_first+literal_inside+literal_lengths+literal_out+literal_run+literal_tries.{
   statement,
 }
-use Rattle.matching.proofs.literal.+literal_apart+literal_bracket+literal_first+literal_inside+literal_lengths+literal_out+literal_run+literal_tries.Tie.{
+use Rattle.matching.proofs.literal.+literal_anew+literal_apart+literal_bracket+literal_first+literal_inside+literal_lengths+literal_out+literal_run+literal_tries.Tie.{
   close,
 }
 
+abbrev μ-literal-anew : Measures 4 literal-anew-kinds.ps ℕ
+μ-literal-anew κs a = 5 * (length (a .1 .0 .now) - a .1 .1 .1 .0) + 5 * (a .1 .1 .1 .1 .1 .1 .0 .count) + 1
+
 abbrev μ-literal-apart : Measures 5 literal-apart-kinds.ps ℕ
-μ-literal-apart κs a = 4 * (length (a .1 .0 .now) - a .1 .1 .1 .0) + 4 * (a .1 .1 .1 .1 .1 .1 .0 .count)
+μ-literal-apart κs a = 5 * (length (a .1 .0 .now) - a .1 .1 .1 .0) + 5 * (a .1 .1 .1 .1 .1 .1 .0 .count)
 
 abbrev μ-literal-bracket : Measures 5 literal-bracket-kinds.ps ℕ
-μ-literal-bracket κs a = 4 * (length (a .1 .0 .now) - a .1 .1 .1 .0) + 4 * (a .1 .1 .1 .1 .1 .1 .0 .count) + 1
+μ-literal-bracket κs a = 5 * (length (a .1 .0 .now) - a .1 .1 .1 .0) + 5 * (a .1 .1 .1 .1 .1 .1 .0 .count) + 2
 
 abbrev μ-literal-first : Measures 5 literal-first-kinds.ps ℕ
-μ-literal-first κs a = 4 * (length (a .1 .0 .now) - a .1 .1 .1 .0) + 4 * (a .1 .1 .1 .1 .1 .1 .0 .count) + 2
+μ-literal-first κs a = 5 * (length (a .1 .0 .now) - a .1 .1 .1 .0) + 5 * (a .1 .1 .1 .1 .1 .1 .0 .count) + 3
 
 abbrev μ-literal-inside : Measures 5 literal-inside-kinds.ps ℕ
-μ-literal-inside κs a = 4 * (length (a .1 .0 .now) - a .1 .1 .1 .0) + 4 * (a .1 .1 .1 .1 .1 .1 .0 .count)
+μ-literal-inside κs a = 5 * (length (a .1 .0 .now) - a .1 .1 .1 .0) + 5 * (a .1 .1 .1 .1 .1 .1 .0 .count)
 
 abbrev μ-literal-lengths : Measures 5 literal-lengths-kinds.ps ℕ
-μ-literal-lengths κs a = 4 * (length (a .1 .0 .now) - a .1 .1 .1 .0) + 4 * (a .1 .1 .1 .1 .1 .1 .0 .count)
+μ-literal-lengths κs a = 5 * (length (a .1 .0 .now) - a .1 .1 .1 .0) + 5 * (a .1 .1 .1 .1 .1 .1 .0 .count)
 
 abbrev μ-literal-out : Measures 3 literal-out-kinds.ps ℕ
-μ-literal-out κs a = 4 * (length (a .1 .0 .now) - a .1 .1 .0) + 4 * (a .1 .1 .1 .1 .0 .count)
+μ-literal-out κs a = 5 * (length (a .1 .0 .now) - a .1 .1 .0) + 5 * (a .1 .1 .1 .1 .0 .count)
 
 abbrev μ-literal-run : Measures 5 literal-run-kinds.ps ℕ
-μ-literal-run κs a = 4 * (length (a .1 .0 .now) - a .1 .1 .1 .0) + 4 * (a .1 .1 .1 .1 .1 .1 .0 .count) + 3
+μ-literal-run κs a = 5 * (length (a .1 .0 .now) - a .1 .1 .1 .0) + 5 * (a .1 .1 .1 .1 .1 .1 .0 .count) + 4
 
 abbrev μ-literal-tries : Measures 5 literal-tries-kinds.ps ℕ
-μ-literal-tries κs a = 4 * (length (a .1 .0 .now) - a .1 .1 .1 .0) + 4 * (a .1 .1 .1 .1 .1 .1 .0 .count) + 1
+μ-literal-tries κs a = 5 * (length (a .1 .0 .now) - a .1 .1 .1 .0) + 5 * (a .1 .1 .1 .1 .1 .1 .0 .count) + 2
+
+abbrev literal-anew-at : ℕ → In 4 literal-anew-kinds.ps
+literal-anew-at t =
+    and 4 literal-anew-kinds.ps (is 4 literal-anew-kinds.ps μ-literal-anew t) literal-anew.Pre
+
+abbrev literal-anew-below : ℕ → In 4 literal-anew-kinds.ps
+literal-anew-below t =
+    and
+    4
+    literal-anew-kinds.ps
+    (falls 4 literal-anew-kinds.ps _<_ μ-literal-anew t)
+    literal-anew.Pre
 
 abbrev literal-apart-at : ℕ → In 5 literal-apart-kinds.ps
 literal-apart-at t =
@@ -200,15 +218,16 @@ abbrev literal-lengths-Inv-loop : literal-lengths-lts.InvT-loop
 literal-lengths-Inv-loop text terms pattern at row start outer b sure failed₀ end rest next n₀ failed n =
     Begin row n × (someHolds (outside text terms outer pattern at row start) (eachLength text true pattern row (valuesOf text terms b))
     ≡ someHolds (outside text terms outer pattern at row start) (leftAt text true pattern row (valuesOf text terms b) n))
-    × Remembers true text terms failed
+    × Remembers true text terms (firstValues text terms b (sure .fixed)) failed
 
 abbrev literal-lengths-μ-loop : literal-lengths-lts.MeasureT-loop
 literal-lengths-μ-loop text terms pattern at row start outer b sure failed₀ end rest next n₀ failed n = length row - n
 
-pub +literal-apart+literal-bracket+literal-first+literal-inside+literal-lengths+literal-out+literal-run+literal-tries-spec :
+pub +literal-anew+literal-apart+literal-bracket+literal-first+literal-inside+literal-lengths+literal-out+literal-run+literal-tries-spec :
     {M : Type 1} → statement M
-+literal-apart+literal-bracket+literal-first+literal-inside+literal-lengths+literal-out+literal-run+literal-tries-spec =
++literal-anew+literal-apart+literal-bracket+literal-first+literal-inside+literal-lengths+literal-out+literal-run+literal-tries-spec =
     close
+    μ-literal-anew
     μ-literal-apart
     μ-literal-bracket
     μ-literal-first
@@ -217,6 +236,14 @@ pub +literal-apart+literal-bracket+literal-first+literal-inside+literal-lengths+
     μ-literal-out
     μ-literal-run
     μ-literal-tries
+    (λ t. literal-anew-lts.spec
+    (literal-lengths-below t, literal-lengths.Post)
+    (literal-anew-at t)
+    literal-anew.Post
+    (λ c κs. let start = c .before .before .before .before .before .pre in
+    let a = c .before .before .before .before .before .args in
+    (omega (arith, start .0), ((start .1 .0 .0, start .1 .0 .1, sure.settled-fixed _ _ _ (omega arith), failed.remembers-none true (a .text .now) (a .terms .now) _), start .1 .1)))
+    (λ c. c .literal-lengths .ensures .0))
     (λ t. literal-apart-lts.spec (
       end-of-reads.Asked,
       end-of-reads.Learnt,
@@ -239,7 +266,7 @@ pub +literal-apart+literal-bracket+literal-first+literal-inside+literal-lengths+
       omega (arith, c .before .before .before .before .before .before .before .before .before .pre .0, start .0 .asked .pattern-stands .inside, start .1),
       (
         alone.contents-alone (start .0) (c .before .before .before .before .before .before .before .before .before .pre .1 .1 .0) (start .1) (start .2) _ _ (c .before .before .before .before .end-of .ensures .0) (c .before .before .before .end-of2 .ensures .0),
-        sure.sure-inside (start .3) _ (c .before .before .before .before .end-of .ensures .0) (calls.contents-within (start .0 .asked) (start .1) (start .2)),
+        sure.settled-inside (start .3) _ (c .before .before .before .before .end-of .ensures .0) (calls.contents-within (start .0 .asked) (start .1) (start .2)),
         start .4,
       ),
     ))
@@ -259,7 +286,7 @@ pub +literal-apart+literal-bracket+literal-first+literal-inside+literal-lengths+
     let ends = c .before .before .before .before .before .before .before .before .before .end-of .ensures in
     let begins = sure.begin-second (start .1) (ends .0) in (
       omega (arith, c .before .before .before .before .before .before .before .before .before .before .before .before .before .before .pre .0, start .0 .asked .pattern-stands .inside, ends .1, ends .2),
-      (level.literal-later (start .0) _ _ begins (c .before .before .before .before .before .before .before .before .end-of2 .ensures .2), sure.sure-later (start .3) begins, c .before .before .before .before .literal-run .ensures .1),
+      (level.literal-later (start .0) _ _ begins (c .before .before .before .before .before .before .before .before .end-of2 .ensures .2), sure.settled-later (start .3) begins, c .before .before .before .before .literal-run .ensures .1),
     ))
     (λ c. (
       alone.bracket-some _ _ _ (c .before .before .before .before .before .before .before .before .before .before .before .before .before .before .before .pre .1 .1 .0) _ _ _ _ _ (c .before .before .before .before .before .before .before .before .before .before .end-of .ensures .0) (c .before .before .before .before .before .before .before .before .before .end-of2 .ensures .0) (c .before .before .before .before .before .before .before .before .before .before .before .before .before .before .before .pre .1 .1 .1)
@@ -339,8 +366,8 @@ pub +literal-apart+literal-bracket+literal-first+literal-inside+literal-lengths+
       omega (arith, start .0, ends .ensures .1, ends .ensures .2, start .1 .0 .0 .asked .pattern-stands .inside),
       (
         level.literal-more (start .1 .0 .0) (stopped .some) (binds .1) (binds .0) (c .before .bind .ensures) (ends .result) (c .before .before .before .before .before .before .first .given .0 .0) (ends .ensures .0) (binds .0),
-        sure.sure-later (sure.sure-more (start .1 .0 .1) (c .before .bind .ensures)) (sure.begin-second (stopped .some) (ends .ensures .0)),
-        start .1 .0 .2,
+        sure.settled-later (sure.settled-more (start .1 .0 .1) (c .before .bind .ensures)) (sure.begin-second (stopped .some) (ends .ensures .0)),
+        sure.remembers-fixed (sure.fixed-bound (c .before .bind .ensures) _ (sure.settled-low (start .1 .0 .1))) (start .1 .0 .2),
       ),
     ))
     (λ c. search needs)
@@ -361,7 +388,7 @@ pub +literal-apart+literal-bracket+literal-first+literal-inside+literal-lengths+
     let values = calls.values-more (start .1 .0 .0 .asked) (stopped .some) (binds .1) (binds .0) (c .before .before .bind .ensures) in (
       level.run-rest (start .1 .0 .0) (c .literal-run .result) (ends .result) (c .before .before .before .before .before .before .before .first .given .0 .0) (c .before .before .bind .result) (ends .ensures .2) (binds .0)
           (step.step-binds (stopped .leaves) true _ _ _ (c .before .before .before .before .before .before .before .first .given .1) (ends .ensures .0) values) (c .literal-run .ensures .0),
-      c .literal-run .ensures .1,
+      sure.remembers-back (sure.fixed-bound (c .before .before .bind .ensures) _ (sure.settled-low (start .1 .0 .1))) (c .literal-run .ensures .1),
     ))
     (λ c. (level.run-same (c .before .before .before .before .before .before .before .before .pre .1 .0 .0) (c .literal-tries .result) _ (c .literal-tries .ensures .0) (step.step-tries (c .before .before .before .before .before .before .before .before .pre .1 .1 .leaves) true (c .before .before .enum-told3 .given .1)), c .literal-tries .ensures .1))
     (λ c. (level.run-same (c .before .before .before .before .before .before .before .before .pre .1 .0 .0) (c .literal-bracket .result) _ (c .literal-bracket .ensures .0) (step.step-inside (c .before .before .before .before .before .before .before .before .pre .1 .1 .leaves) true (c .before .before .enum-told4 .given .1)), c .literal-bracket .ensures .1)))
@@ -402,7 +429,7 @@ pub +literal-apart+literal-bracket+literal-first+literal-inside+literal-lengths+
     (λ c κs. let start = c .before .before .before .before .before .before .before .before .before .before .pre in
     let more = c .before .before .before .push .ensures in (
       omega (arith, start .0, more .0, start .1 .0 .asked .pattern-stands .inside, start .1 .1),
-      (level.literal-inside (start .1 .0) (start .1 .1) (start .1 .2) _ _ (c .before .before .before .before .before .end-of .ensures .0) (c .before .before .before .before .end-of2 .ensures .0) (c .before .before .before .push .result) (more .0) (more .1) (more .2), sure.sure-inside (start .1 .3) _ (c .before .before .before .before .before .end-of .ensures .0) (calls.contents-within (start .1 .0 .asked) (start .1 .1) (start .1 .2)), start .1 .4),
+      (level.literal-inside (start .1 .0) (start .1 .1) (start .1 .2) _ _ (c .before .before .before .before .before .end-of .ensures .0) (c .before .before .before .before .end-of2 .ensures .0) (c .before .before .before .push .result) (more .0) (more .1) (more .2), sure.settled-inside (start .1 .3) _ (c .before .before .before .before .before .end-of .ensures .0) (calls.contents-within (start .1 .0 .asked) (start .1 .1) (start .1 .2)), start .1 .4),
     ))
     (λ c. let start = c .before .before .before .before .before .before .before .before .before .before .before .pre in
     let more = c .before .before .before .before .push .ensures in (
@@ -449,7 +476,7 @@ pub +literal-apart+literal-bracket+literal-first+literal-inside+literal-lengths+
     let ends = c .before .before .before .before .before .end-of in
     let inside = begin-inside (c .before .before .before .loop .inv .0) in (
       omega (arith, start .0, ends .ensures .1, ends .ensures .2, start .1 .0 .0 .asked .pattern-stands .inside),
-      (level.literal-more (start .1 .0 .0) (start .1 .0 .1) (start .1 .1) inside (c .before .bind .ensures) (ends .result) (c .before .before .before .loop .n) (ends .ensures .0) inside, sure.sure-later (sure.sure-more (start .1 .0 .2) (c .before .bind .ensures)) (sure.begin-second (start .1 .0 .1) (ends .ensures .0)), c .before .before .before .loop .inv .2),
+      (level.literal-more (start .1 .0 .0) (start .1 .0 .1) (start .1 .1) inside (c .before .bind .ensures) (ends .result) (c .before .before .before .loop .n) (ends .ensures .0) inside, sure.settled-later (sure.settled-more (start .1 .0 .2) (c .before .bind .ensures)) (sure.begin-second (start .1 .0 .1) (ends .ensures .0)), sure.remembers-fixed (sure.fixed-bound (c .before .bind .ensures) _ (sure.settled-low (start .1 .0 .2))) (c .before .before .before .loop .inv .2)),
     ))
     (λ c κs. c .if2 .left)
     (λ c. let asked = c .before .before .before .before .before .before .before .before .before .before .before .before .before .before .pre .1 .0 .0 .asked in
@@ -461,17 +488,17 @@ pub +literal-apart+literal-bracket+literal-first+literal-inside+literal-lengths+
       rw (c .end-of2 .ensures .0) (one-on (c .before .if2 .left) (c .before .before .before .before .before .before .before .loop .inv .0)),
       rw (c .end-of2 .ensures .0) (level.length-next (start .1 .0 .0) (start .1 .0 .1) (start .1 .1) (c .before .before .before .before .before .before .before .before .before .end-of .ensures .0) (c .before .before .before .before .before .before .before .loop .inv .0) (c .before .before .before .before .before .bind .ensures)
           (c .before .before .before .literal-run .result) (c .before .before .before .literal-run .ensures .0) (c .before .before .before .before .before .before .before .loop .inv .1) (c .before .before .if1 .left) (c .before .if2 .left)),
-      c .before .before .before .literal-run .ensures .1,
+      sure.remembers-back (sure.fixed-bound (c .before .before .before .before .before .bind .ensures) _ (sure.settled-low (start .1 .0 .2))) (c .before .before .before .literal-run .ensures .1),
     ))
     (λ c. let start = c .before .before .before .before .before .before .before .before .before .before .before .before .pre in (
       level.length-found (start .1 .0 .0) (start .1 .0 .1) (start .1 .1) (c .before .before .before .before .before .before .before .end-of .ensures .0) (c .before .before .before .before .before .loop .inv .0) (c .before .before .before .bind .ensures) (c .before .literal-run .result)
           (c .before .literal-run .ensures .0) (c .before .before .before .before .before .loop .inv .1) (c .if1 .taken),
-      c .before .literal-run .ensures .1,
+      sure.remembers-back (sure.fixed-bound (c .before .before .before .bind .ensures) _ (sure.settled-low (start .1 .0 .2))) (c .before .literal-run .ensures .1),
     ))
     (λ c. let start = c .before .before .before .before .before .before .before .before .before .before .before .before .before .pre in (
       level.length-none (start .1 .0 .0) (start .1 .0 .1) (start .1 .1) (c .before .before .before .before .before .before .before .before .end-of .ensures .0) (c .before .before .before .before .before .before .loop .inv .0) (c .before .before .before .before .bind .ensures) (c .before .before .literal-run .result)
           (c .before .before .literal-run .ensures .0) (c .before .before .before .before .before .before .loop .inv .1) (c .before .if1 .left) (c .if2 .taken),
-      c .before .before .literal-run .ensures .1,
+      sure.remembers-back (sure.fixed-bound (c .before .before .before .before .bind .ensures) _ (sure.settled-low (start .1 .0 .2))) (c .before .before .literal-run .ensures .1),
     )))
     (λ t. literal-out-lts.spec (
       wide-reads.Asked,
@@ -481,7 +508,7 @@ pub +literal-apart+literal-bracket+literal-first+literal-inside+literal-lengths+
     )
     (literal-out-at t)
     literal-out.Post
-    (λ c. (level.out-none _ _ _ _ _ _ (c .if1 .taken), c .before .before .before .pre .1 .0 .3))
+    (λ c. (level.out-none _ _ _ _ _ _ (c .if1 .taken), c .before .before .before .pre .1 .0 .4))
     (λ c. omega (arith, c .if1 .left))
     (λ c. omega (arith, c .before .before .before .pre .1 .0 .1 .few))
     (λ c. omega (arith, c .before .before .before .pre .1 .0 .1 .few, c .if1 .left))
@@ -503,7 +530,7 @@ pub +literal-apart+literal-bracket+literal-first+literal-inside+literal-lengths+
     level.out-row (start .1 .0 .0) (start .1 .0 .1) (start .1 .0 .2) (start .1 .1) (omega (arith, c .before .before .before .before .before .if1 .left)) (c .before .before .before .wide .ensures .0) (c .before .wide2 .ensures .0) .1)
     (λ c κs. let start = c .before .before .before .before .before .before .before .before .before .before .pre in (
       omega (arith, start .0, c .before .before .before .before .before .before .before .if1 .left),
-      (level.literal-out (start .1 .0 .0) (start .1 .0 .1) (start .1 .0 .2) (start .1 .1) (omega (arith, c .before .before .before .before .before .before .before .if1 .left)) (c .before .before .before .before .before .wide .ensures .0) (c .before .before .before .wide2 .ensures .0), sure.sure-none _ _, start .1 .0 .3),
+      (level.literal-out (start .1 .0 .0) (start .1 .0 .1) (start .1 .0 .2) (start .1 .1) (omega (arith, c .before .before .before .before .before .before .before .if1 .left)) (c .before .before .before .before .before .wide .ensures .0) (c .before .before .before .wide2 .ensures .0), sure.settled-fixed _ _ _ (start .1 .0 .3), start .1 .0 .4),
     ))
     (λ c. let start = c .before .before .before .before .before .before .before .before .before .before .before .pre in (
       level.out-answer (start .1 .0 .0) (start .1 .0 .1) (start .1 .0 .2) (start .1 .1) (omega (arith, c .before .before .before .before .before .before .before .before .if1 .left)) (c .before .before .before .before .before .before .wide .ensures .0) (c .before .before .before .before .wide2 .ensures .0)
@@ -531,7 +558,7 @@ pub +literal-apart+literal-bracket+literal-first+literal-inside+literal-lengths+
     (λ c κs. let start = c .before .before .before .before .before .before .before .before .before .before .before .before .before .before .before .pre in
     let asked = start .1 .0 in (
       omega (arith, start .0),
-      ((asked .asked .small, asked .around, asked .asked .kept, start .1 .2), level.out-capacity asked),
+      ((asked .asked .small, asked .around, asked .asked .kept, sure.settled-low (start .1 .1), start .1 .2), level.out-capacity asked),
     ))
     (λ c. let (passed, short) = known.known-end (c .before .before .before .before .before .before .before .known-front .ensures) _ _ (c .before .before .before .before .before .n .given .1) in
     (level.run-one (c .before .before .before .before .before .before .before .before .before .before .before .before .before .before .before .before .pre .1 .0) (c .literal-out .result) (passed .search true ∙ step.end-both _ _ _ true _ short (c .before .before .if1 .taken)) (c .literal-out .ensures .0), c .literal-out .ensures .1))
@@ -549,7 +576,7 @@ pub +literal-apart+literal-bracket+literal-first+literal-inside+literal-lengths+
     (λ c κs. let start = c .before .before .before .before .before .before .before .before .before .before .before .before .before .before .before .pre in
     let (passed, stopped) = known.known-stop (c .before .before .before .before .before .before .known-front .ensures) _ _ _ (c .before .before .before .before .m .given .1) in (
       omega (arith, start .0, begin-inside (passed .begins), start .1 .0 .asked .pattern-stands .inside),
-      ((level.literal-later (start .1 .0) _ _ (passed .begins) (passed .within), sure.sure-later (start .1 .1) (passed .begins), start .1 .2), stopped),
+      ((level.literal-later (start .1 .0) _ _ (passed .begins) (passed .within), sure.settled-later (start .1 .1) (passed .begins), start .1 .2), stopped),
     ))
     (λ c. (level.run-none (c .before .before .before .before .before .before .before .before .before .before .before .pre .1 .0) (known.known-fails (c .before .before .known-front .ensures) (c .enum-told .given .1) true), c .before .before .before .before .before .before .before .before .before .before .before .pre .1 .2))
     (λ c. let (passed, short) = known.known-end (c .before .before .before .before .before .known-front .ensures) _ _ (c .before .before .before .n .given .1) in
@@ -561,6 +588,8 @@ pub +literal-apart+literal-bracket+literal-first+literal-inside+literal-lengths+
       literal-lengths.Post,
       closed-reads.Asked,
       closed-reads.Learnt,
+      literal-anew-below t,
+      literal-anew.Post,
       failed-before-reads.Asked,
       failed-before-reads.Learnt,
       note-failed-reads.Asked,
@@ -571,34 +600,34 @@ pub +literal-apart+literal-bracket+literal-first+literal-inside+literal-lengths+
     (λ c κs. let start = c .before .before .before .before .before .before .before .pre in (omega (arith, start .0), (start .1 .0, start .1 .1 .0)))
     (λ c. c .literal-lengths .ensures)
     (λ c κs. let start = c .before .before .before .before .before .before .before .before .pre .1 .0 in (start .2 .few, start .0 .asked .kept .few, start .0 .asked .kept .keyed))
-    (λ c κs. let start = c .before .before .before .before .before .before .before .before .before .before .before .pre in (omega (arith, start .0), (start .1 .0, start .1 .1 .0)))
-    (λ c. c .literal-lengths2 .ensures)
+    (λ c κs. let start = c .before .before .before .before .before .before .before .before .before .before .pre in (omega (arith, start .0), ((start .1 .0 .0, start .1 .0 .1), start .1 .1 .0)))
+    (λ c. (c .literal-anew .ensures, c .before .before .before .before .before .before .before .before .before .before .before .pre .1 .0 .3))
     (λ c. let asked = c .before .before .before .before .before .before .before .before .before .before .pre .1 .0 .0 .asked in omega (arith, asked .pattern-stands .inside, asked .small))
     (λ c. let asked = c .before .before .before .before .before .before .before .before .before .before .pre .1 .0 .0 .asked in omega (arith, asked .row-stands .inside, asked .small))
     (λ c κs. tt)
     (λ c. let start = c .before .before .before .before .before .before .before .before .before .before .before .before .before .pre .1 in
     let asked = start .0 .0 .asked in
-    let free = c .before .before .before .before .closed .ensures (not-false _ (c .before .before .before .if2 .left)) _ _ (asked .kept) (start .0 .2 .closed) in (
-      alone.nothing-holds _ _ (failed.lengths-known asked free (start .1 .1) true (start .0 .1) (start .0 .3) (c .before .failed-before .ensures (c .if3 .taken))),
+    let free = c .before .before .before .before .closed .ensures (not-false _ (c .before .before .before .if2 .left)) _ _ _ (asked .kept) (start .0 .2 .same) in (
+      alone.nothing-holds _ _ (failed.lengths-known asked _ free (start .1 .1) true (start .0 .1) (start .0 .3) (c .before .failed-before .ensures (c .if3 .taken))),
       start .0 .3,
     ))
     (λ c κs. let start = c .before .before .before .before .before .before .before .before .before .before .before .before .before .before .pre .1 in
     let asked = start .0 .0 .asked in
-    let free = c .before .before .before .before .before .closed .ensures (not-false _ (c .before .before .before .before .if2 .left)) _ _ (asked .kept) (start .0 .2 .closed) in
-    (omega (arith, c .before .before .before .before .before .before .before .before .before .before .before .before .before .before .pre .0), ((start .0 .0, start .0 .1, sure.sure-all _ _ free, start .0 .3), start .1 .0)))
+    let free = c .before .before .before .before .before .closed .ensures (not-false _ (c .before .before .before .before .if2 .left)) _ _ _ (asked .kept) (start .0 .2 .same) in
+    (omega (arith, c .before .before .before .before .before .before .before .before .before .before .before .before .before .before .pre .0), ((start .0 .0, start .0 .1, sure.settled-all (start .0 .2) free, start .0 .3), start .1 .0)))
     (λ c κs. let start = c .before .before .before .before .before .before .before .before .before .before .before .before .before .before .before .before .before .pre .1 .0 in
     let asked = start .0 .asked in (
       omega (arith, asked .pattern-stands .inside, asked .small, start .1),
       omega (arith, asked .pattern-stands .inside, asked .small),
       omega (arith, asked .row-stands .inside, asked .small),
       omega (arith, asked .row-stands .inside, asked .small),
-      c .before .before .literal-lengths3 .ensures .1 .long,
+      c .before .before .literal-lengths2 .ensures .1 .long,
     ))
     (λ c. let start = c .before .before .before .before .before .before .before .before .before .before .before .before .before .before .before .before .before .before .pre .1 in
     let asked = start .0 .0 .asked in
-    let free = c .before .before .before .before .before .before .before .before .before .closed .ensures (not-false _ (c .before .before .before .before .before .before .before .before .if2 .left)) _ _ (asked .kept) (start .0 .2 .closed) in
-    let lengths = c .before .before .before .literal-lengths3 in (
+    let free = c .before .before .before .before .before .before .before .before .before .closed .ensures (not-false _ (c .before .before .before .before .before .before .before .before .if2 .left)) _ _ _ (asked .kept) (start .0 .2 .same) in
+    let lengths = c .before .before .before .literal-lengths2 in (
       lengths .ensures .0,
-      failed.lengths-noted asked free (start .1 .1) true (alone.none-holds _ _ _ (c .before .before .before .before .before .before .before .before .before .before .before .before .if1 .left) _ _ _ (lengths .ensures .0) (not-true _ (c .before .before .if4 .taken))) (lengths .ensures .1) (c .note-failed .ensures),
+      failed.lengths-noted asked _ free (start .1 .1) true (alone.none-holds _ _ _ (c .before .before .before .before .before .before .before .before .before .before .before .before .if1 .left) _ _ _ (lengths .ensures .0) (not-true _ (c .before .before .if4 .taken))) (lengths .ensures .1) (c .note-failed .ensures),
     ))
-    (λ c. c .before .literal-lengths3 .ensures)
+    (λ c. c .before .literal-lengths2 .ensures)
