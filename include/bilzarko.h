@@ -15,9 +15,9 @@
  * - a call needs up to 1 MiB of stack. With less, the system ends the process at the guard page.
  *
  * A call returns, but it can take for ever: matching with repeated variables is NP-complete. The smallest law known to do so
- * has a sentence `s.A e.1 .. e.k s.A` and a call of its function with 'a' and k times 'b'; it takes 2 seconds at k = 13 or
- * 14 and four times as long for each step of k. Where laws come from strangers, make the call in a process of its own and
- * end that process: a call keeps nothing, and holds nothing but what it is lent.
+ * has a sentence `(e.1 .. e.k s.A) s.A` and a call of its function with ('b' .. 'b') 'a', k times 'b'; it takes some 2 seconds
+ * at k = 13, in 32 terms, and four times as long for each step of k. Where laws come from strangers, make the call in a
+ * process of its own and end that process: a call keeps nothing, and holds nothing but what it is lent.
  */
 #ifndef BILZARKO_H
 #define BILZARKO_H

@@ -8,7 +8,7 @@ use crate::parse::parse;
 const TERMS: usize = 512;
 const VARIABLES: usize = 32;
 const SHAPES: usize = 64;
-/// The numbers of the last two families: they stay slow.
+/// The numbers of the last families, of which two stay slow.
 const SLOW: usize = 16;
 
 /// Terms in Refal notation, and how many records they are.
@@ -129,14 +129,15 @@ pub fn families() -> Vec<Family> {
             each: false,
         })
         .collect();
-    let slow = [
+    let by_law = [
         (
             "f: e.1 .. e.k 'c' e.k .. e.1, 'a' k times, 'c', 'a' k + 1 times",
             crossed(),
         ),
         ("g: s.A e.1 .. e.k s.A, 'a', 'b' k times", around()),
+        ("h: (e.1 .. e.k s.A) s.A, ('b' k times) 'a'", out_of_bracket()),
     ];
-    all.extend(slow.into_iter().map(|(name, pairs)| Family {
+    all.extend(by_law.into_iter().map(|(name, pairs)| Family {
         name,
         pairs,
         each: true,
@@ -276,12 +277,23 @@ fn crossed() -> Vec<Pair> {
     (1..=SLOW).map(pair).collect()
 }
 
-/// The first and the last symbol differ: every rest between them holds a variable that has a value.
+/// The first and the last symbol differ: every rest between them holds a variable that has a value, the same each time.
 fn around() -> Vec<Pair> {
     let pair = |k: usize| {
         let symbol = Part::one("s.A");
         let pattern = symbol.clone().then(&e(1..=k)).then(&symbol);
         let row = a(1).then(&Part::one("'b'").times(k));
+        Pair::new(format!("k = {k}"), pattern, row)
+    };
+    (1..=SLOW).map(pair).collect()
+}
+
+/// The variable in the bracket has another value than behind it: literal matching goes back into the bracket.
+fn out_of_bracket() -> Vec<Pair> {
+    let pair = |k: usize| {
+        let symbol = Part::one("s.A");
+        let pattern = e(1..=k).then(&symbol).inside().then(&symbol);
+        let row = Part::one("'b'").times(k).inside().then(&a(1));
         Pair::new(format!("k = {k}"), pattern, row)
     };
     (1..=SLOW).map(pair).collect()

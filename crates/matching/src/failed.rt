@@ -1,5 +1,5 @@
-// Rests of a pattern and of a row that have no match, where no variable of the pattern's rest has a value: what a search remembers of them, so that it does not
-// try them again. A rest has four words, the positions among the term records where the two rests begin and end.
+// Rests of a pattern and of a row that have no match: what a search remembers of them, so that it does not try them again. A rest has four words, the positions
+// among the term records where the two rests begin and end.
 use crate::narrow;
 use crate::wide;
 ghost use mathlib.Core.Path.{_≡_};

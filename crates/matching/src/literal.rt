@@ -125,18 +125,8 @@ fn literal_lengths(
     loop {
         let left = &row[n..];
         let more = bind(b, at, start, n);
-        if literal_run(
-            text,
-            terms,
-            rest,
-            next,
-            left,
-            start + n,
-            outer,
-            more,
-            sure,
-            failed,
-        ) {
+        let j = start + n;
+        if literal_run(text, terms, rest, next, left, j, outer, more, sure, failed) {
             break true;
         }
         if left.len() < 24 {
@@ -250,19 +240,9 @@ fn literal_inside(
     let around = push(outer, at + pattern.len(), start + row.len());
     let contents = &pattern[24..m];
     let inside = &row[24..n];
-    let first = at + 24;
-    literal_run(
-        text,
-        terms,
-        contents,
-        first,
-        inside,
-        start + 24,
-        around,
-        b,
-        sure,
-        failed,
-    )
+    let i = at + 24;
+    let j = start + 24;
+    literal_run(text, terms, contents, i, inside, j, around, b, sure, failed)
 }
 
 // A bracket against a bracket, with nothing around and no variable in common with the rest: one match of the contents is as good as another, so that contents and
@@ -297,18 +277,8 @@ fn literal_apart(
     let rest = &pattern[m..];
     let left = &row[n..];
     let next = at + m;
-    literal_run(
-        text,
-        terms,
-        rest,
-        next,
-        left,
-        start + n,
-        outer,
-        b,
-        sure,
-        failed,
-    )
+    let j = start + n;
+    literal_run(text, terms, rest, next, left, j, outer, b, sure, failed)
 }
 
 // A bracket against a bracket.
@@ -366,18 +336,8 @@ fn literal_first(
             let left = &row[n..];
             let next = at + end;
             let more = bind(b, at, start, n);
-            literal_run(
-                text,
-                terms,
-                rest,
-                next,
-                left,
-                start + n,
-                outer,
-                more,
-                sure,
-                failed,
-            )
+            let j = start + n;
+            literal_run(text, terms, rest, next, left, j, outer, more, sure, failed)
         }
         First::Tries => {
             literal_tries(text, terms, pattern, at, row, start, outer, b, sure, failed)
@@ -421,20 +381,9 @@ fn literal_run(
         Known::Stop(m, n, first) => {
             let rest = &pattern[m..];
             let left = &row[n..];
-            let next = at + m;
-            literal_first(
-                text,
-                terms,
-                rest,
-                next,
-                left,
-                start + n,
-                outer,
-                b,
-                sure,
-                failed,
-                first,
-            )
+            let i = at + m;
+            let j = start + n;
+            literal_first(text, terms, rest, i, left, j, outer, b, sure, failed, first)
         }
     }
 }

@@ -162,38 +162,21 @@ fn shadow_inside(
     let n = end_of(row);
     let contents = &pattern[24..m];
     let inside = &row[24..n];
-    let first = shadow_run(
-        text,
-        terms,
-        contents,
-        at + 24,
-        inside,
-        start + 24,
-        b,
-        sure,
-        failed,
-    );
+    let i = at + 24;
+    let j = start + 24;
+    let first = shadow_run(text, terms, contents, i, inside, j, b, sure, failed);
     if !first.ok {
         return first;
     }
     let more = first.bindings;
-    let fixed = Sure {
+    let kept = Sure {
         fixed: sure.fixed,
         places: sure.fixed,
     };
     let rest = &pattern[m..];
     let left = &row[n..];
-    shadow_run(
-        text,
-        terms,
-        rest,
-        at + m,
-        left,
-        start + n,
-        more,
-        fixed,
-        failed,
-    )
+    let next = at + m;
+    shadow_run(text, terms, rest, next, left, start + n, more, kept, failed)
 }
 
 // The first match of a pattern with a row, by what the pattern's first record leaves to do.
@@ -230,17 +213,8 @@ fn shadow_first(
             let rest = &pattern[end..];
             let left = &row[n..];
             let more = bind(b, at, start, n);
-            shadow_run(
-                text,
-                terms,
-                rest,
-                at + end,
-                left,
-                start + n,
-                more,
-                sure,
-                failed,
-            )
+            let next = at + end;
+            shadow_run(text, terms, rest, next, left, start + n, more, sure, failed)
         }
         First::Tries => shadow_tries(text, terms, pattern, at, row, start, b, sure, failed),
         First::Inside => shadow_inside(text, terms, pattern, at, row, start, b, sure, failed),
@@ -281,18 +255,9 @@ fn shadow_run(
         Known::Stop(m, n, first) => {
             let rest = &pattern[m..];
             let left = &row[n..];
-            shadow_first(
-                text,
-                terms,
-                rest,
-                at + m,
-                left,
-                start + n,
-                b,
-                sure,
-                failed,
-                first,
-            )
+            let i = at + m;
+            let j = start + n;
+            shadow_first(text, terms, rest, i, left, j, b, sure, failed, first)
         }
     }
 }
