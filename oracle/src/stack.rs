@@ -115,7 +115,7 @@ fn deep_laws() -> Vec<Named> {
     matched.chain([result]).collect()
 }
 
-fn deep_shadows() -> [Named; 6] {
+fn deep_shadows() -> [Named; 7] {
     let empty = |times: usize| again("()", times);
     let nested = again(&bracketed(31, ""), 7);
     [
@@ -141,6 +141,15 @@ fn deep_shadows() -> [Named; 6] {
             ),
         ),
         (
+            "lint 1 in a block inside 31 blocks: 32 e. variables, () 207 times and each variable again, and as many",
+            in_block(
+                blocks,
+                31,
+                &format!("{}{}{}", repeated(0), empty(207), repeated(0)),
+                &empty(207),
+            ),
+        ),
+        (
             "lint 1: an e. variable twice and () 254 times, and the same",
             format!("F {{ {0} = ; {0} = ; }}", format!("e.A e.A {}", empty(254))),
         ),
@@ -151,11 +160,12 @@ fn deep_shadows() -> [Named; 6] {
     ]
 }
 
-fn deep_literals() -> [Named; 7] {
+fn deep_literals() -> [Named; 8] {
     let empty = |times: usize| again("()", times);
     let brackets = |times: usize| format!("{}{}", repeated(1), empty(times));
     let inside = format!("{}{}", repeated(0), again("(e.1)", 159));
     let nested = again(&bracketed(31, ""), 7);
+    let each = format!("{}{}{}", repeated(0), again("(e.1)", 127), repeated(0));
     [
         (
             "lint 2: an e. variable 511 times, and a call with nothing",
@@ -176,6 +186,10 @@ fn deep_literals() -> [Named; 7] {
         (
             "lint 2 inside 31 blocks: 32 e. variables, one of them again and () 223 times, and a call with as many",
             in_call(blocks, 31, &brackets(223), &empty(223)),
+        ),
+        (
+            "lint 2 inside 31 blocks: 32 e. variables, one of them in 127 brackets and each again, and a call with () 127 times",
+            in_call(blocks, 31, &each, &empty(127)),
         ),
         (
             "lint 2: 32 e. variables and one of them in 159 brackets, and a call with () 159 times",
