@@ -131,7 +131,7 @@ pub fn families() -> Vec<Family> {
         .collect();
     let by_law = [
         (
-            "f: e.1 .. e.k 'c' e.k .. e.1, 'a' k times, 'c', 'a' k + 1 times",
+            "f: e.1 .. e.k 'c' e.k .. e.1, 'a' k times, 'c', 'a' k + 2 times",
             crossed(),
         ),
         ("g: s.A e.1 .. e.k s.A, 'a', 'b' k times", around()),
@@ -266,12 +266,13 @@ fn alternating(records: usize, placed: fn(Part) -> Part) -> Vec<Pair> {
     all
 }
 
-/// What the variables before `'c'` take they must take again behind it, where one symbol more is.
+/// What the variables before `'c'` take they must take again behind it, where two symbols more are: were it one, the numbers of
+/// terms would decide.
 fn crossed() -> Vec<Pair> {
     let pair = |k: usize| {
         let middle = Part::one("'c'");
         let pattern = e(1..=k).then(&middle).then(&e((1..=k).rev()));
-        let row = a(k).then(&middle).then(&a(k + 1));
+        let row = a(k).then(&middle).then(&a(k + 2));
         Pair::new(format!("k = {k}"), pattern, row)
     };
     (1..=SLOW).map(pair).collect()

@@ -38,19 +38,26 @@ unfolding someHolds resume
 holds-some [] h = absurd (false-not-true h)
 holds-some (vs ∷ l) h = refl
 
+-- where there is no match, however brackets are gone back into
+module _ (text pattern row : List ℕ) (none : (back : Bool) → found back (rowOf text pattern) (rowOf text row) none-bound ≡ []) where
+  pub shadow-none : false ≡ shadows (rowOf text pattern) (rowOf text row)
+  unfolding shadowsWith ownValues
+  shadow-none = sym (ap some-in (none false))
+
+  pub literal-none : literalPart row ≡ true → false ≡ literalMatches (rowOf text pattern) (symbolsOf text row)
+  unfolding someHolds
+  literal-none k = sym (ap (someHolds (resume [])) (none true)) ∙ literal-found text row (rowOf text pattern) k
+
 module _ (text pattern row : List ℕ) {r : Bool} (told : r ≡ passes (rowOf text pattern) (rowOf text row)) where
   pub shadow-not : r ≡ false → false ≡ shadows (rowOf text pattern) (rowOf text row)
-  unfolding shadowsWith ownValues
-  shadow-not h = sym (ap some-in (none-found false (rowOf text pattern) (rowOf text row) (sym told ∙ h)))
+  shadow-not h = shadow-none text pattern row (λ back. none-found back (rowOf text pattern) (rowOf text row) (sym told ∙ h))
 
   pub shadow-once : r ≡ true → onceEach (variablesIn (rowOf text pattern)) ≡ true → true ≡ shadows (rowOf text pattern) (rowOf text row)
   unfolding shadowsWith ownValues
   shadow-once h o = sym (some-found false (rowOf text pattern) (rowOf text row) o (sym told ∙ h))
 
   pub literal-not : literalPart row ≡ true → r ≡ false → false ≡ literalMatches (rowOf text pattern) (symbolsOf text row)
-  unfolding someHolds
-  literal-not k h =
-      sym (ap (someHolds (resume [])) (none-found true (rowOf text pattern) (rowOf text row) (sym told ∙ h))) ∙ literal-found text row (rowOf text pattern) k
+  literal-not k h = literal-none text pattern row (λ back. none-found back (rowOf text pattern) (rowOf text row) (sym told ∙ h)) k
 
   pub literal-once : literalPart row ≡ true → r ≡ true → onceEach (variablesIn (rowOf text pattern)) ≡ true
       → true ≡ literalMatches (rowOf text pattern) (symbolsOf text row)

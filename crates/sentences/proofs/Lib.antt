@@ -3,6 +3,7 @@ pub mod GreedyLaws
 pub mod FrontLaws
 pub mod OpenLaws
 pub mod OnceLaws
+pub mod ParityLaws
 pub mod EntryLaws
 pub mod SentencePatterns
 pub mod Arguments

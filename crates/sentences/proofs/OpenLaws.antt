@@ -104,7 +104,7 @@ module _ (text : List ℕ) where
   term-end (Block n) c p = inr (whole-end p)
 
 module _ (part : List ℕ) (i : ℕ) (some-left : 24 ≤ length (from i part)) {e : ℕ} (ends : e ≡ endOf (from i part)) (text : List ℕ) where
-  next-row : rowOf text (from i part)
+  pub next-row : rowOf text (from i part)
       ≡ termRow text (termAt (from i part) 0) (rowOf text (contents 24 endOf (from i part))) (rowOf text (from (i + e) part))
   next-row = rw (ends, ← from-from (endOf (from i part)) i part) (row-node text (from i part) some-left)
 

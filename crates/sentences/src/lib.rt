@@ -3,6 +3,7 @@
 use crate::loose::loose;
 use crate::loose::once;
 use crate::loose::parted;
+use crate::parity::uneven;
 use file::Refusal;
 use law::Check;
 use law::places::pattern;
@@ -34,6 +35,7 @@ ghost use Rattle.matching.specs.Asked.{nesting};
 ghost use Rattle.sentences.specs.Entry.{argumentPart, literalCall, shadowIn, recogniseIn, shadowOutcome, recogniseOutcome, shadowAnswer, recogniseAnswer};
 
 pub mod loose;
+pub mod parity;
 
 // Whether a sentence of any bytes shadows another. `shadowAnswer` of specs/Entry.antt gives document 01's number for each refusal.
 pub enum Shadowed {
@@ -65,6 +67,9 @@ fn shadow(text: &[u8], terms: &[u8], earlier: &[u8], at: usize, later: &[u8], st
     if once(text, earlier) {
         return true;
     }
+    if uneven(text, earlier, later) {
+        return false;
+    }
     search_shadow(text, terms, earlier, at, later, start)
 }
 
@@ -82,6 +87,9 @@ fn literal(text: &[u8], terms: &[u8], pattern: &[u8], at: usize, row: &[u8], sta
     }
     if once(text, pattern) {
         return true;
+    }
+    if uneven(text, pattern, row) {
+        return false;
     }
     search_literal(text, terms, pattern, at, row, start)
 }

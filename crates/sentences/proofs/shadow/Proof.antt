@@ -1,4 +1,4 @@
--- `shadow` meets its contract: first symbols that differ, or the loose test, or the search decides.
+-- `shadow` meets its contract: first symbols that differ, or the loose test, or the numbers of terms, or the search decides.
 use mathlib.Core.Path.{refl}
 use Rattle.sentences.proofs.EntryLaws as laws
 use borrow.Author.Needs.{needs}
@@ -21,5 +21,8 @@ shadow-spec =
     let loose = c .before .before .before .loose in
     laws.shadow-once (a .text .now) (a .earlier .now) (a .later .now) (loose .ensures) (not-false (loose .result) (c .before .before .if2 .left))
     (c .before .once .ensures (c .if3 .taken)))
+    (λ c κs. search needs)
+    (λ c. let a = c .before .before .before .before .before .before .before .before .before .before .before .before .args in
+    laws.shadow-none (a .text .now) (a .earlier .now) (a .later .now) (c .before .uneven .ensures (c .if4 .taken)))
     (λ c κs. search needs)
     (λ c. search needs))
