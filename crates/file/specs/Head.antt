@@ -4,18 +4,17 @@ use Prim.Native.Nat.{ℕ, _+_}
 use mathlib.Core.List.{List, [], _∷_}
 use lib.ListN.{getD}
 use Rattle.file.specs.Word.{wordAt}
-use Rattle.file.specs.declared.Symbol.{Symbol}
 use Rattle.file.specs.declared.Symbol.the-variants.{Character, Identifier, Number}
 use Rattle.file.specs.declared.Term.{Term}
-use Rattle.file.specs.declared.Term.the-variants.{Symbolic, SVariable, TVariable, EVariable, Bracket, Call, Block}
+use Rattle.file.specs.declared.Term.the-variants.{Symbol, SVariable, TVariable, EVariable, Bracket, Call, Block}
 
 -- the term that a kind and the words a and b say; from 8 on a block, since no other kind passes refusal 5
 unfoldable pub termFrom : ℕ → ℕ → ℕ → Term
 termFrom kind a b =
     getD
-    (Symbolic (Character a)
-    ∷ Symbolic (Identifier a b)
-    ∷ Symbolic (Number a b)
+    (Symbol (Character a)
+    ∷ Symbol (Identifier a b)
+    ∷ Symbol (Number a b)
     ∷ SVariable a b
     ∷ TVariable a b
     ∷ EVariable a b

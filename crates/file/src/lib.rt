@@ -64,7 +64,7 @@ pub enum Symbol {
 
 // A term record. Names and indices are a start and a length in the text; a block has a number of sentences.
 pub enum Term {
-    Symbolic(Symbol),
+    Symbol(Symbol),
     SVariable(u32, u32),
     TVariable(u32, u32),
     EVariable(u32, u32),
@@ -93,9 +93,9 @@ fn term_from(kind: u32, a: u32, b: u32) -> Term
     ensures { λ r. ⌜ r ≡ termFrom kind a b ⌝ }
 {
     match kind {
-        0 => Term::Symbolic(Symbol::Character(a)),
-        1 => Term::Symbolic(Symbol::Identifier(a, b)),
-        2 => Term::Symbolic(Symbol::Number(a, b)),
+        0 => Term::Symbol(Symbol::Character(a)),
+        1 => Term::Symbol(Symbol::Identifier(a, b)),
+        2 => Term::Symbol(Symbol::Number(a, b)),
         3 => Term::SVariable(a, b),
         4 => Term::TVariable(a, b),
         5 => Term::EVariable(a, b),

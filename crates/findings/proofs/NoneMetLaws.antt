@@ -13,7 +13,7 @@ use Rattle.file.specs.Word.{wordAt}
 use Rattle.file.specs.Sections.{File, fileOf}
 use Rattle.file.proofs.Below.{both-first, both-second}
 use Rattle.file.specs.declared.Term.{Term}
-use Rattle.file.specs.declared.Term.the-variants.{Symbolic, SVariable, TVariable, EVariable, Bracket, Call, Block}
+use Rattle.file.specs.declared.Term.the-variants.{Symbol as Symbolic, SVariable, TVariable, EVariable, Bracket, Call, Block}
 use Rattle.law.specs.Tree.{Mark, Run, Sentences, noSentence, keep}
 use Rattle.law.specs.Places.{firstSentence, blockFirst, askedAt, askedSize, askedPart, wantedPart, conditionsOf, firstCondition, patternAt, patternPart, resultAt, resultPart}
 use Rattle.law.specs.Runs.{termForest}

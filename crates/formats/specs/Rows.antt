@@ -13,7 +13,7 @@ use Rattle.file.specs.Head.{termFrom, termAt}
 use Rattle.file.specs.declared.Symbol.{Symbol}
 use Rattle.file.specs.declared.Symbol.the-variants.{Character, Identifier, Number}
 use Rattle.file.specs.declared.Term.{Term}
-use Rattle.file.specs.declared.Term.the-variants.{Symbolic, SVariable, TVariable, EVariable, Bracket, Call, Block}
+use Rattle.file.specs.declared.Term.the-variants.{Symbol as Symbolic, SVariable, TVariable, EVariable, Bracket, Call, Block}
 use Rattle.law.specs.Runs.{endOf}
 use Rattle.law.specs.Reading.{runOf, own}
 use Rattle.law.specs.Index.{Readable, PartAt}

@@ -44,7 +44,7 @@ fn step_of(term: Term) -> Step
     ensures { λ r. ⌜ r ≡ stepOf term ⌝ }
 {
     match term {
-        Term::Symbolic(x) => symbol_step(x),
+        Term::Symbol(x) => symbol_step(x),
         Term::SVariable(_, _) => Step::Leaf(3),
         Term::TVariable(_, _) => Step::Leaf(4),
         Term::EVariable(_, _) => Step::Open,

@@ -15,7 +15,7 @@ use Rattle.file.specs.Forest.{contents, rest}
 use Rattle.file.specs.Head.{termFrom, termAt}
 use Rattle.file.specs.Sections.{File}
 use Rattle.file.specs.declared.Term.{Term}
-use Rattle.file.specs.declared.Term.the-variants.{Symbolic, SVariable, TVariable, EVariable, Bracket, Call, Block}
+use Rattle.file.specs.declared.Term.the-variants.{Symbol, SVariable, TVariable, EVariable, Bracket, Call, Block}
 use Rattle.law.specs.Tree.{Mark, Run, empty, Sentences, noSentence, sentence, Conditions, noCondition, condition, keep, firstTerm}
 use Rattle.law.specs.Places.{blockFirst, sentencesOf, firstSentence, conditionsOf, firstCondition, patternAt, resultAt, patternPart, resultPart, askedAt, askedSize, askedPart, wantedPart}
 use Rattle.law.specs.Runs.{endOf}
@@ -98,7 +98,7 @@ term-within : (text : List ℕ) (give : ℕ → ℕ → Sentences) (at : ℕ) (m
     → InsideAllowed x n → (n ≡ 0 → inside ≡ empty) → give at 0 ≡ noSentence
     → leb (deepest (firstTerm (termRun text give at mark x inside after)) d) bound ≡ two inside (give at (sentencesIn x)) d bound
 unfolding deepest firstTerm
-term-within text give at mark (Symbolic x) n inside after d bound h a e o = rw (e a, o) (term-leaf d bound h)
+term-within text give at mark (Symbol x) n inside after d bound h a e o = rw (e a, o) (term-leaf d bound h)
 term-within text give at mark (SVariable x y) n inside after d bound h a e o = rw (e a, o) (term-leaf d bound h)
 term-within text give at mark (TVariable x y) n inside after d bound h a e o = rw (e a, o) (term-leaf d bound h)
 term-within text give at mark (EVariable x y) n inside after d bound h a e o = rw (e a, o) (term-leaf d bound h)
@@ -111,7 +111,7 @@ term-and-rest : (text : List ℕ) (give : ℕ → ℕ → Sentences) (at : ℕ) 
     → deepest (termRun text give at mark x inside after) d
     ≡ max (deepest (firstTerm (termRun text give at mark x inside after)) d) (deepest after d)
 unfolding deepest firstTerm
-term-and-rest text give at mark (Symbolic x) inside after d = omega arith
+term-and-rest text give at mark (Symbol x) inside after d = omega arith
 term-and-rest text give at mark (SVariable x y) inside after d = omega arith
 term-and-rest text give at mark (TVariable x y) inside after d = omega arith
 term-and-rest text give at mark (EVariable x y) inside after d = omega arith
@@ -123,7 +123,7 @@ term-and-rest text give at mark (Block m) inside after d = last-apart d (deepest
 term-deep : (text : List ℕ) (give : ℕ → ℕ → Sentences) (at : ℕ) (mark : Mark) (x : Term) (inside after : Run) (d : ℕ)
     → d ≤ deepest (termRun text give at mark x inside after) d
 unfolding deepest
-term-deep text give at mark (Symbolic x) inside after d = omega arith
+term-deep text give at mark (Symbol x) inside after d = omega arith
 term-deep text give at mark (SVariable x y) inside after d = omega arith
 term-deep text give at mark (TVariable x y) inside after d = omega arith
 term-deep text give at mark (EVariable x y) inside after d = omega arith

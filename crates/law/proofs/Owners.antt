@@ -12,7 +12,7 @@ use Rattle.file.specs.Sections.{File}
 use Rattle.file.specs.Fields.{fieldsAllowed}
 use Rattle.file.specs.Head.{termAt}
 use Rattle.file.specs.declared.Term.{Term}
-use Rattle.file.specs.declared.Term.the-variants.{Symbolic, SVariable, TVariable, EVariable, Bracket, Call, Block}
+use Rattle.file.specs.declared.Term.the-variants.{Symbol, SVariable, TVariable, EVariable, Bracket, Call, Block}
 use Rattle.law.specs.Tree.{Mark, Run, Sentences, keep}
 use Rattle.law.specs.Places.{sentencesOf, patternSize, conditionsOf, resultSize, askedSize, wantedSize, blockSize, firstSentence, blockFirst, firstCondition, patternAt, askedAt, resultAt, termsAt, patternPart, resultPart, askedPart, wantedPart}
 use Rattle.law.specs.Runs.{runFits, usedUp, runsAllowed}
@@ -74,7 +74,7 @@ module _ (file : File) (whole : length (file .terms .records) ≡ 24 * file .ter
   here : (text : List ℕ) (at d : ℕ) (mark : Mark) (x : Term) (inside after : Run) → 0 < sentencesIn x
       → deepestSentences (own at (sentencesIn x)) (suc d) ≤ deepest (termRun text own at mark x inside after) d
   unfolding deepest
-  here text at d mark (Symbolic x) inside after some = absurd (omega arith)
+  here text at d mark (Symbol x) inside after some = absurd (omega arith)
   here text at d mark (SVariable a b) inside after some = absurd (omega arith)
   here text at d mark (TVariable a b) inside after some = absurd (omega arith)
   here text at d mark (EVariable a b) inside after some = absurd (omega arith)
@@ -86,7 +86,7 @@ module _ (file : File) (whole : length (file .terms .records) ≡ 24 * file .ter
   inner : (text : List ℕ) (at d n : ℕ) (mark : Mark) (x : Term) (inside after : Run) → InsideAllowed x n → 0 < n
       → deepest inside (suc d) ≤ deepest (termRun text own at mark x inside after) d
   unfolding deepest
-  inner text at d n mark (Symbolic x) inside after allowed some = absurd (omega arith)
+  inner text at d n mark (Symbol x) inside after allowed some = absurd (omega arith)
   inner text at d n mark (SVariable a b) inside after allowed some = absurd (omega arith)
   inner text at d n mark (TVariable a b) inside after allowed some = absurd (omega arith)
   inner text at d n mark (EVariable a b) inside after allowed some = absurd (omega arith)
@@ -97,7 +97,7 @@ module _ (file : File) (whole : length (file .terms .records) ≡ 24 * file .ter
   -- the run after a term is no deeper than the term with it
   outer : (text : List ℕ) (at d : ℕ) (mark : Mark) (x : Term) (inside after : Run) → deepest after d ≤ deepest (termRun text own at mark x inside after) d
   unfolding deepest
-  outer text at d mark (Symbolic x) inside after = omega arith
+  outer text at d mark (Symbol x) inside after = omega arith
   outer text at d mark (SVariable a b) inside after = omega arith
   outer text at d mark (TVariable a b) inside after = omega arith
   outer text at d mark (EVariable a b) inside after = omega arith

@@ -17,7 +17,7 @@ use Rattle.file.specs.Sections.{fileOf}
 use Rattle.file.specs.Head.{termFrom, termAt}
 use Rattle.file.specs.Fields.{termFieldsAt, termsAllowed, fieldsAllowed}
 use Rattle.file.specs.declared.Term.{Term}
-use Rattle.file.specs.declared.Term.the-variants.{Symbolic, SVariable, TVariable, EVariable, Bracket, Call, Block}
+use Rattle.file.specs.declared.Term.the-variants.{Symbol, SVariable, TVariable, EVariable, Bracket, Call, Block}
 use Rattle.file.proofs.Words.{word-part}
 use Rattle.file.proofs.SectionLaws.{sections-records}
 use Rattle.file.proofs.Fields.{leaf-inside, term-at-allowed, fields-terms}
@@ -238,7 +238,7 @@ module _ (text records : List ℕ) where
 
 -- a record is at most one variable
 one-variable : (text : List ℕ) (x : Term) → length (variableOf text x) ≤ 1
-one-variable text (Symbolic x) = omega arith
+one-variable text (Symbol x) = omega arith
 one-variable text (SVariable a b) = omega arith
 one-variable text (TVariable a b) = omega arith
 one-variable text (EVariable a b) = omega arith

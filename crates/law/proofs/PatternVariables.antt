@@ -11,7 +11,7 @@ use Rattle.file.specs.Sections.{File}
 use Rattle.file.specs.Fields.{fieldsAllowed}
 use Rattle.file.specs.Head.{termAt}
 use Rattle.file.specs.declared.Term.{Term}
-use Rattle.file.specs.declared.Term.the-variants.{Symbolic, SVariable, TVariable, EVariable, Bracket, Call, Block}
+use Rattle.file.specs.declared.Term.the-variants.{Symbol, SVariable, TVariable, EVariable, Bracket, Call, Block}
 use Rattle.law.specs.Tree.{Mark, Run, Sentences}
 use Rattle.law.specs.Places.{patternAt, patternSize, patternPart, termsAt}
 use Rattle.law.specs.Runs.{runFits}
@@ -54,7 +54,7 @@ term-variables : (text : List ℕ) (own : ℕ → ℕ → Sentences) (at : ℕ) 
     → InsideAllowed x n → (n ≡ 0 → within ≡ []) → runVariables inside ≡ within
     → runVariables (termRun text own at mark x inside after) ≡ variableOf text x ++ within ++ runVariables after
 unfolding runVariables
-term-variables text own at mark (Symbolic x) n inside after within allowed none same = rw (none allowed)
+term-variables text own at mark (Symbol x) n inside after within allowed none same = rw (none allowed)
 term-variables text own at mark (SVariable a b) n inside after within allowed none same = rw (none allowed)
 term-variables text own at mark (TVariable a b) n inside after within allowed none same = rw (none allowed)
 term-variables text own at mark (EVariable a b) n inside after within allowed none same = rw (none allowed)

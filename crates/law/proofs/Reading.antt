@@ -11,7 +11,7 @@ use Rattle.file.specs.Sections.{File}
 use Rattle.file.specs.Fields.{fieldsAllowed}
 use Rattle.file.specs.Head.{termAt}
 use Rattle.file.specs.declared.Term.{Term}
-use Rattle.file.specs.declared.Term.the-variants.{Symbolic, SVariable, TVariable, EVariable, Bracket, Call, Block}
+use Rattle.file.specs.declared.Term.the-variants.{Symbol, SVariable, TVariable, EVariable, Bracket, Call, Block}
 use Rattle.law.specs.Tree.{Mark, Run, Sentences, noSentence, keep, skip}
 use Rattle.law.specs.Places.{patternSize, conditionsOf, resultSize, askedSize, wantedSize, blockSize, blockFirst, firstCondition, patternAt, askedAt, resultAt, termsAt, patternPart, resultPart, askedPart, wantedPart}
 use Rattle.law.specs.Runs.{runFits}
@@ -42,7 +42,7 @@ sentences-end file s h =
 -- two ways to give blocks their sentences that agree at a term
 term-same : (text : List ℕ) (own₁ own₂ : ℕ → ℕ → Sentences) (at : ℕ) (mark : Mark) (x : Term) (inside after : Run)
     → own₁ at (sentencesIn x) ≡ own₂ at (sentencesIn x) → termRun text own₁ at mark x inside after ≡ termRun text own₂ at mark x inside after
-term-same text own₁ own₂ at mark (Symbolic x) inside after h = refl
+term-same text own₁ own₂ at mark (Symbol x) inside after h = refl
 term-same text own₁ own₂ at mark (SVariable a b) inside after h = refl
 term-same text own₁ own₂ at mark (TVariable a b) inside after h = refl
 term-same text own₁ own₂ at mark (EVariable a b) inside after h = refl

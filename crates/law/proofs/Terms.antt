@@ -12,14 +12,14 @@ use Rattle.file.specs.Sections.{File}
 use Rattle.file.specs.Fields.{spelled, scalarAllowed, unused, termAllowed, termFieldsAt, functionsAllowed, termsAllowed, fieldsAllowed}
 use Rattle.file.specs.Head.{termFrom, termAt}
 use Rattle.file.specs.declared.Term.{Term}
-use Rattle.file.specs.declared.Term.the-variants.{Symbolic, SVariable, TVariable, EVariable, Bracket, Call, Block}
+use Rattle.file.specs.declared.Term.the-variants.{Symbol, SVariable, TVariable, EVariable, Bracket, Call, Block}
 use Rattle.file.proofs.Below.{both-second, every-at}
 use Rattle.law.specs.Places.{blockSize}
 use Rattle.law.specs.Reading.{sentencesIn}
 
 -- n is what a term may have as the number of records inside it
 abbrev pub InsideAllowed : Term → ℕ → Type 0
-InsideAllowed (Symbolic x) n = n ≡ 0
+InsideAllowed (Symbol x) n = n ≡ 0
 InsideAllowed (SVariable a b) n = n ≡ 0
 InsideAllowed (TVariable a b) n = n ≡ 0
 InsideAllowed (EVariable a b) n = n ≡ 0

@@ -24,7 +24,7 @@ symbolOf text (heads.the-variants.Number a b) = number (nameAt text a b)
 
 -- a term's number of sentences, 0 where it is no block
 abbrev pub sentencesIn : terms.Term → ℕ
-sentencesIn (terms.the-variants.Symbolic x) = 0
+sentencesIn (terms.the-variants.Symbol x) = 0
 sentencesIn (terms.the-variants.SVariable a b) = 0
 sentencesIn (terms.the-variants.TVariable a b) = 0
 sentencesIn (terms.the-variants.EVariable a b) = 0
@@ -38,7 +38,7 @@ markAt at s span = record { at = at; spanStart = wordAt s span; spanEnd = wordAt
 
 -- a term, with the run inside it and the run after it; `own` gives a block its sentences, by the block's record and their number
 abbrev pub termRun : List ℕ → (ℕ → ℕ → Sentences) → ℕ → Mark → terms.Term → Run → Run → Run
-termRun text own at mark (terms.the-variants.Symbolic x) inside after = symbol (symbolOf text x) after
+termRun text own at mark (terms.the-variants.Symbol x) inside after = symbol (symbolOf text x) after
 termRun text own at mark (terms.the-variants.SVariable a b) inside after = variable symbolKind (nameAt text a b) after
 termRun text own at mark (terms.the-variants.TVariable a b) inside after = variable termKind (nameAt text a b) after
 termRun text own at mark (terms.the-variants.EVariable a b) inside after = variable expressionKind (nameAt text a b) after

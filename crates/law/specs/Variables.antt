@@ -34,7 +34,7 @@ sameVariable v w = sameKind (v .kind) (w .kind) && sameBytes (v .index) (w .inde
 
 -- the variable that a term record is, if it is one
 abbrev pub variableOf : List ℕ → terms.Term → List Variable
-variableOf text (terms.the-variants.Symbolic x) = []
+variableOf text (terms.the-variants.Symbol x) = []
 variableOf text (terms.the-variants.SVariable a b) = record { kind = symbolKind; index = foldedIndex (take b (drop a text)) } ∷ []
 variableOf text (terms.the-variants.TVariable a b) = record { kind = termKind; index = foldedIndex (take b (drop a text)) } ∷ []
 variableOf text (terms.the-variants.EVariable a b) = record { kind = expressionKind; index = foldedIndex (take b (drop a text)) } ∷ []

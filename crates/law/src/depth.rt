@@ -31,7 +31,7 @@ pub fn sentences_in(term: Term) -> usize
     ensures { λ r. ⌜ r ≡ sentencesIn term ⌝ }
 {
     match term {
-        Term::Symbolic(_) => 0,
+        Term::Symbol(_) => 0,
         Term::SVariable(_, _) => 0,
         Term::TVariable(_, _) => 0,
         Term::EVariable(_, _) => 0,

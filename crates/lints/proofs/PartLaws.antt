@@ -16,7 +16,7 @@ use Rattle.file.specs.Head.{termFrom, termAt}
 use Rattle.file.specs.declared.Symbol.{Symbol}
 use Rattle.file.specs.declared.Symbol.the-variants.{Character, Identifier, Number}
 use Rattle.file.specs.declared.Term.{Term}
-use Rattle.file.specs.declared.Term.the-variants.{Symbolic, SVariable, TVariable, EVariable, Bracket, Call, Block}
+use Rattle.file.specs.declared.Term.the-variants.{Symbol as Symbolic, SVariable, TVariable, EVariable, Bracket, Call, Block}
 use Rattle.law.specs.Tree.{Mark, Run, empty, symbol, Sentences, noSentence}
 use Rattle.law.specs.Tree as tree
 use Rattle.law.specs.Expression.{valueOf}

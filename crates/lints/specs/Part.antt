@@ -10,7 +10,7 @@ use Rattle.names.specs.Name.{digitByte}
 use Rattle.file.specs.declared.Symbol.{Symbol}
 use Rattle.file.specs.declared.Symbol.the-variants.{Character, Identifier, Number}
 use Rattle.file.specs.declared.Term.{Term}
-use Rattle.file.specs.declared.Term.the-variants.{Symbolic, SVariable, TVariable, EVariable, Bracket, Call, Block}
+use Rattle.file.specs.declared.Term.the-variants.{Symbol as Symbolic, SVariable, TVariable, EVariable, Bracket, Call, Block}
 use Rattle.law.specs.Tree.{Run, noSentence}
 use Rattle.law.specs.Expression.{valueOf}
 use Rattle.law.specs.Runs.{termForest}

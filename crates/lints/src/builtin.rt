@@ -106,7 +106,7 @@ fn operand_of(text: &[u8], term: Term) -> Operand
     ensures { λ r. ⌜ r ≡ operandOf (now (text .entry)) term ⌝ }
 {
     match term {
-        Term::Symbolic(x) => symbol_operand(text, x),
+        Term::Symbol(x) => symbol_operand(text, x),
         Term::SVariable(_, _) => Operand::Other,
         Term::TVariable(_, _) => Operand::Other,
         Term::EVariable(_, _) => Operand::Other,
@@ -242,7 +242,7 @@ fn digit_of(term: Term) -> All
     ensures { λ r. ⌜ r ≡ digitOf term ⌝ }
 {
     match term {
-        Term::Symbolic(x) => symbol_digit(x),
+        Term::Symbol(x) => symbol_digit(x),
         Term::SVariable(_, _) => All::Undecided,
         Term::TVariable(_, _) => All::Undecided,
         Term::EVariable(_, _) => All::Undecided,

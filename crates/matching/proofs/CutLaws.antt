@@ -11,7 +11,7 @@ use Rattle.file.specs.Forest.{contents, rest}
 use Rattle.file.specs.Head.{termAt}
 use Rattle.law.specs.Expression.{nothing, _⊕_}
 use Rattle.file.specs.declared.Term.{Term}
-use Rattle.file.specs.declared.Term.the-variants.{Symbolic, SVariable, TVariable, EVariable, Bracket, Call, Block}
+use Rattle.file.specs.declared.Term.the-variants.{Symbol as Symbolic, SVariable, TVariable, EVariable, Bracket, Call, Block}
 use Rattle.law.specs.Runs.{endOf}
 use Rattle.law.proofs.Parts.{drop-take, part-part, part-word}
 use Rattle.law.proofs.RunLaws.{end-low, end-high}

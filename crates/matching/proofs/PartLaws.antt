@@ -7,7 +7,7 @@ use Rattle.file.specs.Word.{wordAt}
 use Rattle.file.specs.Forest.{Forest, end, node, contents, rest}
 use Rattle.file.specs.Head.{termAt}
 use Rattle.file.specs.declared.Term.{Term}
-use Rattle.file.specs.declared.Term.the-variants.{Symbolic, SVariable, TVariable, EVariable, Bracket, Call, Block}
+use Rattle.file.specs.declared.Term.the-variants.{Symbol as Symbolic, SVariable, TVariable, EVariable, Bracket, Call, Block}
 use Rattle.law.specs.Tree.{Mark, Run, Sentences, noSentence}
 use Rattle.law.specs.Expression.{nothing}
 use Rattle.law.specs.Runs.{endOf, termForest}

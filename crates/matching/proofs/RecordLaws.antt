@@ -13,7 +13,7 @@ use Rattle.file.specs.Forest.{contents, rest}
 use Rattle.file.specs.Head.{termFrom, termAt}
 use Rattle.file.specs.declared.Symbol as heads
 use Rattle.file.specs.declared.Term.{Term}
-use Rattle.file.specs.declared.Term.the-variants.{Symbolic, SVariable, TVariable, EVariable, Bracket, Call, Block}
+use Rattle.file.specs.declared.Term.the-variants.{Symbol as Symbolic, SVariable, TVariable, EVariable, Bracket, Call, Block}
 use Rattle.law.specs.Runs.{endOf}
 use Rattle.law.specs.Variables.{Variable, sameVariable, occurs}
 use Rattle.law.proofs.RunLaws.{end-low, end-high}

@@ -15,7 +15,7 @@ use Rattle.file.proofs.Words.{word-part}
 use Rattle.file.specs.declared.Symbol.{Symbol}
 use Rattle.file.specs.declared.Symbol.the-variants.{Character, Identifier, Number}
 use Rattle.file.specs.declared.Term.{Term}
-use Rattle.file.specs.declared.Term.the-variants.{Symbolic, SVariable, TVariable, EVariable, Bracket, Call, Block}
+use Rattle.file.specs.declared.Term.the-variants.{Symbol as Symbolic, SVariable, TVariable, EVariable, Bracket, Call, Block}
 use Rattle.law.specs.Tree.{Kind, symbolKind, termKind, expressionKind}
 use Rattle.law.specs.Expression.{nothing, symbol, brackets}
 use Rattle.law.specs.Runs.{endOf}

@@ -7,7 +7,7 @@ use lib.ListN.{length, take, drop}
 use Rattle.names.specs.Name.{foldedIndex}
 use Rattle.file.specs.declared.Symbol as heads
 use Rattle.file.specs.declared.Term.{Term}
-use Rattle.file.specs.declared.Term.the-variants.{Symbolic, SVariable, TVariable, EVariable, Bracket, Call, Block}
+use Rattle.file.specs.declared.Term.the-variants.{Symbol as Symbolic, SVariable, TVariable, EVariable, Bracket, Call, Block}
 use Rattle.law.specs.Tree.{Kind, symbolKind, termKind, expressionKind, noSentence}
 use Rattle.law.specs.Expression.{Terms, nothing, symbol, brackets}
 use Rattle.file.specs.Forest.{contents}

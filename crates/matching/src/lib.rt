@@ -13,7 +13,7 @@ ghost use Prim.Native.Nat.{ℕ, _+_, _≤_, _<_, min};
 ghost use lib.ListN.{length, take, drop, getD};
 ghost use Rattle.file.specs.Head.{termAt};
 ghost use Rattle.file.specs.declared.Symbol.{Symbol};
-ghost use Rattle.file.specs.declared.Term.the-variants.{Symbolic, Bracket};
+ghost use Rattle.file.specs.declared.Term.the-variants.{Symbol as Symbolic, Bracket};
 ghost use Rattle.law.specs.Variables.{Variable};
 ghost use Rattle.matching.specs.Pattern.{Atom, variable};
 ghost use Rattle.matching.specs.Match.{Values, none-bound, valueIn, after};
@@ -224,7 +224,7 @@ fn is_open(term: Term) -> bool
     ensures { λ r. ⌜ r ≡ openTerm term ⌝ }
 {
     match term {
-        Term::Symbolic(_) => false,
+        Term::Symbol(_) => false,
         Term::SVariable(_, _) => false,
         Term::TVariable(_, _) => false,
         Term::EVariable(_, _) => true,
@@ -239,7 +239,7 @@ fn is_symbol(term: Term) -> bool
     ensures { λ r. ⌜ r ≡ symbolTerm term ⌝ }
 {
     match term {
-        Term::Symbolic(_) => true,
+        Term::Symbol(_) => true,
         Term::SVariable(_, _) => true,
         Term::TVariable(_, _) => false,
         Term::EVariable(_, _) => false,
@@ -254,7 +254,7 @@ fn is_single(term: Term) -> bool
     ensures { λ r. ⌜ r ≡ singleOne term ⌝ }
 {
     match term {
-        Term::Symbolic(_) => true,
+        Term::Symbol(_) => true,
         Term::SVariable(_, _) => true,
         Term::TVariable(_, _) => true,
         Term::EVariable(_, _) => false, // never a single term
@@ -269,7 +269,7 @@ pub fn may_stand(variable: Term, term: Term) -> bool
     ensures { λ r. ⌜ r ≡ mayStand variable term ⌝ }
 {
     match variable {
-        Term::Symbolic(_) => false,
+        Term::Symbol(_) => false,
         Term::SVariable(_, _) => is_symbol(term),
         Term::TVariable(_, _) => is_single(term),
         Term::EVariable(_, _) => false,
@@ -399,7 +399,7 @@ pub fn first_of<'a>(
         (valuesOf (now (text .entry)) (now (terms .entry)) (places (now (keys .entry)) (now (starts .entry)) (now (sizes .entry)) count)) r ⌝ }
 {
     match term_at(pattern, 0) {
-        Term::Symbolic(_) => symbols_first(text, pattern, row),
+        Term::Symbol(_) => symbols_first(text, pattern, row),
         Term::SVariable(_, _) => {
             variable_first(text, terms, pattern, row, keys, starts, sizes, count)
         }

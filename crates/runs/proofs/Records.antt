@@ -15,7 +15,7 @@ use Rattle.file.specs.Sections.{File, fileOf}
 use Rattle.file.specs.Fields.{spelled, unused, termAllowed}
 use Rattle.file.specs.Head.{termFrom, termAt}
 use Rattle.file.specs.declared.Term.{Term}
-use Rattle.file.specs.declared.Term.the-variants.{Symbolic, SVariable, TVariable, EVariable, Bracket, Call, Block}
+use Rattle.file.specs.declared.Term.the-variants.{Symbol as Symbolic, SVariable, TVariable, EVariable, Bracket, Call, Block}
 use Rattle.file.proofs.Below.{both-first, both-second}
 use Rattle.law.specs.Tree.{Name, Mark, Run, Sentences, Conditions, Law, keep}
 use Rattle.law.specs.Places.{sentencesOf, patternSize, conditionsOf, resultSize, askedSize, wantedSize, blockSize, firstSentence, blockFirst, firstCondition, patternAt, askedAt, resultAt, termsAt, patternPart, resultPart, askedPart, wantedPart}

@@ -10,7 +10,7 @@ use lib.ListN.{length}
 use Rattle.file.specs.Word.{wordAt}
 use Rattle.file.specs.Head.{termAt}
 use Rattle.file.specs.declared.Term.{Term}
-use Rattle.file.specs.declared.Term.the-variants.{Symbolic, SVariable, TVariable, EVariable, Bracket, Call, Block}
+use Rattle.file.specs.declared.Term.the-variants.{Symbol as Symbolic, SVariable, TVariable, EVariable, Bracket, Call, Block}
 use Rattle.law.specs.Tree.{Kind, symbolKind, termKind, expressionKind}
 use Rattle.law.specs.Expression.{Terms, nothing, symbol, brackets, _⊕_}
 use Rattle.law.specs.Variables.{Variable, sameVariable, occurs}
