@@ -5,3 +5,4 @@ pub mod Answers
 pub mod SectionLaws
 pub mod CodeLaws
 pub mod Fields
+pub mod Parts

@@ -8,11 +8,11 @@ ghost use Prim.Native.Nat.{_+_, _*_, _≤_, _<_};
 ghost use lib.ListN.{length, drop};
 ghost use lib.Dec.{leb};
 ghost use Rattle.file.specs.Word.{wordAt};
-ghost use Rattle.file.specs.Answer.{mapAnswer};
-ghost use Rattle.file.specs.Sections.{section, cutAnswer, countsOf, sectionsOf};
+ghost use Rattle.file.specs.Answer.{given, mapAnswer};
+ghost use Rattle.file.specs.Sections.{section, cutAnswer, countsOf, sectionsOf, fileOf};
 ghost use Rattle.file.specs.Code.{foundAnswer, countedOf};
 ghost use Rattle.file.specs.Head.{termFrom, termAt};
-ghost use Rattle.file.specs.Fields.{spelled, unused, scalarAllowed, termAllowed, functionsAllowed, termsAllowed};
+ghost use Rattle.file.specs.Fields.{spelled, unused, scalarAllowed, termAllowed, functionsAllowed, termsAllowed, fieldsAllowed};
 ghost use Rattle.names.specs.Name.{nameAllowed, numberAllowed};
 
 // Why a file is no law. `numberOf` of specs/Sections.antt gives each its number in document 01's table.
@@ -260,7 +260,7 @@ fn term_allowed(text: &[u8], kind: u32, a: u32, b: u32, n: u32) -> bool
 }
 
 // Does each function record say a name?
-pub fn functions_allowed(text: &[u8], functions: &[u8], count: usize) -> bool
+fn functions_allowed(text: &[u8], functions: &[u8], count: usize) -> bool
     requires { ⌜ 20 * count ≤ length (now functions) ⌝ }
     ensures { λ r. ⌜ r ≡ functionsAllowed (now (text .entry)) (now (functions .entry)) count ⌝ }
 {
@@ -276,7 +276,7 @@ pub fn functions_allowed(text: &[u8], functions: &[u8], count: usize) -> bool
 }
 
 // Does each term record have fields that a law may have?
-pub fn terms_allowed(text: &[u8], terms: &[u8], count: usize) -> bool
+fn terms_allowed(text: &[u8], terms: &[u8], count: usize) -> bool
     requires { ⌜ 24 * count ≤ length (now terms) ⌝ }
     ensures { λ r. ⌜ r ≡ termsAllowed (now (text .entry)) (now (terms .entry)) count ⌝ }
 {
@@ -293,4 +293,27 @@ pub fn terms_allowed(text: &[u8], terms: &[u8], count: usize) -> bool
         i += 1;
     }
     true
+}
+
+// Whether every field of the functions and terms is allowed (refusal 5).
+pub fn fields_allowed(law: &[u8], sections: Sections) -> bool
+    requires { ⌜ (sectionsOf (now law) ≡ given (fileOf (now law))) × (countsOf (fileOf (now law)) ≡ sections) ⌝ }
+    ensures { λ r. ⌜ r ≡ fieldsAllowed (fileOf (now (law .entry))) ⌝ }
+{
+    let functions = sections.functions;
+    let terms = sections.terms;
+    let text_end = 4 + sections.text;
+    let functions_at = 8 + sections.text;
+    let functions_end = functions_at + 20 * functions;
+    let terms_at = 20
+        + sections.text
+        + 20 * functions
+        + 20 * sections.sentences
+        + 16 * sections.conditions;
+    let terms_end = terms_at + 24 * terms;
+    let text = &law[4..text_end];
+    if !functions_allowed(text, &law[functions_at..functions_end], functions) {
+        return false;
+    }
+    terms_allowed(text, &law[terms_at..terms_end], terms)
 }

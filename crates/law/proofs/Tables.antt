@@ -6,7 +6,7 @@ use mathlib.Core.Path.{_≡_, refl, _∙_}
 use native.Mathlib.Omega.{arith}
 use native.Mathlib.Decide.{decLt}
 use native.Mathlib.Nat.{add-zero, mul-le-mul-left, mul-suc, mod-eq-of-lt}
-use lib.ListN.{length, getD, set, take, drop, length-take, length-drop}
+use lib.ListN.{length, getD, set, drop}
 use lib.Seq.{getD-set-same, getD-set-other, getD-append-add, getD-drop, sets, sets-eq}
 use lib.Dec.{eqb}
 use borrow.Author.Tests.{eqb-true, ne-eqb}
@@ -16,11 +16,13 @@ use Rattle.file.specs.Answer.{given}
 use Rattle.file.specs.declared.Sections.{Sections}
 use Rattle.file.specs.Sections.{File, sectionsOf, fileOf, countsOf}
 use Rattle.file.proofs.Below.{both-first, both-second, total-next, total-mono}
-use Rattle.file.proofs.SectionLaws.{part-slice, sections-length, sections-limits}
+use Rattle.file.specs.Code.{Limits}
+use Rattle.file.proofs.SectionLaws.{part-slice, sections-limits}
+use Rattle.file.proofs.Parts.{cutOut, functionsPart, sentencesPart, conditionsPart, termsPart}
 use Rattle.law.specs.Places.{sentencesOf, patternSize, conditionsOf, resultSize, askedSize, wantedSize, blockSize, firstSentence, blockFirst, firstCondition, sentenceRecords, conditionRecords, patternAt}
 use Rattle.law.specs.Runs.{usedUp}
 use Rattle.law.specs.Index.{functionsStart, sentencesStart, conditionsStart, termsStart, IndexOf, Indexed}
-use Rattle.law.specs.Filling.{Table, wordSum, pairSum, blockWord, blockSum, asWord, TablesOf, Limits, fileLength, header}
+use Rattle.law.specs.Filling.{Table, wordSum, pairSum, blockWord, blockSum, asWord, TablesOf, header}
 
 -- a record that stands before the last ends within the records' bytes
 pub record-fits : (size i count n : ℕ) → i < count → size * count ≤ n → size * i + size ≤ n
@@ -75,39 +77,6 @@ block-word terms t k w p q e = rw (← p, e) q
 
 pub block-none : (terms : List ℕ) (t k : ℕ) → k ≡ wordAt terms (24 * t) → (k ≡ 8 → ⊥) → 0 ≡ blockWord terms t
 block-none terms t k p d = rw (← p, ne-eqb k 8 d)
-
--- the part of the bytes where the records of a section stand, as code cuts it out by its start and end
-abbrev pub cutOut : (start len : ℕ) → List ℕ → List ℕ
-cutOut start len bytes = take (start + len - start) (drop start bytes)
-
-abbrev pub functionsPart : List ℕ → Sections → List ℕ
-functionsPart bytes s = cutOut (8 + s .text) (20 * s .functions) bytes
-
-abbrev pub sentencesPart : List ℕ → Sections → List ℕ
-sentencesPart bytes s = cutOut (12 + s .text + 20 * s .functions) (20 * s .sentences) bytes
-
-abbrev pub conditionsPart : List ℕ → Sections → List ℕ
-conditionsPart bytes s = cutOut (16 + s .text + 20 * s .functions + 20 * s .sentences) (16 * s .conditions) bytes
-
-abbrev pub termsPart : List ℕ → Sections → List ℕ
-termsPart bytes s = cutOut (20 + s .text + 20 * s .functions + 20 * s .sentences + 16 * s .conditions) (24 * s .terms) bytes
-
--- a part that ends within the bytes is as long as asked for
-cut-fits : (start len : ℕ) (bytes : List ℕ) → start + len ≤ length bytes → len ≤ length (cutOut start len bytes)
-cut-fits start len bytes h = simp (length-take, length-drop) (omega arith)
-
--- so the parts of sections 2 to 5 hold as many records as the sections count
-pub functions-fit : (bytes : List ℕ) (s : Sections) → length bytes ≡ fileLength s → 20 * s .functions ≤ length (functionsPart bytes s)
-functions-fit bytes s h = cut-fits (8 + s .text) (20 * s .functions) bytes (omega arith)
-
-pub sentences-fit : (bytes : List ℕ) (s : Sections) → length bytes ≡ fileLength s → 20 * s .sentences ≤ length (sentencesPart bytes s)
-sentences-fit bytes s h = cut-fits (12 + s .text + 20 * s .functions) (20 * s .sentences) bytes (omega arith)
-
-pub conditions-fit : (bytes : List ℕ) (s : Sections) → length bytes ≡ fileLength s → 16 * s .conditions ≤ length (conditionsPart bytes s)
-conditions-fit bytes s h = cut-fits (16 + s .text + 20 * s .functions + 20 * s .sentences) (16 * s .conditions) bytes (omega arith)
-
-pub terms-fit : (bytes : List ℕ) (s : Sections) → length bytes ≡ fileLength s → 24 * s .terms ≤ length (termsPart bytes s)
-terms-fit bytes s h = cut-fits (20 + s .text + 20 * s .functions + 20 * s .sentences + 16 * s .conditions) (24 * s .terms) bytes (omega arith)
 
 -- the records of sections 2 to 5
 functions-cut : (bytes : List ℕ) → cutOut (functionsStart (fileOf bytes)) (20 * fileOf bytes .functions .count) bytes ≡ fileOf bytes .functions .records
@@ -259,11 +228,6 @@ index-made file tables limits h t =
 -- the header, written word by word
 pub header-written : (s : Sections) (xs : List ℕ) → length xs ≡ 972 → sets xs 0 (header s) ≡ header s ++ drop 8 xs
 header-written s xs h = sets-eq (header s) xs 0 (omega arith)
-
--- bytes that are cut into sections with these counts are as long as the counts say, and no count is over its limit
-pub counts-known : (bytes : List ℕ) (s : Sections) → sectionsOf bytes ≡ given (fileOf bytes) → countsOf (fileOf bytes) ≡ s
-    → Limits s × (length bytes ≡ fileLength s)
-counts-known bytes s h e = rw (← e) (sections-limits bytes (fileOf bytes) h, sections-length bytes (fileOf bytes) h)
 
 -- what a header and tables are together, where the sections are used up
 pub indexed-made : (bytes : List ℕ) (s : Sections) (tables index : List ℕ) → sectionsOf bytes ≡ given (fileOf bytes) → countsOf (fileOf bytes) ≡ s

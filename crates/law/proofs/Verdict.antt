@@ -1,19 +1,16 @@
 -- What the check of a file answers (`verdictOf`, specs/Law.antt), a refusal at a time.
-use Prim.Native.Nat.{ℕ, _+_, _*_, _-_, _≤_}
+use Prim.Native.Nat.{ℕ}
 use mathlib.Core.List.{List}
-use mathlib.Core.Bool.{Bool, true, false, not, _&&_}
-use mathlib.Core.Path.{_≡_, refl, sym, ap, _∙_}
+use mathlib.Core.Bool.{true, false}
+use mathlib.Core.Path.{_≡_, sym, ap, _∙_}
 use native.Mathlib.Omega.{arith}
-use lib.ListN.{length, take, drop}
-use lib.Dec.{ltb, leb}
+use lib.Dec.{leb}
 use borrow.Author.Tests.{le-ltb, lt-ltb, leb-true, leb-false}
-use Rattle.file.specs.Answer.{Answer, refused, given, mapAnswer}
+use Rattle.file.specs.Answer.{refused, given}
 use Rattle.file.specs.Below.{every}
-use Rattle.file.specs.Sections.{sectionsOf, fileOf, countsOf, numberOf}
+use Rattle.file.specs.Sections.{sectionsOf, fileOf, numberOf}
 use Rattle.file.specs.declared.Refusal.{Refusal}
-use Rattle.file.specs.declared.Sections.{Sections}
-use Rattle.file.proofs.SectionLaws.{part-slice}
-use Rattle.file.specs.Fields.{fieldsAllowed, functionsAllowed, termsAllowed}
+use Rattle.file.specs.Fields.{fieldsAllowed}
 use Rattle.law.specs.Runs.{usedUp, sentenceFits, runsAllowed, blocksAllowed}
 use Rattle.law.specs.Reading.{treeOf}
 use Rattle.law.specs.Depth.{depthOf}
@@ -22,7 +19,6 @@ use Rattle.law.specs.Law.{lawOf, verdictOf, checkAnswer, IndexAfter}
 use Rattle.law.specs.Index.{Indexed}
 use Rattle.law.specs.declared.Check.{Check}
 use Rattle.law.specs.declared.Check.the-variants.{Accepted, Refused}
-use Rattle.law.proofs.Tables.{functionsPart, termsPart}
 
 -- a file that the sections refuse
 pub sections-refused : (bytes : List ℕ) (n : ℕ) → sectionsOf bytes ≡ refused n → verdictOf bytes ≡ refused n
@@ -66,22 +62,6 @@ module _ (bytes : List ℕ) (sections : sectionsOf bytes ≡ given (fileOf bytes
           pub accepted : patternsAllowed (fileOf bytes) ≡ true → verdictOf bytes ≡ given tt
           unfolding lawOf
           accepted p = rw (sections, fields, runs, blocks, le-ltb 32 (depthOf (treeOf (fileOf bytes))) (leb-true _ 32 depth), p)
-
--- the fields of a file, over the parts of its bytes as the code takes them
-abbrev pub textPart : List ℕ → Sections → List ℕ
-textPart bytes s = take (4 + s .text - 4) (drop 4 bytes)
-
-pub fields-parts : (bytes : List ℕ) (s : Sections) → countsOf (fileOf bytes) ≡ s
-    → fieldsAllowed (fileOf bytes)
-    ≡ (functionsAllowed (textPart bytes s) (functionsPart bytes s) (s .functions) && termsAllowed (textPart bytes s) (termsPart bytes s) (s .terms))
-unfolding fieldsAllowed fileOf
-fields-parts bytes s h =
-    rw (← h)
-    (rw (
-      part-slice 4 (fileOf bytes .text .count) bytes,
-      part-slice (8 + fileOf bytes .text .count) (20 * fileOf bytes .functions .count) bytes,
-      part-slice (20 + fileOf bytes .text .count + 20 * fileOf bytes .functions .count + 20 * fileOf bytes .sentences .count + 16 * fileOf bytes .conditions .count) (24 * fileOf bytes .terms .count) bytes,
-    ))
 
 -- what the check answers, and what it leaves in the index, where it refuses and where it accepts
 pub refused-filled : (bytes : List ℕ) (why : Refusal) (index : List ℕ) → verdictOf bytes ≡ refused (numberOf why)

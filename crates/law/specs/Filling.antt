@@ -43,14 +43,6 @@ pub record TablesOf (file : File) (index : List ℕ) : Type 0 where
   pub sentenceTerms : (s : ℕ) → s ≤ file .sentences .count → getD index (331 + s) 0 ≡ asWord (sentenceRecords file s)
   pub blocks : (t : ℕ) → t < file .terms .count → getD index (460 + t) 0 ≡ asWord (blockFirst file t)
 
--- the limits of the counts
-abbrev pub Limits : Sections → Type 0
-Limits s = (s .text ≤ 4096) × (s .functions ≤ 64) × (s .sentences ≤ 128) × (s .conditions ≤ 128) × (s .terms ≤ 512)
-
--- the length of a file, by the counts of its sections
-abbrev pub fileLength : Sections → ℕ
-fileLength s = 20 + s .text + 20 * s .functions + 20 * s .sentences + 16 * s .conditions + 24 * s .terms
-
 -- the first eight words of an index
 abbrev pub header : Sections → List ℕ
 header s =

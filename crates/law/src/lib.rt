@@ -7,9 +7,8 @@ use crate::runs::runs_fit;
 use file::Cut;
 use file::Refusal;
 use file::Sections;
-use file::functions_allowed;
+use file::fields_allowed;
 use file::sections_of;
-use file::terms_allowed;
 ghost use mathlib.Core.Path.{_≡_};
 ghost use mathlib.Core.Bool.{true};
 ghost use lib.ListN.{length};
@@ -30,29 +29,6 @@ pub mod runs;
 pub enum Check {
     Accepted,
     Refused(Refusal),
-}
-
-// Whether every field of the functions and terms is allowed (refusal 5).
-fn fields_allowed(law: &[u8], sections: Sections) -> bool
-    requires { ⌜ (sectionsOf (now law) ≡ given (fileOf (now law))) × (countsOf (fileOf (now law)) ≡ sections) ⌝ }
-    ensures { λ r. ⌜ r ≡ fieldsAllowed (fileOf (now (law .entry))) ⌝ }
-{
-    let functions = sections.functions;
-    let terms = sections.terms;
-    let text_end = 4 + sections.text;
-    let functions_at = 8 + sections.text;
-    let functions_end = functions_at + 20 * functions;
-    let terms_at = 20
-        + sections.text
-        + 20 * functions
-        + 20 * sections.sentences
-        + 16 * sections.conditions;
-    let terms_end = terms_at + 24 * terms;
-    let text = &law[4..text_end];
-    if !functions_allowed(text, &law[functions_at..functions_end], functions) {
-        return false;
-    }
-    terms_allowed(text, &law[terms_at..terms_end], terms)
 }
 
 // Refusals 6 to 9 of a file whose sections are used up exactly.

@@ -1,7 +1,8 @@
 -- The five fills, one after the other: `tables-made` says what they leave behind and what their sums tell.
 use native.Mathlib.Omega.{arith}
 use borrow.Author.Needs.{needs}
-use Rattle.law.proofs.Tables.{functions-fit, sentences-fit, conditions-fit, terms-fit, tables-made}
+use Rattle.file.proofs.Parts.{functions-fit, sentences-fit, conditions-fit, terms-fit}
+use Rattle.law.proofs.Tables.{tables-made}
 use Rattle.law.proofs.index.fill_tables.Statement.{statement}
 use Rattle.law.proofs.index.fill_tables.Tie as tie
 

@@ -1,6 +1,7 @@
 -- Tables, then the header before them; what is known of the counts comes from the sections.
 use mathlib.Core.Path.{refl, sym, _∙_}
-use Rattle.law.proofs.Tables.{counts-known, indexed-made}
+use Rattle.file.proofs.Parts.{counts-known}
+use Rattle.law.proofs.Tables.{indexed-made}
 use Rattle.law.proofs.index.place_records.Statement.{statement}
 use Rattle.law.proofs.index.place_records.Tie as tie
 

@@ -2,12 +2,11 @@
 use native.Mathlib.Omega.{arith}
 use mathlib.Core.Path.{_≡_, refl, sym, ap, _∙_}
 use borrow.Author.Tests.{not-true, not-false}
 use Rattle.file.proofs.Below.{first-fails}
-use Rattle.law.proofs.Tables.{counts-known}
-use Rattle.law.proofs.Verdict.{fields-parts}
+use Rattle.file.proofs.Parts.{counts-known, fields-parts}
 use borrow.Author.Needs.{needs}
-use Rattle.law.proofs.fields_allowed.Statement.{statement}
-use Rattle.law.proofs.fields_allowed.Tie as tie
+use Rattle.file.proofs.fields_allowed.Statement.{statement}
+use Rattle.file.proofs.fields_allowed.Tie as tie
 
 pub fields-allowed-spec : {M : Type 1} → statement M
 fields-allowed-spec =
