@@ -18,7 +18,7 @@ use Rattle.lints.specs.Levels.{Settings, severityOf, shown, listingWords}
 use Rattle.lints.specs.Findings.{findingsOf}
 use Rattle.lints.specs.Message.{message}
 use Rattle.lints.specs.Records.{formatsIn}
-use Rattle.runs.proofs.Listed.{shown-in}
+use Rattle.lints.proofs.Listed.{shown-in}
 use Rattle.messages.specs.Spoken.{Spoken}
 use Rattle.listing.specs.declared.Turned.the-variants as turned
 use Rattle.listing.specs.declared.Told.the-variants as told

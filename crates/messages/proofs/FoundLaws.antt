@@ -38,12 +38,11 @@ use Rattle.lints.specs.Recognition.{compared, comparedWith, passed, someOver, a
 use Rattle.lints.specs.Builtin.{failure, domainIn, builtins, lookedAt, failed, builtinOn, builtinRemarks, builtinFindings}
 use Rattle.lints.specs.Open.{eOccurrences, openIn, openRemarks, openFindings}
 use Rattle.lints.specs.Records.{formatsIn, callAt}
-use Rattle.runs.proofs.Everywhere.{each-function-in, EachRecord, Passes}
-use Rattle.runs.proofs.Records.{bound, InBlock, OfCalls, EverySentenceAt, functions-every, functions-below}
-use Rattle.runs.proofs.CallsIn.{either, sentence-call, sentence-block}
-use Rattle.runs.proofs.Shadowed.{subject-record}
-use Rattle.runs.proofs.ByFormats.{definition-in}
-use Rattle.runs.proofs.Listed.{Remarked, finding-remarked, dead-remark, Judged, apart, literally, Recognition, recognition-finding, by-lint}
+use Rattle.lints.proofs.Everywhere.{each-function-in, EachRecord, Passes}
+use Rattle.lints.proofs.Records.{bound, InBlock, OfCalls, EverySentenceAt, functions-every, functions-below}
+use Rattle.lints.proofs.CallsIn.{either, sentence-call, sentence-block}
+use Rattle.lints.proofs.Defined.{definition-in}
+use Rattle.lints.proofs.Listed.{subject-record, Remarked, finding-remarked, dead-remark, Judged, apart, literally, Recognition, recognition-finding, by-lint}
 use Rattle.messages.specs.Spoken.{CallHere, ComparedHere, inBlock, apartClaim}
 
 -- what is said of a subject, by its record

@@ -1,22 +1,24 @@
 -- Literal matching against a run. An argument without variables, calls and blocks comes to one expression; where literal matching finds no match for
 -- it, by text, and no number has a needless leading zero, a run finds none, by value.
 use Prim.Native.Nat.{ℕ}
-use mathlib.Core.Bool.{Bool, true, false}
+use mathlib.Core.Bool.{Bool, true}
 use mathlib.Core.List.{List}
 use mathlib.Core.Path.{_≡_, refl, sym, ap₂, _∙_}
 use Rattle.names.specs.Name.{numberAllowed}
 use Rattle.law.specs.Tree as tree
 use Rattle.law.specs.Tree.{Name, Run, Sentences, noSentence, sentence}
-use Rattle.law.specs.Expression.{Expression, Terms, symbol, brackets}
-use Rattle.matching.specs.Pattern.{Symbol, patternOf}
+use Rattle.law.specs.Expression.{Expression, symbol, brackets}
+use Rattle.matching.specs.Pattern.{patternOf}
 use Rattle.matching.specs.Match.{none-bound, runMatches}
-use Rattle.matching.specs.Literal.{isLiteral, literalTerms, literalMatches, changed, expressionOf, noNeedlessZero, rowPasses, patternPasses}
+use Rattle.matching.specs.Literal.{isLiteral, literalTerms, changed, expressionOf, noNeedlessZero, rowPasses, patternPasses}
 use Rattle.matching.proofs.SameLaws.{false-not-true, both-hold}
 use Rattle.matching.proofs.LiteralLaws.{literal-misses-nothing, tree-symbol}
 use Rattle.runs.proofs.Fits.{Fits, fits-empty, fits-symbol, fits-variable, fits-bracket, fits-call, fits-block}
 use Rattle.runs.proofs.Invariant.{NoneMatches}
 use Rattle.runs.proofs.ByFormats.{none-in}
-use Rattle.runs.proofs.Everywhere.{EveryRun, EverySentence, Passes, AnyCall, AnyRecord, RunPasses, SentencesPass}
+use Rattle.lints.proofs.Everywhere.{EveryRun, EverySentence, Passes}
+use Rattle.lints.proofs.Listed.{NoneMatchesText}
+use Rattle.runs.proofs.Passed.{AnyCall, AnyRecord, RunPasses, SentencesPass}
 
 -- a literal run comes to its own symbols and brackets
 pub literal-comes : (Res : List ℕ → Expression → Type 0) {r : Run} {v : Expression} → Fits Res r v → isLiteral r ≡ true
@@ -55,11 +57,6 @@ module _ (test : List ℕ → Bool) (OfCall : ℕ → Name → Run → Type 0) (
   row-passes (tree.Run.block m q ss r) h = row-passes r (h .2)
 
 -- ---- no match by text, none by value
-
--- no sentence's pattern matches a literal row
-abbrev pub NoneMatchesText : Sentences → Terms Symbol → Type 0
-NoneMatchesText noSentence x = Unit {0}
-NoneMatchesText (sentence m p cs r ss) x = (literalMatches (patternOf p) x ≡ false) × NoneMatchesText ss x
 
 module _ (OfCall : ℕ → Name → Run → Type 0) (OfBlock : ℕ → Type 0) (q : Run) (spelled : EveryRun (Passes numberAllowed) OfCall OfBlock q)
     (no-zero : RunPasses noNeedlessZero q) where

@@ -9,7 +9,7 @@ use mathlib.Core.Option.{some}
 use mathlib.Core.Path.{_≡_, sym, ap, _∙_}
 use native.Mathlib.Omega.{arith}
 use Rattle.file.specs.Answer.{given}
-use Rattle.law.specs.Tree.{Sentences, noSentence, sentence, Function, Law}
+use Rattle.law.specs.Tree.{Sentences, sentence, Function, Law}
 use Rattle.law.specs.Definition.{definition}
 use Rattle.law.specs.Expression.{Expression}
 use Rattle.matching.specs.Match.{some-in}
@@ -25,13 +25,15 @@ use Rattle.lints.specs.Findings.{findingsOf}
 use Rattle.runs.specs.Numbers.{sentencesPass, lawPasses, noNeedlessZeros}
 use Rattle.runs.specs.Claim.{Recognises, NeverRecognised, NeverChosen, IsAmong, OfFunction}
 use Rattle.runs.proofs.Invariant.{NoneMatches}
-use Rattle.runs.proofs.ByFormats.{ComesTo, definition-in, undefined-comes, result-comes, disjoint-none-matches}
+use Rattle.runs.proofs.ByFormats.{ComesTo, undefined-comes, result-comes, disjoint-none-matches}
 use Rattle.runs.proofs.ByLiterals.{literal-comes, text-none-matches}
-use Rattle.runs.proofs.Everywhere.{each-function-in, EachRecord, Passes, AnyCall, AnyRecord, SentencesPass, passed-sentences, Labelled, CallAt, AfterFunctions, RunIn, SentencesIn}
-use Rattle.runs.proofs.Shadowed.{ShadowedIn, subject-record, own-dead-shadowed}
+use Rattle.lints.proofs.Everywhere.{each-function-in, EachRecord, Passes, Labelled, CallAt, AfterFunctions, RunIn, SentencesIn}
+use Rattle.runs.proofs.Passed.{AnyCall, AnyRecord, SentencesPass, passed-sentences}
+use Rattle.runs.proofs.Shadowed.{ShadowedIn, own-dead-shadowed}
+use Rattle.lints.proofs.Defined.{definition-in}
 use Rattle.runs.proofs.WholeRun.{Closed, anything-results, Unrecognised, ListedCall, listed-unrecognised, dead-unchosen}
-use Rattle.runs.proofs.Listed.{Found, dead-found, recognition-found, Remarked, finding-remarked, dead-remark, Judged, apart, literally, compared-literal, Recognition, recognition-finding}
-use Rattle.runs.proofs.CallsIn.{sentence-call, call-at, block-after-functions}
+use Rattle.lints.proofs.Listed.{Found, dead-found, recognition-found, Remarked, finding-remarked, dead-remark, Judged, apart, literally, compared-literal, Recognition, recognition-finding, subject-record}
+use Rattle.lints.proofs.CallsIn.{sentence-call, call-at, block-after-functions}
 
 -- ---- dead sentences
 

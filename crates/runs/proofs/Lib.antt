@@ -1,12 +1,9 @@
 pub mod Fits
 pub mod Invariant
-pub mod Everywhere
+pub mod Passed
 pub mod ByFormats
 pub mod ByLiterals
-pub mod Records
 pub mod Shadowed
 pub mod WholeRun
-pub mod CallsIn
-pub mod Listed
 pub mod FindingsHold
 pub mod NoFalse

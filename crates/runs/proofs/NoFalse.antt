@@ -15,9 +15,9 @@ use Rattle.lints.specs.Levels.{Settings, shown, listingWords}
 use Rattle.lints.specs.Findings.{findingsOf, Listing, listing}
 use Rattle.runs.specs.Numbers.{noNeedlessZeros}
 use Rattle.runs.specs.Claim.{NeverChosen, OfFunction, Lists, NoFalseFinding}
-use Rattle.runs.proofs.Everywhere.{Labelled}
-use Rattle.runs.proofs.Records.{law-labelled}
-use Rattle.runs.proofs.Listed.{Found, shown-in}
+use Rattle.lints.proofs.Everywhere.{Labelled}
+use Rattle.lints.proofs.Records.{law-labelled}
+use Rattle.lints.proofs.Listed.{Found, shown-in}
 use Rattle.runs.proofs.FindingsHold.{dead-holds, recognition-holds}
 
 -- ---- the words of a listing

@@ -19,7 +19,8 @@ use Rattle.lints.specs.Finding.{Remark}
 use Rattle.lints.specs.Dead.{Earlier, unconditional, earliest, deadBy, deadAfter, ownDead}
 use Rattle.runs.proofs.Invariant.{Unconditional}
 use Rattle.runs.proofs.ByFormats.{none-in}
-use Rattle.runs.proofs.Everywhere.{EachRecord, each-record-map, Numbered, numbered-from, NumberedLaw}
+use Rattle.lints.proofs.Listed.{subject-record}
+use Rattle.lints.proofs.Everywhere.{EachRecord, each-record-map, Numbered, numbered-from, NumberedLaw}
 
 -- ---- earlier patterns
 
@@ -76,19 +77,6 @@ shadowed-none i earlier n (sentence m p cs r ss) h = ((λ e. absurd (h .0 e)), s
 -- what is said of a sentence by the earliest that shadows it
 said-of : (m : Mark) (n : ℕ) (o : Option ℕ) (x : Remark) → List·Memᴰ x (deadBy false m n o) → (x .subject ≡ m) × ((k : ℕ) × (o ≡ some k))
 said-of m n (some k) x (List·Memᴰ·head e) = (ap (λ y. y .subject) e, (k, refl))
-
--- what holds of every sentence's record holds of a remark's subject
-pub subject-record : (P : ℕ → Type 0) (inBlock : Bool) (earlier : List Earlier) (n : ℕ) (ss : Sentences) → EachRecord P ss
-    → (x : Remark) → List·Memᴰ x (deadAfter inBlock [] earlier n ss) → P (x .subject .at)
-unfolding deadAfter
-subject-record P inBlock earlier n (sentence m p cs r ss) h x i =
-    go (earliest [] earlier (patternOf p)) (List·Memᴰ·append-cases (deadBy inBlock m n (earliest [] earlier (patternOf p))) i)
-    (subject-record P inBlock (earlier ++ unconditional cs n p) (suc n) ss (h .1) x)
-  where
-    go : (o : Option ℕ) → List·Memᴰ x (deadBy inBlock m n o) ⊎ List·Memᴰ x (deadAfter inBlock [] (earlier ++ unconditional cs n p) (suc n) ss)
-        → (List·Memᴰ x (deadAfter inBlock [] (earlier ++ unconditional cs n p) (suc n) ss) → P (x .subject .at)) → P (x .subject .at)
-    go (some k) (inl (List·Memᴰ·head e)) below = rw e (h .0)
-    go o (inr j) below = below j
 
 -- the subject of a remark is shadowed wherever its record stands among these sentences
 dead-shadowed : (earlier : List Earlier) (n b : ℕ) (ss : Sentences) → Numbered b ss → (x : Remark) → List·Memᴰ x (deadAfter false [] earlier n ss)

@@ -18,8 +18,8 @@ use Rattle.runs.specs.Machine.{Stack, called}
 use Rattle.runs.specs.Claim.{Reached, NeverChosen}
 use Rattle.runs.proofs.Fits.{Fits}
 use Rattle.runs.proofs.Invariant.{NoneMatches, GoodRun, GoodBlock, GoodConditions, SentencesHold, never-recognised, never-chosen}
-use Rattle.runs.proofs.ByFormats.{definition-in}
-use Rattle.runs.proofs.Everywhere.{each-function-in, EachRecord, Labelled, CallAt, AfterFunctions, RunIn, SentencesIn, ConditionsIn}
+use Rattle.lints.proofs.Defined.{definition-in}
+use Rattle.lints.proofs.Everywhere.{each-function-in, EachRecord, Labelled, CallAt, AfterFunctions, RunIn, SentencesIn, ConditionsIn}
 use Rattle.runs.proofs.Shadowed.{Unmatched, shadowed-unmatched, unmatched-after, ShadowedAt, ShadowedIn}
 
 -- what calls can come to: each result of a function to what its calls can come to, and what is not defined to anything

@@ -31,7 +31,7 @@ use Rattle.law.proofs.Allowed.{accepted-readable, all-used, pattern-fits, resul
 use Rattle.law.proofs.Reading.{sentences-end, sentence-reads}
 use Rattle.law.proofs.Functions.{skip-at, functionsAt, tree-functions, functions-end, function-reads}
 use Rattle.formats.proofs.RoundLaws.{EachFunction}
-use Rattle.runs.proofs.Everywhere.{EachRecord, each-record-map, Numbered, NumberedLaw, Labelled, numbered-from, numbered-keep, EveryRun, EverySentence, EveryCondition, every-keep, every-skip, Passes}
+use Rattle.lints.proofs.Everywhere.{EachRecord, each-record-map, Numbered, NumberedLaw, Labelled, numbered-from, numbered-keep, EveryRun, EverySentence, EveryCondition, every-keep, every-skip, Passes}
 
 -- ---- a term record's symbol and name
 

@@ -19,17 +19,17 @@ use Rattle.matching.proofs.SearchLaws.{in-when, in-each, in-map}
 use Rattle.shapes.specs.Format.{of}
 use Rattle.shapes.specs.Disjoint.{disjoint}
 use Rattle.formats.specs.Infer.{Inferred}
 use Rattle.lints.specs.Lint.{deadSentence, lintNumber}
 use Rattle.lints.specs.Finding.{Failure, byFormats, byLiterals, openPattern, Remark, Finding, lintOf, findingIn, findingsFrom}
 use Rattle.lints.specs.Calls.{Call, callee, sentenceCalls}
 use Rattle.lints.specs.Dead.{Earlier, sentenceBlocks, deadBy, deadAfter, earliest, unconditional, ownDead, blockDead, deadRemarks, deadFindings}
 use Rattle.lints.specs.Recognition.{someMatches, compared, passed, accepted, remark, judged, recognitionRemarks, recognitionFindings}
 use Rattle.lints.specs.Builtin.{failure, domainIn, builtins, lookedAt, failed, builtinOn, builtinRemarks, builtinFindings}
 use Rattle.lints.specs.Open.{eOccurrences, openIn, openRemarks, openFindings}
 use Rattle.lints.specs.Levels.{Settings, isShown, shown}
 use Rattle.lints.specs.Findings.{findingsOf}
-use Rattle.runs.proofs.ByLiterals.{NoneMatchesText}
-use Rattle.runs.proofs.CallsIn.{either}
+use Rattle.lints.proofs.CallsIn.{either}
+use Rattle.lints.proofs.Everywhere.{EachRecord}
 
 -- ---- functions
 
@@ -97,6 +97,19 @@ dead-claims inBlock earlier n (sentence m p cs r ss) x i =
     go (some k) (inl (List·Memᴰ·head e)) below = rw e
     go o (inr j) below = below j
 
+-- what holds of every sentence's record holds of a remark's subject
+pub subject-record : (P : ℕ → Type 0) (inBlock : Bool) (earlier : List Earlier) (n : ℕ) (ss : Sentences) → EachRecord P ss
+    → (x : Remark) → List·Memᴰ x (deadAfter inBlock [] earlier n ss) → P (x .subject .at)
+unfolding deadAfter
+subject-record P inBlock earlier n (sentence m p cs r ss) h x i =
+    go (earliest [] earlier (patternOf p)) (List·Memᴰ·append-cases (deadBy inBlock m n (earliest [] earlier (patternOf p))) i)
+    (subject-record P inBlock (earlier ++ unconditional cs n p) (suc n) ss (h .1) x)
+  where
+    go : (o : Option ℕ) → List·Memᴰ x (deadBy inBlock m n o) ⊎ List·Memᴰ x (deadAfter inBlock [] (earlier ++ unconditional cs n p) (suc n) ss)
+        → (List·Memᴰ x (deadAfter inBlock [] (earlier ++ unconditional cs n p) (suc n) ss) → P (x .subject .at)) → P (x .subject .at)
+    go (some k) (inl (List·Memᴰ·head e)) below = rw e (h .0)
+    go o (inr j) below = below j
+
 -- lint 1's remarks on a function: its own sentences', and those of the blocks in it
 pub dead-remark : (f : Function) (r : Remark) → List·Memᴰ r (deadRemarks f)
     → List·Memᴰ r (ownDead (f .sentences)) ⊎ ((ss : Sentences) × List·Memᴰ ss (sentenceBlocks (f .sentences)) × List·Memᴰ r (blockDead ss))
@@ -131,6 +144,11 @@ judged-cases formats c r m = go (disjoint (of (passed formats c)) (accepted form
     go false h i =
         let (isIt, j) = in-when (isLiteral (c .argument)) (remark c (byLiterals (c .name)) ∷ []) i in
         literal j isIt
+
+-- no sentence's pattern matches a literal row
+abbrev pub NoneMatchesText : Sentences → Terms patterns.Symbol → Type 0
+NoneMatchesText noSentence x = Unit {0}
+NoneMatchesText (sentence m p cs r ss) x = (literalMatches (patternOf p) x ≡ false) × NoneMatchesText ss x
 
 -- a call that is compared, of a literal argument: no sentence of the last definition matches it, by text
 none-matches-text : (ss : Sentences) (x : Terms patterns.Symbol) → someMatches ss x ≡ false → NoneMatchesText ss x

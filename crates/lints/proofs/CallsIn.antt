@@ -5,9 +5,9 @@ use mathlib.Core.Logic.{_⊎_, inl, inr}
 use Rattle.names.specs.Name.{numberAllowed}
 use Rattle.law.specs.Tree as tree
 use Rattle.law.specs.Tree.{Name, Symbol, Run, Sentences, sentence, Conditions, condition, Function, Law}
 use Rattle.lints.specs.Calls.{Call, calls, sentenceCalls, conditionCalls}
 use Rattle.lints.specs.Dead.{blocks, sentenceBlocks, conditionBlocks}
-use Rattle.runs.proofs.Everywhere.{each-function-in, Passes, Labelled, CallAt, AfterFunctions, RunIn, SentencesIn, EachRecord, EveryRun, EverySentence, EveryCondition}
+use Rattle.lints.proofs.Everywhere.{each-function-in, Passes, Labelled, CallAt, AfterFunctions, RunIn, SentencesIn, EachRecord, EveryRun, EverySentence, EveryCondition}
 
 -- in one list or the other
 pub either : {R X : Type 0} {x : X} (k l : List X) → List·Memᴰ x (k ++ l) → (List·Memᴰ x k → R) → (List·Memᴰ x l → R) → R
