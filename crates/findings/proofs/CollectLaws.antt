@@ -5,8 +5,8 @@ use mathlib.Core.Path.{_≡_, refl}
 use native.Mathlib.Omega.{arith}
 use lib.ListN.{length, set}
 use borrow.Author.Tests.{le-leb, lt-leb}
-use Rattle.shapes.specs.Written.{written}
-use Rattle.shapes.proofs.WrittenLaws.{written-one, written-more, written-length}
+use Rattle.buffers.specs.Written.{written}
+use Rattle.buffers.proofs.WrittenLaws.{written-one, written-more, written-length}
 use Rattle.findings.specs.Events.{Tally, Full, Upto, Event, found, Sink, sinkOf, afterNote, met, collect}
 
 -- ---- writing

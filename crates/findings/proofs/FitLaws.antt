@@ -9,8 +9,8 @@ use native.Mathlib.Nat.{add-zero}
 use borrow.Author.Tests.{le-leb, lt-leb}
 use lib.ListN.{length}
 use lib.Dec.{ltb, leb}
-use Rattle.shapes.specs.Written.{written}
-use Rattle.shapes.proofs.WrittenLaws.{written-none, written-more, written-length}
+use Rattle.buffers.specs.Written.{written}
+use Rattle.buffers.proofs.WrittenLaws.{written-none, written-more, written-length}
 use Rattle.matching.specs.Match.{each}
 use Rattle.findings.specs.Events.{Full, Upto, Event, found, tooWide, Sink, sinkOf, afterNote, noted, met, collect}
 

@@ -28,9 +28,9 @@ use Rattle.law.proofs.PartLaws.{part-at, part-term, part-leaf, part-end, conten
 use Rattle.shapes.specs.Leaf.{leafWord, leafAt, leafOf}
 use Rattle.shapes.specs.Format.{Shapes, end, item, group, Format, never, of, size, formatSize, isOpen}
 use Rattle.shapes.specs.Words.{bracketWord, shapeWords, formatWords, FormatIn}
-use Rattle.shapes.specs.Written.{written}
+use Rattle.buffers.specs.Written.{written}
 use Rattle.shapes.proofs.WordLaws.{words-length, format-words-length, read-write}
-use Rattle.shapes.proofs.WrittenLaws.{written-none, written-more, written-one, written-front, written-length}
+use Rattle.buffers.proofs.WrittenLaws.{written-none, written-more, written-one, written-front, written-length}
 use Rattle.formats.specs.FormatOf.{variableShapes, patternShapes, chain, extend, Results, resultShapes}
 use Rattle.formats.specs.Slots.{callFolded}
 use Rattle.formats.specs.Rows.{formatAt, Knows, RowIs, Between, Stored, storedAt, stepOf, calleeShapes, stepShapes, partShapes, firstShapes, RowAsked, LeafKind, leftOf, Onward, LeavesAre}

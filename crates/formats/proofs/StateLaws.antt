@@ -12,7 +12,7 @@ use Rattle.file.specs.Word.{wordAt}
 use Rattle.file.specs.Sections.{File}
 use Rattle.shapes.specs.Format.{Format, never}
 use Rattle.shapes.specs.Words.{filled, formatWords, readFormat}
-use Rattle.shapes.specs.Written.{written}
+use Rattle.buffers.specs.Written.{written}
 use Rattle.shapes.proofs.WordLaws.{filled-length, format-words-length, read-write}
 use Rattle.formats.specs.Infer.{Entry, find, allAt}
 use Rattle.formats.specs.Store.{entryWords, storeSize, storeOf, rowWords, startOf, entryNames, formatIn, put, EachEntry, Small, Storable, StoreHolds}

@@ -16,9 +16,9 @@ use Rattle.shapes.specs.Format.{Shapes, Format, never, of, size, formatSize, is
 use Rattle.shapes.specs.Join.{join}
 use Rattle.shapes.specs.Same.{sameFormat}
 use Rattle.shapes.specs.Words.{shapeWords, usedWords, formatWords, readFormat, rowEnd, FormatIn}
-use Rattle.shapes.specs.Written.{written}
+use Rattle.buffers.specs.Written.{written}
 use Rattle.shapes.proofs.WordLaws.{words-length, read-write}
-use Rattle.shapes.proofs.WrittenLaws.{written-front}
+use Rattle.buffers.proofs.WrittenLaws.{written-front}
 use Rattle.shapes.proofs.JoinLaws.{within-join}
 use Rattle.shapes.proofs.SameLaws.{same-itself}
 use Rattle.shapes.proofs.FormatLaws.{written-filled, format-in-length, format-in-read, format-in-words, read-never, read-row, join-small, join-format-in, same-words-format}

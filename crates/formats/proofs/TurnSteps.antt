@@ -17,7 +17,7 @@ use Rattle.shapes.specs.Format.{Format, never, formatSize}
 use Rattle.shapes.specs.Join.{join}
 use Rattle.shapes.specs.Same.{sameFormat}
 use Rattle.shapes.specs.Words.{formatWords, readFormat, FormatIn}
-use Rattle.shapes.specs.Written.{written}
+use Rattle.buffers.specs.Written.{written}
 use Rattle.shapes.proofs.WordLaws.{read-write}
 use Rattle.formats.specs.FormatOf.{Results}
 use Rattle.formats.specs.Infer.{joinResults, joinPatterns}

@@ -20,7 +20,7 @@ use Rattle.law.specs.Index.{Readable, PartAt}
 use Rattle.shapes.specs.Leaf.{leafAt}
 use Rattle.shapes.specs.Format.{Shapes, end, item, group, Format, never, of, size, isOpen}
 use Rattle.shapes.specs.Words.{shapeWords, readFormat, FormatIn}
-use Rattle.shapes.specs.Written.{written}
+use Rattle.buffers.specs.Written.{written}
 use Rattle.formats.specs.FormatOf.{Results, resultShapes}
 use Rattle.formats.specs.Slots.{callFolded}
 use Rattle.formats.specs.declared.Row.{Row}

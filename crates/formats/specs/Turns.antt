@@ -14,7 +14,7 @@ use Rattle.shapes.specs.Format.{Shapes, Format, never, of, size}
 use Rattle.shapes.specs.Join.{join}
 use Rattle.shapes.specs.Same.{sameFormat}
 use Rattle.shapes.specs.Words.{formatWords, readFormat}
-use Rattle.shapes.specs.Written.{written}
+use Rattle.buffers.specs.Written.{written}
 use Rattle.formats.specs.FormatOf.{patternShapes, Results, resultShapes}
 use Rattle.formats.specs.Infer.{Entry, find, joinResults, joinPatterns, Rounds, Inferred}
 use Rattle.formats.specs.Store.{StoreHolds, storeSize, storeWords}

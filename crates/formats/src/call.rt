@@ -3,7 +3,7 @@ use crate::infer::Inference;
 use crate::infer::infer_arguments;
 use crate::infer::infer_rounds;
 use crate::slots::wide;
-use shapes::clear_words;
+use buffers::clear_words;
 ghost use mathlib.Core.List.{List, _++_};
 ghost use mathlib.Core.Path.{_≡_};
 ghost use Prim.Native.Nat.{ℕ, _+_, _*_, _≤_};

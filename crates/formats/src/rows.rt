@@ -16,7 +16,7 @@ ghost use Rattle.law.specs.Runs.{endOf};
 ghost use Rattle.shapes.specs.Leaf.{leafAt};
 ghost use Rattle.shapes.specs.Format.{end, item, group};
 ghost use Rattle.shapes.specs.Words.{bracketWord};
-ghost use Rattle.shapes.specs.Written.{written};
+ghost use Rattle.buffers.specs.Written.{written};
 ghost use Rattle.formats.specs.FormatOf.{Results};
 ghost use Rattle.formats.specs.Rows.{Knows, RowIs, Between, LeafKind, LeavesAre, Stored, storedAt, symbolStep, stepOf, calleeShapes, partShapes, firstShapes, RowAsked};
 

@@ -32,7 +32,8 @@ use Rattle.lints.specs.Builtin.{macrodigits, unsigned, allZero, firstFai
 use Rattle.lints.specs.Open.{eOccurrences, openIn, openRemarks, openFindings}
 use Rattle.lints.specs.Levels.{Override, Settings, overridesAllowed, settingsAllowed, overrideOf, severityOf, isShown, shown, listingWords}
 use Rattle.lints.specs.Findings.{findingsOf, Listing, listing}
-use Rattle.lints.specs.Message.{digitsWithin, decimal, claimText, message}
+use Rattle.buffers.specs.Decimal.{digitsWithin, decimal}
+use Rattle.lints.specs.Message.{claimText, message}
 
 -- ---- settings, and what is looked at
 

@@ -1,22 +1,13 @@
 -- The text of a finding. Document 01, "The listing": "The text is that of `Diagnostic::message`, formats spelled as formats.rs displays them. A block's
 -- owner reads ``a block in `F` `` with no final space, inside the outer backticks." Names stand as they are spelled, a called name as at the call.
-use Prim.Native.Nat.{ℕ, zero, suc, _+_, _/_, _%_}
-use mathlib.Core.Bool.{Bool, true, false, cond}
-use mathlib.Core.List.{List, [], _∷_, _++_}
-use lib.Dec.{ltb}
+use Prim.Native.Nat.{ℕ}
+use mathlib.Core.Bool.{Bool, true, false}
+use mathlib.Core.List.{List, _++_}
+use Rattle.buffers.specs.Decimal.{decimal}
 use Rattle.law.specs.Text.{bytesOf}
 use Rattle.law.specs.Tree.{Name}
 use Rattle.shapes.specs.Display.{display}
 use Rattle.lints.specs.Finding.{Failure, twoIntegersWanted, divisionByZero, digitsWanted, Claim, dead, byFormats, byLiterals, fails, openPattern, Finding}
-
--- the decimal digits of a number, at most so many of them
-unfoldable pub digitsWithin : ℕ → ℕ → List ℕ
-digitsWithin zero n = []
-digitsWithin (suc most) n = cond (ltb n 10) ((48 + n) ∷ []) (digitsWithin most (n / 10) ++ (48 + n % 10) ∷ [])
-
--- all of them: n has no more than n + 1
-abbrev pub decimal : ℕ → List ℕ
-decimal n = digitsWithin (suc n) n
 
 abbrev pub ownerText : Bool → Name → List ℕ
 ownerText true owner = bytesOf "a block in `" ++ owner .spelled ++ bytesOf "`"

@@ -9,7 +9,7 @@ use lib.Seq.{length-take-le}
 use Rattle.file.specs.Answer.{Answer, refused, given}
 use Rattle.file.specs.Sections.{fileOf}
 use Rattle.law.specs.Reading.{treeOf}
-use Rattle.shapes.specs.Written.{written}
+use Rattle.buffers.specs.Written.{written}
 use Rattle.lints.specs.Levels.{Settings, listingWords}
 use Rattle.lints.specs.Records.{formatsIn}
 use Rattle.findings.specs.Events.{Tally, Upto, sinkOf, collect}

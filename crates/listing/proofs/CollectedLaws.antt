@@ -29,7 +29,7 @@ use Rattle.formats.proofs.CallLaws.{outcome-over}
 use Rattle.formats.proofs.StateLaws.{read-past, store-length}
 use Rattle.formats.proofs.SizeLaws.{infer-storable}
 use Rattle.formats.proofs.SentenceLaws.{arguments-said, results-said}
-use Rattle.shapes.specs.Written.{written}
+use Rattle.buffers.specs.Written.{written}
 use Rattle.lints.specs.Finding.{Finding}
 use Rattle.lints.specs.Recognition.{argumentsOver}
 use Rattle.lints.specs.Levels.{Settings, shown, listingWords}

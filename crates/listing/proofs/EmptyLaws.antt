@@ -20,7 +20,7 @@ use Rattle.law.specs.Variables.{patternsAllowed}
 use Rattle.law.specs.Law.{lawOf}
 use Rattle.formats.specs.Infer.{namesOf, allAt, round, roundsFrom, arguments, inferWithin, infer}
 use Rattle.formats.specs.Store.{storeSize, entryWords, storeOf}
-use Rattle.shapes.proofs.WrittenLaws.{written-none}
+use Rattle.buffers.proofs.WrittenLaws.{written-none}
 use Rattle.lints.specs.Finding.{Finding, findingsFrom}
 use Rattle.lints.specs.Dead.{deadFindings}
 use Rattle.lints.specs.Recognition.{recognitionFindings, someOver, argumentsOver}

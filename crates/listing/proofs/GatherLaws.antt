@@ -13,7 +13,7 @@ use Rattle.file.specs.Sections.{File, fileOf}
 use Rattle.law.specs.Tree.{Law}
 use Rattle.law.specs.Reading.{treeOf}
 use Rattle.formats.specs.Infer.{Entry, Inferred, infer}
-use Rattle.shapes.specs.Written.{written}
+use Rattle.buffers.specs.Written.{written}
 use Rattle.matching.specs.Match.{each}
 use Rattle.lints.specs.Finding.{Finding, lintOf, findingWords}
 use Rattle.lints.specs.Recognition.{judged, recognitionRemarks, recognitionFindings, someOver, argumentsOver}

@@ -13,7 +13,7 @@ use Rattle.law.specs.Law.{lawOf}
 use Rattle.file.proofs.Answers.{never-both}
 use Rattle.law.proofs.Accepted.{passed, taken}
 use Rattle.formats.specs.Store.{storeSize}
-use Rattle.shapes.specs.Written.{written}
+use Rattle.buffers.specs.Written.{written}
 use Rattle.lints.specs.Finding.{Finding, findingWords}
 use Rattle.lints.specs.Levels.{Settings, settingsAllowed, listingWords}
 use Rattle.lints.specs.Findings.{Listing, listing}

@@ -11,7 +11,7 @@ use Rattle.file.specs.Answer.{Answer, refused, given}
 use Rattle.file.specs.Sections.{fileOf}
 use Rattle.law.specs.Reading.{treeOf}
 use Rattle.formats.specs.Slots.{SlotsOf}
-use Rattle.shapes.specs.Written.{written}
+use Rattle.buffers.specs.Written.{written}
 use Rattle.lints.specs.Finding.{Finding}
 use Rattle.lints.specs.Levels.{Settings, listingWords}
 use Rattle.lints.specs.Findings.{Listing, listing}

@@ -12,7 +12,7 @@ use lib.ListN.{length, take, drop, take-append-drop}
 use Rattle.file.specs.Answer.{Answer, refused, given}
 use Rattle.file.specs.Sections.{fileOf}
 use Rattle.law.specs.Reading.{treeOf}
-use Rattle.shapes.specs.Written.{written, Put}
+use Rattle.buffers.specs.Written.{written, Put}
 use Rattle.lints.specs.Finding.{Finding, lintOf, findingWords}
 use Rattle.lints.specs.Levels.{Settings, severityOf, shown, listingWords}
 use Rattle.lints.specs.Findings.{findingsOf}

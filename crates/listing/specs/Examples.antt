@@ -28,7 +28,7 @@ use Rattle.shapes.specs.Disjoint.{disjointShapes}
 use Rattle.shapes.specs.Same.{sameShapes}
 use Rattle.shapes.specs.Display.{spaced, display}
 use Rattle.shapes.specs.Words.{shapeWords}
-use Rattle.shapes.specs.Written.{written}
+use Rattle.buffers.specs.Written.{written}
 use Rattle.formats.specs.FormatOf.{patternShapes, chain, resultShapes}
 use Rattle.formats.specs.Infer.{insertName, namesOf, find, renew, allAt, joinResults, joinPatterns, round, roundsFrom, arguments, inferWithin, infer}
 use Rattle.formats.specs.Store.{entryWords, storeOf}
@@ -44,7 +44,8 @@ use Rattle.lints.specs.Builtin.{macrodigits, unsigned, allZero, firstFails, cha
 use Rattle.lints.specs.Open.{eOccurrences, openIn, openRemarks, openFindings}
 use Rattle.lints.specs.Levels.{overridesAllowed, settingsAllowed, overrideOf, severityOf, isShown, shown, listingWords}
 use Rattle.lints.specs.Findings.{findingsOf, listing}
-use Rattle.lints.specs.Message.{digitsWithin, claimText, message}
+use Rattle.buffers.specs.Decimal.{digitsWithin}
+use Rattle.lints.specs.Message.{claimText, message}
 use Rattle.findings.specs.All.{settingsFrom}
 use Rattle.listing.specs.Outcome.{front, findingsOutcome, findingAt, textOutcome}
 

@@ -11,7 +11,7 @@ use Rattle.law.specs.Index.{Indexed}
 use Rattle.law.specs.Law.{Accepted}
 use Rattle.formats.specs.Infer.{Inferred, infer}
 use Rattle.formats.specs.Store.{storeSize, storeWords}
-use Rattle.shapes.specs.Written.{written}
+use Rattle.buffers.specs.Written.{written}
 use Rattle.lints.specs.Finding.{Finding}
 use Rattle.lints.specs.Recognition.{argumentsOver}
 use Rattle.lints.specs.Levels.{Settings, shown, listingWords}

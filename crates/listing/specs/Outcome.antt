@@ -11,7 +11,7 @@ use Rattle.file.specs.Sections.{numberOf}
 use Rattle.law.specs.Tree.{Law}
 use Rattle.law.specs.Law.{lawOf}
 use Rattle.formats.specs.Store.{storeSize, storeWords}
-use Rattle.shapes.specs.Written.{written}
+use Rattle.buffers.specs.Written.{written}
 use Rattle.lints.specs.Finding.{Finding}
 use Rattle.lints.specs.Levels.{Settings, settingsAllowed, listingWords}
 use Rattle.lints.specs.Findings.{Listing, listing}

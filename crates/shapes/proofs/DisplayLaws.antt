@@ -1,50 +1,21 @@
--- Laws of a format's text (specs/Display.antt): text put after text, and a law for each return of the code that writes it.
+-- Laws of a format's text (specs/Display.antt): a law for each return of the code that writes it.
 use Prim.Native.Nat.{ℕ, _+_, _-_, _≤_, _<_}
 use mathlib.Core.Bool.{Bool, true, false, cond}
 use mathlib.Core.List.{List, [], _∷_, _++_, append-assoc}
 use mathlib.Core.Path.{_≡_, refl, _∙_}
 use native.Mathlib.Omega.{arith}
-use lib.ListN.{length, take, drop, getD, set, length-append}
+use lib.ListN.{length, take, drop, getD}
 use lib.Dec.{leb}
 use borrow.Author.Tests.{le-leb, lt-leb}
 use Rattle.shapes.specs.Leaf.{leafByte, leafAt}
 use Rattle.shapes.specs.Format.{Shapes, end, of}
 use Rattle.shapes.specs.Words.{isBracket, insideOpen, shapesEnd, shapesIn, readFormat, rowEnd}
-use Rattle.shapes.specs.Written.{written, Put}
+use Rattle.buffers.specs.Written.{Put}
 use Rattle.shapes.specs.Display.{spaced, display, shown, firstShown, outcomeOf, textAt}
 use Rattle.shapes.specs.declared.display.Shown.the-variants.{At, NoRoom}
 use Rattle.shapes.proofs.WordLaws.{shapes-none, shapes-leaf, shapes-bracket}
-use Rattle.shapes.proofs.WrittenLaws.{written-none, written-one, written-more}
+use Rattle.buffers.proofs.PutLaws.{put-none, put-more}
 use Rattle.shapes.proofs.FormatLaws.{read-never}
-
--- ---- text put at a position
-
--- nothing
-pub put-none : (old : List ℕ) (at : ℕ) → Put old at [] at old
-put-none old at = record { end = omega arith; room = λ h. written-none old at }
-
--- one byte, where there is room or not
-pub put-one : (old : List ℕ) (at byte : ℕ) → at < length old → Put old at (byte ∷ []) (at + 1) (set old at byte)
-put-one old at byte h = record { end = refl; room = λ k. written-one old at byte h }
-
-pub put-one-past : (old : List ℕ) (at byte : ℕ) → length old ≤ at → Put old at (byte ∷ []) (at + 1) old
-put-one-past old at byte h = record { end = refl; room = λ k. absurd (omega arith) }
-
--- a piece for which there is no room
-pub put-piece-past : (old piece : List ℕ) (at : ℕ) → length old < at + length piece → Put old at piece (at + length piece) old
-put-piece-past old piece at h = record { end = refl; room = λ k. absurd (omega arith) }
-
--- one text after another
-pub put-more : (old first middle second last : List ℕ) (at next after : ℕ) → length middle ≡ length old → Put old at first next middle → Put middle next second after last
-    → Put old at (first ++ second) after last
-put-more old first middle second last at next after l p q =
-    let long : length (first ++ second) ≡ length first + length second = length-append first second in
-    let there : next ≡ at + length first = p .end in
-    let then : after ≡ next + length second = q .end in
-    record {
-      end = omega arith;
-      room = λ h. q .room (omega arith) ∙ (rw (p .room (omega arith)) (written-more old at next first second (omega arith) there));
-    }
 
 -- ---- rows
 

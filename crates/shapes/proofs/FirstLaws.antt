@@ -10,10 +10,10 @@ use Rattle.shapes.specs.Format.{Shapes, end, item, group, size, isOpen}
 use Rattle.shapes.specs.Join.{joinShapes}
 use Rattle.shapes.specs.Disjoint.{disjointShapes}
 use Rattle.shapes.specs.Words.{bracketWord, shapeWords, isBracket, insideOpen, shapesEnd, shapesIn}
-use Rattle.shapes.specs.Written.{written}
+use Rattle.buffers.specs.Written.{written}
 use Rattle.shapes.specs.First.{firstApart, firstJoin, ShapesWritten}
 use Rattle.shapes.proofs.WordLaws.{shapes-none, shapes-leaf, shapes-bracket, words-length}
-use Rattle.shapes.proofs.WrittenLaws.{written-none, written-one, written-front, written-more}
+use Rattle.buffers.proofs.WrittenLaws.{written-none, written-one, written-front, written-more}
 
 -- the rest of a row after its first shape, which ends at e
 abbrev rest : Bool → List ℕ → ℕ → Shapes

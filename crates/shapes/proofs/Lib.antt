@@ -3,7 +3,6 @@ pub mod JoinLaws
 pub mod DisjointLaws
 pub mod SameLaws
 pub mod WordLaws
-pub mod WrittenLaws
 pub mod LeafWordLaws
 pub mod FirstLaws
 pub mod FormatLaws

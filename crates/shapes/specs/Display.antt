@@ -9,7 +9,7 @@ use Rattle.shapes.specs.Leaf.{leafByte, leafAt}
 use Rattle.shapes.specs.Format.{Shapes, end, item, group, Format, never, of}
 use Rattle.shapes.specs.Words.{isBracket}
 use Rattle.shapes.specs.First.{firstInside}
-use Rattle.shapes.specs.Written.{written}
+use Rattle.buffers.specs.Written.{written}
 use Rattle.shapes.specs.declared.display.Shown.{Shown}
 use Rattle.shapes.specs.declared.display.Shown.the-variants.{At, NoRoom}
 
@@ -58,7 +58,3 @@ firstShown s =
     cond (isBracket (getD s 0 0))
     (40 ∷ 91 ∷ drop 1 (spaced (firstInside s)) ++ 93 ∷ 41 ∷ [])
     (leafByte (leafAt (getD s 0 0)) ∷ [])
-
--- the largest number of a position
-abbrev pub largest : ℕ
-largest = 18446744073709551615

@@ -9,7 +9,7 @@ use Rattle.law.specs.Examples.{bytesOf}
 use Rattle.shapes.specs.Leaf.{character, number, identifier, anySymbol, unknown}
 use Rattle.shapes.specs.Format.{Shapes, end, item, group, Format, never, of, size, isOpen}
 use Rattle.shapes.specs.Words.{shapeWords, formatWords, shapesEnd, shapesOf, shapesIn, readFormat}
-use Rattle.shapes.specs.Written.{written}
+use Rattle.buffers.specs.Written.{written}
 use Rattle.shapes.specs.Display.{spaced, display, textAt}
 
 -- the ends of a row

@@ -9,7 +9,7 @@ use Rattle.shapes.specs.Format.{Shapes, item, group, size, isOpen}
 use Rattle.shapes.specs.Join.{joinShapes}
 use Rattle.shapes.specs.Disjoint.{disjointShapes}
 use Rattle.shapes.specs.Words.{shapeWords, isBracket, insideOpen, shapesEnd, shapesIn}
-use Rattle.shapes.specs.Written.{written}
+use Rattle.buffers.specs.Written.{written}
 
 -- the shapes inside a row's first shape
 abbrev pub firstInside : List ℕ → Shapes

@@ -4,7 +4,6 @@ pub mod Join
 pub mod Disjoint
 pub mod Same
 pub mod Words
-pub mod Written
 pub mod First
 pub mod Display
 pub mod Examples

@@ -5,6 +5,8 @@ use crate::is_bracket;
 use crate::is_never;
 use crate::row_end;
 use crate::row_open;
+use buffers::put;
+use buffers::put_byte;
 ghost use mathlib.Core.Path.{_≡_};
 ghost use mathlib.Core.Bool.{true, false, cond};
 ghost use mathlib.Core.List.{[], _∷_};
@@ -12,49 +14,13 @@ ghost use Prim.Native.Nat.{_+_, _*_, _≤_};
 ghost use lib.ListN.{length};
 ghost use Rattle.shapes.specs.Leaf.{leafAt, leafByte};
 ghost use Rattle.shapes.specs.Words.{shapesEnd, shapesIn, readFormat};
-ghost use Rattle.shapes.specs.Written.{written, Put};
-ghost use Rattle.shapes.specs.Display.{display, shown, firstShown, largest, outcomeOf, textAt};
+ghost use Rattle.buffers.specs.Written.{Put, largest};
+ghost use Rattle.shapes.specs.Display.{display, shown, firstShown, outcomeOf, textAt};
 
 // The position after a text, or that there is no room for it.
 pub enum Shown {
     At(usize),
     NoRoom,
-}
-
-// Bytes copied to a position where there is room for them.
-fn copy_bytes(piece: &[u8], out: &mut [u8], at: usize)
-    requires { ⌜ at + length (now piece) ≤ length (now out) ⌝ }
-    ensures { λ _. ⌜ now (out .exit) ≡ written (now (out .entry)) at (now (piece .entry)) ⌝ }
-{
-    let mut i = 0;
-    while i < piece.len() {
-        out[at + i] = piece[i];
-        i += 1;
-    }
-}
-
-// Bytes put at a position, where there is room; the position after them in any case.
-pub fn put(piece: &[u8], out: &mut [u8], at: usize) -> usize
-    requires { ⌜ at + length (now piece) ≤ largest ⌝ }
-    ensures { λ r. ⌜ Put (now (out .entry)) at (now (piece .entry)) r (now (out .exit)) ⌝ }
-{
-    let next = at + piece.len();
-    if next <= out.len() {
-        copy_bytes(piece, out, at);
-    }
-    next
-}
-
-// The same of one byte.
-pub fn put_byte(byte: u8, out: &mut [u8], at: usize) -> usize
-    requires { ⌜ at + 1 ≤ largest ⌝ }
-    ensures { λ r. ⌜ Put (now (out .entry)) at (byte ∷ []) r (now (out .exit)) ⌝ }
-{
-    let next = at + 1;
-    if at < out.len() {
-        out[at] = byte;
-    }
-    next
 }
 
 // A space, unless what follows is the first item.

@@ -1,15 +1,17 @@
 // Formats as flat words: a header and its shapes, depth first.
+use buffers::clear_words;
+use buffers::copy_words;
 ghost use mathlib.Core.Path.{_≡_};
 ghost use mathlib.Core.Bool.{true, false, cond};
 ghost use Prim.Native.Nat.{_+_, _≤_, _<_};
-ghost use lib.ListN.{length, replicate};
+ghost use lib.ListN.{length};
 ghost use lib.Dec.{leb};
 ghost use Rattle.shapes.specs.Leaf.{holdsBrackets, joinLeaf, apartLeaf, leafWord, leafAt};
 ghost use Rattle.shapes.specs.Format.{end, size};
 ghost use Rattle.shapes.specs.Join.{joinShapes, join};
 ghost use Rattle.shapes.specs.Disjoint.{disjointShapes, disjoint};
 ghost use Rattle.shapes.specs.Words.{bracketWord, shapeWords, formatWords, isBracket, insideOpen, insideOf, shapesEnd, shapesIn, readFormat, rowEnd, FormatIn};
-ghost use Rattle.shapes.specs.Written.{written};
+ghost use Rattle.buffers.specs.Written.{written};
 ghost use Rattle.shapes.specs.First.{firstApart, firstJoin, ShapesWritten};
 
 pub mod display;
@@ -280,29 +282,6 @@ pub fn same_words(a: &[u32], b: &[u32]) -> bool
         i += 1;
     }
     true
-}
-
-// Every word of the one list into the other.
-pub fn copy_words(from: &[u32], to: &mut [u32])
-    requires { ⌜ length (now from) ≡ length (now to) ⌝ }
-    ensures { λ _. ⌜ now (to .exit) ≡ now (from .entry) ⌝ }
-{
-    let mut i = 0;
-    while i < from.len() {
-        to[i] = from[i];
-        i += 1;
-    }
-}
-
-// Every word is 0.
-pub fn clear_words(words: &mut [u32])
-    ensures { λ _. ⌜ now (words .exit) ≡ replicate (length (now (words .entry))) 0 ⌝ }
-{
-    let mut i = 0;
-    while i < words.len() {
-        words[i] = 0;
-        i += 1;
-    }
 }
 
 // The join of two formats, every word of it: the header, the shapes, and zeros.

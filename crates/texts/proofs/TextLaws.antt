@@ -1,27 +1,16 @@
--- Laws of texts that are put piece after piece, and how long the parts of a finding's text are.
+-- How long the parts of a finding's text are.
 use Prim.Native.Nat.{ℕ, _+_, _*_, _%_, _≤_}
 use mathlib.Core.Bool.{Bool, true, false}
-use mathlib.Core.List.{List, [], _∷_, _++_}
-use mathlib.Core.Path.{_≡_, refl, _∙_}
+use mathlib.Core.List.{List, [], _∷_}
+use mathlib.Core.Path.{_≡_, refl}
 use native.Mathlib.Omega.{arith}
 use lib.ListN.{length, take, drop, getD, length-append, length-take, length-drop}
 use lib.Dec.{leb}
-use Rattle.shapes.specs.Format.{Shapes, end, item, group, Format, never, of, size}
+use Rattle.shapes.specs.Format.{Shapes, end, item, group, size}
 use Rattle.shapes.specs.Words.{shapesIn, readFormat}
-use Rattle.shapes.specs.Written.{Put}
+use Rattle.buffers.specs.Written.{Put}
 use Rattle.shapes.specs.Display.{spaced, display}
 use Rattle.shapes.proofs.WordLaws.{shapes-size}
-use Rattle.shapes.proofs.DisplayLaws.{put-more}
-
--- a text was put in a buffer of the length that it had
-abbrev pub Done : List ℕ → ℕ → List ℕ → ℕ → List ℕ → Type 0
-Done old at text next new = Put old at text next new × (length new ≡ length old)
-
--- one text after another
-infixl 20 _then_
-pub _then_ : {old middle last first second : List ℕ} {at next end : ℕ} → Done old at first next middle → Done middle next second end last → Done old at (first ++ second) end last
-_then_ {old} {middle} {last} {first} {second} {at} {next} {end} p q =
-    (put-more old first middle second last at next end (p .1) (p .0) (q .0), q .1 ∙ p .1)
 
 -- a shape takes eight bytes at most
 spaced-few : (f : Shapes) → length (spaced f) ≤ 8 * size f + 3

@@ -3,18 +3,17 @@
 // Each function puts its text at a position where there is room, and gives the position after it in any case, so that with
 // an empty buffer it measures. It asks that these positions are numbers of a machine: besides a name, which stands in it
 // twice at most, a text has fewer than 8,192 bytes. What the text is stands in the crate `lints`, specs/Message.antt.
-use shapes::display::put;
-use shapes::display::put_byte;
+use buffers::put;
+use buffers::put_decimal;
 use shapes::display::show_format;
 ghost use mathlib.Core.Path.{_≡_};
 ghost use Prim.Native.Nat.{_+_, _*_, _≤_};
 ghost use lib.ListN.{length};
 ghost use Rattle.law.specs.Tree.{Name};
 ghost use Rattle.shapes.specs.Words.{readFormat};
-ghost use Rattle.shapes.specs.Written.{Put};
-ghost use Rattle.shapes.specs.Display.{largest};
+ghost use Rattle.buffers.specs.Written.{Put, largest};
 ghost use Rattle.lints.specs.Finding.{dead, byFormats, byLiterals, fails, openPattern};
-ghost use Rattle.lints.specs.Message.{decimal, ownerText, callText, failureText, claimText};
+ghost use Rattle.lints.specs.Message.{ownerText, callText, failureText, claimText};
 ghost use Rattle.texts.specs.Failures.{failureOf};
 
 // Why a builtin call fails.
@@ -22,18 +21,6 @@ pub enum Failure {
     TwoIntegersWanted,
     DivisionByZero,
     DigitsWanted,
-}
-
-// A number in decimal digits.
-pub fn put_decimal(n: usize, out: &mut [u8], at: usize) -> usize
-    requires { ⌜ at + 20 ≤ largest ⌝ }
-    ensures { λ r. ⌜ (r ≤ at + 20) × Put (now (out .entry)) at (decimal n) r (now (out .exit)) ⌝ }
-{
-    if n < 10 {
-        return put_byte(b'0' + n as u8, out, at);
-    }
-    let next = put_decimal(n / 10, out, at);
-    put_byte(b'0' + (n % 10) as u8, out, next)
 }
 
 // Whose sentence is dead: a function's, or that of a block in it.

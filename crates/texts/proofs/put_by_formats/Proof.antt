@@ -3,7 +3,8 @@ use native.Mathlib.Omega.{arith}
 use Rattle.law.specs.Text.{bytesOf}
 use Rattle.lints.specs.Message.{claimText}
 use mathlib.Core.Path.{refl}
-use Rattle.texts.proofs.TextLaws.{_then_, shown-near}
+use Rattle.buffers.proofs.PutLaws.{_then_}
+use Rattle.texts.proofs.TextLaws.{shown-near}
 use borrow.Author.Needs.{needs}
 use Rattle.texts.proofs.put_by_formats.Statement.{statement}
 use Rattle.texts.proofs.put_by_formats.Tie as tie

@@ -2,7 +2,7 @@
 use Rattle.law.specs.Text.{bytesOf}
 use Rattle.lints.specs.Message.{claimText}
 use mathlib.Core.Path.{refl}
-use Rattle.texts.proofs.TextLaws.{_then_}
+use Rattle.buffers.proofs.PutLaws.{_then_}
 use borrow.Author.Needs.{needs}
 use Rattle.texts.proofs.put_by_literals.Statement.{statement}
 use Rattle.texts.proofs.put_by_literals.Tie as tie

@@ -1,7 +1,7 @@
 -- Three pieces, one after another.
 use native.Mathlib.Omega.{arith}
 use Rattle.law.specs.Text.{bytesOf}
-use Rattle.texts.proofs.TextLaws.{_then_}
+use Rattle.buffers.proofs.PutLaws.{_then_}
 use borrow.Author.Needs.{needs}
 use Rattle.texts.proofs.put_call.Statement.{statement}
 use Rattle.texts.proofs.put_call.Tie as tie

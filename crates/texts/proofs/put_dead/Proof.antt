@@ -1,7 +1,7 @@
 -- Seven pieces, one after another.
 use Rattle.law.specs.Text.{bytesOf}
 use Rattle.lints.specs.Message.{claimText}
-use Rattle.texts.proofs.TextLaws.{_then_}
+use Rattle.buffers.proofs.PutLaws.{_then_}
 use borrow.Author.Needs.{needs}
 use Rattle.texts.proofs.put_dead.Statement.{statement}
 use Rattle.texts.proofs.put_dead.Tie as tie

@@ -1,6 +1,6 @@
 -- How the text begins, and why the call fails.
 use Rattle.lints.specs.Message.{claimText}
-use Rattle.texts.proofs.TextLaws.{_then_}
+use Rattle.buffers.proofs.PutLaws.{_then_}
 use borrow.Author.Needs.{needs}
 use Rattle.texts.proofs.put_fails.Statement.{statement}
 use Rattle.texts.proofs.put_fails.Tie as tie

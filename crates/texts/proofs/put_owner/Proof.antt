@@ -1,7 +1,7 @@
 -- Of a block, three pieces, one after another; else the name alone.
 use native.Mathlib.Omega.{arith}
 use Rattle.law.specs.Text.{bytesOf}
-use Rattle.texts.proofs.TextLaws.{_then_}
+use Rattle.buffers.proofs.PutLaws.{_then_}
 use borrow.Author.Needs.{needs}
 use Rattle.texts.proofs.put_owner.Statement.{statement}
 use Rattle.texts.proofs.put_owner.Tie as tie

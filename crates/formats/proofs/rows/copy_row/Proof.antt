@@ -3,8 +3,8 @@ use Prim.Native.Nat.{_≤_, _-_}
 use mathlib.Core.Path.{_≡_, refl, _∙_}
 use native.Mathlib.Omega.{arith}
 use lib.ListN.{length, take, drop, length-set}
-use Rattle.shapes.specs.Written.{written}
-use Rattle.shapes.proofs.WrittenLaws.{written-none}
+use Rattle.buffers.specs.Written.{written}
+use Rattle.buffers.proofs.WrittenLaws.{written-none}
 use Rattle.formats.proofs.RowLaws.{copied-more}
 use Rattle.formats.proofs.rows.copy_row.Statement.{statement}
 use Rattle.formats.proofs.rows.copy_row.Tie as tie

@@ -1,5 +1,5 @@
 -- Nothing, or one byte.
-use Rattle.shapes.proofs.DisplayLaws.{put-none}
+use Rattle.buffers.proofs.PutLaws.{put-none}
 use borrow.Author.Needs.{needs}
 use Rattle.shapes.proofs.display.put_space.Statement.{statement}
 use Rattle.shapes.proofs.display.put_space.Tie as tie

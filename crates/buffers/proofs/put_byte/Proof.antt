@@ -1,8 +1,8 @@
 -- One byte, where there is room for it or not.
-use Rattle.shapes.proofs.DisplayLaws.{put-one, put-one-past}
+use Rattle.buffers.proofs.PutLaws.{put-one, put-one-past}
 use borrow.Author.Needs.{needs}
-use Rattle.shapes.proofs.display.put_byte.Statement.{statement}
-use Rattle.shapes.proofs.display.put_byte.Tie as tie
+use Rattle.buffers.proofs.put_byte.Statement.{statement}
+use Rattle.buffers.proofs.put_byte.Tie as tie
 
 pub put-byte-spec : {M : Type 1} → statement M
 put-byte-spec = tie.close (tie.spec

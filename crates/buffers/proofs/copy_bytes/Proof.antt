@@ -5,9 +5,9 @@ use native.Mathlib.Numerals.{add-one}
 use native.Mathlib.Omega.{arith}
 use lib.ListN.{length, length-set}
 use lib.Seq.{paste, paste-zero, paste-suc}
-use Rattle.shapes.proofs.ListLaws.{pasted}
-use Rattle.shapes.proofs.display.copy_bytes.Statement.{statement}
-use Rattle.shapes.proofs.display.copy_bytes.Tie as tie
+use Rattle.buffers.proofs.CopyLaws.{pasted}
+use Rattle.buffers.proofs.copy_bytes.Statement.{statement}
+use Rattle.buffers.proofs.copy_bytes.Tie as tie
 
 abbrev Inv-loop : tie.InvT-loop
 Inv-loop piece out₀ at i₀ out i = (i ≤ length piece) × (length out ≡ length out₀) × (out ≡ paste out₀ at piece i)

@@ -5,9 +5,9 @@ use mathlib.Core.Path.{_≡_, refl, _∙_}
 use native.Mathlib.Omega.{arith}
 use borrow.Author.Needs.{needs}
 use lib.ListN.{length, take, drop, length-set}
-use Rattle.shapes.proofs.ListLaws.{copy-next, copied}
-use Rattle.shapes.proofs.copy_words.Statement.{statement}
-use Rattle.shapes.proofs.copy_words.Tie as tie
+use Rattle.buffers.proofs.CopyLaws.{copy-next, copied}
+use Rattle.buffers.proofs.copy_words.Statement.{statement}
+use Rattle.buffers.proofs.copy_words.Tie as tie
 
 abbrev Inv-loop : tie.InvT-loop
 Inv-loop from to₀ i₀ to i = (i ≤ length from) × (length to ≡ length to₀) × (to ≡ take i from ++ drop i to₀)

@@ -1,8 +1,8 @@
 -- Where there is no room, nothing is said of the bytes.
-use Rattle.shapes.proofs.DisplayLaws.{put-piece-past}
+use Rattle.buffers.proofs.PutLaws.{put-piece-past}
 use borrow.Author.Needs.{needs}
-use Rattle.shapes.proofs.display.put.Statement.{statement}
-use Rattle.shapes.proofs.display.put.Tie as tie
+use Rattle.buffers.proofs.put.Statement.{statement}
+use Rattle.buffers.proofs.put.Tie as tie
 
 pub put-spec : {M : Type 1} → statement M
 put-spec = tie.close (tie.spec

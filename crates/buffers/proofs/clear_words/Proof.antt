@@ -6,9 +6,9 @@ use native.Mathlib.Omega.{arith}
 use borrow.Author.Needs.{needs}
 use borrow.Author.Fill.{fill-more}
 use lib.ListN.{length, drop, replicate, length-set}
-use Rattle.shapes.proofs.ListLaws.{cleared}
-use Rattle.shapes.proofs.clear_words.Statement.{statement}
-use Rattle.shapes.proofs.clear_words.Tie as tie
+use Rattle.buffers.proofs.CopyLaws.{cleared}
+use Rattle.buffers.proofs.clear_words.Statement.{statement}
+use Rattle.buffers.proofs.clear_words.Tie as tie
 
 abbrev Inv-loop : tie.InvT-loop
 Inv-loop words₀ i₀ words i = (i ≤ length words₀) × (length words ≡ length words₀) × (words ≡ replicate i 0 ++ drop i words₀)

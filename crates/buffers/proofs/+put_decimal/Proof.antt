@@ -1,17 +1,17 @@
 -- One digit, or the digits of a tenth of the number and then its last.
 use native.Mathlib.Omega.{arith}
-use Rattle.texts.proofs.TextLaws.{_then_}
-use Rattle.texts.proofs.DigitLaws.{decimal-alone, decimal-last, decimal-few}
+use Rattle.buffers.proofs.PutLaws.{_then_}
+use Rattle.buffers.proofs.DigitLaws.{decimal-alone, decimal-last, decimal-few}
 use borrow.Author.Needs.{needs}
 use Prim.Native.Nat.{ℕ, _<_}
 use borrow.Fn.Kinds.{In}
 use borrow.Fn.PlainCycle.{Measures, is, falls, and}
-use Rattle.texts.proofs.put_decimal.Reads as put-decimal
-use Rattle.texts.proofs.put_decimal.Kinds as put-decimal-kinds
-use Rattle.texts.proofs.+put_decimal.Lts-put_decimal as put-decimal-lts
-use Rattle.shapes.proofs.display.put_byte.Reads as put-byte-reads
-use Rattle.texts.proofs.+put_decimal.{statement}
-use Rattle.texts.proofs.+put_decimal.Tie.{close}
+use Rattle.buffers.proofs.put_decimal.Reads as put-decimal
+use Rattle.buffers.proofs.put_decimal.Kinds as put-decimal-kinds
+use Rattle.buffers.proofs.+put_decimal.Lts-put_decimal as put-decimal-lts
+use Rattle.buffers.proofs.put_byte.Reads as put-byte-reads
+use Rattle.buffers.proofs.+put_decimal.{statement}
+use Rattle.buffers.proofs.+put_decimal.Tie.{close}
 
 abbrev μ-put-decimal : Measures 1 put-decimal-kinds.ps ℕ
 μ-put-decimal κs a = a .0

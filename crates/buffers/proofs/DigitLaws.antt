@@ -1,13 +1,13 @@
 -- Laws of a number in decimal digits: one digit alone, a last digit after those before it, and how many there are.
 use Prim.Native.Nat.{ℕ, zero, suc, _+_, _*_, _/_, _%_, _≤_, _<_}
-use mathlib.Core.List.{List, [], _∷_, _++_}
-use mathlib.Core.Path.{_≡_, refl}
+use mathlib.Core.List.{[], _∷_, _++_}
+use mathlib.Core.Path.{_≡_}
 use native.Mathlib.Omega.{arith}
 use native.Mathlib.Decide.{decLt}
 use lib.ListN.{length, length-append}
 use borrow.Author.Tests.{lt-ltb, le-ltb}
-use Rattle.shapes.specs.Display.{largest}
-use Rattle.lints.specs.Message.{digitsWithin, decimal}
+use Rattle.buffers.specs.Written.{largest}
+use Rattle.buffers.specs.Decimal.{digitsWithin, decimal}
 
 -- a number below ten, and one of ten or more
 digit-alone : (most n : ℕ) → n < 10 → digitsWithin (suc most) n ≡ (48 + n) ∷ []

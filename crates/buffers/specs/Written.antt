@@ -12,3 +12,7 @@ written old at new = take at old ++ new ++ drop (at + length new) old
 pub record Put (old : List ℕ) (at : ℕ) (new : List ℕ) (next : ℕ) (after : List ℕ) : Type 0 where
   pub end : next ≡ at + length new
   pub room : next ≤ length old → after ≡ written old at new
+
+-- the largest number of a position
+abbrev pub largest : ℕ
+largest = 18446744073709551615

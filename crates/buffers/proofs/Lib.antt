@@ -1,0 +1,4 @@
+pub mod WrittenLaws
+pub mod CopyLaws
+pub mod PutLaws
+pub mod DigitLaws

@@ -1,0 +1,14 @@
+-- A number as it is written in decimal digits.
+use Prim.Native.Nat.{ℕ, zero, suc, _+_, _/_, _%_}
+use mathlib.Core.Bool.{cond}
+use mathlib.Core.List.{List, [], _∷_, _++_}
+use lib.Dec.{ltb}
+
+-- the decimal digits of a number, at most so many of them
+unfoldable pub digitsWithin : ℕ → ℕ → List ℕ
+digitsWithin zero n = []
+digitsWithin (suc most) n = cond (ltb n 10) ((48 + n) ∷ []) (digitsWithin most (n / 10) ++ (48 + n % 10) ∷ [])
+
+-- all of them: n has no more than n + 1
+abbrev pub decimal : ℕ → List ℕ
+decimal n = digitsWithin (suc n) n
