@@ -1,3 +1,4 @@
+pub mod TextLaws
 pub mod FoundLaws
 pub mod WordLaws
 pub mod NameLaws

@@ -1,5 +1,11 @@
 // The text of a finding, from its eight words: they name records of the law, where its names are spelled and its formats are found. What the text is
 // stands in the crate `lints`, specs/Message.antt; what the words are, there in specs/Finding.antt.
+use crate::texts::Failure;
+use crate::texts::put_by_formats;
+use crate::texts::put_by_literals;
+use crate::texts::put_dead;
+use crate::texts::put_fails;
+use crate::texts::put_open;
 use formats::infer::row_format;
 use formats::slots::wide;
 use law::places::first_sentence;
@@ -9,12 +15,6 @@ use law::places::term_word;
 use law::places::text;
 use names::name_in;
 use sentences::argument;
-use texts::Failure;
-use texts::put_by_formats;
-use texts::put_by_literals;
-use texts::put_dead;
-use texts::put_fails;
-use texts::put_open;
 ghost use mathlib.Core.Path.{_≡_};
 ghost use mathlib.Core.Bool.{true};
 ghost use mathlib.Core.List.{List·Memᴰ};
@@ -32,6 +32,8 @@ ghost use Rattle.lints.specs.Findings.{findingsOf};
 ghost use Rattle.lints.specs.Message.{claimText, message};
 ghost use Rattle.lints.specs.Records.{Prepared, formatsIn, callAt};
 ghost use Rattle.messages.specs.Spoken.{Spoken, CallHere, ComparedHere, inBlock, apartClaim, recognitionClaim};
+
+mod texts;
 
 // A word as a number.
 fn wide_word(word: u32) -> usize

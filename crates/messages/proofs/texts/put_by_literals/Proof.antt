@@ -4,8 +4,8 @@ use Rattle.lints.specs.Message.{claimText}
 use mathlib.Core.Path.{refl}
 use Rattle.buffers.proofs.PutLaws.{_then_}
 use borrow.Author.Needs.{needs}
-use Rattle.texts.proofs.put_by_literals.Statement.{statement}
-use Rattle.texts.proofs.put_by_literals.Tie as tie
+use Rattle.messages.proofs.texts.put_by_literals.Statement.{statement}
+use Rattle.messages.proofs.texts.put_by_literals.Tie as tie
 
 pub put-by-literals-spec : {M : Type 1} → statement M
 unfolding bytesOf claimText

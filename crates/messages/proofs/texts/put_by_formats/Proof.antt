@@ -4,10 +4,10 @@ use Rattle.law.specs.Text.{bytesOf}
 use Rattle.lints.specs.Message.{claimText}
 use mathlib.Core.Path.{refl}
 use Rattle.buffers.proofs.PutLaws.{_then_}
-use Rattle.texts.proofs.TextLaws.{shown-near}
+use Rattle.messages.proofs.TextLaws.{shown-near}
 use borrow.Author.Needs.{needs}
-use Rattle.texts.proofs.put_by_formats.Statement.{statement}
-use Rattle.texts.proofs.put_by_formats.Tie as tie
+use Rattle.messages.proofs.texts.put_by_formats.Statement.{statement}
+use Rattle.messages.proofs.texts.put_by_formats.Tie as tie
 
 pub put-by-formats-spec : {M : Type 1} → statement M
 unfolding bytesOf claimText

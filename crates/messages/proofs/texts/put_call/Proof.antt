@@ -3,8 +3,8 @@ use native.Mathlib.Omega.{arith}
 use Rattle.law.specs.Text.{bytesOf}
 use Rattle.buffers.proofs.PutLaws.{_then_}
 use borrow.Author.Needs.{needs}
-use Rattle.texts.proofs.put_call.Statement.{statement}
-use Rattle.texts.proofs.put_call.Tie as tie
+use Rattle.messages.proofs.texts.put_call.Statement.{statement}
+use Rattle.messages.proofs.texts.put_call.Tie as tie
 
 pub put-call-spec : {M : Type 1} → statement M
 unfolding bytesOf

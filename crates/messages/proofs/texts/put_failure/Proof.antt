@@ -1,8 +1,8 @@
 -- One piece for each failure.
 use Rattle.law.specs.Text.{bytesOf}
 use borrow.Author.Needs.{needs}
-use Rattle.texts.proofs.put_failure.Statement.{statement}
-use Rattle.texts.proofs.put_failure.Tie as tie
+use Rattle.messages.proofs.texts.put_failure.Statement.{statement}
+use Rattle.messages.proofs.texts.put_failure.Tie as tie
 
 pub put-failure-spec : {M : Type 1} → statement M
 unfolding bytesOf

@@ -3,8 +3,8 @@ use Rattle.law.specs.Text.{bytesOf}
 use Rattle.lints.specs.Message.{claimText}
 use Rattle.buffers.proofs.PutLaws.{_then_}
 use borrow.Author.Needs.{needs}
-use Rattle.texts.proofs.put_dead.Statement.{statement}
-use Rattle.texts.proofs.put_dead.Tie as tie
+use Rattle.messages.proofs.texts.put_dead.Statement.{statement}
+use Rattle.messages.proofs.texts.put_dead.Tie as tie
 
 pub put-dead-spec : {M : Type 1} → statement M
 unfolding bytesOf claimText

@@ -2,8 +2,8 @@
 use Rattle.lints.specs.Message.{claimText}
 use Rattle.buffers.proofs.PutLaws.{_then_}
 use borrow.Author.Needs.{needs}
-use Rattle.texts.proofs.put_fails.Statement.{statement}
-use Rattle.texts.proofs.put_fails.Tie as tie
+use Rattle.messages.proofs.texts.put_fails.Statement.{statement}
+use Rattle.messages.proofs.texts.put_fails.Tie as tie
 
 pub put-fails-spec : {M : Type 1} → statement M
 unfolding claimText
