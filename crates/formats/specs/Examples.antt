@@ -1,4 +1,5 @@
--- Document 01's small laws about join, disjointness and inference, as one table and one theorem, and further examples of the definitions, all by computation.
+-- Document 01's small laws about inference that it does not mark *, and further examples of the definitions, all by computation. Those marked * are the
+-- table in specs/SmallLaws.antt of the crate `lints`.
 use Prim.Native.Nat.{ℕ, zero, suc}
 use mathlib.Core.Bool.{Bool, true, false}
 use mathlib.Core.List.{List, [], _∷_, _++_, flatMap}
@@ -22,9 +23,8 @@ use Rattle.law.specs.Variables.{variablesFrom, occurs, distinct, patternsAllowe
 use Rattle.law.specs.Law.{lawOf}
 use Rattle.law.specs.Examples.{bytesOf, unusedTerm, listed}
 use Rattle.shapes.specs.Leaf.{character, number, anySymbol}
-use Rattle.shapes.specs.Format.{item, group, never, of, size, isOpen}
-use Rattle.shapes.specs.Join.{joinShapes, join}
-use Rattle.shapes.specs.Disjoint.{disjointShapes, disjoint}
+use Rattle.shapes.specs.Format.{item, of, size, isOpen}
+use Rattle.shapes.specs.Join.{joinShapes}
 use Rattle.shapes.specs.Same.{sameShapes}
 use Rattle.shapes.specs.Words.{shapeWords}
 use Rattle.shapes.specs.Examples.{closed, opened}
@@ -53,50 +53,26 @@ growing n =
       sentences = sentence mark Run.empty noCondition (Run.symbol (tree.Symbol.character 97) (Run.call mark nameF Run.empty (ones n))) noSentence;
     } ∷ []
 
--- ---- document 01's table
+-- ---- document 01
 
-abbrev pub SmallLaws : Type 0
-SmallLaws =
-    -- "Join of closed [character] and closed [number]: closed [symbol]."
-    (join (of (item character closed)) (of (item number closed)) ≡ of (item anySymbol closed))
-    -- "Of closed [character] and closed [character, number]: open [character]."
-    × (join (of (item character closed)) (of (item character (item number closed))) ≡ of (item character opened))
-    -- "Never with empty: empty."
-    × (join never (of closed) ≡ of closed)
-    -- "Disjoint: character and number;"
-    × (disjoint (of (item character closed)) (of (item number closed)) ≡ true)
-    -- "`()` and `('a')`."
-    × (disjoint (of (group closed closed)) (of (group (item character closed) closed)) ≡ true)
-    -- "Not: open nothing and closed [number]."
-    × (disjoint (of opened) (of (item number closed)) ≡ false)
+abbrev Inferences : Type 0
+Inferences =
     -- "`F { = 'a' <F> 1 1 1; }`: 5 rounds, settled, open [character, three symbols]."
-    × (infer 64 (growing 3)
+    (infer 64 (growing 3)
     ≡ given (record {
       arguments = record { name = 70 ∷ []; format = of closed } ∷ [];
       results = record { name = 70 ∷ []; format = of (item character (item anySymbol (item anySymbol (item anySymbol opened)))) } ∷ [];
       rounds = 5;
       settled = true;
     }))
-    -- "With five 1s: 5 rounds, unsettled, open [character, four symbols, number]."
-    × (infer 64 (growing 5)
-    ≡ given (record {
-      arguments = record { name = 70 ∷ []; format = of closed } ∷ [];
-      results =
-          record {
-            name = 70 ∷ [];
-            format = of (item character (item anySymbol (item anySymbol (item anySymbol (item anySymbol (item number opened))))));
-          } ∷ [];
-      rounds = 5;
-      settled = false;
-    }))
     -- "No functions: no findings, 1 round, settled."
     × (infer 64 [] ≡ given (record { arguments = []; results = []; rounds = 1; settled = true }))
 
-pub small-laws : SmallLaws
+inferences : Inferences
 unfolding
-    joinShapes disjointShapes size patternShapes chain resultShapes sameShapes insertName namesOf find renew allAt joinResults joinPatterns round roundsFrom arguments
+    joinShapes size patternShapes chain resultShapes sameShapes insertName namesOf find renew allAt joinResults joinPatterns round roundsFrom arguments
     inferWithin infer sameBytes orderBytes
-small-laws = (refl, refl, refl, refl, refl, refl, refl, refl, refl)
+inferences = (refl, refl)
 
 -- ---- further examples of inference
 

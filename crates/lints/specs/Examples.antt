@@ -1,4 +1,4 @@
--- Document 01's example of a listing and its small laws on findings, and further examples of the definitions, all by computation.
+-- Document 01's example of a listing and its small laws on findings, which it does not mark *, and further examples of the definitions, all by computation.
 use Prim.Native.Nat.{ℕ, suc}
 use Prim.Native.String.{String}
 use mathlib.Core.Bool.{Bool, true, false}
@@ -87,8 +87,8 @@ asking pattern argument = function "F" (plain 0 pattern empty noSentence) ∷ ca
 
 -- ---- document 01
 
-abbrev pub SmallLaws : Type 0
-SmallLaws =
+abbrev DocumentLaws : Type 0
+DocumentLaws =
     -- `F { e.X = 'a'; s.A = <F 1>; } H { 'q' = <H 2>; }`, as the listing program prints it
     (answered strict listedLaw ≡ given (1 ∷ 1 ∷ 15 ∷ 26 ∷ 2 ∷ 1 ∷ 0 ∷ 1 ∷ 2 ∷ 1 ∷ 40 ∷ 45 ∷ 1 ∷ 0 ∷ 1 ∷ 6 ∷ [], 2, true))
     -- "No functions: no findings, 1 round, settled."
@@ -301,7 +301,7 @@ TextLaws =
 
 -- ---- all of them hold
 
-pub examples : SmallLaws × DeadLaws × RecognitionLaws × BuiltinLaws × OpenLaws × LevelLaws × TextLaws
+pub examples : DocumentLaws × DeadLaws × RecognitionLaws × BuiltinLaws × OpenLaws × LevelLaws × TextLaws
 unfolding
     bytesOf characters sameBytes orderBytes everyByte definition
     joinShapes disjointShapes size patternShapes chain resultShapes sameShapes insertName namesOf find renew allAt joinResults joinPatterns round roundsFrom

@@ -8,6 +8,7 @@ pub mod Open
 pub mod Levels
 pub mod Findings
 pub mod Message
+pub mod SmallLaws
 pub mod Examples
 pub mod Part
 pub mod Records

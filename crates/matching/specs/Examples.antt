@@ -1,4 +1,5 @@
--- Document 01's small laws on matching, and the slips that it names, each by computation. Patterns and arguments stand as runs of the tree.
+-- Examples of the three ways to match, and the slips that document 01 names, each by computation. Patterns and arguments stand as runs of the tree. Its
+-- small laws on shadowing, which it marks *, are in the table in specs/SmallLaws.antt of the crate `lints`.
 use Prim.Native.Nat.{ℕ}
 use Prim.Native.String.{String}
 use mathlib.Core.Bool.{Bool, true, false, _&&_}
@@ -59,18 +60,9 @@ allThree q = (shadowed q, literally q, inRun q)
 abbrev pub valued : String → String → Values Literal → Values Literal
 valued index s = bound (record { kind = expressionKind; index = bytesOf index }) (expressionOf (literalTerms (text s empty)))
 
-pub small-laws :
-    -- `e.X` shadows `(t.A)`; `(t.X)` does not shadow `(e.A)`; `s.A s.A` shadows `'x' 'x'`, not `s.B s.C`; `(e.A) t.B` does not shadow `(s.Q) e.A`
-    (map shadowed
-    ((eVariable "X" empty, bracket (tVariable "A" empty) empty)
-    ∷ (bracket (tVariable "X" empty) empty, bracket (eVariable "A" empty) empty)
-    ∷ (sVariable "A" (sVariable "A" empty), text "xx" empty)
-    ∷ (sVariable "A" (sVariable "A" empty), sVariable "B" (sVariable "C" empty))
-    ∷ (bracket (eVariable "A" empty) (tVariable "B" empty), bracket (sVariable "Q" empty) (eVariable "A" empty))
-    ∷ [])
-    ≡ true ∷ false ∷ true ∷ false ∷ false ∷ [])
-    -- what fits only the later of the two: `('x') 'p' 'q'`
-    × (map inRun
+match-examples :
+    -- `(e.A) t.B` does not shadow `(s.Q) e.A`: `('x') 'p' 'q'` fits only the later of the two
+    (map inRun
     ((bracket (eVariable "A" empty) (tVariable "B" empty), bracket (text "x" empty) (text "pq" empty))
     ∷ (bracket (sVariable "Q" empty) (eVariable "A" empty), bracket (text "x" empty) (text "pq" empty))
     ∷ [])
@@ -106,4 +98,4 @@ pub small-laws :
 unfolding
     bytesOf characters sameBytes patternOf isLiteral literalTerms changed
     valueIn splits sameTerms after choices matches ownValues shadowsWith
-small-laws = (refl, refl, refl, refl, refl, refl)
+match-examples = (refl, refl, refl, refl, refl)

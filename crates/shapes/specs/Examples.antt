@@ -1,4 +1,4 @@
--- Examples of the definitions, by computation. The table of document 01's small laws stands in the crate `formats`.
+-- Examples of the definitions, by computation. The table of document 01's small laws stands in the crate `lints`.
 use mathlib.Core.Bool.{true, false}
 use mathlib.Core.List.{[], _∷_}
 use mathlib.Core.Path.{_≡_, refl}
