@@ -7,7 +7,7 @@ use listing::Turned;
 ghost use mathlib.Core.Path.{_≡_};
 ghost use mathlib.Core.Bool.{cond};
 ghost use Rattle.file.specs.Sections.{numberOf};
-ghost use Rattle.findings.specs.All.{settingsFrom};
+ghost use Rattle.lints.specs.Levels.{settingsFrom};
 ghost use Rattle.listing.specs.Outcome.{turnedNumber, textOutcome};
 ghost use Rattle.bilzarko.specs.Exported.{FindingsExported, FindingsExit, TextExit, textExit};
 

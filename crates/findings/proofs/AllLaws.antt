@@ -2,13 +2,13 @@
 use Prim.Native.Nat.{ℕ}
 use mathlib.Core.Bool.{Bool, true, false}
 use mathlib.Core.List.{List}
-use mathlib.Core.Path.{_≡_, refl, sym}
-use Rattle.file.specs.Sections.{File, fileOf}
+use mathlib.Core.Path.{_≡_, refl}
+use Rattle.file.specs.Sections.{File}
 use Rattle.law.specs.Tree.{Law}
 use Rattle.law.specs.Reading.{treeOf}
 use Rattle.formats.specs.Infer.{Inferred}
 use Rattle.lints.specs.Lint.{Lint, deadSentence, recognitionImpossible, builtinDomain, openExpressions, lintNumber}
-use Rattle.lints.specs.Levels.{Settings}
+use Rattle.lints.specs.Levels.{Settings, settingsFrom, severityOf, isShown}
 use Rattle.lints.specs.Records.{Prepared, formatsIn}
 use Rattle.findings.specs.declared.Task.{Task}
 use Rattle.findings.specs.Events.{Sink, collect}
@@ -51,3 +51,12 @@ module _ (settings : Settings) (room limit : ℕ) where
     unfolding allEvents
     all-met s first second third {t} a b c d =
         collect-then room s third t _ _ (collect-then room s second third _ _ (collect-then room s first second _ _ a b) c) d
+
+-- ---- a lint's task
+
+pub task-is : (mode : ℕ) (words : List ℕ) (room limit : ℕ) {lint severity : ℕ} {is : Bool}
+    → ((l : Lint) → lintNumber l ≡ lint → (m : ℕ) → severity ≡ severityOf (settingsFrom m words) l)
+    → ((l : Lint) → lintNumber l ≡ lint → is ≡ isShown (settingsFrom mode words) l)
+    → (l : Lint) → lintNumber l ≡ lint
+    → record { lint = lint; severity = severity; shown = is; position = 0; room = room; limit = limit } ≡ taskFor (settingsFrom mode words) room limit l
+task-is mode words room limit says shows l e = rw (← e, says l e mode, shows l e)

@@ -34,12 +34,12 @@ use Rattle.lints.specs.Records.{callAt}
 use Rattle.lints.proofs.PartLaws.{failure-same}
 use Rattle.findings.specs.declared.Task.{Task}
 use Rattle.findings.specs.declared.Note.{Note}
-use Rattle.findings.specs.declared.recognition.Verdict.{Verdict}
-use Rattle.findings.specs.declared.recognition.Verdict.the-variants.{Nothing, TooWide, ByFormats, ByLiterals}
+use Rattle.lints.specs.declared.recognition.Verdict.{Verdict}
+use Rattle.lints.specs.declared.recognition.Verdict.the-variants.{Nothing, TooWide, ByFormats, ByLiterals}
 use Rattle.findings.specs.Events.{Tally, Over, Event, found, tooWide, Sink, sinkOf, met, collect}
 use Rattle.findings.specs.Tasks.{noteWords, remarkEvents, recognitionEvents, callEvents, callsAt}
 use Rattle.findings.specs.Judging.{callNote, callFound, verdictEvents, failureEvents, isOver}
-use Rattle.findings.specs.Verdicts.{verdictOf}
+use Rattle.lints.specs.Verdicts.{verdictOf}
 use Rattle.findings.proofs.CollectLaws.{collect-none, collect-one}
 
 -- ---- collecting

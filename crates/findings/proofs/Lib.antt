@@ -2,8 +2,6 @@ pub mod CollectLaws
 pub mod FitLaws
 pub mod DeadLaws
 pub mod OpenLaws
-pub mod ArgumentParts
-pub mod RecognitionLaws
 pub mod CallLaws
 pub mod WalkLaws
 pub mod NoneMetLaws
@@ -11,5 +9,4 @@ pub mod WalkSteps
 pub mod WalkEvents
 pub mod EventLaws
 pub mod OverLaws
-pub mod LevelLaws
 pub mod AllLaws

@@ -1,39 +1,16 @@
 -- All lints under given settings.
-use Prim.Native.Nat.{ℕ, _/_, _%_}
-use mathlib.Core.Bool.{Bool, not, _&&_, _||_}
-use mathlib.Core.List.{List, _++_, map}
-use mathlib.Core.Option.{Option, none, some}
-use lib.Dec.{eqb, leb}
-use Rattle.names.specs.Name.{between}
+use Prim.Native.Nat.{ℕ}
+use mathlib.Core.Bool.{Bool, _||_}
+use mathlib.Core.List.{List, _++_}
+use lib.Dec.{eqb}
 use Rattle.law.specs.Tree.{Law}
 use Rattle.formats.specs.Infer.{Inferred}
 use Rattle.matching.specs.Match.{when}
-use Rattle.lints.specs.Lint.{Lint, deadSentence, recognitionImpossible, builtinDomain, openExpressions, lintNumber, lastLint, allow, ownSeverity}
-use Rattle.lints.specs.Levels.{Override, Settings, severityOf, isShown}
+use Rattle.lints.specs.Lint.{Lint, deadSentence, recognitionImpossible, builtinDomain, openExpressions, lintNumber}
+use Rattle.lints.specs.Levels.{Settings, severityOf, isShown}
 use Rattle.findings.specs.declared.Task.{Task}
-use Rattle.findings.specs.declared.levels.Level.{Level}
-use Rattle.findings.specs.declared.levels.Level.the-variants.{Unsaid, Severity}
 use Rattle.findings.specs.Events.{Event}
 use Rattle.findings.specs.Tasks.{lintEvents}
-
--- an override is lent as one word: 256 × lint + severity. Each word is one override, and refusal 14 turns back all words that mean nothing.
-abbrev pub overrideFrom : ℕ → Override
-overrideFrom word = record { lint = word / 256; severity = word % 256 }
-
-abbrev pub overrideAllowed : Override → Bool
-overrideAllowed o = between 1 lastLint (o .lint) && leb (o .severity) allow
-
-abbrev pub settingsFrom : ℕ → List ℕ → Settings
-settingsFrom mode words = record { mode = mode; overrides = map overrideFrom words }
-
--- the severity that an override says
-abbrev pub levelFrom : Level → Option ℕ
-levelFrom Unsaid = none
-levelFrom (Severity severity) = some severity
-
--- are findings shown that have the severity that the lint itself chooses?
-abbrev pub shownItself : ℕ → Lint → Bool
-shownItself mode l = not (eqb mode 0 && eqb (ownSeverity l) allow)
 
 -- the task of a lint, where findings have this much room and formats at most so many shapes
 abbrev pub taskFor : Settings → ℕ → ℕ → Lint → Task

@@ -1,44 +1,19 @@
 -- What the code of lints 2 and 3 finds on its way at one call.
-use Prim.Native.Nat.{ℕ, zero, suc, _+_, _*_}
-use mathlib.Core.Bool.{Bool, true, false, cond}
+use Prim.Native.Nat.{ℕ, _+_, _*_}
+use mathlib.Core.Bool.{Bool}
 use mathlib.Core.List.{List, [], _∷_}
 use mathlib.Core.Option.{Option, none, some}
-use lib.ListN.{getD}
-use lib.Dec.{eqb, ltb}
+use lib.Dec.{eqb}
 use Rattle.file.specs.Word.{wordAt}
 use Rattle.file.specs.Sections.{File}
-use Rattle.law.specs.Tree.{Sentences, keep}
-use Rattle.law.specs.Places.{sentencesOf, firstSentence}
-use Rattle.law.specs.Reading.{sentencesAt}
-use Rattle.shapes.specs.Format.{of, size}
-use Rattle.shapes.specs.Disjoint.{disjoint}
-use Rattle.formats.specs.Infer.{Inferred}
 use Rattle.matching.specs.Match.{when}
-use Rattle.matching.specs.Literal.{isLiteral}
 use Rattle.lints.specs.Finding.{Failure, failureNumber}
-use Rattle.lints.specs.Calls.{Call}
-use Rattle.lints.specs.Recognition.{passed, accepted}
-use Rattle.findings.specs.declared.recognition.Verdict.{Verdict}
-use Rattle.findings.specs.declared.recognition.Verdict.the-variants.{Nothing, TooWide, ByFormats, ByLiterals}
+use Rattle.lints.specs.declared.recognition.Verdict.{Verdict}
+use Rattle.lints.specs.declared.recognition.Verdict.the-variants.{Nothing, TooWide, ByFormats, ByLiterals}
 use Rattle.findings.specs.declared.Task.{Task}
 use Rattle.findings.specs.declared.Note.{Note}
 use Rattle.findings.specs.Events.{Tally, Over, Event, found, tooWide}
 use Rattle.findings.specs.Tasks.{noteWords}
-
--- the last of the first n functions whose name has this place; `missing` where no name has it
-unfoldable pub lastPlaced : List ℕ → ℕ → ℕ → ℕ → ℕ
-lastPlaced slots place missing zero = missing
-lastPlaced slots place missing (suc n) = cond (eqb (getD slots n 0) place) n (lastPlaced slots place missing n)
-
--- the sentences of the function f
-abbrev pub functionSentences : File → ℕ → Sentences
-functionSentences file f = keep (sentencesOf file f) (sentencesAt file (firstSentence file f))
-
--- what is said of a call that is compared
-unfoldable pub comparison : ℕ → Inferred → Call → Verdict
-comparison limit formats c =
-    cond (ltb limit (size (passed formats c))) TooWide
-    (cond (disjoint (of (passed formats c)) (accepted formats c)) ByFormats (cond (isLiteral (c .argument)) ByLiterals Nothing))
 
 -- ---- what is noted of the call at a term record
 

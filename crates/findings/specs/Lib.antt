@@ -1,6 +1,5 @@
 pub mod Events
 pub mod Walk
-pub mod Verdicts
 pub mod Tasks
 pub mod Judging
 pub mod DeadSteps

@@ -2,14 +2,33 @@
 use crate::NONE;
 use crate::Tally;
 use crate::Task;
-use crate::levels::task_of;
 use crate::walk::lint_law;
+use lints::levels::is_shown;
+use lints::levels::severity_of;
 ghost use mathlib.Core.Path.{_≡_};
 ghost use Rattle.file.specs.Sections.{fileOf};
 ghost use Rattle.law.specs.Reading.{treeOf};
 ghost use Rattle.lints.specs.Records.{Prepared, formatsIn};
 ghost use Rattle.findings.specs.Events.{Upto, sinkOf, collect};
-ghost use Rattle.findings.specs.All.{settingsFrom, isDue, taskEvents, allEvents};
+ghost use Rattle.lints.specs.Lint.{lintNumber, Lint};
+ghost use Rattle.lints.specs.Levels.{settingsFrom};
+ghost use Rattle.findings.specs.All.{taskFor, isDue, taskEvents, allEvents};
+
+// What a lint is to do.
+fn task_of(mode: u32, overrides: &[u32], lint: u32, room: usize, limit: usize) -> Task
+    ensures { λ r. ⌜ ((l : Lint) → lintNumber l ≡ lint → r ≡ taskFor (settingsFrom mode (now (overrides .entry))) room limit l) ⌝ }
+{
+    let severity = severity_of(overrides, lint);
+    let shown = is_shown(mode, overrides, lint);
+    Task {
+        lint,
+        severity,
+        shown,
+        position: 0,
+        room,
+        limit,
+    }
+}
 
 // Whether a task has anything to meet: a lint whose findings are hidden is passed over, but for lint 2, which may meet an argument with too many shapes.
 fn is_due(task: Task) -> bool

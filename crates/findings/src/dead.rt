@@ -5,8 +5,7 @@ use crate::Tally;
 use crate::Task;
 use crate::put_note;
 use file::word_at;
-use law::places::first_condition;
-use sentences::shadow_sentences;
+use lints::dead::earliest_shadow;
 ghost use mathlib.Core.Path.{_≡_};
 ghost use mathlib.Core.Bool.{Bool};
 ghost use mathlib.Core.List.{[]};
@@ -17,31 +16,10 @@ ghost use Rattle.law.specs.Tree.{keep};
 ghost use Rattle.law.specs.Reading.{sentencesAt};
 ghost use Rattle.law.specs.Index.{Indexed};
 ghost use Rattle.law.specs.Law.{Accepted};
-ghost use Rattle.sentences.specs.Entry.{patternIn};
 ghost use Rattle.lints.specs.Dead.{earliest, deadAfter};
-ghost use Rattle.lints.specs.Records.{earlierAt, numberOr0};
 ghost use Rattle.findings.specs.Events.{found, sinkOf, met, collect};
 ghost use Rattle.findings.specs.Tasks.{remarkEvents};
 ghost use Rattle.findings.specs.DeadSteps.{sentenceWords, deadEvents};
-
-// The number from 1 of the earliest of so many sentences from `first` on that has no conditions and shadows the sentence after them; 0 where none does.
-pub fn earliest_shadow(law: &[u8], index: &[u16; 972], first: usize, later: usize) -> usize
-    requires { ⌜ Indexed (now law) (now index) × Accepted (now law) × (first + later < fileOf (now law) .sentences .count) ⌝ }
-    ensures { λ r. ⌜ (r ≡ numberOr0 (earliest [] (earlierAt (fileOf (now (law .entry))) first later) (patternIn (fileOf (now (law .entry))) (first + later)))) × (r ≤ later) ⌝ }
-{
-    let mut i = 0;
-    loop {
-        if later <= i {
-            break 0;
-        }
-        let s = first + i;
-        let conditions = first_condition(index, s + 1) - first_condition(index, s);
-        if conditions == 0 && shadow_sentences(law, index, s, first + later) {
-            break i + 1;
-        }
-        i += 1;
-    }
-}
 
 // A word of the index as a number.
 fn wide(word: u16) -> usize

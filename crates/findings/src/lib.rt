@@ -9,9 +9,7 @@ ghost use Rattle.findings.specs.Tasks.{noteWords};
 pub mod all;
 pub mod calls;
 pub mod dead;
-pub mod levels;
 pub mod open;
-pub mod recognition;
 pub mod walk;
 
 // The count of findings, one number so that it is passed on in a register: it ended at an argument that has too many shapes to be compared (0), there are

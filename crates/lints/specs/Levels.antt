@@ -1,7 +1,7 @@
 -- Settings: the mode and the overrides of severities, and the level and mode steps of `check_program_with_levels`.
-use Prim.Native.Nat.{ℕ}
+use Prim.Native.Nat.{ℕ, _/_, _%_}
 use mathlib.Core.Bool.{Bool, true, false, not, cond, _&&_}
-use mathlib.Core.List.{List, [], _∷_}
+use mathlib.Core.List.{List, [], _∷_, map}
 use mathlib.Core.Option.{Option, none, some}
 use lib.ListN.{length}
 use lib.Dec.{eqb, leb}
@@ -19,6 +19,13 @@ pub record Override : Type 0 where
 pub record Settings : Type 0 where
   pub mode : ℕ
   pub overrides : List Override
+
+-- an override is lent as one word: 256 × lint + severity. Each word is one override, and refusal 14 turns back all words that mean nothing.
+abbrev pub overrideFrom : ℕ → Override
+overrideFrom word = record { lint = word / 256; severity = word % 256 }
+
+abbrev pub settingsFrom : ℕ → List ℕ → Settings
+settingsFrom mode words = record { mode = mode; overrides = map overrideFrom words }
 
 -- refusal 14: "mode not 0 or 1, over 8 overrides, lint not 1–4, severity not 0–3"
 unfoldable pub overridesAllowed : List Override → Bool

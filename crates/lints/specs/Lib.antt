@@ -12,3 +12,5 @@ pub mod SmallLaws
 pub mod Examples
 pub mod Part
 pub mod Records
+pub mod Overrides
+pub mod Verdicts

@@ -46,7 +46,7 @@ use Rattle.lints.specs.Levels.{overridesAllowed, settingsAllowed, overrideOf, s
 use Rattle.lints.specs.Findings.{findingsOf, listing}
 use Rattle.buffers.specs.Decimal.{digitsWithin}
 use Rattle.lints.specs.Message.{claimText, message}
-use Rattle.findings.specs.All.{settingsFrom}
+use Rattle.lints.specs.Levels.{settingsFrom}
 use Rattle.listing.specs.Outcome.{front, findingsOutcome, findingAt, textOutcome}
 
 -- a file without text, functions, sentences, conditions and terms

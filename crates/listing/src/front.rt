@@ -3,9 +3,9 @@ use crate::Turned;
 use file::Cut;
 use file::Sections;
 use file::sections_of;
-use findings::levels::settings_allowed;
 use law::Check;
 use law::read_law;
+use lints::levels::settings_allowed;
 ghost use mathlib.Core.Bool.{true};
 ghost use mathlib.Core.List.{List, []};
 ghost use mathlib.Core.Path.{_≡_};
@@ -13,7 +13,7 @@ ghost use Prim.Native.Nat.{ℕ};
 ghost use lib.ListN.{length};
 ghost use Rattle.file.specs.Answer.{given};
 ghost use Rattle.law.specs.Law.{lawOf};
-ghost use Rattle.findings.specs.All.{settingsFrom};
+ghost use Rattle.lints.specs.Levels.{settingsFrom};
 ghost use Rattle.listing.specs.Gather.{FrontIs};
 
 // A refusal, or a law that is ready. `FrontIs` of specs/Gather.antt says what either means.

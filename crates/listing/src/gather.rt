@@ -11,7 +11,7 @@ ghost use Rattle.file.specs.Sections.{fileOf};
 ghost use Rattle.law.specs.Reading.{treeOf};
 ghost use Rattle.formats.specs.Infer.{Inferred, infer};
 ghost use Rattle.formats.specs.Slots.{SlotsOf};
-ghost use Rattle.findings.specs.All.{settingsFrom};
+ghost use Rattle.lints.specs.Levels.{settingsFrom};
 ghost use Rattle.listing.specs.Gather.{Prepares, GatherIs, Filled};
 
 // What a law comes to: a format has too many shapes, there are more findings than there is room for, or the number of findings, the rounds and whether the

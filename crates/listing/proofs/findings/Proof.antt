@@ -1,7 +1,7 @@
 -- A law without functions, a call that its front turns back, or the findings of a law that is ready, with its index.
 use mathlib.Core.Path.{refl}
 use borrow.Author.Needs.{needs}
-use Rattle.findings.specs.All.{settingsFrom}
+use Rattle.lints.specs.Levels.{settingsFrom}
 use Rattle.listing.proofs.CallLaws.{front-ready, findings-turned, findings-goes}
 use Rattle.listing.proofs.PromiseLaws.{promise}
 use Rattle.listing.proofs.findings.Statement.{statement}

@@ -1,6 +1,6 @@
 use native.Mathlib.Omega.{arith}
 use mathlib.Core.Path.{refl}
-use Rattle.findings.specs.All.{settingsFrom}
+use Rattle.lints.specs.Levels.{settingsFrom}
 use Rattle.listing.proofs.ReadyLaws.{findings-wide, findings-full, findings-listed, findings-collected, count-fits}
 use borrow.Author.Needs.{needs}
 use Rattle.listing.proofs.findings_gathered.Statement.{statement}

@@ -1,5 +1,5 @@
 use borrow.Author.Needs.{needs}
-use Rattle.findings.specs.All.{settingsFrom}
+use Rattle.lints.specs.Levels.{settingsFrom}
 use Rattle.listing.proofs.EmptyLaws.{none-settings, none-short, none-found}
 use Rattle.listing.proofs.findings_none.Statement.{statement}
 use Rattle.listing.proofs.findings_none.Tie as tie

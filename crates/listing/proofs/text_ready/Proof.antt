@@ -1,5 +1,5 @@
 use mathlib.Core.Path.{refl, sym}
-use Rattle.findings.specs.All.{settingsFrom}
+use Rattle.lints.specs.Levels.{settingsFrom}
 use Rattle.listing.proofs.ReadyLaws.{text-wide, text-full, text-told, findings-collected, text-places}
 use borrow.Author.Needs.{needs}
 use Rattle.listing.proofs.text_ready.Statement.{statement}

@@ -2,7 +2,7 @@ use native.Mathlib.Omega.{arith}
 use Rattle.file.specs.Sections.{fileOf}
 use Rattle.lints.specs.Lint.{deadSentence, recognitionImpossible, builtinDomain, openExpressions}
 use Rattle.findings.specs.Events.{Upto, sinkOf}
-use Rattle.findings.specs.All.{settingsFrom}
+use Rattle.lints.specs.Levels.{settingsFrom}
 use Rattle.findings.proofs.AllLaws.{task-asks, task-met, all-met}
 use borrow.Author.Needs.{needs}
 use Rattle.findings.proofs.all.lint_all.Statement.{statement}
@@ -10,7 +10,7 @@ use Rattle.findings.proofs.all.lint_all.Tie as tie
 use Rattle.findings.proofs.all.lint_all.Reads as reads
 use Rattle.findings.proofs.all.lint_all.Lts as lts
 use Rattle.findings.proofs.all.lint_task.Reads as lint-task-reads
-use Rattle.findings.proofs.levels.task_of.Reads as task-of-reads
+use Rattle.findings.proofs.all.task_of.Reads as task-of-reads
 
 pub lint-all-spec : {M : Type 1} → statement M
 lint-all-spec =

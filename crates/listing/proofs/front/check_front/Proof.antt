@@ -1,7 +1,7 @@
 -- One law for each way through the front (proofs/FrontLaws.antt), with the tests that led there.
 use borrow.Author.Tests.{not-true, not-false}
 use borrow.Author.Needs.{needs}
-use Rattle.findings.specs.All.{settingsFrom}
+use Rattle.lints.specs.Levels.{settingsFrom}
 use Rattle.listing.proofs.FrontLaws.{turned-settings, turned-file, turned-store, goes-on}
 use Rattle.listing.proofs.front.check_front.Statement.{statement}
 use Rattle.listing.proofs.front.check_front.Tie as tie

@@ -1,5 +1,5 @@
 use Rattle.law.proofs.Allowed.{accepted-readable}
-use Rattle.findings.specs.All.{settingsFrom}
+use Rattle.lints.specs.Levels.{settingsFrom}
 use Rattle.listing.proofs.CollectedLaws.{infer-wide, filled-prepares, filled-store, gather-both}
 use borrow.Author.Needs.{needs}
 use Rattle.listing.proofs.gather.gather.Statement.{statement}

@@ -1,5 +1,5 @@
 use native.Mathlib.Omega.{arith}
-use Rattle.findings.specs.All.{settingsFrom}
+use Rattle.lints.specs.Levels.{settingsFrom}
 use Rattle.listing.proofs.CollectedLaws.{ready, gather-wide, gather-full, gather-upto}
 use borrow.Author.Needs.{needs}
 use Rattle.listing.proofs.gather.gather_findings.Statement.{statement}

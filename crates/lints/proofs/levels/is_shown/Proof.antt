@@ -1,0 +1,23 @@
+use Rattle.lints.proofs.LevelLaws.{shown-own, shown-said}
+use borrow.Author.Needs.{needs}
+use Rattle.lints.proofs.levels.is_shown.Statement.{statement}
+use Rattle.lints.proofs.levels.is_shown.Tie as tie
+use Rattle.lints.proofs.levels.is_shown.Reads as reads
+use Rattle.lints.proofs.levels.is_shown.Lts as lts
+use Rattle.lints.proofs.levels.is_shown_itself.Reads as is-shown-itself-reads
+use Rattle.lints.proofs.levels.level_of.Reads as level-of-reads
+
+pub is-shown-spec : {M : Type 1} → statement M
+is-shown-spec =
+    tie.close
+    (tie.spec
+    (λ c κs. search needs)
+    (λ c. search needs)
+    (λ c κs. search needs)
+    (λ c. search needs)
+    (λ c.
+    let start = c .before .before .before .before .before in
+    shown-own (start .args .overrides .now) (c .before .before .before .level-of .ensures) (start .args .mode) (c .before .enum-told .given .1) (c .is-shown-itself .ensures))
+    (λ c.
+    let start = c .before .before .before .before .before in
+    shown-said (start .args .overrides .now) (c .before .before .before .level-of .ensures) (start .args .mode) (c .before .severity .given .1)))
