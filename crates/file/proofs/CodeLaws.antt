@@ -9,7 +9,7 @@ use borrow.Author.Tests.{lt-ltb, le-ltb}
 use Rattle.file.specs.Word.{wordAt}
 use Rattle.file.specs.Answer.{refused, given, mapAnswer}
 use Rattle.file.specs.Sections.{Section, section, sectionsOf, countsOf, numberOf}
-use Rattle.file.specs.Code.{countedOf, foundAnswer}
+use Rattle.file.specs.Code.Counts.{countedOf, foundAnswer}
 use Rattle.file.specs.declared.Counted.{Counted}
 use Rattle.file.specs.declared.Found.{Found}
 use Rattle.file.specs.declared.Found.the-variants.{Refused, Part}

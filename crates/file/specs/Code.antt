@@ -1,27 +1,3 @@
--- What the code hands from section to section, as the definitions of specs/Sections.antt have it.
-use Prim.Native.Nat.{ℕ, _+_, _*_, _-_, _≤_}
-use mathlib.Core.List.{List}
-use lib.ListN.{length}
-use Rattle.file.specs.Answer.{Answer, refused, given}
-use Rattle.file.specs.Sections.{Section, numberOf}
-use Rattle.file.specs.declared.Sections.{Sections}
-use Rattle.file.specs.declared.Counted.{Counted}
-use Rattle.file.specs.declared.Found.{Found}
-use Rattle.file.specs.declared.Found.the-variants.{Refused, Part}
-
--- a section's count, and where in the law the bytes after it begin
-abbrev pub countedOf : List ℕ → Section × List ℕ → Counted
-countedOf law found = record { count = found .0 .count; end = length law - length (found .1) }
-
--- what the code found, as an `Answer`
-abbrev pub foundAnswer : Found → Answer Counted
-foundAnswer (Refused r) = refused (numberOf r)
-foundAnswer (Part p) = given p
-
--- the limits of the counts
-abbrev pub Limits : Sections → Type 0
-Limits s = (s .text ≤ 4096) × (s .functions ≤ 64) × (s .sentences ≤ 128) × (s .conditions ≤ 128) × (s .terms ≤ 512)
-
--- the length of a file, by the counts of its sections
-abbrev pub fileLength : Sections → ℕ
-fileLength s = 20 + s .text + 20 * s .functions + 20 * s .sentences + 16 * s .conditions + 24 * s .terms
+-- What functions inside the library promise each other: the counts and ends that the code hands from section to section. No contract of a call that users make, and no theorem that
+-- docs/ARCHITECTURE.md names, says anything by these; tests/believed.py holds that up.
+pub mod Counts

@@ -2,8 +2,8 @@ pub mod Word
 pub mod Below
 pub mod Answer
 pub mod Sections
-pub mod Code
 pub mod Head
 pub mod Fields
 pub mod Forest
 pub mod Examples
+pub mod Code

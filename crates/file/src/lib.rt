@@ -10,7 +10,7 @@ ghost use lib.Dec.{leb};
 ghost use Rattle.file.specs.Word.{wordAt};
 ghost use Rattle.file.specs.Answer.{given, mapAnswer};
 ghost use Rattle.file.specs.Sections.{section, cutAnswer, countsOf, sectionsOf, fileOf};
-ghost use Rattle.file.specs.Code.{foundAnswer, countedOf};
+ghost use Rattle.file.specs.Code.Counts.{foundAnswer, countedOf};
 ghost use Rattle.file.specs.Head.{termFrom, termAt};
 ghost use Rattle.file.specs.Fields.{spelled, unused, scalarAllowed, termAllowed, functionsAllowed, termsAllowed, fieldsAllowed};
 ghost use Rattle.names.specs.Name.{nameAllowed, numberAllowed};

@@ -9,11 +9,11 @@ use Rattle.law.specs.Reading.{treeOf}
 use Rattle.formats.specs.Infer.{Inferred}
 use Rattle.lints.specs.Lint.{Lint, deadSentence, recognitionImpossible, builtinDomain, openExpressions, lintNumber}
 use Rattle.lints.specs.Levels.{Settings, settingsFrom, severityOf, isShown}
-use Rattle.lints.specs.Records.{Prepared, formatsIn}
+use Rattle.lints.specs.Code.Records.{Prepared, formatsIn}
 use Rattle.findings.specs.declared.Task.{Task}
-use Rattle.findings.specs.Events.{Sink, collect}
-use Rattle.findings.specs.Tasks.{lintEvents}
-use Rattle.findings.specs.All.{taskFor, isDue, taskEvents, allEvents}
+use Rattle.findings.specs.Code.Events.{Sink, collect}
+use Rattle.findings.specs.Code.Tasks.{lintEvents}
+use Rattle.findings.specs.Code.All.{taskFor, isDue, taskEvents, allEvents}
 use Rattle.findings.proofs.CollectLaws.{collect-none, collect-then}
 
 -- a task that has nothing to meet, or something

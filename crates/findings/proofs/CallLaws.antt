@@ -20,7 +20,7 @@ use Rattle.law.proofs.Parts.{terms-length, terms-word}
 use Rattle.shapes.specs.Format.{of, size}
 use Rattle.shapes.specs.Disjoint.{disjoint}
 use Rattle.formats.specs.Infer.{Inferred}
-use Rattle.formats.specs.Slots.{callFolded}
+use Rattle.formats.specs.Code.Slots.{callFolded}
 use Rattle.formats.proofs.SlotLaws.{call-name-inside, call-name-read}
 use Rattle.matching.specs.Match.{when, each}
 use Rattle.matching.specs.Literal.{isLiteral}
@@ -29,17 +29,17 @@ use Rattle.lints.specs.Finding.{byFormats, byLiterals, Failure}
 use Rattle.lints.specs.Recognition.{compared, passed, accepted, remark, judged}
 use Rattle.lints.specs.Calls.{Call}
 use Rattle.lints.specs.Builtin.{builtins, domainIn, failure, failed, builtinOn}
-use Rattle.lints.specs.Part.{argumentOf}
-use Rattle.lints.specs.Records.{callAt}
+use Rattle.lints.specs.Code.Part.{argumentOf}
+use Rattle.lints.specs.Code.Records.{callAt}
 use Rattle.lints.proofs.PartLaws.{failure-same}
 use Rattle.findings.specs.declared.Task.{Task}
 use Rattle.findings.specs.declared.Note.{Note}
 use Rattle.lints.specs.declared.recognition.Verdict.{Verdict}
 use Rattle.lints.specs.declared.recognition.Verdict.the-variants.{Nothing, TooWide, ByFormats, ByLiterals}
-use Rattle.findings.specs.Events.{Tally, Over, Event, found, tooWide, Sink, sinkOf, met, collect}
-use Rattle.findings.specs.Tasks.{noteWords, remarkEvents, recognitionEvents, callEvents, callsAt}
-use Rattle.findings.specs.Judging.{callNote, callFound, verdictEvents, failureEvents, isOver}
-use Rattle.lints.specs.Verdicts.{verdictOf}
+use Rattle.findings.specs.Code.Events.{Tally, Over, Event, found, tooWide, Sink, sinkOf, met, collect}
+use Rattle.findings.specs.Code.Tasks.{noteWords, remarkEvents, recognitionEvents, callEvents, callsAt}
+use Rattle.findings.specs.Code.Judging.{callNote, callFound, verdictEvents, failureEvents, isOver}
+use Rattle.lints.specs.Code.Verdicts.{verdictOf}
 use Rattle.findings.proofs.CollectLaws.{collect-none, collect-one}
 
 -- ---- collecting

@@ -7,7 +7,7 @@ use lib.ListN.{length, set}
 use borrow.Author.Tests.{le-leb, lt-leb}
 use Rattle.buffers.specs.Written.{written}
 use Rattle.buffers.proofs.WrittenLaws.{written-one, written-more, written-length}
-use Rattle.findings.specs.Events.{Tally, Full, Upto, Event, found, Sink, sinkOf, afterNote, met, collect}
+use Rattle.findings.specs.Code.Events.{Tally, Full, Upto, Event, found, Sink, sinkOf, afterNote, met, collect}
 
 -- ---- writing
 

@@ -12,20 +12,20 @@ use Rattle.file.specs.Sections.{File}
 use Rattle.law.specs.Tree.{Run, Conditions, noCondition, condition, keep}
 use Rattle.law.specs.Places.{patternAt, patternPart}
 use Rattle.law.specs.Reading.{runOf, own, sentencesAt}
-use Rattle.law.specs.Index.{Readable}
+use Rattle.law.specs.Code.Index.{Readable}
 use Rattle.law.proofs.Functions.{kept-reads}
 use Rattle.matching.specs.Pattern.{Pattern, patternOf}
 use Rattle.matching.specs.Shadow.{shadowsWith}
 use Rattle.sentences.specs.Entry.{patternIn}
 use Rattle.lints.specs.Finding.{Remark}
 use Rattle.lints.specs.Dead.{Earlier, unconditional, earliest, deadAfter}
-use Rattle.lints.specs.Records.{conditionsAt, earlierAt, numberOr0}
+use Rattle.lints.specs.Code.Records.{conditionsAt, earlierAt, numberOr0}
 use Rattle.lints.proofs.DeadLaws.{orElse, earliest-append}
 use Rattle.findings.specs.declared.Task.{Task}
-use Rattle.findings.specs.Events.{Tally, found, Sink, sinkOf, met, collect}
-use Rattle.findings.specs.Tasks.{noteWords, remarkEvent, remarkEvents}
+use Rattle.findings.specs.Code.Events.{Tally, found, Sink, sinkOf, met, collect}
+use Rattle.findings.specs.Code.Tasks.{noteWords, remarkEvent, remarkEvents}
 use Rattle.findings.proofs.CollectLaws.{collect-append}
-use Rattle.findings.specs.DeadSteps.{sentenceWords, deadEvents, deadFrom}
+use Rattle.findings.specs.Code.DeadSteps.{sentenceWords, deadEvents, deadFrom}
 
 pub remarks-append : (task : Task) (rs qs : List Remark) → remarkEvents task (rs ++ qs) ≡ remarkEvents task rs ++ remarkEvents task qs
 unfolding remarkEvents

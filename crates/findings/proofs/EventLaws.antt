@@ -24,10 +24,10 @@ use Rattle.lints.specs.Open.{eOccurrences, openIn, openRemarks, openFindings}
 use Rattle.lints.specs.Levels.{Settings, severityOf, isShown, shown}
 use Rattle.lints.specs.Findings.{findingsOf}
 use Rattle.findings.specs.declared.Task.{Task}
-use Rattle.findings.specs.Events.{Event, found, tooWide}
-use Rattle.findings.specs.Walk.{walkedSentences}
-use Rattle.findings.specs.Tasks.{remarkEvent, remarkEvents, recognitionEvents, callEvents, blockEvents, functionEvents, atPosition, functionsEvents, lintEvents}
-use Rattle.findings.specs.All.{taskFor, taskEvents, allEvents}
+use Rattle.findings.specs.Code.Events.{Event, found, tooWide}
+use Rattle.findings.specs.Code.Walk.{walkedSentences}
+use Rattle.findings.specs.Code.Tasks.{remarkEvent, remarkEvents, recognitionEvents, callEvents, blockEvents, functionEvents, atPosition, functionsEvents, lintEvents}
+use Rattle.findings.specs.Code.All.{taskFor, taskEvents, allEvents}
 use Rattle.findings.proofs.WalkEvents.{each-append, walk-sentence-calls, walk-sentence-blocks}
 
 -- ---- lists

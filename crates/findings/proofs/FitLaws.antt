@@ -12,7 +12,7 @@ use lib.Dec.{ltb, leb}
 use Rattle.buffers.specs.Written.{written}
 use Rattle.buffers.proofs.WrittenLaws.{written-none, written-more, written-length}
 use Rattle.matching.specs.Match.{each}
-use Rattle.findings.specs.Events.{Full, Upto, Event, found, tooWide, Sink, sinkOf, afterNote, noted, met, collect}
+use Rattle.findings.specs.Code.Events.{Full, Upto, Event, found, tooWide, Sink, sinkOf, afterNote, noted, met, collect}
 
 -- findings of eight words each
 module _ {X : Type 0} (words : X → List ℕ) (eight : (x : X) → length (words x) ≡ 8) where

@@ -18,16 +18,16 @@ use Rattle.law.specs.Tree.{Mark, Run, Sentences, noSentence, keep}
 use Rattle.law.specs.Places.{firstSentence, blockFirst, askedAt, askedSize, askedPart, wantedPart, conditionsOf, firstCondition, patternAt, patternPart, resultAt, resultPart}
 use Rattle.law.specs.Runs.{termForest}
 use Rattle.law.specs.Reading.{markAt, termRun, forestRun, runOf, conditionsFrom, sentencesFrom, sentencesAt, own}
-use Rattle.law.specs.Index.{Indexed, Readable}
+use Rattle.law.specs.Code.Index.{Indexed, Readable}
 use Rattle.law.proofs.PlaceLaws.{block-start, block-grows}
 use Rattle.law.proofs.Functions.{keep-none, kept-reads}
 use Rattle.lints.specs.Calls.{Call as CallOf}
 use Rattle.formats.specs.Infer.{Inferred}
 use Rattle.law.specs.Tree.{Law}
 use Rattle.findings.specs.declared.Task.{Task}
-use Rattle.findings.specs.Events.{Event, Sink, collect}
-use Rattle.findings.specs.Walk.{walked, walkedSentences, walkedConditions}
-use Rattle.findings.specs.Tasks.{callEvents, blockEvents, insideEvents, ownAlone}
+use Rattle.findings.specs.Code.Events.{Event, Sink, collect}
+use Rattle.findings.specs.Code.Walk.{walked, walkedSentences, walkedConditions}
+use Rattle.findings.specs.Code.Tasks.{callEvents, blockEvents, insideEvents, ownAlone}
 use Rattle.findings.proofs.CollectLaws.{collect-none}
 use Rattle.findings.proofs.WalkLaws.{block-none}
 

@@ -11,18 +11,18 @@ use Rattle.file.specs.Sections.{File, fileOf}
 use Rattle.law.specs.Tree.{keep}
 use Rattle.law.specs.Places.{patternAt, patternPart}
 use Rattle.law.specs.Reading.{markAt, runOf, own, sentencesAt}
-use Rattle.law.specs.Index.{Indexed, Readable}
+use Rattle.law.specs.Code.Index.{Indexed, Readable}
 use Rattle.law.proofs.Functions.{kept-reads}
 use Rattle.law.proofs.IndexLaws.{terms-limit}
 use Rattle.matching.specs.Match.{when}
 use Rattle.lints.specs.Finding.{openPattern, Remark}
 use Rattle.lints.specs.Open.{eOccurrences, openIn}
-use Rattle.lints.specs.Part.{argumentOf}
+use Rattle.lints.specs.Code.Part.{argumentOf}
 use Rattle.lints.proofs.PartLaws.{e-same}
 use Rattle.findings.specs.declared.Task.{Task}
-use Rattle.findings.specs.Events.{Tally, Event, found, Sink, sinkOf, met, collect}
-use Rattle.findings.specs.Tasks.{remarkEvents}
-use Rattle.findings.specs.DeadSteps.{sentenceWords}
+use Rattle.findings.specs.Code.Events.{Tally, Event, found, Sink, sinkOf, met, collect}
+use Rattle.findings.specs.Code.Tasks.{remarkEvents}
+use Rattle.findings.specs.Code.DeadSteps.{sentenceWords}
 use Rattle.findings.proofs.CollectLaws.{collect-append}
 use Rattle.findings.proofs.DeadLaws.{remarks-append}
 

@@ -13,9 +13,9 @@ use Rattle.lints.specs.Calls.{Call, sentenceCalls}
 use Rattle.lints.specs.Recognition.{compared, passed, judged, someOver, argumentsOver}
 use Rattle.lints.specs.Levels.{Settings, isShown}
 use Rattle.findings.specs.declared.Task.{Task}
-use Rattle.findings.specs.Events.{Tally, Over, Event, found, tooWide, Sink, sinkOf, met, collect}
-use Rattle.findings.specs.Tasks.{remarkEvents, recognitionEvents, callEvents, blockEvents, functionEvents, atPosition, functionsEvents}
-use Rattle.findings.specs.All.{taskFor, taskEvents, allEvents}
+use Rattle.findings.specs.Code.Events.{Tally, Over, Event, found, tooWide, Sink, sinkOf, met, collect}
+use Rattle.findings.specs.Code.Tasks.{remarkEvents, recognitionEvents, callEvents, blockEvents, functionEvents, atPosition, functionsEvents}
+use Rattle.findings.specs.Code.All.{taskFor, taskEvents, allEvents}
 use Rattle.findings.proofs.CollectLaws.{collect-append}
 use Rattle.findings.proofs.WalkEvents.{walk-sentence-calls}
 use Rattle.findings.proofs.EventLaws.{over-append}

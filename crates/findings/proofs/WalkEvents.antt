@@ -6,8 +6,8 @@ use Rattle.law.specs.Tree.{Run, empty, symbol, variable, bracket, call, block, 
 use Rattle.matching.specs.Match.{when, each}
 use Rattle.lints.specs.Calls.{Call, calls, sentenceCalls, conditionCalls}
 use Rattle.lints.specs.Dead.{blocks, sentenceBlocks, conditionBlocks}
-use Rattle.findings.specs.Events.{Event}
-use Rattle.findings.specs.Walk.{walked, walkedSentences, walkedConditions}
+use Rattle.findings.specs.Code.Events.{Event}
+use Rattle.findings.specs.Code.Walk.{walked, walkedSentences, walkedConditions}
 
 -- what is said of the members of two lists
 pub each-append : {X Y : Type 0} (f : X → List Y) (xs ys : List X) → each f (xs ++ ys) ≡ each f xs ++ each f ys

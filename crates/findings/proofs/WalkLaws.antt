@@ -20,9 +20,9 @@ use Rattle.matching.specs.Match.{when, each}
 use Rattle.lints.specs.Calls.{Call as CallOf}
 use Rattle.lints.specs.Dead.{Earlier, unconditional, earliest, deadBy, deadAfter, ownDead, blockDead}
 use Rattle.findings.specs.declared.Task.{Task}
-use Rattle.findings.specs.Events.{Event, Sink, collect}
-use Rattle.findings.specs.Walk.{walked, walkedTerm, walkedSentences}
-use Rattle.findings.specs.Tasks.{remarkEvent, remarkEvents, blockEvents}
+use Rattle.findings.specs.Code.Events.{Event, Sink, collect}
+use Rattle.findings.specs.Code.Walk.{walked, walkedTerm, walkedSentences}
+use Rattle.findings.specs.Code.Tasks.{remarkEvent, remarkEvents, blockEvents}
 use Rattle.findings.proofs.CollectLaws.{collect-none}
 
 -- ---- the size of a tree: its terms, sentences and conditions

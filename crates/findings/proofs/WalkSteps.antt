@@ -18,7 +18,7 @@ use Rattle.law.specs.Tree.{empty, noSentence, keep}
 use Rattle.law.specs.Places.{blockFirst, sentencesOf, firstSentence, conditionsOf, firstCondition, patternAt, resultAt, patternPart, resultPart, askedAt, askedSize, askedPart, wantedPart, Owns}
 use Rattle.law.specs.Runs.{endOf}
 use Rattle.law.specs.Reading.{markAt, runOf, own, sentencesAt, sentencesIn, conditionsFrom, treeOf}
-use Rattle.law.specs.Index.{Indexed, Readable, PartAt}
+use Rattle.law.specs.Code.Index.{Indexed, Readable, PartAt}
 use Rattle.law.proofs.Parts.{terms-word, terms-end, terms-contents}
 use Rattle.law.proofs.RunLaws.{end-high, run-empty, run-node, fits-first}
 use Rattle.law.proofs.Functions.{functionsAt, tree-functions, function-reads, functions-end as functions-over, kept-reads}
@@ -28,14 +28,14 @@ use Rattle.law.proofs.IndexLaws.{functions-limit, sentences-limit, conditions-l
 use Rattle.formats.specs.Infer.{Inferred}
 use Rattle.matching.specs.Match.{when, each}
 use Rattle.sentences.specs.Entry.{argumentPart, argumentIn}
-use Rattle.matching.specs.Part.{from}
+use Rattle.matching.specs.Code.Part.{from}
 use Rattle.matching.proofs.CutLaws.{from-length, from-from, from-all}
 use Rattle.lints.specs.Open.{openIn}
-use Rattle.lints.specs.Records.{Prepared}
+use Rattle.lints.specs.Code.Records.{Prepared}
 use Rattle.findings.specs.declared.Task.{Task}
-use Rattle.findings.specs.Events.{Event, Sink, collect}
-use Rattle.findings.specs.Walk.{walked}
-use Rattle.findings.specs.Tasks.{callEvents, blockEvents, callsAt, runEvents, termEvents, insideEvents, conditionEvents, functionEvents, functionsEvents, lintEvents, atPosition, remarkEvents}
+use Rattle.findings.specs.Code.Events.{Event, Sink, collect}
+use Rattle.findings.specs.Code.Walk.{walked}
+use Rattle.findings.specs.Code.Tasks.{callEvents, blockEvents, callsAt, runEvents, termEvents, insideEvents, conditionEvents, functionEvents, functionsEvents, lintEvents, atPosition, remarkEvents}
 use Rattle.findings.proofs.CollectLaws.{collect-append, collect-none, collect-then}
 use Rattle.findings.proofs.WalkLaws.{runSize, sentencesSize, conditionsSize, term-size, callsOf, words-calls, run-walked, term-walked, leaf-walked, block-none, own-block}
 

@@ -8,11 +8,11 @@ use lints::levels::severity_of;
 ghost use mathlib.Core.Path.{_≡_};
 ghost use Rattle.file.specs.Sections.{fileOf};
 ghost use Rattle.law.specs.Reading.{treeOf};
-ghost use Rattle.lints.specs.Records.{Prepared, formatsIn};
-ghost use Rattle.findings.specs.Events.{Upto, sinkOf, collect};
+ghost use Rattle.lints.specs.Code.Records.{Prepared, formatsIn};
+ghost use Rattle.findings.specs.Code.Events.{Upto, sinkOf, collect};
 ghost use Rattle.lints.specs.Lint.{lintNumber, Lint};
 ghost use Rattle.lints.specs.Levels.{settingsFrom};
-ghost use Rattle.findings.specs.All.{taskFor, isDue, taskEvents, allEvents};
+ghost use Rattle.findings.specs.Code.All.{taskFor, isDue, taskEvents, allEvents};
 
 // What a lint is to do.
 fn task_of(mode: u32, overrides: &[u32], lint: u32, room: usize, limit: usize) -> Task

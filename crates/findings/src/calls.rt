@@ -20,15 +20,15 @@ ghost use Prim.Native.Nat.{_*_, _<_};
 ghost use Rattle.file.specs.Word.{wordAt};
 ghost use Rattle.file.specs.Sections.{fileOf};
 ghost use Rattle.law.specs.Reading.{treeOf};
-ghost use Rattle.law.specs.Index.{Indexed};
+ghost use Rattle.law.specs.Code.Index.{Indexed};
 ghost use Rattle.law.specs.Law.{Accepted};
 ghost use Rattle.matching.specs.Match.{when, each};
 ghost use Rattle.lints.specs.Builtin.{builtinOn};
-ghost use Rattle.lints.specs.Part.{failureIn};
-ghost use Rattle.lints.specs.Records.{Prepared, formatsIn, callAt};
-ghost use Rattle.findings.specs.Events.{sinkOf, met, collect};
-ghost use Rattle.findings.specs.Tasks.{remarkEvents, recognitionEvents, callEvents, callsAt};
-ghost use Rattle.findings.specs.Judging.{callNote, callFound, verdictEvents, failureEvents, isOver};
+ghost use Rattle.lints.specs.Code.Part.{failureIn};
+ghost use Rattle.lints.specs.Code.Records.{Prepared, formatsIn, callAt};
+ghost use Rattle.findings.specs.Code.Events.{sinkOf, met, collect};
+ghost use Rattle.findings.specs.Code.Tasks.{remarkEvents, recognitionEvents, callEvents, callsAt};
+ghost use Rattle.findings.specs.Code.Judging.{callNote, callFound, verdictEvents, failureEvents, isOver};
 
 // A finding about the call at a term record, with a word of its own.
 fn call_note(law: &[u8], index: &[u16; 972], t: usize, a: u32) -> Note

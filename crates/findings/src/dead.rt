@@ -14,12 +14,12 @@ ghost use Rattle.file.specs.Word.{wordAt};
 ghost use Rattle.file.specs.Sections.{fileOf};
 ghost use Rattle.law.specs.Tree.{keep};
 ghost use Rattle.law.specs.Reading.{sentencesAt};
-ghost use Rattle.law.specs.Index.{Indexed};
+ghost use Rattle.law.specs.Code.Index.{Indexed};
 ghost use Rattle.law.specs.Law.{Accepted};
 ghost use Rattle.lints.specs.Dead.{earliest, deadAfter};
-ghost use Rattle.findings.specs.Events.{found, sinkOf, met, collect};
-ghost use Rattle.findings.specs.Tasks.{remarkEvents};
-ghost use Rattle.findings.specs.DeadSteps.{sentenceWords, deadEvents};
+ghost use Rattle.findings.specs.Code.Events.{found, sinkOf, met, collect};
+ghost use Rattle.findings.specs.Code.Tasks.{remarkEvents};
+ghost use Rattle.findings.specs.Code.DeadSteps.{sentenceWords, deadEvents};
 
 // A word of the index as a number.
 fn wide(word: u16) -> usize

@@ -3,8 +3,8 @@ ghost use mathlib.Core.Path.{_≡_};
 ghost use Prim.Native.Nat.{_+_, _*_, _≤_};
 ghost use lib.ListN.{length};
 ghost use Rattle.buffers.specs.Written.{written};
-ghost use Rattle.findings.specs.Events.{found, sinkOf, met};
-ghost use Rattle.findings.specs.Tasks.{noteWords};
+ghost use Rattle.findings.specs.Code.Events.{found, sinkOf, met};
+ghost use Rattle.findings.specs.Code.Tasks.{noteWords};
 
 pub mod all;
 pub mod calls;

@@ -9,11 +9,11 @@ ghost use Prim.Native.Nat.{_+_, _≤_, _<_};
 ghost use Rattle.file.specs.Sections.{fileOf};
 ghost use Rattle.law.specs.Tree.{keep};
 ghost use Rattle.law.specs.Reading.{sentencesAt};
-ghost use Rattle.law.specs.Index.{Indexed};
+ghost use Rattle.law.specs.Code.Index.{Indexed};
 ghost use Rattle.law.specs.Law.{Accepted};
 ghost use Rattle.lints.specs.Open.{openIn};
-ghost use Rattle.findings.specs.Events.{sinkOf, collect};
-ghost use Rattle.findings.specs.Tasks.{remarkEvents};
+ghost use Rattle.findings.specs.Code.Events.{sinkOf, collect};
+ghost use Rattle.findings.specs.Code.Tasks.{remarkEvents};
 
 // Notes a sentence, where its pattern has two e. occurrences or more.
 fn note_pattern(

@@ -30,11 +30,11 @@ ghost use Rattle.law.specs.Tree.{keep};
 ghost use Rattle.law.specs.Places.{sentencesOf, firstSentence};
 ghost use Rattle.matching.specs.Match.{when};
 ghost use Rattle.law.specs.Reading.{runOf, own, sentencesAt, treeOf};
-ghost use Rattle.law.specs.Index.{Indexed, PartAt};
+ghost use Rattle.law.specs.Code.Index.{Indexed, PartAt};
 ghost use Rattle.law.specs.Law.{Accepted};
-ghost use Rattle.lints.specs.Records.{Prepared, formatsIn, conditionsAt};
-ghost use Rattle.findings.specs.Events.{sinkOf, collect};
-ghost use Rattle.findings.specs.Tasks.{ownAlone, blockEvents, termEvents, runEvents, insideEvents, conditionEvents, functionEvents, lintEvents};
+ghost use Rattle.lints.specs.Code.Records.{Prepared, formatsIn, conditionsAt};
+ghost use Rattle.findings.specs.Code.Events.{sinkOf, collect};
+ghost use Rattle.findings.specs.Code.Tasks.{ownAlone, blockEvents, termEvents, runEvents, insideEvents, conditionEvents, functionEvents, lintEvents};
 
 // Notes the dead ones of a block's own sentences, where the task is lint 1.
 fn note_block(

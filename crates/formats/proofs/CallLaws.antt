@@ -15,7 +15,7 @@ use Rattle.shapes.specs.Same.{sameFormat}
 use Rattle.formats.specs.FormatOf.{Results, resultShapes, patternShapes}
 use Rattle.formats.specs.Infer.{Entry, Inferred, Rounds, namesOf, allAt, find, joinResults, joinPatterns, round, roundsFrom, roundLimit, arguments, inferWithin, infer}
 use Rattle.formats.specs.Store.{StoreHolds, storeSize, startOf}
-use Rattle.formats.specs.Turns.{Asked, Holding, ArgumentsIs, RoundsIs, StartedIs, InferIs}
+use Rattle.formats.specs.Code.Turns.{Asked, Holding, ArgumentsIs, RoundsIs, StartedIs, InferIs}
 use Rattle.formats.specs.Call.{inferredOutcome, lawOutcome, callOutcome, outcomeOf}
 use Rattle.formats.specs.declared.infer.Inference.{Inference}
 use Rattle.formats.specs.declared.infer.Inference.the-variants.{TooWide, Ran}
@@ -24,10 +24,10 @@ use Rattle.formats.specs.declared.Answered.the-variants.{Refused, Shapes
 use Rattle.formats.proofs.EntryLaws.{nameOf, updated, changes, infer-given, infer-arguments-over, infer-rounds-over}
 use Rattle.formats.proofs.StateLaws.{read-past, start-holds}
 use Rattle.formats.proofs.RoundSteps.{names-at-most}
-use Rattle.formats.specs.Slots.{SlotsOf, fileNames}
+use Rattle.formats.specs.Code.Slots.{SlotsOf, fileNames}
 use Rattle.file.specs.Sections.{fileOf, numberOf}
 use Rattle.file.proofs.Answers.{map-refused, map-given}
-use Rattle.law.specs.Index.{Indexed, Readable}
+use Rattle.law.specs.Code.Index.{Indexed, Readable}
 use Rattle.law.specs.Reading.{treeOf}
 use Rattle.law.specs.Law.{lawOf, checkAnswer, verdictOf, IndexAfter}
 use Rattle.law.specs.declared.Check.{Check}

@@ -16,7 +16,7 @@ use Rattle.file.proofs.Answers.{bind-given, pass-given}
 use Rattle.law.specs.Tree.{Sentences, noSentence, sentence, Function, Law, keep}
 use Rattle.law.specs.Places.{sentencesOf, firstSentence, patternAt, patternPart, resultAt, resultPart}
 use Rattle.law.specs.Reading.{runOf, own, sentencesAt}
-use Rattle.law.specs.Index.{Readable}
+use Rattle.law.specs.Code.Index.{Readable}
 use Rattle.law.proofs.Functions.{functionsAt, functions-end, function-reads, kept-reads}
 use Rattle.shapes.specs.Format.{Shapes, Format, never, of, size}
 use Rattle.shapes.specs.Join.{join}
@@ -26,7 +26,7 @@ use Rattle.shapes.proofs.SameLaws.{same-equal}
 use Rattle.formats.specs.FormatOf.{patternShapes, Results, resultShapes}
 use Rattle.formats.specs.Infer.{Entry, namesOf, find, renew, orNever, allAt, joinResults, joinPatterns, round, Rounds, roundsFrom, roundLimit, arguments, inferWithin, infer}
 use Rattle.formats.specs.Store.{entryNames, formatIn, put, EachEntry, Small}
-use Rattle.formats.specs.Slots.{position, functionFolded}
+use Rattle.formats.specs.Code.Slots.{position, functionFolded}
 
 -- ---- names
 

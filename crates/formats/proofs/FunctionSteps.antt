@@ -19,9 +19,9 @@ use Rattle.shapes.specs.Same.{sameFormat}
 use Rattle.shapes.specs.Words.{readFormat}
 use Rattle.formats.specs.Infer.{Entry, find, arguments, round}
 use Rattle.formats.specs.Store.{Small, formatIn, put, StoreHolds}
-use Rattle.formats.specs.Slots.{fileNames, functionFolded, position}
-use Rattle.formats.specs.Rows.{formatAt}
-use Rattle.formats.specs.Turns.{Asked, Holding, resultsIn, rowsJoined, formatNumber, turnOf, TurnIs, ArgumentsIs, RoundIs}
+use Rattle.formats.specs.Code.Slots.{fileNames, functionFolded, position}
+use Rattle.formats.specs.Code.Rows.{formatAt}
+use Rattle.formats.specs.Code.Turns.{Asked, Holding, resultsIn, rowsJoined, formatNumber, turnOf, TurnIs, ArgumentsIs, RoundIs}
 use Rattle.formats.specs.declared.infer.Turn.{Turn}
 use Rattle.formats.specs.declared.infer.Turn.the-variants.{Over, Changed, Same}
 use Rattle.formats.proofs.EntryLaws.{join-small, format-small, functionResults, functionPatterns, arguments-next, arguments-over, arguments-end, round-next, round-over, round-end}

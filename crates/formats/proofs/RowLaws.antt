@@ -22,7 +22,7 @@ use Rattle.file.specs.declared.Term.{Term}
 use Rattle.law.specs.Tree.{Mark, Run, empty, symbol, variable, bracket, call, block, Sentences}
 use Rattle.law.specs.Runs.{endOf}
 use Rattle.law.specs.Reading.{termRun, own}
-use Rattle.law.specs.Index.{Readable, PartAt}
+use Rattle.law.specs.Code.Index.{Readable, PartAt}
 use Rattle.law.proofs.RunLaws.{run-empty, run-node}
 use Rattle.law.proofs.PartLaws.{part-at, part-term, part-leaf, part-end, contents-part, rest-part}
 use Rattle.shapes.specs.Leaf.{leafWord, leafAt, leafOf}
@@ -32,8 +32,8 @@ use Rattle.buffers.specs.Written.{written}
 use Rattle.shapes.proofs.WordLaws.{words-length, format-words-length, read-write}
 use Rattle.buffers.proofs.WrittenLaws.{written-none, written-more, written-one, written-front, written-length}
 use Rattle.formats.specs.FormatOf.{variableShapes, patternShapes, chain, extend, Results, resultShapes}
-use Rattle.formats.specs.Slots.{callFolded}
-use Rattle.formats.specs.Rows.{formatAt, Knows, RowIs, Between, Stored, storedAt, stepOf, calleeShapes, stepShapes, partShapes, firstShapes, RowAsked, LeafKind, leftOf, Onward, LeavesAre}
+use Rattle.formats.specs.Code.Slots.{callFolded}
+use Rattle.formats.specs.Code.Rows.{formatAt, Knows, RowIs, Between, Stored, storedAt, stepOf, calleeShapes, stepShapes, partShapes, firstShapes, RowAsked, LeafKind, leftOf, Onward, LeavesAre}
 use Rattle.formats.specs.declared.Row.{Row}
 use Rattle.formats.specs.declared.Row.the-variants.{Over, Ends}
 use Rattle.formats.specs.declared.rows.Step as steps

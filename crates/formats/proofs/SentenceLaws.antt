@@ -15,7 +15,7 @@ use Rattle.file.specs.Sections.{File}
 use Rattle.law.specs.Tree.{keep}
 use Rattle.law.specs.Places.{patternAt, patternPart, resultAt, resultPart}
 use Rattle.law.specs.Reading.{runOf, own, sentencesAt}
-use Rattle.law.specs.Index.{Readable, PartAt}
+use Rattle.law.specs.Code.Index.{Readable, PartAt}
 use Rattle.law.proofs.PartLaws.{pattern-part, result-part}
 use Rattle.shapes.specs.Format.{Shapes, Format, never, of, size}
 use Rattle.shapes.specs.Join.{join}
@@ -24,9 +24,9 @@ use Rattle.shapes.proofs.WordLaws.{format-words-length, read-write}
 use Rattle.formats.specs.FormatOf.{Results}
 use Rattle.formats.specs.Infer.{Entry, find}
 use Rattle.formats.specs.Store.{entryNames, formatIn, Small, StoreHolds}
-use Rattle.formats.specs.Slots.{fileNames, SlotsOf}
-use Rattle.formats.specs.Rows.{formatAt, Knows, Stored, partShapes}
-use Rattle.formats.specs.Turns.{Holding, entriesFrom, argumentsIn, resultsIn, FormatMade, rowOf, rowsJoined, JoinedIs}
+use Rattle.formats.specs.Code.Slots.{fileNames, SlotsOf}
+use Rattle.formats.specs.Code.Rows.{formatAt, Knows, Stored, partShapes}
+use Rattle.formats.specs.Code.Turns.{Holding, entriesFrom, argumentsIn, resultsIn, FormatMade, rowOf, rowsJoined, JoinedIs}
 use Rattle.formats.proofs.EntryLaws.{join-small, format-small, results-next, results-over, results-end, patterns-next, patterns-over, patterns-end}
 use Rattle.formats.proofs.StateLaws.{arguments-length, results-length, read-result, read-argument-format, read-result-format, store-knows}
 use Rattle.formats.proofs.RowLaws.{pattern-row, knows-none}

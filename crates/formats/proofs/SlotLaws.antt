@@ -23,7 +23,7 @@ use Rattle.law.specs.Reading.{functionName, functionsFrom, treeOf, sentencesFro
 use Rattle.law.proofs.IndexLaws.{zero-offset}
 use Rattle.law.proofs.Functions.{tree-length}
 use Rattle.formats.specs.Infer.{insertName, namesOf}
-use Rattle.formats.specs.Slots.{position, functionFolded, callFolded, fileNames, listed, namesFrom, lessCount, namesAt, newly, Filled, NamedFrom, Places, SlotsUpTo, CalleeSlot}
+use Rattle.formats.specs.Code.Slots.{position, functionFolded, callFolded, fileNames, listed, namesFrom, lessCount, namesAt, newly, Filled, NamedFrom, Places, SlotsUpTo, CalleeSlot}
 
 -- ---- sorted names
 

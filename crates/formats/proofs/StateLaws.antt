@@ -16,8 +16,8 @@ use Rattle.buffers.specs.Written.{written}
 use Rattle.shapes.proofs.WordLaws.{filled-length, format-words-length, read-write}
 use Rattle.formats.specs.Infer.{Entry, find, allAt}
 use Rattle.formats.specs.Store.{entryWords, storeSize, storeOf, rowWords, startOf, entryNames, formatIn, put, EachEntry, Small, Storable, StoreHolds}
-use Rattle.formats.specs.Slots.{position, callFolded, fileNames, SlotsOf}
-use Rattle.formats.specs.Rows.{formatAt, Knows}
+use Rattle.formats.specs.Code.Slots.{position, callFolded, fileNames, SlotsOf}
+use Rattle.formats.specs.Code.Rows.{formatAt, Knows}
 use Rattle.formats.proofs.EntryLaws.{names-length, names-put, names-all-at, put-small, all-at-small, format-small, find-some, find-none}
 
 -- ---- a row of formats

@@ -9,7 +9,7 @@ use lib.ListN.{length, take, drop, getD, set, replicate, length-append, length-d
 use lib.Seq.{take-at, take-take, getD-take, getD-drop, drop-drop, length-take-le}
 use lib.Dec.{leb}
 use Rattle.file.specs.Sections.{File, fileOf}
-use Rattle.law.specs.Index.{PartAt}
+use Rattle.law.specs.Code.Index.{PartAt}
 use Rattle.law.proofs.Parts.{drop-take}
 use Rattle.law.proofs.IndexLaws.{terms-limit}
 use Rattle.shapes.specs.Format.{Shapes, Format, never, of, size, formatSize, isOpen}
@@ -22,8 +22,8 @@ use Rattle.buffers.proofs.WrittenLaws.{written-front}
 use Rattle.shapes.proofs.JoinLaws.{within-join}
 use Rattle.shapes.proofs.SameLaws.{same-itself}
 use Rattle.shapes.proofs.FormatLaws.{written-filled, format-in-length, format-in-read, format-in-words, read-never, read-row, join-small, join-format-in, same-words-format}
-use Rattle.formats.specs.Rows.{formatAt, RowIs, RowAsked, Stored}
-use Rattle.formats.specs.Turns.{Asked, FormatMade}
+use Rattle.formats.specs.Code.Rows.{formatAt, RowIs, RowAsked, Stored}
+use Rattle.formats.specs.Code.Turns.{Asked, FormatMade}
 use Rattle.formats.specs.declared.Row.{Row}
 use Rattle.formats.specs.declared.Row.the-variants.{Over, Ends}
 use Rattle.formats.proofs.RowLaws.{over-passes, ends-fits, ends-at, ends-open}

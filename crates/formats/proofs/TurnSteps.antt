@@ -22,9 +22,9 @@ use Rattle.shapes.proofs.WordLaws.{read-write}
 use Rattle.formats.specs.FormatOf.{Results}
 use Rattle.formats.specs.Infer.{joinResults, joinPatterns}
 use Rattle.formats.specs.Store.{Small, formatIn}
-use Rattle.formats.specs.Rows.{formatAt}
-use Rattle.formats.specs.Slots.{fileNames, functionFolded, position}
-use Rattle.formats.specs.Turns.{Asked, Holding, rowsJoined, JoinedIs, formatNumber, turnOf, TurnIs}
+use Rattle.formats.specs.Code.Rows.{formatAt}
+use Rattle.formats.specs.Code.Slots.{fileNames, functionFolded, position}
+use Rattle.formats.specs.Code.Turns.{Asked, Holding, rowsJoined, JoinedIs, formatNumber, turnOf, TurnIs}
 use Rattle.formats.specs.declared.infer.Turn.{Turn}
 use Rattle.formats.specs.declared.infer.Turn.the-variants.{Over, Changed, Same}
 use Rattle.formats.proofs.EntryLaws.{results-small, patterns-small, format-small}

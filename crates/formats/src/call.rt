@@ -9,13 +9,13 @@ ghost use mathlib.Core.Path.{_≡_};
 ghost use Prim.Native.Nat.{ℕ, _+_, _*_, _≤_};
 ghost use lib.ListN.{length, drop, replicate};
 ghost use Rattle.file.specs.Sections.{fileOf};
-ghost use Rattle.law.specs.Index.{Indexed, Readable};
+ghost use Rattle.law.specs.Code.Index.{Indexed, Readable};
 ghost use Rattle.law.specs.Reading.{treeOf};
 ghost use Rattle.shapes.specs.Format.{Format};
 ghost use Rattle.formats.specs.Infer.{allAt, infer};
 ghost use Rattle.formats.specs.Store.{StoreHolds, storeSize, startOf};
-ghost use Rattle.formats.specs.Slots.{fileNames, SlotsOf};
-ghost use Rattle.formats.specs.Turns.{Asked, StartedIs, InferIs};
+ghost use Rattle.formats.specs.Code.Slots.{fileNames, SlotsOf};
+ghost use Rattle.formats.specs.Code.Turns.{Asked, StartedIs, InferIs};
 
 // Sets a store's words to zero; words past it are kept.
 pub fn clear_store(store: &mut [u32], limit: usize)

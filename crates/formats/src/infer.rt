@@ -32,9 +32,9 @@ ghost use Rattle.buffers.specs.Written.{written};
 ghost use Rattle.formats.specs.FormatOf.{Results};
 ghost use Rattle.formats.specs.Infer.{Entry, find, arguments, round, roundsFrom};
 ghost use Rattle.formats.specs.Store.{StoreHolds};
-ghost use Rattle.formats.specs.Slots.{fileNames, functionFolded, position};
-ghost use Rattle.formats.specs.Rows.{formatAt, Knows, partShapes, RowAsked};
-ghost use Rattle.formats.specs.Turns.{Asked, Holding, resultsIn, FormatMade, rowOf, rowsJoined, JoinedIs, formatNumber, TurnIs, ArgumentsIs, RoundIs, RoundsIs};
+ghost use Rattle.formats.specs.Code.Slots.{fileNames, functionFolded, position};
+ghost use Rattle.formats.specs.Code.Rows.{formatAt, Knows, partShapes, RowAsked};
+ghost use Rattle.formats.specs.Code.Turns.{Asked, Holding, resultsIn, FormatMade, rowOf, rowsJoined, JoinedIs, formatNumber, TurnIs, ArgumentsIs, RoundIs, RoundsIs};
 
 // A function's turn: a row passes the limit on shapes, its name's format changed, or it is as it was.
 pub enum Turn {

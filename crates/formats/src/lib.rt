@@ -8,7 +8,7 @@ use law::read_law;
 ghost use mathlib.Core.Path.{_≡_};
 ghost use Rattle.file.specs.Answer.{given};
 ghost use Rattle.file.specs.Sections.{fileOf};
-ghost use Rattle.law.specs.Index.{Indexed, Readable};
+ghost use Rattle.law.specs.Code.Index.{Indexed, Readable};
 ghost use Rattle.law.specs.Reading.{treeOf};
 ghost use Rattle.formats.specs.Call.{lawOutcome, callOutcome, outcomeOf};
 

@@ -18,7 +18,7 @@ ghost use Rattle.shapes.specs.Format.{end, item, group};
 ghost use Rattle.shapes.specs.Words.{bracketWord};
 ghost use Rattle.buffers.specs.Written.{written};
 ghost use Rattle.formats.specs.FormatOf.{Results};
-ghost use Rattle.formats.specs.Rows.{Knows, RowIs, Between, LeafKind, LeavesAre, Stored, storedAt, symbolStep, stepOf, calleeShapes, partShapes, firstShapes, RowAsked};
+ghost use Rattle.formats.specs.Code.Rows.{Knows, RowIs, Between, LeafKind, LeavesAre, Stored, storedAt, symbolStep, stepOf, calleeShapes, partShapes, firstShapes, RowAsked};
 
 // What a term record adds to a row: a shape of one word, an open end, a bracket, or what the store has for a call.
 enum Step {

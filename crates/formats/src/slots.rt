@@ -15,8 +15,8 @@ ghost use lib.ListN.{length};
 ghost use Rattle.names.specs.Name.{folded, orderBytes};
 ghost use Rattle.file.specs.Sections.{fileOf};
 ghost use Rattle.file.specs.Fields.{fieldsAllowed};
-ghost use Rattle.law.specs.Index.{Indexed};
-ghost use Rattle.formats.specs.Slots.{position, functionFolded, fileNames, SlotsOf, lessCount, newly, NamedFrom, Weights, Places, SlotsUpTo, CalleeSlot};
+ghost use Rattle.law.specs.Code.Index.{Indexed};
+ghost use Rattle.formats.specs.Code.Slots.{position, functionFolded, fileNames, SlotsOf, lessCount, newly, NamedFrom, Weights, Places, SlotsUpTo, CalleeSlot};
 
 // The first function from `from` on that has a name; the number of functions where none has it.
 fn first_named(law: &[u8], index: &[u16; 972], name: &[u8], from: usize) -> usize

@@ -12,7 +12,7 @@ use Rattle.file.specs.Sections.{File, fileOf}
 use Rattle.file.specs.Fields.{fieldsAllowed}
 use Rattle.file.proofs.SectionLaws.{sections-records}
 use Rattle.file.proofs.Below.{both-first, both-second, every-at}
-use Rattle.law.specs.Index.{Readable}
+use Rattle.law.specs.Code.Index.{Readable}
 use Rattle.law.specs.Places.{conditionsOf, blockSize, blockFirst, firstCondition, patternAt, patternPart, resultPart, askedPart, wantedPart}
 use Rattle.law.specs.Runs.{runFits, conditionFits, sentenceFits, usedUp, runsAllowed, blockLater, sentenceBlocks, blocksAllowed}
 use Rattle.law.specs.Variables.{distinct, patternVariables, patternsAllowed}

@@ -15,7 +15,7 @@ use Rattle.file.proofs.Words.{word-part}
 use Rattle.file.proofs.Below.{every-fails}
 use Rattle.law.specs.Places.{blockSize, firstSentence, blockFirst, patternAt}
 use Rattle.law.specs.Runs.{usedUp, blockLater, sentenceBlocks, blocksAllowed}
-use Rattle.law.specs.Index.{Indexed, termsStart}
+use Rattle.law.specs.Code.Index.{Indexed, termsStart}
 use Rattle.law.proofs.Tests.{every-all}
 use Rattle.law.proofs.PlaceLaws as places
 use Rattle.law.proofs.IndexLaws as laws

@@ -12,7 +12,7 @@ use Rattle.law.specs.Reading.{runOf, conditionsFrom, sentenceAt, treeOf,
 use Rattle.law.specs.Depth.{deepest, deepestSentences, deepestConditions, depthOf}
 use Rattle.law.proofs.PlaceLaws.{condition-next, function-inside}
 use Rattle.law.proofs.Allowed.{all-used}
-use Rattle.law.specs.Index.{Readable}
+use Rattle.law.specs.Code.Index.{Readable}
 use Rattle.law.proofs.Functions.{skip-keep, skip-at, kept-reads, tree-length, tree-function}
 
 -- a bound of a whole bounds its parts; a run inside a term is one deeper

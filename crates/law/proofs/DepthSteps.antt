@@ -21,7 +21,7 @@ use Rattle.law.specs.Places.{blockFirst, sentencesOf, firstSentence, con
 use Rattle.law.specs.Runs.{endOf}
 use Rattle.law.specs.Reading.{markAt, termRun, runOf, own, sentencesAt, sentencesIn, conditionsFrom, treeOf}
 use Rattle.law.specs.Depth.{deepest, deepestSentences, deepestConditions, depthOf}
-use Rattle.law.specs.Index.{Readable, PartAt}
+use Rattle.law.specs.Code.Index.{Readable, PartAt}
 use Rattle.law.proofs.RunLaws.{run-empty, run-node}
 use Rattle.law.proofs.Terms.{InsideAllowed}
 use Rattle.law.proofs.Functions.{functionsAt, functionAt, tree-functions, function-reads, functions-end, kept-reads}

@@ -10,7 +10,7 @@ use Rattle.file.specs.Sections.{File}
 use Rattle.law.specs.Tree.{Sentences, noSentence, sentence, Function, Law, keep, skip}
 use Rattle.law.specs.Places.{sentencesOf, firstSentence}
 use Rattle.law.specs.Reading.{sentenceAt, sentencesFrom, functionsFrom, treeOf, sentencesAt, own, functionName}
-use Rattle.law.specs.Index.{Readable}
+use Rattle.law.specs.Code.Index.{Readable}
 use Rattle.law.proofs.Reading.{skip-from, sentence-reads}
 
 -- no sentences, and the sentences after some of the first n

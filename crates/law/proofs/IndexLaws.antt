@@ -11,7 +11,7 @@ use Rattle.file.specs.Sections.{File, fileOf, part}
 use Rattle.file.proofs.Words.{word-part}
 use Rattle.file.proofs.SectionLaws.{sections-length, sections-limits, sections-records, lengthBy}
 use Rattle.law.specs.Places.{sentencesOf, patternSize, conditionsOf, resultSize, askedSize, wantedSize, firstSentence, firstCondition, conditionRecords, sentenceRecords, patternAt, askedAt, resultAt, termsAt, patternPart, resultPart, askedPart, wantedPart, Owns}
-use Rattle.law.specs.Index.{Indexed, functionsStart, sentencesStart, conditionsStart, termsStart}
+use Rattle.law.specs.Code.Index.{Indexed, functionsStart, sentencesStart, conditionsStart, termsStart}
 use Rattle.law.proofs.PlaceLaws as places
 use Rattle.law.proofs.Parts.{part-part}
 

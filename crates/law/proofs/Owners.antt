@@ -23,7 +23,7 @@ use Rattle.law.proofs.RunLaws.{run-first, by-records}
 use Rattle.law.proofs.Terms.{InsideAllowed, block-size, inside-allowed}
 use Rattle.law.specs.Reading.{sentencesIn}
 use Rattle.law.proofs.Allowed.{all-used, pattern-fits, result-fits, asked-fits, wanted-fits, block-after}
-use Rattle.law.specs.Index.{Readable}
+use Rattle.law.specs.Code.Index.{Readable}
 use Rattle.law.proofs.DepthLaws.{sentences-grow, PartsDepth, kept-depth, function-parts-depth, condition-parts-depth}
 
 -- a value between the first and the last of some numbers is between two that follow one another

@@ -12,7 +12,7 @@ use Rattle.file.specs.Sections.{File, fileOf}
 use Rattle.law.specs.Places.{blockSize, blockFirst, termsAt, patternAt, patternSize, patternPart, resultAt, resultSize, resultPart, askedAt, askedSize, askedPart, wantedSize, wantedPart, Owns}
 use Rattle.law.specs.Runs.{endOf, runFits}
 use Rattle.law.specs.Reading.{sentencesIn}
-use Rattle.law.specs.Index.{Indexed, Readable, PartAt}
+use Rattle.law.specs.Code.Index.{Indexed, Readable, PartAt}
 use Rattle.law.proofs.Parts.{terms-length, terms-word, terms-end, terms-contents, terms-rest}
 use Rattle.law.proofs.RunLaws.{fits-first}
 use Rattle.law.proofs.Terms.{InsideAllowed, inside-allowed, block-size}

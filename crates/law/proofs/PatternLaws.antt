@@ -24,7 +24,7 @@ use Rattle.file.proofs.Fields.{leaf-inside, term-at-allowed, fields-terms}
 use Rattle.law.specs.Tree.{Kind, symbolKind, termKind, expressionKind}
 use Rattle.law.specs.Places.{patternAt, patternSize, patternPart}
 use Rattle.law.specs.Variables.{Variable, sameKind, sameVariable, variableOf, variablesFrom, occurs, distinct, patternVariables}
-use Rattle.law.specs.Index.{Indexed}
+use Rattle.law.specs.Code.Index.{Indexed}
 use Rattle.law.proofs.Tests.{every-all}
 use Rattle.law.proofs.Parts.{terms-length}
 use Rattle.law.proofs.IndexLaws.{pattern-fits}

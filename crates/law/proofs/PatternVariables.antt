@@ -21,7 +21,7 @@ use Rattle.law.proofs.PlaceLaws.{pattern-inside}
 use Rattle.law.proofs.RunLaws.{run-none, run-first, by-records}
 use Rattle.law.proofs.Terms.{InsideAllowed, inside-allowed}
 use Rattle.law.proofs.Allowed.{all-used, pattern-fits, variables-few}
-use Rattle.law.specs.Index.{Readable}
+use Rattle.law.specs.Code.Index.{Readable}
 
 -- the variables of records, and of the records after them
 pub variables-split : (text records : List ℕ) (m n t : ℕ)

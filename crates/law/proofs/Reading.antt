@@ -21,7 +21,7 @@ use Rattle.law.proofs.RunLaws.{run-none, run-first, by-records}
 use Rattle.law.proofs.Terms.{block-size}
 use Rattle.law.specs.Reading.{sentencesIn}
 use Rattle.law.proofs.Allowed.{all-used, pattern-fits, result-fits, asked-fits, wanted-fits, block-after}
-use Rattle.law.specs.Index.{Readable}
+use Rattle.law.specs.Code.Index.{Readable}
 
 -- sentences after some of them
 pub skip-from : (file : File) (d left s : ℕ) → skip d (sentencesFrom file left s) ≡ sentencesFrom file (left - d) (s + d)

@@ -16,13 +16,13 @@ use Rattle.file.specs.Answer.{given}
 use Rattle.file.specs.declared.Sections.{Sections}
 use Rattle.file.specs.Sections.{File, sectionsOf, fileOf, countsOf}
 use Rattle.file.proofs.Below.{both-first, both-second, total-next, total-mono}
-use Rattle.file.specs.Code.{Limits}
+use Rattle.file.specs.Code.Counts.{Limits}
 use Rattle.file.proofs.SectionLaws.{part-slice, sections-limits}
 use Rattle.file.proofs.Parts.{cutOut, functionsPart, sentencesPart, conditionsPart, termsPart}
 use Rattle.law.specs.Places.{sentencesOf, patternSize, conditionsOf, resultSize, askedSize, wantedSize, blockSize, firstSentence, blockFirst, firstCondition, sentenceRecords, conditionRecords, patternAt}
 use Rattle.law.specs.Runs.{usedUp}
-use Rattle.law.specs.Index.{functionsStart, sentencesStart, conditionsStart, termsStart, IndexOf, Indexed}
-use Rattle.law.specs.Filling.{Table, wordSum, pairSum, blockWord, blockSum, asWord, TablesOf, header}
+use Rattle.law.specs.Code.Index.{functionsStart, sentencesStart, conditionsStart, termsStart, IndexOf, Indexed}
+use Rattle.law.specs.Code.Filling.{Table, wordSum, pairSum, blockWord, blockSum, asWord, TablesOf, header}
 
 -- a record that stands before the last ends within the records' bytes
 pub record-fits : (size i count n : ℕ) → i < count → size * count ≤ n → size * i + size ≤ n

@@ -16,7 +16,7 @@ use Rattle.law.specs.Reading.{treeOf}
 use Rattle.law.specs.Depth.{depthOf}
 use Rattle.law.specs.Variables.{patternsAllowed}
 use Rattle.law.specs.Law.{lawOf, verdictOf, checkAnswer, IndexAfter}
-use Rattle.law.specs.Index.{Indexed}
+use Rattle.law.specs.Code.Index.{Indexed}
 use Rattle.law.specs.declared.Check.{Check}
 use Rattle.law.specs.declared.Check.the-variants.{Accepted, Refused}
 

@@ -13,7 +13,7 @@ use Rattle.law.specs.Runs.{runsAllowed, blocksAllowed}
 use Rattle.law.specs.Reading.{treeOf}
 use Rattle.law.specs.Depth.{depthOf}
 use Rattle.law.specs.Variables.{patternsAllowed}
-use Rattle.law.specs.Index.{Indexed}
+use Rattle.law.specs.Code.Index.{Indexed}
 use Rattle.law.specs.declared.Check.{Check}
 use Rattle.law.specs.declared.Check.the-variants.{Accepted as Allowed, Refused}
 

@@ -7,7 +7,6 @@ pub mod Runs
 pub mod Reading
 pub mod Depth
 pub mod Variables
-pub mod Index
-pub mod Filling
 pub mod Law
 pub mod Examples
+pub mod Code

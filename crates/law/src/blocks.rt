@@ -10,7 +10,7 @@ ghost use Prim.Native.Nat.{_<_};
 ghost use Rattle.file.specs.Sections.{fileOf};
 ghost use Rattle.law.specs.Places.{blockSize};
 ghost use Rattle.law.specs.Runs.{blockLater, sentenceBlocks, blocksAllowed};
-ghost use Rattle.law.specs.Index.{Indexed};
+ghost use Rattle.law.specs.Code.Index.{Indexed};
 
 // The number of sentences of the block at a term record, 0 where it is no block.
 pub fn block_size(law: &[u8], index: &[u16; 972], t: usize) -> usize

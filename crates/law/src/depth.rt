@@ -24,7 +24,7 @@ ghost use Rattle.law.specs.Tree.{keep, firstTerm};
 ghost use Rattle.law.specs.Places.{conditionsOf, firstCondition};
 ghost use Rattle.law.specs.Reading.{runOf, own, sentencesAt, sentencesIn, conditionsFrom, treeOf};
 ghost use Rattle.law.specs.Depth.{deepest, deepestSentences, deepestConditions, depthOf};
-ghost use Rattle.law.specs.Index.{Indexed, Readable, PartAt};
+ghost use Rattle.law.specs.Code.Index.{Indexed, Readable, PartAt};
 
 // A term's number of sentences, 0 where it is no block.
 pub fn sentences_in(term: Term) -> usize

@@ -15,7 +15,7 @@ ghost use lib.ListN.{length};
 ghost use Rattle.file.specs.Answer.{given};
 ghost use Rattle.file.specs.Sections.{sectionsOf, fileOf, countsOf};
 ghost use Rattle.file.specs.Fields.{fieldsAllowed};
-ghost use Rattle.law.specs.Index.{Indexed};
+ghost use Rattle.law.specs.Code.Index.{Indexed};
 ghost use Rattle.law.specs.Law.{checkAnswer, verdictOf, IndexAfter};
 
 pub mod blocks;

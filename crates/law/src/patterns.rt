@@ -16,7 +16,7 @@ ghost use Rattle.file.specs.Word.{wordAt};
 ghost use Rattle.file.specs.Head.{termAt};
 ghost use Rattle.file.specs.Sections.{fileOf};
 ghost use Rattle.file.specs.Fields.{termsAllowed, fieldsAllowed};
-ghost use Rattle.law.specs.Index.{Indexed};
+ghost use Rattle.law.specs.Code.Index.{Indexed};
 ghost use Rattle.law.specs.Variables.{Variable, variableOf, variablesFrom, occurs, distinct, patternVariables, patternsAllowed};
 
 // The index of the variable record i: its bytes in the text.

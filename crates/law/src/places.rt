@@ -10,7 +10,7 @@ ghost use Rattle.file.specs.Sections.{fileOf};
 ghost use Rattle.file.specs.Fields.{fieldsAllowed};
 ghost use Rattle.law.specs.Places.{patternSize, conditionsOf, resultSize, askedSize, wantedSize, firstSentence, firstCondition, blockFirst, patternAt, askedAt, resultAt, termsAt, patternPart, resultPart, askedPart, wantedPart, Owns};
 ghost use Rattle.law.specs.Reading.{functionName};
-ghost use Rattle.law.specs.Index.{Indexed};
+ghost use Rattle.law.specs.Code.Index.{Indexed};
 
 // A word of the index as a number.
 fn wide(word: u16) -> usize

@@ -13,7 +13,7 @@ ghost use Rattle.file.specs.Below.{every};
 ghost use Rattle.file.specs.Sections.{fileOf};
 ghost use Rattle.law.specs.Places.{conditionsOf, firstCondition};
 ghost use Rattle.law.specs.Runs.{endOf, runFits, conditionFits, sentenceFits};
-ghost use Rattle.law.specs.Index.{Indexed};
+ghost use Rattle.law.specs.Code.Index.{Indexed};
 
 // Where the contents of the run's first record end. Where it has none, the next record is known without a wait for its n.
 pub fn end_of(part: &[u8]) -> usize

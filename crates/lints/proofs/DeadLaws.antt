@@ -13,15 +13,15 @@ use Rattle.law.specs.Tree.{Run, noCondition}
 use Rattle.law.specs.Variables.{Variable}
 use Rattle.law.specs.Places.{conditionsOf, firstCondition, patternAt, patternPart}
 use Rattle.law.specs.Reading.{runOf, own, conditionsFrom}
-use Rattle.law.specs.Index.{Indexed}
+use Rattle.law.specs.Code.Index.{Indexed}
 use Rattle.law.proofs.PlaceLaws.{condition-next}
 use Rattle.matching.specs.Pattern.{Pattern}
-use Rattle.matching.specs.Part.{rowOf}
+use Rattle.matching.specs.Code.Part.{rowOf}
 use Rattle.matching.specs.Shadow.{shadows, shadowsWith}
 use Rattle.sentences.specs.Entry.{patternIn}
 use Rattle.matching.proofs.PartLaws.{row-run}
 use Rattle.lints.specs.Dead.{Earlier, unconditional, earliest}
-use Rattle.lints.specs.Records.{conditionsAt, earlierAt, numberOr0}
+use Rattle.lints.specs.Code.Records.{conditionsAt, earlierAt, numberOr0}
 
 -- the first number of two, where there is one
 abbrev pub orElse : Option ℕ → Option ℕ → Option ℕ

@@ -14,7 +14,7 @@ use Rattle.lints.specs.Lint.{Lint, deadSentence, recognitionImpossible, 
 use Rattle.lints.specs.Levels.{Override, overrideFrom, settingsFrom, overridesAllowed, settingsAllowed, overrideOf, severityOf, isShown}
 use Rattle.lints.specs.declared.levels.Level.{Level}
 use Rattle.lints.specs.declared.levels.Level.the-variants.{Unsaid, Severity}
-use Rattle.lints.specs.Overrides.{overrideAllowed, levelFrom, shownItself}
+use Rattle.lints.specs.Code.Overrides.{overrideAllowed, levelFrom, shownItself}
 
 -- ---- refusal 14
 

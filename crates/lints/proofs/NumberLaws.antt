@@ -8,7 +8,7 @@ use lib.ListN.{length, drop, getD, drop-of-length-le}
 use lib.Seq.{drop-cons}
 use borrow.Author.Tests.{le-leb, lt-leb}
 use Rattle.law.specs.Expression.{valueAfter, valueOf}
-use Rattle.lints.specs.Part.{numberOperand}
+use Rattle.lints.specs.Code.Part.{numberOperand}
 use Rattle.lints.specs.declared.builtin.Operand.the-variants.{Macrodigit, Other}
 
 -- digits that are read after a value do not make it less

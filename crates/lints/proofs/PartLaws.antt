@@ -27,7 +27,7 @@ use Rattle.matching.proofs.CutLaws.{from-length, from-from, from-all}
 use Rattle.lints.specs.Finding.{Failure, twoIntegersWanted, divisionByZero, digitsWanted}
 use Rattle.lints.specs.Builtin.{isMacrodigit, isSign, consFound, macrodigits, unsigned, allZero, secondFails, firstFails, integersFail, charactersOf, digitsFail, Domain, integers, digits, anything, failure}
 use Rattle.lints.specs.Open.{eOccurrences}
-use Rattle.lints.specs.Part.{argumentOf, SignTaken, operandOf, decidedBy, allOf, both, zeroOf, digitOf}
+use Rattle.lints.specs.Code.Part.{argumentOf, SignTaken, operandOf, decidedBy, allOf, both, zeroOf, digitOf}
 use Rattle.lints.specs.declared.builtin.Operand.{Operand}
 use Rattle.lints.specs.declared.builtin.Operand.the-variants.{Sign, Macrodigit, Other}
 use Rattle.lints.specs.declared.builtin.All.{All}

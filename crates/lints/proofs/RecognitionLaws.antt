@@ -19,7 +19,7 @@ use Rattle.law.specs.Definition.{definition}
 use Rattle.law.specs.Places.{sentencesOf, firstSentence, patternAt, patternPart}
 use Rattle.law.specs.Reading.{treeOf, sentencesAt, own}
 use Rattle.law.specs.Expression.{Terms}
-use Rattle.law.specs.Index.{Indexed, Readable}
+use Rattle.law.specs.Code.Index.{Indexed, Readable}
 use Rattle.law.proofs.Functions.{functionAt, functionsAt, tree-functions, functions-end, function-reads, kept-reads}
 use Rattle.law.proofs.IndexLaws as indexed
 use Rattle.law.proofs.PlaceLaws as places
@@ -29,23 +29,23 @@ use Rattle.shapes.specs.Words.{readFormat}
 use Rattle.shapes.proofs.WordLaws.{read-write}
 use Rattle.formats.specs.FormatOf.{Results}
 use Rattle.formats.specs.Infer.{find}
-use Rattle.formats.specs.Rows.{formatAt, Knows, partShapes, RowAsked}
-use Rattle.formats.specs.Turns.{FormatMade, resultsIn}
+use Rattle.formats.specs.Code.Rows.{formatAt, Knows, partShapes, RowAsked}
+use Rattle.formats.specs.Code.Turns.{FormatMade, resultsIn}
 use Rattle.formats.proofs.EntryLaws.{found-at}
 use Rattle.formats.proofs.StateLaws.{read-argument-format, part-inside, number-inside}
 use Rattle.formats.proofs.SentenceLaws.{arguments-said, holding-stored, holding-knows, made-fits, made-passes, made-words}
 use Rattle.formats.proofs.TurnLaws.{row-asked}
-use Rattle.formats.specs.Slots.{position, functionFolded, callFolded, fileNames, SlotsOf}
+use Rattle.formats.specs.Code.Slots.{position, functionFolded, callFolded, fileNames, SlotsOf}
 use Rattle.formats.proofs.SlotLaws.{function-placed}
 use Rattle.matching.specs.Pattern.{Symbol}
 use Rattle.matching.specs.Literal.{isLiteral, literalTerms, literalMatches}
-use Rattle.matching.specs.Part.{rowOf, literalPart, symbolsOf}
+use Rattle.matching.specs.Code.Part.{rowOf, literalPart, symbolsOf}
 use Rattle.sentences.specs.Entry.{argumentPart, argumentIn}
 use Rattle.matching.proofs.PartLaws.{row-run}
-use Rattle.matching.proofs.LiteralParts.{part-literal, part-symbols}
+use Rattle.searches.proofs.LiteralParts.{part-literal, part-symbols}
 use Rattle.lints.specs.Recognition.{someMatches, comparedWith, compared, passed, accepted}
-use Rattle.lints.specs.Records.{Prepared, formatsIn, callAt}
-use Rattle.lints.specs.Verdicts.{verdictOf, lastPlaced, functionSentences, comparison}
+use Rattle.lints.specs.Code.Records.{Prepared, formatsIn, callAt}
+use Rattle.lints.specs.Code.Verdicts.{verdictOf, lastPlaced, functionSentences, comparison}
 use Rattle.lints.specs.declared.recognition.Verdict.{Verdict}
 use Rattle.lints.specs.declared.recognition.Verdict.the-variants.{Nothing, TooWide, ByFormats, ByLiterals}
 use Rattle.lints.proofs.ArgumentParts.{argument-here}

@@ -22,7 +22,7 @@ use Rattle.law.specs.Places.{sentencesOf, patternSize, conditionsOf, resultSize
 use Rattle.law.specs.Runs.{runFits}
 use Rattle.law.specs.Reading.{nameAt, symbolOf, sentencesIn, markAt, termRun, runOf, conditionsFrom, sentenceAt, treeOf, sentencesAt, own}
 use Rattle.law.specs.Law.{lawOf}
-use Rattle.law.specs.Index.{Readable, PartAt}
+use Rattle.law.specs.Code.Index.{Readable, PartAt}
 use Rattle.law.proofs.Accepted.{law-accepted}
 use Rattle.law.proofs.Terms.{term-allowed, block-size}
 use Rattle.law.proofs.PlaceLaws.{sentence-start, sentence-next, sentence-grows, block-start, block-grows, condition-next, pattern-next, pattern-within, result-within, asked-after, asked-within, terms-inside}

@@ -10,7 +10,4 @@ pub mod Findings
 pub mod Message
 pub mod SmallLaws
 pub mod Examples
-pub mod Part
-pub mod Records
-pub mod Overrides
-pub mod Verdicts
+pub mod Code

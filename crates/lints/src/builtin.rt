@@ -10,7 +10,7 @@ ghost use mathlib.Core.List.{List};
 ghost use Prim.Native.Nat.{ℕ, _-_, _<_};
 ghost use Rattle.names.specs.Name.{folded, digitByte, everyByte};
 ghost use Rattle.lints.specs.Builtin.{macrodigits, allZero, secondFails, firstFails, integersFail, charactersOf, digitsFail, builtins, domainIn, failure};
-ghost use Rattle.lints.specs.Part.{argumentOf, failureIn, domainFrom, signOperand, numberOperand, symbolOperand, operandOf, SignTaken, decidedBy, allOf, both, zeroOf, symbolDigit, digitOf};
+ghost use Rattle.lints.specs.Code.Part.{argumentOf, failureIn, domainFrom, signOperand, numberOperand, symbolOperand, operandOf, SignTaken, decidedBy, allOf, both, zeroOf, symbolDigit, digitOf};
 
 // Why a call fails, if that is certain. `failureIn` of specs/Part.antt gives the failure.
 pub enum Fails {

@@ -5,11 +5,11 @@ ghost use mathlib.Core.Path.{_≡_};
 ghost use mathlib.Core.List.{[]};
 ghost use Prim.Native.Nat.{_+_, _≤_, _<_};
 ghost use Rattle.file.specs.Sections.{fileOf};
-ghost use Rattle.law.specs.Index.{Indexed};
+ghost use Rattle.law.specs.Code.Index.{Indexed};
 ghost use Rattle.law.specs.Law.{Accepted};
 ghost use Rattle.sentences.specs.Entry.{patternIn};
 ghost use Rattle.lints.specs.Dead.{earliest};
-ghost use Rattle.lints.specs.Records.{earlierAt, numberOr0};
+ghost use Rattle.lints.specs.Code.Records.{earlierAt, numberOr0};
 
 // The number from 1 of the earliest of so many sentences from `first` on that has no conditions and shadows the sentence after them; 0 where none does.
 pub fn earliest_shadow(law: &[u8], index: &[u16; 972], first: usize, later: usize) -> usize

@@ -6,7 +6,7 @@ ghost use mathlib.Core.List.{List};
 ghost use Prim.Native.Nat.{ℕ, _*_, _≤_};
 ghost use lib.ListN.{length};
 ghost use Rattle.lints.specs.Open.{eOccurrences};
-ghost use Rattle.lints.specs.Part.{argumentOf};
+ghost use Rattle.lints.specs.Code.Part.{argumentOf};
 
 // The number of e. occurrences of a run of term records, at most the number of its records. Kind 5 is an e. variable, kind 6
 // a bracket. Where n is 0 the step is constant, so that the next record does not wait for n.

@@ -3,7 +3,7 @@ use formats::infer::row_format;
 use formats::slots::wide;
 use law::places::first_sentence;
 use law::places::functions;
-use matching::literal::is_literal;
+use searches::literal::is_literal;
 use sentences::argument;
 use sentences::literal_sentence;
 use shapes::disjoint_formats;
@@ -15,14 +15,14 @@ ghost use lib.ListN.{length};
 ghost use Rattle.file.specs.Word.{wordAt};
 ghost use Rattle.file.specs.Sections.{fileOf};
 ghost use Rattle.law.specs.Reading.{treeOf};
-ghost use Rattle.law.specs.Index.{Indexed};
+ghost use Rattle.law.specs.Code.Index.{Indexed};
 ghost use Rattle.law.specs.Law.{Accepted};
-ghost use Rattle.formats.specs.Slots.{position, callFolded, fileNames};
+ghost use Rattle.formats.specs.Code.Slots.{position, callFolded, fileNames};
 ghost use Rattle.matching.specs.Literal.{isLiteral, literalTerms};
 ghost use Rattle.sentences.specs.Entry.{argumentIn};
 ghost use Rattle.lints.specs.Recognition.{someMatches, comparedWith};
-ghost use Rattle.lints.specs.Records.{Prepared, formatsIn, callAt};
-ghost use Rattle.lints.specs.Verdicts.{verdictOf, lastPlaced, functionSentences, comparison};
+ghost use Rattle.lints.specs.Code.Records.{Prepared, formatsIn, callAt};
+ghost use Rattle.lints.specs.Code.Verdicts.{verdictOf, lastPlaced, functionSentences, comparison};
 
 // What is said of a call: nothing, that its argument has too many shapes to be compared, or that no sentence matches it, by formats or by literals.
 pub enum Verdict {

@@ -11,9 +11,9 @@ use Rattle.file.specs.Sections.{fileOf}
 use Rattle.law.specs.Reading.{treeOf}
 use Rattle.buffers.specs.Written.{written}
 use Rattle.lints.specs.Levels.{Settings, listingWords}
-use Rattle.lints.specs.Records.{formatsIn}
-use Rattle.findings.specs.Events.{Tally, Upto, sinkOf, collect}
-use Rattle.findings.specs.All.{allEvents}
+use Rattle.lints.specs.Code.Records.{formatsIn}
+use Rattle.findings.specs.Code.Events.{Tally, Upto, sinkOf, collect}
+use Rattle.findings.specs.Code.All.{allEvents}
 use Rattle.findings.proofs.EventLaws.{all-found}
 use Rattle.listing.specs.declared.Turned.{Turned}
 use Rattle.listing.specs.declared.Found.{Found}
@@ -23,7 +23,7 @@ use Rattle.listing.specs.declared.Told.the-variants as told
 use Rattle.listing.specs.declared.front.Front.{Front}
 use Rattle.listing.specs.declared.front.Front.the-variants.{Refused, Ready}
 use Rattle.listing.specs.Outcome.{findingsFront, findingsOutcome, textFront, textOutcome}
-use Rattle.listing.specs.Gather.{Prepares, FrontIs, shownIn, Collected}
+use Rattle.listing.specs.Code.Gather.{Prepares, FrontIs, shownIn, Collected}
 use Rattle.listing.specs.Promise.{findingsAfter, FindingsPromise, textAfter}
 use Rattle.listing.proofs.GatherLaws.{all-left}
 use Rattle.listing.proofs.PromiseLaws.{words-length, promise}

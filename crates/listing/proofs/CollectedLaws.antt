@@ -13,16 +13,16 @@ use Rattle.file.specs.Answer.{Answer, refused, given}
 use Rattle.file.specs.Sections.{File, fileOf}
 use Rattle.law.specs.Tree.{Law}
 use Rattle.law.specs.Reading.{treeOf}
-use Rattle.law.specs.Index.{Indexed}
+use Rattle.law.specs.Code.Index.{Indexed}
 use Rattle.law.proofs.Accepted.{passed, taken}
 use Rattle.law.proofs.Allowed.{accepted-readable}
 use Rattle.law.proofs.Functions.{tree-length}
 use Rattle.law.proofs.IndexLaws.{functions-limit}
 use Rattle.formats.specs.Infer.{Inferred, infer}
 use Rattle.formats.specs.Store.{StoreHolds, storeSize, storeWords}
-use Rattle.formats.specs.Slots.{SlotsOf, fileNames}
-use Rattle.formats.specs.Turns.{Asked, Holding, argumentsIn, resultsIn}
-use Rattle.formats.specs.Turns.{InferIs}
+use Rattle.formats.specs.Code.Slots.{SlotsOf, fileNames}
+use Rattle.formats.specs.Code.Turns.{Asked, Holding, argumentsIn, resultsIn}
+use Rattle.formats.specs.Code.Turns.{InferIs}
 use Rattle.formats.specs.declared.infer.Inference.{Inference}
 use Rattle.formats.specs.declared.infer.Inference.the-variants.{TooWide, Ran}
 use Rattle.formats.proofs.CallLaws.{outcome-over}
@@ -34,13 +34,13 @@ use Rattle.lints.specs.Finding.{Finding}
 use Rattle.lints.specs.Recognition.{argumentsOver}
 use Rattle.lints.specs.Levels.{Settings, shown, listingWords}
 use Rattle.lints.specs.Findings.{findingsOf, Listing, listing}
-use Rattle.lints.specs.Records.{Prepared, formatsIn}
-use Rattle.findings.specs.Events.{Tally, Over, Full, Upto, Sink, sinkOf, collect}
-use Rattle.findings.specs.All.{allEvents}
+use Rattle.lints.specs.Code.Records.{Prepared, formatsIn}
+use Rattle.findings.specs.Code.Events.{Tally, Over, Full, Upto, Sink, sinkOf, collect}
+use Rattle.findings.specs.Code.All.{allEvents}
 use Rattle.listing.specs.declared.gather.Gathered.{Gathered}
 use Rattle.listing.specs.declared.gather.Gathered.the-variants as gathered
 use Rattle.listing.specs.Outcome.{storeAfter}
-use Rattle.listing.specs.Gather.{Prepares, Filled, Fitted, GatheredIs, GatherIs, shownIn, Collected}
+use Rattle.listing.specs.Code.Gather.{Prepares, Filled, Fitted, GatheredIs, GatherIs, shownIn, Collected}
 use Rattle.listing.proofs.PromiseLaws.{words-length, start-taken}
 use Rattle.listing.proofs.GatherLaws.{same-findings, same-over, Wide, Narrow, comes-to, Left, all-left}
 

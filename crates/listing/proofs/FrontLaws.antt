@@ -12,7 +12,7 @@ use Rattle.file.specs.declared.Refusal.{Refusal}
 use Rattle.file.proofs.Answers.{map-refused, map-given}
 use Rattle.law.specs.Tree.{Law}
 use Rattle.law.specs.Reading.{treeOf}
-use Rattle.law.specs.Index.{Indexed}
+use Rattle.law.specs.Code.Index.{Indexed}
 use Rattle.law.specs.Law.{lawOf, checkAnswer, verdictOf, IndexAfter, Accepted}
 use Rattle.law.specs.declared.Check.{Check}
 use Rattle.law.specs.declared.Check.the-variants as checks
@@ -22,7 +22,7 @@ use Rattle.listing.specs.declared.Turned.the-variants as turned
 use Rattle.listing.specs.declared.front.Front.{Front}
 use Rattle.listing.specs.declared.front.Front.the-variants.{Refused, Ready}
 use Rattle.listing.specs.Outcome.{front}
-use Rattle.listing.specs.Gather.{Prepares, FrontIs}
+use Rattle.listing.specs.Code.Gather.{Prepares, FrontIs}
 
 module _ (settings : Settings) (bytes : List ℕ) (words : ℕ) where
   abbrev Says : Front → List ℕ → Type 0

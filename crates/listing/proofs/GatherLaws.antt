@@ -19,8 +19,8 @@ use Rattle.lints.specs.Finding.{Finding, lintOf, findingWords}
 use Rattle.lints.specs.Recognition.{judged, recognitionRemarks, recognitionFindings, someOver, argumentsOver}
 use Rattle.lints.specs.Levels.{Settings, severityOf, shown, listingWords}
 use Rattle.lints.specs.Findings.{findingsOf, Listing, listing}
-use Rattle.findings.specs.Events.{Tally, Over, Full, Upto, Sink, sinkOf, collect}
-use Rattle.findings.specs.All.{allEvents}
+use Rattle.findings.specs.Code.Events.{Tally, Over, Full, Upto, Sink, sinkOf, collect}
+use Rattle.findings.specs.Code.All.{allEvents}
 use Rattle.findings.proofs.FitLaws.{collect-fits, collect-counts, collect-full}
 use Rattle.findings.proofs.EventLaws.{wordsUnder, eventOf, all-found}
 use Rattle.findings.proofs.OverLaws.{all-ends}

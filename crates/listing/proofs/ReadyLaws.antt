@@ -10,7 +10,7 @@ use lib.ListN.{length, take, drop}
 use Rattle.file.specs.Answer.{Answer, refused, given}
 use Rattle.file.specs.Sections.{fileOf}
 use Rattle.law.specs.Reading.{treeOf}
-use Rattle.formats.specs.Slots.{SlotsOf}
+use Rattle.formats.specs.Code.Slots.{SlotsOf}
 use Rattle.buffers.specs.Written.{written}
 use Rattle.lints.specs.Finding.{Finding}
 use Rattle.lints.specs.Levels.{Settings, listingWords}
@@ -22,7 +22,7 @@ use Rattle.listing.specs.declared.Told.the-variants as told
 use Rattle.listing.specs.declared.gather.Gathered.{Gathered}
 use Rattle.listing.specs.declared.gather.Gathered.the-variants as gathered
 use Rattle.listing.specs.Outcome.{findingsFront, textFront, textOf, findingAt}
-use Rattle.listing.specs.Gather.{Prepares, Fitted, GatheredIs, GatherIs, shownIn, Collected}
+use Rattle.listing.specs.Code.Gather.{Prepares, Fitted, GatheredIs, GatherIs, shownIn, Collected}
 use Rattle.listing.specs.Promise.{findingsAfter, textAfter, toldPair}
 use Rattle.listing.proofs.CollectedLaws.{shown-are, collected}
 

@@ -17,13 +17,13 @@ use Rattle.lints.specs.Finding.{Finding, lintOf, findingWords}
 use Rattle.lints.specs.Levels.{Settings, severityOf, shown, listingWords}
 use Rattle.lints.specs.Findings.{findingsOf}
 use Rattle.lints.specs.Message.{message}
-use Rattle.lints.specs.Records.{formatsIn}
+use Rattle.lints.specs.Code.Records.{formatsIn}
 use Rattle.lints.proofs.Listed.{shown-in}
-use Rattle.messages.specs.Spoken.{Spoken}
+use Rattle.messages.specs.Code.Spoken.{Spoken}
 use Rattle.listing.specs.declared.Turned.the-variants as turned
 use Rattle.listing.specs.declared.Told.the-variants as told
 use Rattle.listing.specs.Outcome.{textOf, findingAt}
-use Rattle.listing.specs.Gather.{shownIn, Collected}
+use Rattle.listing.specs.Code.Gather.{shownIn, Collected}
 use Rattle.listing.specs.Promise.{toldPair}
 
 -- an empty part

@@ -1,4 +1,4 @@
 pub mod Outcome
-pub mod Gather
 pub mod Promise
 pub mod Examples
+pub mod Code

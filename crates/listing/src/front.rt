@@ -14,7 +14,7 @@ ghost use lib.ListN.{length};
 ghost use Rattle.file.specs.Answer.{given};
 ghost use Rattle.law.specs.Law.{lawOf};
 ghost use Rattle.lints.specs.Levels.{settingsFrom};
-ghost use Rattle.listing.specs.Gather.{FrontIs};
+ghost use Rattle.listing.specs.Code.Gather.{FrontIs};
 
 // A refusal, or a law that is ready. `FrontIs` of specs/Gather.antt says what either means.
 pub enum Front {

@@ -10,9 +10,9 @@ ghost use mathlib.Core.Path.{_≡_};
 ghost use Rattle.file.specs.Sections.{fileOf};
 ghost use Rattle.law.specs.Reading.{treeOf};
 ghost use Rattle.formats.specs.Infer.{Inferred, infer};
-ghost use Rattle.formats.specs.Slots.{SlotsOf};
+ghost use Rattle.formats.specs.Code.Slots.{SlotsOf};
 ghost use Rattle.lints.specs.Levels.{settingsFrom};
-ghost use Rattle.listing.specs.Gather.{Prepares, GatherIs, Filled};
+ghost use Rattle.listing.specs.Code.Gather.{Prepares, GatherIs, Filled};
 
 // What a law comes to: a format has too many shapes, there are more findings than there is room for, or the number of findings, the rounds and whether the
 // last of them changed nothing.

@@ -25,7 +25,7 @@ ghost use Rattle.buffers.specs.Written.{written};
 ghost use Rattle.lints.specs.Levels.{Settings, listingWords};
 ghost use Rattle.lints.specs.Levels.{settingsFrom};
 ghost use Rattle.listing.specs.Outcome.{findingsFront, findingsOutcome, textFront, textOf, findingAt, textOutcome};
-ghost use Rattle.listing.specs.Gather.{Prepares, shownIn, Collected};
+ghost use Rattle.listing.specs.Code.Gather.{Prepares, shownIn, Collected};
 ghost use Rattle.listing.specs.Promise.{findingsAfter, textAfter, toldPair, FindingsPromise};
 
 pub mod front;

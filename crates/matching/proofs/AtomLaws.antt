@@ -15,7 +15,7 @@ use Rattle.file.specs.Head.{termFrom, termAt}
 use Rattle.law.specs.Tree.{Kind, symbolKind, termKind, expressionKind}
 use Rattle.matching.specs.Pattern.{character, identifier, number, Atom, literal, variable, other}
 use Rattle.matching.specs.Shadow.{sameAtom}
-use Rattle.matching.specs.Part.{atomOf, isBracket}
+use Rattle.matching.specs.Code.Part.{atomOf, isBracket}
 use Rattle.matching.proofs.SameLaws.{false-not-true, atom-sound}
 
 -- ---- a part of the text, cut to the text

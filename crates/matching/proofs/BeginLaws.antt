@@ -18,8 +18,8 @@ use Rattle.law.specs.Runs.{endOf}
 use Rattle.matching.specs.Pattern.{Atom, literal, variable, other, Pattern}
 use Rattle.matching.specs.Match.{when, sameTerms, after}
 use Rattle.matching.specs.Shadow.{sameAtom}
-use Rattle.matching.specs.Part.{rowOf, from, atomOf, termRow, isBracket, sameHeads, sameFirst}
-use Rattle.matching.specs.Step.{beginsWith, BeginsIn}
+use Rattle.matching.specs.Code.Part.{rowOf, from, atomOf, termRow, isBracket, sameHeads, sameFirst}
+use Rattle.matching.specs.Code.Step.{beginsWith, BeginsIn}
 use Rattle.matching.specs.declared.Beginning.{Beginning}
 use Rattle.matching.specs.declared.Beginning.the-variants.{After, Differs}
 use Rattle.matching.proofs.SameLaws.{false-not-true}

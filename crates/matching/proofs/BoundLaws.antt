@@ -15,8 +15,8 @@ use Rattle.law.specs.Variables.{Variable, sameVariable}
 use Rattle.matching.specs.Pattern.{variable}
 use Rattle.matching.specs.Match.{none-bound, bound, valueIn}
 use Rattle.matching.specs.Shadow.{sameAtom}
-use Rattle.matching.specs.Part.{from, atomOf}
-use Rattle.matching.specs.Bound.{variableIn, variableAt, rowAt, valuesUpTo, valuesOf, Kept, Bound, HasPlace}
+use Rattle.matching.specs.Code.Part.{from, atomOf}
+use Rattle.matching.specs.Code.Bound.{variableIn, variableAt, rowAt, valuesUpTo, valuesOf, Kept, Bound, HasPlace}
 use Rattle.matching.specs.declared.Bindings.{Bindings}
 use Rattle.matching.specs.declared.Place.{Place}
 use Rattle.matching.specs.declared.Place.the-variants.{At, Free}

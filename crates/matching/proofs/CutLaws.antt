@@ -16,7 +16,7 @@ use Rattle.law.specs.Runs.{endOf}
 use Rattle.law.proofs.Parts.{drop-take, part-part, part-word}
 use Rattle.law.proofs.RunLaws.{end-low, end-high}
 use Rattle.matching.specs.Pattern.{Pattern}
-use Rattle.matching.specs.Part.{rowOf, from, Begin, at-start, one-on, Stands, termRow}
+use Rattle.matching.specs.Code.Part.{rowOf, from, Begin, at-start, one-on, Stands, termRow}
 use Rattle.matching.proofs.PartLaws.{row-empty, row-node}
 
 -- ---- what is left from a position on

@@ -8,14 +8,14 @@ use lib.ListN.{length}
 use Rattle.law.specs.Runs.{endOf}
 use Rattle.matching.specs.Pattern.{Atom}
 use Rattle.matching.specs.Match.{Values}
-use Rattle.matching.specs.Part.{rowOf, from, Begin, at-start, one-on}
-use Rattle.matching.specs.Step.{found, Leaves, Passed, Stops, Stopped, KnownFront}
+use Rattle.matching.specs.Code.Part.{rowOf, from, Begin, at-start, one-on}
+use Rattle.matching.specs.Code.Step.{found, Leaves, Passed, Stops, Stopped, KnownFront}
 use Rattle.matching.specs.declared.Known.{Known}
 use Rattle.matching.specs.declared.Known.the-variants.{End, Stop, Fails as KnownFails}
 use Rattle.matching.specs.declared.First.{First}
 use Rattle.matching.specs.declared.First.the-variants.{Fails, Goes}
 use Rattle.matching.proofs.CutLaws.{from-length, from-all, from-from, begin-inside}
-use Rattle.matching.proofs.ShadowSteps.{step-fails, step-goes, goes-within}
+use Rattle.matching.proofs.FirstLaws.{step-fails, step-goes, goes-within}
 
 -- a term begins in what is left, so it does in the whole
 begin-later : {part : List ℕ} {i m : ℕ} → Begin part i → Begin (from i part) m → Begin part (i + m)

@@ -14,7 +14,7 @@ use Rattle.law.specs.Runs.{endOf, termForest}
 use Rattle.law.specs.Reading.{markAt, termRun, forestRun}
 use Rattle.law.proofs.RunLaws.{terms-none, terms-node}
 use Rattle.matching.specs.Pattern.{Pattern, patternOf}
-use Rattle.matching.specs.Part.{rowOf, termRow}
+use Rattle.matching.specs.Code.Part.{rowOf, termRow}
 
 -- a term before the runs inside and after it, as a pattern
 term-row : (text : List ℕ) (own : ℕ → ℕ → Sentences) (at : ℕ) (mark : Mark) (x : Term) (inside after : Run)

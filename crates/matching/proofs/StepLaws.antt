@@ -26,9 +26,9 @@ use Rattle.matching.specs.Pattern as pattern
 use Rattle.matching.specs.Pattern.{Atom, literal, variable, other, Pattern}
 use Rattle.matching.specs.Match.{Values, bound, when, each, valueIn, after, choices, matches}
 use Rattle.matching.specs.Shadow.{sameAtom, symbolLike, singleTerm}
-use Rattle.matching.specs.Bound.{variableIn, rowAt}
-use Rattle.matching.specs.Part.{rowOf, from, Begin, at-start, one-on, symbolAt, atomOf, termRow, isBracket}
-use Rattle.matching.specs.Step.{found, Free, beginsWith, BeginsIn, firstVariable, openTerm, symbolTerm, singleOne, mayStand, Leaves}
+use Rattle.matching.specs.Code.Bound.{variableIn, rowAt}
+use Rattle.matching.specs.Code.Part.{rowOf, from, Begin, at-start, one-on, symbolAt, atomOf, termRow, isBracket}
+use Rattle.matching.specs.Code.Step.{found, Free, beginsWith, BeginsIn, firstVariable, openTerm, symbolTerm, singleOne, mayStand, Leaves}
 use Rattle.matching.specs.declared.Beginning.{Beginning}
 use Rattle.matching.specs.declared.Beginning.the-variants.{After, Differs}
 use Rattle.matching.specs.declared.First.the-variants.{Fails, Goes, Binds, Tries, Inside}

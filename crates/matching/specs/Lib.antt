@@ -3,11 +3,5 @@ pub mod Match
 pub mod Fill
 pub mod Literal
 pub mod Shadow
-pub mod Part
-pub mod Bound
-pub mod Step
-pub mod Capacity
-pub mod Asked
-pub mod Repeats
-pub mod Failed
 pub mod Examples
+pub mod Code

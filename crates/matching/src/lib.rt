@@ -18,14 +18,9 @@ ghost use Rattle.law.specs.Variables.{Variable};
 ghost use Rattle.matching.specs.Pattern.{Atom, variable};
 ghost use Rattle.matching.specs.Match.{Values, none-bound, valueIn, after};
 ghost use Rattle.matching.specs.Shadow.{sameAtom};
-ghost use Rattle.matching.specs.Part.{rowOf, isBracket, atomOf, sameFirst};
-ghost use Rattle.matching.specs.Bound.{rowAt, valuesOf, Kept, Bound, places, HasPlace};
-ghost use Rattle.matching.specs.Step.{beginsWith, BeginsIn, openTerm, symbolTerm, singleOne, mayStand, Leaves, KnownFront};
-
-pub mod failed;
-pub mod literal;
-pub mod repeats;
-pub mod shadow;
+ghost use Rattle.matching.specs.Code.Part.{rowOf, isBracket, atomOf, sameFirst};
+ghost use Rattle.matching.specs.Code.Bound.{rowAt, valuesOf, Kept, Bound, places, HasPlace};
+ghost use Rattle.matching.specs.Code.Step.{beginsWith, BeginsIn, openTerm, symbolTerm, singleOne, mayStand, Leaves, KnownFront};
 
 // Values of variables, in places: the position of the variable's first record among the term records, and the position and the size of the value.
 pub struct Bindings {

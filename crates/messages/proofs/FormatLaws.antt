@@ -9,7 +9,7 @@ use native.Mathlib.Nat.{add-sub-cancel-left}
 use lib.ListN.{length, take, drop, getD}
 use lib.Seq.{take-at}
 use Rattle.file.specs.Sections.{File, fileOf}
-use Rattle.law.specs.Index.{PartAt}
+use Rattle.law.specs.Code.Index.{PartAt}
 use Rattle.law.proofs.IndexLaws.{terms-limit}
 use Rattle.shapes.specs.Format.{Shapes, of}
 use Rattle.shapes.specs.Words.{readFormat}
@@ -17,16 +17,16 @@ use Rattle.shapes.proofs.WordLaws.{read-write}
 use Rattle.sentences.specs.Entry.{argumentPart, argumentIn}
 use Rattle.formats.specs.FormatOf.{Results}
 use Rattle.formats.specs.Infer.{find, orNever}
-use Rattle.formats.specs.Slots.{fileNames, callFolded, position}
-use Rattle.formats.specs.Rows.{formatAt, Knows, partShapes, RowAsked}
-use Rattle.formats.specs.Turns.{Holding, argumentsIn, resultsIn, FormatMade}
+use Rattle.formats.specs.Code.Slots.{fileNames, callFolded, position}
+use Rattle.formats.specs.Code.Rows.{formatAt, Knows, partShapes, RowAsked}
+use Rattle.formats.specs.Code.Turns.{Holding, argumentsIn, resultsIn, FormatMade}
 use Rattle.formats.proofs.EntryLaws.{found-or-never}
 use Rattle.formats.proofs.StateLaws.{header-inside, part-inside, read-argument-format}
 use Rattle.formats.proofs.SentenceLaws.{arguments-said, holding-stored, holding-knows}
 use Rattle.formats.proofs.TurnLaws.{row-asked}
 use Rattle.lints.specs.Recognition.{accepted, passed}
-use Rattle.lints.specs.Records.{Prepared, formatsIn, callAt}
-use Rattle.messages.specs.Spoken.{ComparedHere}
+use Rattle.lints.specs.Code.Records.{Prepared, formatsIn, callAt}
+use Rattle.messages.specs.Code.Spoken.{ComparedHere}
 
 -- the argument format that a store has for the name at a place
 accepted-read : {limit : ℕ} {names : List (List ℕ)} {store : List ℕ} (h : Holding limit names store) (n : List ℕ) (p : ℕ) → limit ≤ 64

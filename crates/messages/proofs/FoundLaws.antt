@@ -17,7 +17,7 @@ use Rattle.file.specs.declared.Term.the-variants.{Call as CallTerm}
 use Rattle.law.specs.Tree.{Name, Run, Sentences, sentence, Function, Law}
 use Rattle.law.specs.Reading.{functionName, treeOf}
 use Rattle.law.specs.Definition.{definition}
-use Rattle.law.specs.Index.{Readable}
+use Rattle.law.specs.Code.Index.{Readable}
 use Rattle.law.proofs.Functions.{functionAt, functionsAt, tree-functions, functions-end, function-reads}
 use Rattle.shapes.specs.Format.{of, size}
 use Rattle.matching.specs.Pattern.{patternOf}
@@ -26,7 +26,7 @@ use Rattle.sentences.specs.Entry.{argumentPart, argumentIn}
 use Rattle.matching.proofs.SameLaws.{false-not-true}
 use Rattle.matching.proofs.SearchLaws.{in-when, in-each, each-in, in-map}
 use Rattle.formats.specs.Infer.{Inferred}
-use Rattle.formats.specs.Slots.{fileNames, position}
+use Rattle.formats.specs.Code.Slots.{fileNames, position}
 use Rattle.formats.proofs.EntryLaws.{nameOf}
 use Rattle.formats.proofs.RoundLaws.{EachFunction}
 use Rattle.formats.proofs.SlotLaws.{function-placed}
@@ -37,13 +37,13 @@ use Rattle.lints.specs.Dead.{Earlier, sentenceBlocks, deadBy, deadAfter, earlie
 use Rattle.lints.specs.Recognition.{compared, comparedWith, passed, someOver, argumentsOver, recognitionRemarks, recognitionFindings}
 use Rattle.lints.specs.Builtin.{failure, domainIn, builtins, lookedAt, failed, builtinOn, builtinRemarks, builtinFindings}
 use Rattle.lints.specs.Open.{eOccurrences, openIn, openRemarks, openFindings}
-use Rattle.lints.specs.Records.{formatsIn, callAt}
+use Rattle.lints.specs.Code.Records.{formatsIn, callAt}
 use Rattle.lints.proofs.Everywhere.{each-function-in, EachRecord, Passes}
 use Rattle.lints.proofs.Records.{bound, InBlock, OfCalls, EverySentenceAt, functions-every, functions-below}
 use Rattle.lints.proofs.CallsIn.{either, sentence-call, sentence-block}
 use Rattle.lints.proofs.Defined.{definition-in}
 use Rattle.lints.proofs.Listed.{subject-record, Remarked, finding-remarked, dead-remark, Judged, apart, literally, Recognition, recognition-finding, by-lint}
-use Rattle.messages.specs.Spoken.{CallHere, ComparedHere, inBlock, apartClaim}
+use Rattle.messages.specs.Code.Spoken.{CallHere, ComparedHere, inBlock, apartClaim}
 
 -- what is said of a subject, by its record
 pub data Said (file : File) (limit : ℕ) (store : List ℕ) (claim : Claim) (subject : ℕ) : Type 0 where

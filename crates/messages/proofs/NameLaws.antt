@@ -12,11 +12,11 @@ use Rattle.file.specs.Fields.{fieldsAllowed}
 use Rattle.file.proofs.SectionLaws.{sections-limits, sections-records}
 use Rattle.law.specs.Places.{firstSentence}
 use Rattle.law.specs.Reading.{nameAt, functionName}
-use Rattle.law.specs.Index.{Indexed}
+use Rattle.law.specs.Code.Index.{Indexed}
 use Rattle.law.proofs.IndexLaws.{functions-limit, zero-offset}
 use Rattle.formats.proofs.SlotLaws.{call-name-inside}
-use Rattle.lints.specs.Records.{callAt}
-use Rattle.messages.specs.Spoken.{CallHere}
+use Rattle.lints.specs.Code.Records.{callAt}
+use Rattle.messages.specs.Code.Spoken.{CallHere}
 
 -- a name is no longer than the text
 name-short : (bytes : List ℕ) → sectionsOf bytes ≡ given (fileOf bytes) → (a b : ℕ)

@@ -6,13 +6,13 @@ use native.Mathlib.Omega.{arith}
 use lib.ListN.{length, getD}
 use Rattle.file.specs.Sections.{File}
 use Rattle.law.specs.Reading.{functionName, treeOf}
-use Rattle.law.specs.Index.{Readable}
+use Rattle.law.specs.Code.Index.{Readable}
 use Rattle.lints.specs.Lint.{lintNumber}
 use Rattle.lints.specs.Finding.{Failure, twoIntegersWanted, divisionByZero, digitsWanted, Claim, dead, fails, openPattern, Finding, lintOf, wordA, wordB, failureNumber, findingWords}
 use Rattle.lints.specs.Findings.{findingsOf}
 use Rattle.lints.specs.Message.{claimText, message}
-use Rattle.lints.specs.Records.{formatsIn, callAt}
-use Rattle.messages.specs.Spoken.{Spoken, CallHere, ComparedHere, inBlock, recognitionClaim}
+use Rattle.lints.specs.Code.Records.{formatsIn, callAt}
+use Rattle.messages.specs.Code.Spoken.{Spoken, CallHere, ComparedHere, inBlock, recognitionClaim}
 use Rattle.messages.proofs.FoundLaws.{Said, of-dead, of-formats, of-literals, of-fails, of-open, Told, told}
 
 -- why a call fails, by its number

@@ -24,14 +24,14 @@ ghost use Rattle.file.specs.Sections.{fileOf};
 ghost use Rattle.file.specs.Fields.{fieldsAllowed};
 ghost use Rattle.law.specs.Tree.{Name};
 ghost use Rattle.law.specs.Reading.{functionName, treeOf};
-ghost use Rattle.law.specs.Index.{Indexed};
+ghost use Rattle.law.specs.Code.Index.{Indexed};
 ghost use Rattle.buffers.specs.Written.{Put};
 ghost use Rattle.lints.specs.Finding as finding;
 ghost use Rattle.lints.specs.Finding.{dead, fails, failureNumber, findingWords};
 ghost use Rattle.lints.specs.Findings.{findingsOf};
 ghost use Rattle.lints.specs.Message.{claimText, message};
-ghost use Rattle.lints.specs.Records.{Prepared, formatsIn, callAt};
-ghost use Rattle.messages.specs.Spoken.{Spoken, CallHere, ComparedHere, inBlock, apartClaim, recognitionClaim};
+ghost use Rattle.lints.specs.Code.Records.{Prepared, formatsIn, callAt};
+ghost use Rattle.messages.specs.Code.Spoken.{Spoken, CallHere, ComparedHere, inBlock, apartClaim, recognitionClaim};
 
 mod texts;
 

@@ -14,7 +14,7 @@ ghost use Rattle.shapes.specs.Words.{readFormat};
 ghost use Rattle.buffers.specs.Written.{Put, largest};
 ghost use Rattle.lints.specs.Finding.{dead, byFormats, byLiterals, fails, openPattern};
 ghost use Rattle.lints.specs.Message.{ownerText, callText, failureText, claimText};
-ghost use Rattle.messages.specs.Failures.{failureOf};
+ghost use Rattle.messages.specs.Code.Failures.{failureOf};
 
 // Why a builtin call fails.
 pub enum Failure {

@@ -8,7 +8,7 @@ use Rattle.file.specs.Word.{wordAt}
 use Rattle.file.specs.Sections.{File}
 use Rattle.law.specs.Places.{patternSize, conditionsOf, resultSize, askedSize, wantedSize, firstCondition, patternAt, askedAt, resultAt, termsAt, patternPart, resultPart, askedPart, wantedPart}
 use Rattle.law.specs.Runs.{runFits, usedUp}
-use Rattle.law.specs.Index.{Readable}
+use Rattle.law.specs.Code.Index.{Readable}
 use Rattle.law.proofs.PlaceLaws.{condition-next, asked-first, asked-next, asked-last, pattern-next, pattern-inside, result-inside, asked-inside}
 use Rattle.law.proofs.RunLaws.{by-records}
 use Rattle.law.proofs.Allowed.{all-used, pattern-fits, result-fits, asked-fits, wanted-fits}

@@ -7,14 +7,14 @@ use Rattle.matching.specs.Pattern.{character, Atom, literal, Pattern}
 use Rattle.matching.specs.Match.{Values, none-bound, valueIn, some-in}
 use Rattle.matching.specs.Shadow.{sameAtom, symbolLike, singleTerm, shadows, shadowsWith, ownValues}
 use Rattle.matching.specs.Literal.{literalMatches}
-use Rattle.matching.specs.Part.{rowOf, literalPart, symbolsOf}
-use Rattle.matching.specs.Step.{found}
-use Rattle.matching.specs.Capacity.{variablesIn}
-use Rattle.matching.specs.Asked.{someHolds, resume}
+use Rattle.matching.specs.Code.Part.{rowOf, literalPart, symbolsOf}
+use Rattle.matching.specs.Code.Step.{found}
+use Rattle.searches.specs.Code.Capacity.{variablesIn}
+use Rattle.searches.specs.Code.Asked.{someHolds, resume}
 use Rattle.matching.proofs.SameLaws.{false-not-true, symbol-refl, atom-sound}
-use Rattle.matching.proofs.LiteralParts.{literal-found}
-use Rattle.sentences.specs.Loose.{onceEach}
-use Rattle.sentences.specs.Ahead.{passes}
+use Rattle.searches.proofs.LiteralParts.{literal-found}
+use Rattle.sentences.specs.Code.Loose.{onceEach}
+use Rattle.sentences.specs.Code.Ahead.{passes}
 use Rattle.sentences.proofs.LooseLaws.{loose-misses-nothing, loose-found}
 
 module _ (back : Bool) (p x : Pattern) where

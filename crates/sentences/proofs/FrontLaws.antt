@@ -18,14 +18,14 @@ use Rattle.law.specs.Runs.{endOf}
 use Rattle.law.proofs.RunLaws.{end-high}
 use Rattle.matching.specs.Pattern.{literal, variable, Pattern}
 use Rattle.matching.specs.Shadow.{sameAtom, symbolLike, singleTerm}
-use Rattle.matching.specs.Part.{rowOf, from, symbolAt, atomOf, termRow, isBracket}
-use Rattle.matching.specs.Step.{openTerm, mayStand}
+use Rattle.matching.specs.Code.Part.{rowOf, from, symbolAt, atomOf, termRow, isBracket}
+use Rattle.matching.specs.Code.Step.{openTerm, mayStand}
 use Rattle.matching.proofs.SameLaws.{false-not-true}
 use Rattle.matching.proofs.PartLaws.{row-empty, row-node}
 use Rattle.matching.proofs.CutLaws.{from-all, from-length, from-from}
 use Rattle.matching.proofs.StepLaws.{symbol-from}
-use Rattle.sentences.specs.Greedy.{openAtom, next, orElse, atomFits, bracketFits, frontOf, leftmostOf}
-use Rattle.sentences.specs.Ahead.{passes, frontIn, leftmostIn, aheadOf, AheadIn, OpenStart, fitsHeads, fitsFirst}
+use Rattle.sentences.specs.Code.Greedy.{openAtom, next, orElse, atomFits, bracketFits, frontOf, leftmostOf}
+use Rattle.sentences.specs.Code.Ahead.{passes, frontIn, leftmostIn, aheadOf, AheadIn, OpenStart, fitsHeads, fitsFirst}
 use Rattle.sentences.specs.declared.loose.Ahead.{Ahead}
 use Rattle.sentences.specs.declared.loose.Ahead.the-variants.{At, Fails}
 use Rattle.sentences.proofs.GreedyLaws.{next-some}

@@ -9,8 +9,8 @@ use Rattle.law.specs.Tree.{Kind, symbolKind, termKind, expressionKind}
 use Rattle.law.specs.Expression.{Terms, nothing, symbol, brackets}
 use Rattle.matching.specs.Pattern.{Symbol, Atom, literal, variable, other, Pattern}
 use Rattle.matching.proofs.SameLaws.{false-not-true, both-hold}
-use Rattle.sentences.specs.Loose.{someEnd, someRest, loosely}
-use Rattle.sentences.specs.Greedy.{EndOf, termsIn, openKind, openAtom, next, orElse, kindFits, atomFits, bracketFits, frontOf, leftmostOf, leftPasses, opens}
+use Rattle.sentences.specs.Code.Loose.{someEnd, someRest, loosely}
+use Rattle.sentences.specs.Code.Greedy.{EndOf, termsIn, openKind, openAtom, next, orElse, kindFits, atomFits, bracketFits, frontOf, leftmostOf, leftPasses, opens}
 
 or-true : (b : Bool) → (b || true) ≡ true
 or-true true = refl

@@ -10,13 +10,13 @@ use Rattle.matching.specs.Pattern.{Symbol, literal, variable, other, Pattern}
 use Rattle.matching.specs.Match.{Values, none-bound, bound, valueIn, some-in, matches}
 use Rattle.matching.specs.Fill.{Plain, filled, OfKind, Kinded}
 use Rattle.matching.specs.Match.{each, all-or-first, splits, noted, choices}
-use Rattle.matching.specs.Capacity.{variablesIn}
+use Rattle.searches.specs.Code.Capacity.{variablesIn}
 use Rattle.matching.proofs.SearchLaws.{none-kinded, in-when, when-in, in-each, each-in, in-all-or-first, some-member, member-some}
 use Rattle.matching.proofs.SameLaws.{false-not-true, both-hold, variable-sound, variable-refl}
 use Rattle.matching.proofs.VariableLaws.{occurs-first, occurs-later, occurs-left, occurs-right}
 use Rattle.matching.proofs.FillLaws.{fills-of-match}
-use Rattle.matching.proofs.AgreeLaws.{noted-other, match-values, not-left}
-use Rattle.sentences.specs.Loose.{someEnd, someRest, loosely, onceEach}
+use Rattle.searches.proofs.AgreeLaws.{noted-other, match-values, not-left}
+use Rattle.sentences.specs.Code.Loose.{someEnd, someRest, loosely, onceEach}
 
 module _ {A : Type 0} (f : Terms A → Bool) where
   -- the whole is one of its ends

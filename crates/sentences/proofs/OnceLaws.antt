@@ -16,14 +16,14 @@ use Rattle.law.specs.Runs.{endOf}
 use Rattle.law.specs.Variables.{Variable, occurs}
 use Rattle.law.proofs.RunLaws.{end-low, end-high}
 use Rattle.matching.specs.Pattern.{Atom, variable, Pattern}
-use Rattle.matching.specs.Part.{rowOf, from, Stands, atomOf}
-use Rattle.matching.specs.Capacity.{variablesIn}
-use Rattle.matching.specs.Repeats.{atomAt, Alone}
+use Rattle.matching.specs.Code.Part.{rowOf, from, Stands, atomOf}
+use Rattle.searches.specs.Code.Capacity.{variablesIn}
+use Rattle.searches.specs.Code.Repeats.{atomAt, Alone}
 use Rattle.matching.proofs.SameLaws.{false-not-true, both-hold, variable-refl}
 use Rattle.matching.proofs.PartLaws.{row-empty, row-node}
 use Rattle.matching.proofs.CutLaws.{from-length, from-from, stands-from}
 use Rattle.matching.proofs.VariableLaws.{occurs-first, occurs-later, occurs-either}
-use Rattle.matching.proofs.RecordLaws.{
+use Rattle.searches.proofs.RecordLaws.{
   stands-whole,
   stands-at,
   Ends,
@@ -43,8 +43,8 @@ use Rattle.matching.proofs.RecordLaws.{
   high-atom,
   record-at,
 }
-use Rattle.sentences.specs.Loose.{onceEach}
-use Rattle.sentences.specs.Ahead.{FreshBelow}
+use Rattle.sentences.specs.Code.Loose.{onceEach}
+use Rattle.sentences.specs.Code.Ahead.{FreshBelow}
 
 -- ---- lists without repeats
 

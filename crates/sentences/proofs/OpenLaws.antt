@@ -20,14 +20,14 @@ use Rattle.law.specs.Runs.{endOf}
 use Rattle.law.proofs.RunLaws.{end-low, end-high}
 use Rattle.matching.specs.Pattern.{literal, variable, Pattern}
 use Rattle.matching.specs.Shadow.{sameAtom, symbolLike, singleTerm}
-use Rattle.matching.specs.Part.{rowOf, from, atomOf, termRow}
-use Rattle.matching.specs.Step.{openTerm}
+use Rattle.matching.specs.Code.Part.{rowOf, from, atomOf, termRow}
+use Rattle.matching.specs.Code.Step.{openTerm}
 use Rattle.matching.proofs.SameLaws.{false-not-true}
 use Rattle.matching.proofs.PartLaws.{row-empty, row-node}
 use Rattle.matching.proofs.CutLaws.{from-all, from-length, from-from}
-use Rattle.sentences.specs.Loose.{loosely}
-use Rattle.sentences.specs.Greedy.{EndOf, termsIn, leftPasses, opens}
-use Rattle.sentences.specs.Ahead.{passes, frontIn, leftmostIn, endPasses, aheadOf, AheadIn, OpenStart, Skipped}
+use Rattle.sentences.specs.Code.Loose.{loosely}
+use Rattle.sentences.specs.Code.Greedy.{EndOf, termsIn, leftPasses, opens}
+use Rattle.sentences.specs.Code.Ahead.{passes, frontIn, leftmostIn, endPasses, aheadOf, AheadIn, OpenStart, Skipped}
 use Rattle.sentences.specs.declared.loose.Ahead.{Ahead}
 use Rattle.sentences.specs.declared.loose.Ahead.the-variants.{At, Fails}
 use Rattle.sentences.proofs.GreedyLaws.{whole-end, end-end, end-some, front-loosely, leftmost-loosely, last-loosely, last-short}

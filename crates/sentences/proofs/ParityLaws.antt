@@ -20,16 +20,16 @@ use Rattle.matching.specs.Pattern.{Symbol, character, Atom, literal, variable, 
 use Rattle.matching.specs.Match.{Values, none-bound, some-in}
 use Rattle.matching.specs.Fill.{Plain, filled, OfKind, Kinded}
 use Rattle.matching.specs.Shadow.{sameAtom, symbolLike, singleTerm}
-use Rattle.matching.specs.Part.{rowOf, from, variableFrom, atomOf, termRow}
-use Rattle.matching.specs.Step.{found, openTerm}
+use Rattle.matching.specs.Code.Part.{rowOf, from, variableFrom, atomOf, termRow}
+use Rattle.matching.specs.Code.Step.{found, openTerm}
 use Rattle.matching.proofs.SameLaws.{false-not-true, variable-sound, variable-refl, atom-sound}
 use Rattle.matching.proofs.SearchLaws.{none-kinded}
 use Rattle.matching.proofs.FillLaws.{fills-of-match}
 use Rattle.matching.proofs.VariableLaws.{occurs-first, occurs-later, occurs-cases}
 use Rattle.matching.proofs.PartLaws.{row-empty}
 use Rattle.matching.proofs.CutLaws.{from-all, from-length}
-use Rattle.sentences.specs.Greedy.{openKind}
-use Rattle.sentences.specs.Parity.{differ, oddTerms, outside, oddIn, Evenly}
+use Rattle.sentences.specs.Code.Greedy.{openKind}
+use Rattle.sentences.specs.Code.Parity.{differ, oddTerms, outside, oddIn, Evenly}
 use Rattle.sentences.proofs.FrontLaws.{is-open, not-open}
 use Rattle.sentences.proofs.OpenLaws.{next-row}
 

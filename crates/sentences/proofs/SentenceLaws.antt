@@ -15,7 +15,7 @@ use Rattle.file.specs.Sections.{File, fileOf, numberOf}
 use Rattle.file.specs.declared.Refusal.{Refusal}
 use Rattle.law.specs.Places.{patternSize, patternAt, patternPart, termsAt}
 use Rattle.law.specs.Reading.{treeOf, own}
-use Rattle.law.specs.Index.{Indexed, Readable}
+use Rattle.law.specs.Code.Index.{Indexed, Readable}
 use Rattle.law.specs.Variables.{distinct}
 use Rattle.law.specs.Law.{lawOf, verdictOf, checkAnswer, Accepted, IndexAfter}
 use Rattle.law.specs.declared.Check.{Check}
@@ -29,14 +29,14 @@ use Rattle.law.proofs.PlaceLaws.{pattern-inside}
 use Rattle.law.proofs.IndexLaws.{terms-limit}
 use Rattle.matching.specs.Shadow.{shadows}
 use Rattle.matching.specs.Literal.{isLiteral, literalTerms, literalMatches}
-use Rattle.matching.specs.Part.{rowOf, literalPart, symbolsOf, Stands}
-use Rattle.matching.specs.Capacity.{variablesIn}
-use Rattle.matching.specs.Asked.{nesting}
+use Rattle.matching.specs.Code.Part.{rowOf, literalPart, symbolsOf, Stands}
+use Rattle.searches.specs.Code.Capacity.{variablesIn}
+use Rattle.searches.specs.Code.Asked.{nesting}
 use Rattle.sentences.specs.Entry.{patternIn, argumentPart, argumentIn, literalCall, shadowIn, no-sentence, not-literal, answered, recogniseIn, shadowOutcome, recogniseOutcome, shadowAnswer, recogniseAnswer}
 use Rattle.sentences.specs.declared.Shadowed.{Shadowed}
 use Rattle.sentences.specs.declared.Recognised.{Recognised}
 use Rattle.matching.proofs.PartLaws.{row-run}
-use Rattle.matching.proofs.LiteralParts.{part-literal, part-symbols}
+use Rattle.searches.proofs.LiteralParts.{part-literal, part-symbols}
 use Rattle.sentences.proofs.SentencePatterns.{pattern-distinct, pattern-nesting}
 use Rattle.sentences.proofs.Arguments.{record-inside}
 

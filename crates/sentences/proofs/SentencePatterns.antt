@@ -12,14 +12,14 @@ use Rattle.law.specs.Places.{patternAt, patternPart}
 use Rattle.law.specs.Reading.{runOf, treeOf, own}
 use Rattle.law.specs.Depth.{deepest, depthOf}
 use Rattle.law.specs.Variables.{Variable, occurs, distinct, patternsAllowed, runVariables}
-use Rattle.law.specs.Index.{Readable}
+use Rattle.law.specs.Code.Index.{Readable}
 use Rattle.law.proofs.PatternVariables as records
 use Rattle.law.proofs.DepthLaws.{symbol-depth, variable-depth, bracket-depth, call-depth, block-depth}
 use Rattle.law.proofs.Owners.{parts-depth}
 use Rattle.matching.specs.Pattern.{patternOf}
-use Rattle.matching.specs.Part.{rowOf}
-use Rattle.matching.specs.Capacity.{variablesIn}
-use Rattle.matching.specs.Asked.{nesting}
+use Rattle.matching.specs.Code.Part.{rowOf}
+use Rattle.searches.specs.Code.Capacity.{variablesIn}
+use Rattle.searches.specs.Code.Asked.{nesting}
 use Rattle.matching.proofs.PartLaws.{row-run}
 use Rattle.matching.proofs.VariableLaws.{occurs-first, occurs-later, occurs-cases, occurs-left, occurs-right, occurs-either, distinct-fewer}
 

@@ -1,5 +1,2 @@
-pub mod Loose
-pub mod Greedy
-pub mod Ahead
-pub mod Parity
 pub mod Entry
+pub mod Code

@@ -6,18 +6,18 @@ use law::runs::end_of;
 use matching::atoms_same;
 use matching::is_bracket;
 use matching::may_stand;
-use matching::repeats::again;
+use searches::repeats::again;
 ghost use mathlib.Core.Path.{_≡_};
 ghost use mathlib.Core.Bool.{true, false};
 ghost use mathlib.Core.List.{List};
 ghost use Prim.Native.Nat.{ℕ, _+_, _≤_};
 ghost use lib.ListN.{length};
 ghost use Rattle.file.specs.Word.{wordAt};
-ghost use Rattle.matching.specs.Part.{rowOf};
-ghost use Rattle.matching.specs.Capacity.{variablesIn};
-ghost use Rattle.sentences.specs.Loose.{onceEach};
-ghost use Rattle.sentences.specs.Greedy.{opens, termsIn};
-ghost use Rattle.sentences.specs.Ahead.{passes, frontIn, leftmostIn, endPasses, aheadOf, AheadIn, OpenStart, fitsFirst, Skipped};
+ghost use Rattle.matching.specs.Code.Part.{rowOf};
+ghost use Rattle.searches.specs.Code.Capacity.{variablesIn};
+ghost use Rattle.sentences.specs.Code.Loose.{onceEach};
+ghost use Rattle.sentences.specs.Code.Greedy.{opens, termsIn};
+ghost use Rattle.sentences.specs.Code.Ahead.{passes, frontIn, leftmostIn, endPasses, aheadOf, AheadIn, OpenStart, fitsFirst, Skipped};
 
 // Where a pattern and a row stand once the pattern's terms before its first e. variable are matched.
 pub enum Ahead {

@@ -12,9 +12,9 @@ ghost use Rattle.file.specs.Head.{termAt};
 ghost use Rattle.law.specs.Variables.{Variable};
 ghost use Rattle.matching.specs.Pattern.{variable};
 ghost use Rattle.matching.specs.Match.{none-bound};
-ghost use Rattle.matching.specs.Part.{rowOf, atomOf};
-ghost use Rattle.matching.specs.Step.{found};
-ghost use Rattle.sentences.specs.Parity.{oddTerms, outside, oddIn, Evenly};
+ghost use Rattle.matching.specs.Code.Part.{rowOf, atomOf};
+ghost use Rattle.matching.specs.Code.Step.{found};
+ghost use Rattle.sentences.specs.Code.Parity.{oddTerms, outside, oddIn, Evenly};
 
 // Has a part an odd number of terms? Brackets are one term.
 fn odd_terms(part: &[u8]) -> bool

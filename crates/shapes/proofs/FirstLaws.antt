@@ -11,7 +11,7 @@ use Rattle.shapes.specs.Join.{joinShapes}
 use Rattle.shapes.specs.Disjoint.{disjointShapes}
 use Rattle.shapes.specs.Words.{bracketWord, shapeWords, isBracket, insideOpen, shapesEnd, shapesIn}
 use Rattle.buffers.specs.Written.{written}
-use Rattle.shapes.specs.First.{firstApart, firstJoin, ShapesWritten}
+use Rattle.shapes.specs.Code.First.{firstApart, firstJoin, ShapesWritten}
 use Rattle.shapes.proofs.WordLaws.{shapes-none, shapes-leaf, shapes-bracket, words-length}
 use Rattle.buffers.proofs.WrittenLaws.{written-none, written-one, written-front, written-more}
 

@@ -16,7 +16,7 @@ use Rattle.shapes.specs.Disjoint.{disjointShapes, disjoint}
 use Rattle.shapes.specs.Same.{sameFormat}
 use Rattle.shapes.specs.Words.{shapeWords, filled, usedWords, formatWords, shapesIn, readFormat, rowEnd, FormatIn}
 use Rattle.buffers.specs.Written.{written}
-use Rattle.shapes.specs.First.{ShapesWritten}
+use Rattle.shapes.specs.Code.First.{ShapesWritten}
 use Rattle.shapes.proofs.JoinLaws.{join-size-left}
 use Rattle.shapes.proofs.SameLaws.{same-equal, same-itself}
 use Rattle.shapes.proofs.WordLaws.{words-length, format-words-length, read-write}

@@ -8,7 +8,7 @@ use Rattle.file.specs.Answer.{Answer, refused, given}
 use Rattle.shapes.specs.Leaf.{leafByte, leafAt}
 use Rattle.shapes.specs.Format.{Shapes, end, item, group, Format, never, of}
 use Rattle.shapes.specs.Words.{isBracket}
-use Rattle.shapes.specs.First.{firstInside}
+use Rattle.shapes.specs.Code.First.{firstInside}
 use Rattle.buffers.specs.Written.{written}
 use Rattle.shapes.specs.declared.display.Shown.{Shown}
 use Rattle.shapes.specs.declared.display.Shown.the-variants.{At, NoRoom}

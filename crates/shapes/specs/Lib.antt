@@ -4,6 +4,6 @@ pub mod Join
 pub mod Disjoint
 pub mod Same
 pub mod Words
-pub mod First
 pub mod Display
 pub mod Examples
+pub mod Code

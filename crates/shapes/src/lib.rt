@@ -12,7 +12,7 @@ ghost use Rattle.shapes.specs.Join.{joinShapes, join};
 ghost use Rattle.shapes.specs.Disjoint.{disjointShapes, disjoint};
 ghost use Rattle.shapes.specs.Words.{bracketWord, shapeWords, formatWords, isBracket, insideOpen, insideOf, shapesEnd, shapesIn, readFormat, rowEnd, FormatIn};
 ghost use Rattle.buffers.specs.Written.{written};
-ghost use Rattle.shapes.specs.First.{firstApart, firstJoin, ShapesWritten};
+ghost use Rattle.shapes.specs.Code.First.{firstApart, firstJoin, ShapesWritten};
 
 pub mod display;
 

@@ -4,8 +4,8 @@ use Prim.Native.Nat.{_-_}
 use native.Mathlib.Omega.{arith}
 use borrow.Author.Needs.{needs}
 use lib.ListN.{length}
-use Rattle.findings.specs.Events.{afterNote}
-use Rattle.findings.specs.Tasks.{noteWords}
+use Rattle.findings.specs.Code.Events.{afterNote}
+use Rattle.findings.specs.Code.Tasks.{noteWords}
 use Rattle.findings.proofs.CollectLaws.{note-fits, note-left, note-ended, note-none, note-one}
 use Rattle.findings.proofs.put_note.Statement.{statement}
 use Rattle.findings.proofs.put_note.Tie as tie

@@ -5,7 +5,7 @@ use borrow.Author.Tests.{not-true, not-false}
 use borrow.Author.Needs.{needs}
 use Rattle.file.proofs.SectionLaws.{sections-records}
 use Rattle.file.specs.Sections.{fileOf}
-use Rattle.law.specs.Index.{Readable}
+use Rattle.law.specs.Code.Index.{Readable}
 use Rattle.law.proofs.Verdict as verdict
 use borrow.Author.Needs.{needs}
 use Rattle.law.proofs.check_placed.Statement.{statement}

@@ -1,6 +1,6 @@
 -- `first_of` meets its contract: its callees' contracts, where the first record's kind is known; calls and blocks by a law of proofs/StepLaws.antt.
 use mathlib.Core.Path.{sym, ap, _∙_}
-use Rattle.matching.specs.Part.{atomOf}
+use Rattle.matching.specs.Code.Part.{atomOf}
 use Rattle.matching.proofs.StepLaws as laws
 use borrow.Author.Needs.{needs}
 use Rattle.matching.proofs.first_of.Statement.{statement}

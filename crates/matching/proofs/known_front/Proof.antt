@@ -3,8 +3,8 @@ use Prim.Native.Nat.{_-_}
 use native.Mathlib.Omega.{arith}
 use borrow.Author.Needs.{needs}
 use lib.ListN.{length}
-use Rattle.matching.specs.Bound.{valuesOf, places}
-use Rattle.matching.specs.Step.{Passed}
+use Rattle.matching.specs.Code.Bound.{valuesOf, places}
+use Rattle.matching.specs.Code.Step.{Passed}
 use Rattle.matching.proofs.CutLaws.{begin-inside}
 use Rattle.matching.proofs.KnownLaws as laws
 use Rattle.matching.proofs.known_front.Statement.{statement}

@@ -3,7 +3,7 @@ use Prim.Native.Nat.{ℕ, _≤_}
 use mathlib.Core.List.{List}
 use borrow.Author.Needs.{needs}
 use native.Mathlib.Omega.{arith}
-use Rattle.matching.specs.Bound.{Kept, places}
+use Rattle.matching.specs.Code.Bound.{Kept, places}
 use Rattle.matching.proofs.BoundLaws as laws
 use Rattle.matching.proofs.place_of.Statement.{statement}
 use Rattle.matching.proofs.place_of.Tie as tie

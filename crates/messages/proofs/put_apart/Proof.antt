@@ -4,7 +4,7 @@ use mathlib.Core.Path.{refl, sym}
 use native.Mathlib.Omega.{arith}
 use Rattle.file.specs.Sections.{fileOf}
 use Rattle.formats.proofs.TurnLaws.{lent-length, back-inside, back-length}
-use Rattle.lints.specs.Records.{callAt}
+use Rattle.lints.specs.Code.Records.{callAt}
 use Rattle.messages.proofs.FormatLaws.{record-low, passed-asked, passed-read, accepted-low, accepted-inside, accepted-format}
 use borrow.Author.Needs.{needs}
 use Rattle.messages.proofs.put_apart.Statement.{statement}

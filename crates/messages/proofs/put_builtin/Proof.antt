@@ -1,6 +1,6 @@
 -- The number tells why the call fails.
 use Rattle.file.specs.Sections.{fileOf}
-use Rattle.lints.specs.Records.{callAt}
+use Rattle.lints.specs.Code.Records.{callAt}
 use Rattle.messages.proofs.WordLaws.{why-first, why-second, why-third}
 use borrow.Author.Needs.{needs}
 use Rattle.messages.proofs.put_builtin.Statement.{statement}

@@ -1,7 +1,7 @@
 -- By formats or by literals, as the word a says.
 use borrow.Author.Tests.{eq-eqb, ne-eqb}
 use Rattle.file.specs.Sections.{fileOf}
-use Rattle.lints.specs.Records.{callAt}
+use Rattle.lints.specs.Code.Records.{callAt}
 use borrow.Author.Needs.{needs}
 use Rattle.messages.proofs.put_recognition.Statement.{statement}
 use Rattle.messages.proofs.put_recognition.Tie as tie

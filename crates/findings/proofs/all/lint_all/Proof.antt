@@ -1,7 +1,7 @@
 use native.Mathlib.Omega.{arith}
 use Rattle.file.specs.Sections.{fileOf}
 use Rattle.lints.specs.Lint.{deadSentence, recognitionImpossible, builtinDomain, openExpressions}
-use Rattle.findings.specs.Events.{Upto, sinkOf}
+use Rattle.findings.specs.Code.Events.{Upto, sinkOf}
 use Rattle.lints.specs.Levels.{settingsFrom}
 use Rattle.findings.proofs.AllLaws.{task-asks, task-met, all-met}
 use borrow.Author.Needs.{needs}

@@ -1,8 +1,8 @@
 use borrow.Author.Tests.{not-true, not-false}
 use Rattle.file.specs.Sections.{fileOf}
 use Rattle.law.specs.Reading.{treeOf}
-use Rattle.lints.specs.Records.{formatsIn}
-use Rattle.findings.specs.Events.{sinkOf}
+use Rattle.lints.specs.Code.Records.{formatsIn}
+use Rattle.findings.specs.Code.Events.{sinkOf}
 use Rattle.findings.proofs.AllLaws.{not-due, is-due}
 use borrow.Author.Needs.{needs}
 use Rattle.findings.proofs.all.lint_task.Statement.{statement}

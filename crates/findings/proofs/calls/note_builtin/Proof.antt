@@ -2,7 +2,7 @@
 use borrow.Author.Needs.{needs}
 use Rattle.file.specs.Sections.{fileOf}
 use Rattle.law.specs.Reading.{treeOf}
-use Rattle.findings.specs.Events.{sinkOf}
+use Rattle.findings.specs.Code.Events.{sinkOf}
 use Rattle.findings.proofs.CallLaws.{name-inside, builtin-met}
 use Rattle.findings.proofs.calls.note_builtin.Statement.{statement}
 use Rattle.findings.proofs.calls.note_builtin.Tie as tie

@@ -2,9 +2,9 @@
 use borrow.Author.Needs.{needs}
 use Rattle.file.specs.Sections.{fileOf}
 use Rattle.law.specs.Reading.{treeOf}
-use Rattle.lints.specs.Records.{formatsIn}
-use Rattle.findings.specs.Events.{sinkOf}
-use Rattle.findings.specs.Tasks.{callEvents}
+use Rattle.lints.specs.Code.Records.{formatsIn}
+use Rattle.findings.specs.Code.Events.{sinkOf}
+use Rattle.findings.specs.Code.Tasks.{callEvents}
 use Rattle.findings.proofs.CallLaws.{kind-call, met-none, met-recognition, met-builtin, met-other}
 use Rattle.findings.proofs.calls.note_call.Statement.{statement}
 use Rattle.findings.proofs.calls.note_call.Tie as tie

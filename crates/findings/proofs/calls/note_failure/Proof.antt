@@ -1,10 +1,10 @@
 -- `calls::note_failure` meets its contract, by the failure.
 use borrow.Author.Needs.{needs}
 use Rattle.file.specs.Sections.{fileOf}
-use Rattle.lints.specs.Part.{failureIn}
+use Rattle.lints.specs.Code.Part.{failureIn}
 use Rattle.lints.specs.declared.builtin.Fails.{Fails}
-use Rattle.findings.specs.Events.{sinkOf}
-use Rattle.findings.specs.Judging.{callFound, failureEvents}
+use Rattle.findings.specs.Code.Events.{sinkOf}
+use Rattle.findings.specs.Code.Judging.{callFound, failureEvents}
 use Rattle.findings.proofs.CollectLaws.{collect-none}
 use Rattle.findings.proofs.CallLaws.{met-by, collect-met}
 use Rattle.findings.proofs.calls.note_failure.Statement.{statement}

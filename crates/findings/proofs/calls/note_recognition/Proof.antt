@@ -3,9 +3,9 @@ use mathlib.Core.Path.{sym, _∙_}
 use borrow.Author.Needs.{needs}
 use Rattle.file.specs.Sections.{fileOf}
 use Rattle.law.specs.Reading.{treeOf}
-use Rattle.lints.specs.Records.{formatsIn, callAt}
-use Rattle.findings.specs.Events.{sinkOf}
-use Rattle.findings.specs.Tasks.{recognitionEvents}
+use Rattle.lints.specs.Code.Records.{formatsIn, callAt}
+use Rattle.findings.specs.Code.Events.{sinkOf}
+use Rattle.findings.specs.Code.Tasks.{recognitionEvents}
 use Rattle.findings.proofs.CallLaws.{collect-over, recognition-met}
 use Rattle.findings.proofs.calls.note_recognition.Statement.{statement}
 use Rattle.findings.proofs.calls.note_recognition.Tie as tie

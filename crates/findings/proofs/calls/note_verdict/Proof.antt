@@ -1,8 +1,8 @@
 -- `calls::note_verdict` meets its contract, by the verdict.
 use borrow.Author.Needs.{needs}
 use Rattle.file.specs.Sections.{fileOf}
-use Rattle.findings.specs.Events.{sinkOf}
-use Rattle.findings.specs.Judging.{verdictEvents}
+use Rattle.findings.specs.Code.Events.{sinkOf}
+use Rattle.findings.specs.Code.Judging.{verdictEvents}
 use Rattle.findings.proofs.CollectLaws.{collect-none}
 use Rattle.findings.proofs.CallLaws.{met-by, collect-wide}
 use Rattle.findings.proofs.calls.note_verdict.Statement.{statement}

@@ -2,8 +2,8 @@
 use mathlib.Core.List.{[], _∷_}
 use borrow.Author.Needs.{needs}
 use Rattle.file.specs.Sections.{fileOf}
-use Rattle.findings.specs.Events.{sinkOf}
-use Rattle.findings.specs.Judging.{callFound}
+use Rattle.findings.specs.Code.Events.{sinkOf}
+use Rattle.findings.specs.Code.Judging.{callFound}
 use Rattle.findings.proofs.CallLaws.{shown-not, shown-one}
 use Rattle.findings.proofs.calls.put_shown.Statement.{statement}
 use Rattle.findings.proofs.calls.put_shown.Tie as tie

@@ -6,8 +6,8 @@ use lib.ListN.{length}
 use Rattle.file.specs.Sections.{fileOf}
 use Rattle.law.proofs.Allowed.{accepted-readable}
 use Rattle.law.proofs.IndexLaws.{sentences-limit}
-use Rattle.findings.specs.Events.{sinkOf, collect}
-use Rattle.findings.specs.DeadSteps.{deadFrom}
+use Rattle.findings.specs.Code.Events.{sinkOf, collect}
+use Rattle.findings.specs.Code.DeadSteps.{deadFrom}
 use Rattle.findings.proofs.DeadLaws as laws
 use Rattle.findings.proofs.dead.note_dead.Statement.{statement}
 use Rattle.findings.proofs.dead.note_dead.Tie as tie

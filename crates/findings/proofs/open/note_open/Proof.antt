@@ -5,7 +5,7 @@ use lib.ListN.{length}
 use Rattle.file.specs.Sections.{fileOf}
 use Rattle.law.proofs.Allowed.{accepted-readable}
 use Rattle.law.proofs.IndexLaws.{sentences-limit}
-use Rattle.findings.specs.Events.{sinkOf, collect}
+use Rattle.findings.specs.Code.Events.{sinkOf, collect}
 use Rattle.findings.proofs.OpenLaws as laws
 use Rattle.findings.proofs.open.note_open.Statement.{statement}
 use Rattle.findings.proofs.open.note_open.Tie as tie

@@ -9,9 +9,9 @@ use lib.ListN.{length}
 use Rattle.file.specs.Sections.{fileOf}
 use Rattle.law.specs.Places.{conditionsOf, firstCondition}
 use Rattle.law.specs.Reading.{sentencesIn}
-use Rattle.matching.specs.Part.{from}
-use Rattle.lints.specs.Records.{formatsIn}
-use Rattle.findings.specs.Events.{sinkOf}
+use Rattle.matching.specs.Code.Part.{from}
+use Rattle.lints.specs.Code.Records.{formatsIn}
+use Rattle.findings.specs.Code.Events.{sinkOf}
 use Rattle.findings.proofs.WalkSteps as steps
 use borrow.Fn.Kinds.{In}
 use borrow.Fn.PlainCycle.{Measures, is, falls, and}

@@ -3,8 +3,8 @@ use mathlib.Core.Path.{sym, _∙_}
 use native.Mathlib.Omega.{arith}
 use borrow.Author.Needs.{needs}
 use Rattle.file.specs.Sections.{fileOf}
-use Rattle.lints.specs.Records.{formatsIn}
-use Rattle.findings.specs.Events.{sinkOf}
+use Rattle.lints.specs.Code.Records.{formatsIn}
+use Rattle.findings.specs.Code.Events.{sinkOf}
 use Rattle.law.specs.Reading.{treeOf}
 use Rattle.findings.proofs.NoneMetLaws.{nothing-inside}
 use Rattle.findings.proofs.WalkSteps as steps

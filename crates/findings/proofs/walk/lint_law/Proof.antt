@@ -5,9 +5,9 @@ use borrow.Author.Needs.{needs}
 use lib.ListN.{length}
 use Rattle.file.specs.Sections.{fileOf}
 use Rattle.law.specs.Reading.{treeOf}
-use Rattle.lints.specs.Records.{formatsIn}
-use Rattle.findings.specs.Events.{sinkOf}
-use Rattle.findings.specs.Tasks.{lintEvents}
+use Rattle.lints.specs.Code.Records.{formatsIn}
+use Rattle.findings.specs.Code.Events.{sinkOf}
+use Rattle.findings.specs.Code.Tasks.{lintEvents}
 use Rattle.findings.proofs.WalkSteps as steps
 use Rattle.findings.proofs.walk.lint_law.Statement.{statement}
 use Rattle.findings.proofs.walk.lint_law.Tie as tie

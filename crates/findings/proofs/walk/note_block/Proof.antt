@@ -3,7 +3,7 @@ use borrow.Author.Needs.{needs}
 use Rattle.file.specs.Sections.{fileOf}
 use Rattle.law.specs.Tree.{keep}
 use Rattle.law.specs.Reading.{sentencesAt}
-use Rattle.findings.specs.Events.{sinkOf}
+use Rattle.findings.specs.Code.Events.{sinkOf}
 use Rattle.findings.proofs.WalkLaws.{block-passed, block-noted}
 use Rattle.findings.proofs.walk.note_block.Statement.{statement}
 use Rattle.findings.proofs.walk.note_block.Tie as tie

@@ -14,8 +14,8 @@ use Rattle.law.proofs.IndexLaws.{sentences-limit}
 use Rattle.shapes.specs.Words.{readFormat}
 use Rattle.shapes.proofs.FormatLaws.{format-in-length}
 use Rattle.formats.specs.Infer.{find}
-use Rattle.formats.specs.Slots.{fileNames}
-use Rattle.formats.specs.Turns.{resultsIn}
+use Rattle.formats.specs.Code.Slots.{fileNames}
+use Rattle.formats.specs.Code.Turns.{resultsIn}
 use Rattle.formats.proofs.SentenceLaws.{RowsLeft, rows-start, rows-format, rows-length, rows-all, rows-refused, row-format, rows-more}
 use Rattle.formats.proofs.infer.join_sentences.Statement.{statement}
 use Rattle.formats.proofs.infer.join_sentences.Tie as tie

@@ -4,8 +4,8 @@ use mathlib.Core.Path.{refl}
 use native.Mathlib.Omega.{arith}
 use borrow.Author.Needs.{needs}
 use Rattle.formats.specs.Infer.{find}
-use Rattle.formats.specs.Slots.{fileNames}
-use Rattle.formats.specs.Turns.{resultsIn}
+use Rattle.formats.specs.Code.Slots.{fileNames}
+use Rattle.formats.specs.Code.Turns.{resultsIn}
 use Rattle.file.specs.Sections.{fileOf}
 use Rattle.formats.proofs.RowLaws.{stored-none}
 use Rattle.formats.proofs.SentenceLaws.{holding-stored, holding-knows, pattern-here, result-here, pattern-made, result-made}

@@ -7,8 +7,8 @@ use lib.ListN.{length, length-set}
 use Rattle.file.specs.Sections.{fileOf}
 use Rattle.law.proofs.IndexLaws.{sentences-limit}
 use Rattle.formats.specs.Infer.{find}
-use Rattle.formats.specs.Slots.{fileNames}
-use Rattle.formats.specs.Turns.{resultsIn}
+use Rattle.formats.specs.Code.Slots.{fileNames}
+use Rattle.formats.specs.Code.Turns.{resultsIn}
 use Rattle.formats.proofs.SentenceLaws.{rows-none, first-refused, first-format, first-alone, first-joined}
 use Rattle.formats.proofs.infer.sentences_format.Statement.{statement}
 use Rattle.formats.proofs.infer.sentences_format.Tie as tie

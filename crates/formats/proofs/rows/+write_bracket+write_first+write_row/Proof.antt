@@ -7,7 +7,7 @@ use borrow.Author.Needs.{needs}
 use mathlib.Core.Path.{refl, _∙_}
 use lib.ListN.{length, length-set}
 use Rattle.law.proofs.Forests.{inside-falls, after-falls}
-use Rattle.formats.specs.Rows.{leftOf}
+use Rattle.formats.specs.Code.Rows.{leftOf}
 use Rattle.formats.proofs.RowLaws as laws
 use borrow.Fn.Kinds.{In}
 use borrow.Fn.PlainCycle.{Measures, is, falls, and}

@@ -5,7 +5,7 @@ use native.Mathlib.Omega.{arith}
 use borrow.Author.Needs.{needs}
 use borrow.Author.Tests.{leb-true}
 use lib.ListN.{length, length-set}
-use Rattle.formats.specs.Rows.{LeavesAre}
+use Rattle.formats.specs.Code.Rows.{LeavesAre}
 use Rattle.formats.proofs.RowLaws.{left-length, leaves-none, leaves-next}
 use Rattle.formats.proofs.rows.write_leaves.Statement.{statement}
 use Rattle.formats.proofs.rows.write_leaves.Tie as tie

@@ -5,7 +5,7 @@ use native.Mathlib.Omega.{arith}
 use lib.ListN.{length, length-set}
 use Rattle.file.specs.Sections.{fileOf}
 use Rattle.law.proofs.IndexLaws.{functions-limit, terms-limit}
-use Rattle.formats.specs.Slots.{SlotsUpTo}
+use Rattle.formats.specs.Code.Slots.{SlotsUpTo}
 use Rattle.formats.proofs.SlotLaws.{slots-next}
 use Rattle.formats.proofs.slots.fill_calls.Statement.{statement}
 use Rattle.formats.proofs.slots.fill_calls.Tie as tie

@@ -5,7 +5,7 @@ use native.Mathlib.Omega.{arith}
 use lib.ListN.{length, length-set}
 use Rattle.file.specs.Sections.{fileOf}
 use Rattle.law.proofs.IndexLaws.{functions-limit}
-use Rattle.formats.specs.Slots.{position, functionFolded, fileNames, Filled}
+use Rattle.formats.specs.Code.Slots.{position, functionFolded, fileNames, Filled}
 use Rattle.formats.proofs.SlotLaws.{filled-next}
 use Rattle.formats.proofs.slots.fill_functions.Statement.{statement}
 use Rattle.formats.proofs.slots.fill_functions.Tie as tie

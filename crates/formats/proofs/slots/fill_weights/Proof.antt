@@ -5,7 +5,7 @@ use native.Mathlib.Omega.{arith}
 use lib.ListN.{length, length-set}
 use Rattle.file.specs.Sections.{fileOf}
 use Rattle.law.proofs.IndexLaws.{functions-limit}
-use Rattle.formats.specs.Slots.{newly, Filled}
+use Rattle.formats.specs.Code.Slots.{newly, Filled}
 use Rattle.formats.proofs.SlotLaws.{CountAt, count-start, count-next, count-names, filled-next}
 use Rattle.formats.proofs.slots.fill_weights.Statement.{statement}
 use Rattle.formats.proofs.slots.fill_weights.Tie as tie

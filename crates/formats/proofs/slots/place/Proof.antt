@@ -6,7 +6,7 @@ use borrow.Author.Needs.{needs}
 use Rattle.law.proofs.IndexLaws.{functions-limit}
 use Rattle.names.specs.Name.{orderBytes}
 use Rattle.file.specs.Sections.{fileOf}
-use Rattle.formats.specs.Slots.{functionFolded, lessCount}
+use Rattle.formats.specs.Code.Slots.{functionFolded, lessCount}
 use Rattle.formats.proofs.SlotLaws.{CountAt, count-start, count-next, count-before}
 use Rattle.formats.proofs.slots.place.Statement.{statement}
 use Rattle.formats.proofs.slots.place.Tie as tie

@@ -5,7 +5,7 @@ use native.Mathlib.Omega.{arith}
 use borrow.Author.Needs.{needs}
 use lib.ListN.{length, length-set}
 use Rattle.file.proofs.Below.{total-none}
-use Rattle.law.specs.Filling.{Table, blockWord, blockSum, asWord}
+use Rattle.law.specs.Code.Filling.{Table, blockWord, blockSum, asWord}
 use Rattle.law.proofs.Tables.{sum-next, table-none, table-next}
 use Rattle.law.proofs.index.fill_blocks.Statement.{statement}
 use Rattle.law.proofs.index.fill_blocks.Tie as tie

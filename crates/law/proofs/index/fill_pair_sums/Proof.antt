@@ -5,7 +5,7 @@ use native.Mathlib.Omega.{arith}
 use borrow.Author.Needs.{needs}
 use lib.ListN.{length, length-set}
 use Rattle.file.proofs.Below.{total-none}
-use Rattle.law.specs.Filling.{Table, pairSum, asWord}
+use Rattle.law.specs.Code.Filling.{Table, pairSum, asWord}
 use Rattle.law.proofs.Tables.{record-fits, pair-next, table-first, table-next, table-over}
 use Rattle.law.proofs.index.fill_pair_sums.Statement.{statement}
 use Rattle.law.proofs.index.fill_pair_sums.Tie as tie

@@ -6,7 +6,7 @@ use borrow.Author.Needs.{needs}
 use lib.ListN.{length, length-set}
 use Rattle.file.specs.Word.{wordAt}
 use Rattle.file.proofs.Below.{total-none}
-use Rattle.law.specs.Filling.{Table, wordSum, asWord}
+use Rattle.law.specs.Code.Filling.{Table, wordSum, asWord}
 use Rattle.law.proofs.Tables.{record-fits, sum-next, table-first, table-next, table-over}
 use Rattle.law.proofs.index.fill_sums.Statement.{statement}
 use Rattle.law.proofs.index.fill_sums.Tie as tie

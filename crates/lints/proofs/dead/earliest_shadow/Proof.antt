@@ -8,7 +8,7 @@ use Rattle.law.proofs.IndexLaws.{sentences-limit}
 use Rattle.file.specs.Sections.{fileOf}
 use Rattle.sentences.specs.Entry.{patternIn}
 use Rattle.lints.specs.Dead.{earliest}
-use Rattle.lints.specs.Records.{earlierAt}
+use Rattle.lints.specs.Code.Records.{earlierAt}
 use Rattle.lints.proofs.DeadLaws as laws
 use Rattle.lints.proofs.dead.earliest_shadow.Statement.{statement}
 use Rattle.lints.proofs.dead.earliest_shadow.Tie as tie

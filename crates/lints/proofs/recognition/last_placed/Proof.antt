@@ -2,7 +2,7 @@
 use Prim.Native.Nat.{_≤_}
 use mathlib.Core.Path.{_≡_, refl, sym, _∙_}
 use native.Mathlib.Omega.{arith}
-use Rattle.lints.specs.Verdicts.{lastPlaced}
+use Rattle.lints.specs.Code.Verdicts.{lastPlaced}
 use Rattle.lints.proofs.RecognitionLaws.{last-here, last-next, last-none}
 use Rattle.lints.proofs.recognition.last_placed.Statement.{statement}
 use Rattle.lints.proofs.recognition.last_placed.Tie as tie

@@ -8,7 +8,7 @@ use borrow.Author.Needs.{needs}
 use borrow.Author.Tests.{not-true, not-false}
 use lib.ListN.{length}
 use Rattle.law.proofs.Forests.{inside-falls}
-use Rattle.matching.specs.Part.{from}
+use Rattle.matching.specs.Code.Part.{from}
 use Rattle.matching.proofs.CutLaws.{from-length}
 use Rattle.sentences.proofs.FrontLaws as laws
 use Rattle.sentences.proofs.OpenLaws as ends

@@ -3,7 +3,7 @@ use mathlib.Core.Path.{refl}
 use native.Mathlib.Omega.{arith}
 use borrow.Author.Needs.{needs}
 use Rattle.matching.proofs.CutLaws.{from-length}
-use Rattle.sentences.specs.Ahead.{Skipped}
+use Rattle.sentences.specs.Code.Ahead.{Skipped}
 use Rattle.sentences.proofs.OpenLaws as laws
 use Rattle.sentences.proofs.loose.skip.Statement.{statement}
 use Rattle.sentences.proofs.loose.skip.Tie as tie

@@ -1,0 +1,39 @@
+-- All lints under given settings.
+use Prim.Native.Nat.{ℕ}
+use mathlib.Core.Bool.{Bool, _||_}
+use mathlib.Core.List.{List, _++_}
+use lib.Dec.{eqb}
+use Rattle.law.specs.Tree.{Law}
+use Rattle.formats.specs.Infer.{Inferred}
+use Rattle.matching.specs.Match.{when}
+use Rattle.lints.specs.Lint.{Lint, deadSentence, recognitionImpossible, builtinDomain, openExpressions, lintNumber}
+use Rattle.lints.specs.Levels.{Settings, severityOf, isShown}
+use Rattle.findings.specs.declared.Task.{Task}
+use Rattle.findings.specs.Code.Events.{Event}
+use Rattle.findings.specs.Code.Tasks.{lintEvents}
+
+-- the task of a lint, where findings have this much room and formats at most so many shapes
+abbrev pub taskFor : Settings → ℕ → ℕ → Lint → Task
+taskFor settings room limit lint = record {
+  lint = lintNumber lint;
+  severity = severityOf settings lint;
+  shown = isShown settings lint;
+  position = 0;
+  room = room;
+  limit = limit;
+}
+
+-- what a task meets: nothing where its findings are hidden, but for lint 2, which may meet refusal 10
+abbrev pub isDue : Task → Bool
+isDue task = task .shown || eqb (task .lint) 2
+
+unfoldable pub taskEvents : Law → Inferred → Task → List Event
+taskEvents law formats task = when (isDue task) (lintEvents law formats task)
+
+-- `dead_sentences`, `recognition_impossible`, `builtin_domains`, `open_expression_complexity`, in this order
+unfoldable pub allEvents : Law → Inferred → Settings → ℕ → ℕ → List Event
+allEvents law formats settings room limit =
+    taskEvents law formats (taskFor settings room limit deadSentence)
+    ++ taskEvents law formats (taskFor settings room limit recognitionImpossible)
+    ++ taskEvents law formats (taskFor settings room limit builtinDomain)
+    ++ taskEvents law formats (taskFor settings room limit openExpressions)

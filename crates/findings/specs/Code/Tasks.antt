@@ -1,0 +1,103 @@
+-- What each lint meets, by the task that the code is given: the lint's number, the severity that its findings have, whether they are shown, the position
+-- of the function that is gone through, the words that there is room for, and the most shapes of a format.
+use Prim.Native.Nat.{ℕ, suc, _+_, _*_}
+use mathlib.Core.Bool.{Bool, cond, _&&_}
+use mathlib.Core.List.{List, [], _∷_, _++_, map}
+use lib.ListN.{getD}
+use lib.Dec.{eqb, ltb}
+use Rattle.file.specs.Word.{wordAt}
+use Rattle.file.specs.Sections.{File}
+use Rattle.law.specs.Tree.{Run, Sentences, Conditions, Function, Law}
+use Rattle.shapes.specs.Format.{size}
+use Rattle.formats.specs.Infer.{Inferred}
+use Rattle.matching.specs.Match.{when, each}
+use Rattle.lints.specs.Finding.{wordA, wordB, Remark}
+use Rattle.lints.specs.Calls.{Call}
+use Rattle.lints.specs.Dead.{ownDead, blockDead}
+use Rattle.lints.specs.Recognition.{compared, passed, judged}
+use Rattle.lints.specs.Builtin.{builtinOn}
+use Rattle.lints.specs.Open.{openIn}
+use Rattle.lints.specs.Code.Records.{callAt}
+use Rattle.findings.specs.declared.Task.{Task}
+use Rattle.findings.specs.declared.Note.{Note}
+use Rattle.findings.specs.Code.Events.{Event, found, tooWide}
+use Rattle.findings.specs.Code.Walk.{walked, walkedTerm, walkedSentences, walkedConditions}
+
+-- the eight words of a finding
+abbrev pub noteWords : Task → Note → List ℕ
+noteWords task note =
+    task .lint ∷ task .severity ∷ note .start ∷ note .end ∷ note .a ∷ note .b ∷ task .position ∷ note .subject ∷ []
+
+-- a remark, as the eight words of a finding
+abbrev pub remarkEvent : Task → Remark → Event
+remarkEvent task r =
+    found (task .lint ∷ task .severity ∷ r .subject .spanStart ∷ r .subject .spanEnd ∷ wordA (r .claim) ∷ wordB (r .claim) ∷ task .position
+    ∷ r .subject .at ∷ [])
+
+unfoldable pub remarkEvents : Task → List Remark → List Event
+remarkEvents task rs = map (remarkEvent task) rs
+
+-- ---- at a call, and at a block's own sentences
+
+-- lint 2: refusal 10 comes before levels, so that it is met also where findings are hidden
+unfoldable pub recognitionEvents : Law → Inferred → Task → Call → List Event
+recognitionEvents law formats task c =
+    when (compared law c) (cond (ltb (task .limit) (size (passed formats c))) (tooWide ∷ []) (when (task .shown) (remarkEvents task (judged formats c))))
+
+unfoldable pub callEvents : Law → Inferred → Task → Call → List Event
+callEvents law formats task c =
+    cond (eqb (task .lint) 2) (recognitionEvents law formats task c)
+    (when (eqb (task .lint) 3) (remarkEvents task (builtinOn law c)))
+
+unfoldable pub blockEvents : Task → Sentences → List Event
+blockEvents task ss = when (eqb (task .lint) 1) (remarkEvents task (blockDead ss))
+
+-- the calls at a term record: one, where it is a call
+abbrev pub callsAt : File → ℕ → List Call
+callsAt file t = when (eqb (wordAt (file .terms .records) (24 * t)) 7) (callAt file t ∷ [])
+
+-- ---- in the law
+
+-- in a run, in its first term, and in sentences
+abbrev pub runEvents : Law → Inferred → Task → Run → List Event
+runEvents law formats task r = walked (callEvents law formats task) (blockEvents task) (eqb (task .lint) 1) r
+
+abbrev pub termEvents : Law → Inferred → Task → Run → List Event
+termEvents law formats task r = walkedTerm (callEvents law formats task) (blockEvents task) (eqb (task .lint) 1) r
+
+abbrev pub insideEvents : Law → Inferred → Task → Sentences → List Event
+insideEvents law formats task ss = walkedSentences (callEvents law formats task) (blockEvents task) (eqb (task .lint) 1) ss
+
+abbrev pub conditionEvents : Law → Inferred → Task → Conditions → List Event
+conditionEvents law formats task cs = walkedConditions (callEvents law formats task) (blockEvents task) (eqb (task .lint) 1) cs
+
+-- of a function: lint 1 begins with its own sentences; lint 4 looks only at these
+unfoldable pub functionEvents : Law → Inferred → Task → Sentences → List Event
+functionEvents law formats task ss =
+    cond (eqb (task .lint) 4) (remarkEvents task (openIn ss))
+    (when (eqb (task .lint) 1) (remarkEvents task (ownDead ss)) ++ insideEvents law formats task ss)
+
+-- lint 1 where the functions have all sentences, by the words of the index: no block has any
+abbrev pub ownAlone : List ℕ → ℕ → Bool
+ownAlone index lint = eqb lint 1 && eqb (getD index (8 + getD index 4 0) 0) (getD index 5 0)
+
+-- a task at another position
+abbrev pub atPosition : Task → ℕ → Task
+atPosition task position = record {
+  lint = task .lint;
+  severity = task .severity;
+  shown = task .shown;
+  position = position;
+  room = task .room;
+  limit = task .limit;
+}
+
+-- function by function, from the position of the first of them on
+unfoldable pub functionsEvents : Law → Inferred → Task → ℕ → Law → List Event
+functionsEvents law formats task position [] = []
+functionsEvents law formats task position (f ∷ fs) =
+    functionEvents law formats (atPosition task position) (f .sentences) ++ functionsEvents law formats task (suc position) fs
+
+-- one lint
+abbrev pub lintEvents : Law → Inferred → Task → List Event
+lintEvents law formats task = functionsEvents law formats task 0 law

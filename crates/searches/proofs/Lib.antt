@@ -1,0 +1,14 @@
+pub mod LengthLaws
+pub mod CapacityLaws
+pub mod AskedLaws
+pub mod RecordLaws
+pub mod AgreeLaws
+pub mod ShadowSteps
+pub mod SureLaws
+pub mod FailedLaws
+pub mod ShadowStart
+pub mod LevelLaws
+pub mod LiteralSearch
+pub mod LiteralParts
+pub mod LiteralStart
+pub mod AloneLaws

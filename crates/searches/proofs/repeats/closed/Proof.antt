@@ -1,0 +1,57 @@
+-- `closed` meets its contract: after each turn none of the pattern's variables has a value in the places looked at.
+use Prim.Native.Nat.{ℕ, _+_, _-_, _≤_, _<_}
+use mathlib.Core.List.{List}
+use mathlib.Core.Path.{_≡_}
+use native.Mathlib.Omega.{arith}
+use borrow.Author.Needs.{needs}
+use lib.ListN.{length, getD}
+use Rattle.matching.specs.Pattern.{Atom}
+use Rattle.matching.specs.Match.{Values}
+use Rattle.matching.specs.Code.Bound.{Kept, places}
+use Rattle.searches.specs.Code.Repeats.{AgreeUpTo}
+use Rattle.matching.proofs.CutLaws.{from-length}
+use Rattle.matching.proofs.SameLaws.{false-not-true}
+use Rattle.searches.proofs.RecordLaws as laws
+use Rattle.searches.proofs.repeats.closed.Statement.{statement}
+use Rattle.searches.proofs.repeats.closed.Tie as tie
+
+abbrev Inv-loop : tie.InvT-loop
+Inv-loop text terms pattern keys sure count i₀ i =
+    (i ≤ count) × ((starts sizes : List ℕ) (vs : Values Atom) → Kept text terms (places keys starts sizes count) → AgreeUpTo text terms pattern keys starts sizes sure vs
+    → AgreeUpTo text terms pattern keys starts sizes i vs)
+
+abbrev μ-loop : tie.MeasureT-loop
+μ-loop text terms pattern keys sure count i₀ i = count - i
+
+-- a place is left, and its key stands among the term records
+strict : {i count : ℕ} → i ≤ count → (i ≡ count → ⊥) → i < count
+strict h k = omega (arith, k)
+
+keyed : (keys terms : List ℕ) {i count key : ℕ} → ((i : ℕ) → i < count → getD keys i 0 + 24 ≤ length terms) → i ≤ count → (i ≡ count → ⊥)
+    → key ≡ getD keys i 0 → key + 24 ≤ length terms
+keyed keys terms {i = i} inside h k e = omega (arith, e, inside i (strict h k))
+
+pub closed-spec : {M : Type 1} → statement M
+closed-spec =
+    tie.close
+    (tie.spec
+    Inv-loop
+    μ-loop
+    (λ c. let start = c .before .before .before in (start .pre .0, λ starts sizes vs kept known. known))
+    (λ c. omega (arith, c .before .loop .inv .0, c .before .before .before .before .before .pre .1))
+    (λ c. let low : c .before .loop .i < c .before .before .before .before .before .args .count = strict (c .before .loop .inv .0) (c .if1 .left) in
+    omega (arith, low, c .before .before .before .before .before .pre .1))
+    (λ c κs. tt)
+    (λ c. omega (arith, keyed (c .before .before .before .before .before .before .before .args .keys .now) (c .before .before .before .before .before .before .before .args .terms .now) (c .before .before .before .before .before .before .before .pre .2) (c .before .before .before .loop .inv .0) (c .before .before .if1 .left) (c .wide .ensures .0)))
+    (λ c. omega (arith, keyed (c .before .before .before .before .before .before .before .args .keys .now) (c .before .before .before .before .before .before .before .args .terms .now) (c .before .before .before .before .before .before .before .pre .2) (c .before .before .before .loop .inv .0) (c .before .before .if1 .left) (c .wide .ensures .0)))
+    (λ c. search needs)
+    (λ c κs. omega (arith, keyed (c .before .before .before .before .before .before .before .before .args .keys .now) (c .before .before .before .before .before .before .before .before .args .terms .now) (c .before .before .before .before .before .before .before .before .pre .2) (c .before .before .before .before .loop .inv .0) (c .before .before .before .if1 .left) (c .before .wide .ensures .0), from-length (c .before .wide .result) (c .before .before .before .before .before .before .before .before .args .terms .now)))
+    (λ c. omega (arith, c .before .before .before .before .before .before .loop .inv .0, c .before .before .before .before .before .before .before .before .before .before .pre .1))
+    (λ c. let low : c .before .before .before .before .before .before .loop .i < c .before .before .before .before .before .before .before .before .before .before .args .count = strict (c .before .before .before .before .before .before .loop .inv .0) (c .before .before .before .before .before .if1 .left) in
+    omega (arith, low))
+    (λ c. let low : c .before .before .before .before .before .before .loop .i < c .before .before .before .before .before .before .before .before .before .before .args .count = strict (c .before .before .before .before .before .before .loop .inv .0) (c .before .before .before .before .before .if1 .left) in (
+      omega (arith, low),
+      λ starts sizes vs kept known. laws.closed-next (c .before .before .before .before .before .before .before .before .before .before .args .pattern .now) kept low (c .before .before .before .wide .ensures .0) (c .before .again .ensures (c .if2 .left)) vs (c .before .before .before .before .before .before .loop .inv .1 starts sizes vs kept known),
+    ))
+    (λ c. λ e starts sizes vs kept known. rw (c .if1 .taken) at (c .before .loop .inv .1 starts sizes vs kept known))
+    (λ c. λ e. absurd (false-not-true e)))

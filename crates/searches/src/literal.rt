@@ -1,0 +1,446 @@
+// Literal matching: does a pattern match a row without variables, calls and blocks? A bracket whose contents matched is gone back into.
+use matching::Bindings;
+use matching::First;
+use matching::Known;
+use matching::bind;
+use crate::failed::failed_before;
+use crate::failed::note_failed;
+use matching::known_front;
+use matching::narrow;
+use matching::none;
+use crate::repeats::Sure;
+use crate::repeats::closed;
+use crate::repeats::stands_apart;
+use matching::wide;
+use file::word_at;
+use law::runs::end_of;
+ghost use mathlib.Core.Path.{_≡_};
+ghost use mathlib.Core.Bool.{true, false};
+ghost use mathlib.Core.Option.{none};
+ghost use Prim.Native.Nat.{suc, _+_, _≤_, _<_};
+ghost use lib.ListN.{length, set};
+ghost use Rattle.file.specs.Forest.{contents, rest};
+ghost use Rattle.law.specs.Runs.{endOf};
+ghost use Rattle.law.specs.Variables.{distinct};
+ghost use Rattle.matching.specs.Literal.{literalMatches};
+ghost use Rattle.matching.specs.Code.Part.{rowOf, literalPart, symbolsOf, Stands};
+ghost use Rattle.matching.specs.Code.Bound.{valuesOf, Kept};
+ghost use Rattle.matching.specs.Code.Step.{found, eachLength, eachInside, Free, Facing, TriesAll, Stopped, firstVariable};
+ghost use Rattle.searches.specs.Code.Capacity.{variablesIn, Capacity};
+ghost use Rattle.searches.specs.Code.Asked.{someHolds, nesting, resume, comingIn, levelsOf, Around, LiteralAsked};
+ghost use Rattle.searches.specs.Code.Repeats.{Disjoint};
+ghost use Rattle.searches.specs.Code.Failed.{firstValues, Settled, Remembers};
+
+// `failed` is what is remembered, of rests whose variables have the values of the fixed places of `sure`, or none.
+
+// What is still to be matched around the brackets that were gone into: the positions among the term records where each level of the pattern and of the
+// row ends, the outermost first. A level begins where the one inside it ends.
+pub struct Pending {
+    pub patterns: [u16; 33],
+    pub rows: [u16; 33],
+    pub count: usize,
+}
+
+// Nothing is around.
+fn alone() -> Pending
+    ensures { λ r. ⌜ (r .count ≡ 0) × (length (r .patterns) ≡ 33) × (length (r .rows) ≡ 33) ⌝ }
+{
+    Pending {
+        patterns: [0; 33],
+        rows: [0; 33],
+        count: 0,
+    }
+}
+
+// One level more.
+fn push(pending: Pending, pattern_end: usize, row_end: usize) -> Pending
+    requires { ⌜ («pattern_end» < 65536) × («row_end» < 65536) × (pending .count < 33) × (length (pending .patterns) ≡ 33) × (length (pending .rows) ≡ 33) ⌝ }
+    ensures { λ r. ⌜ (r .count ≡ suc (pending .count)) × (r .patterns ≡ set (pending .patterns) (pending .count) «pattern_end») × (r .rows ≡ set (pending .rows) (pending .count) «row_end») ⌝ }
+{
+    let at = pending.count;
+    let mut next = pending;
+    next.patterns[at] = narrow(pattern_end);
+    next.rows[at] = narrow(row_end);
+    next.count = at + 1;
+    next
+}
+
+// Everything that is left at this level is matched: the next level out, or all.
+fn literal_out(
+    text: &[u8],
+    terms: &[u8],
+    at: usize,
+    start: usize,
+    outer: Pending,
+    b: Bindings,
+    fixed: usize,
+    failed: &mut [u16; 2048],
+) -> bool
+    requires { ⌜ (length (now terms) < 65536) × Around (now text) (now terms) outer at start × Kept (now text) (now terms) b × (fixed ≤ b .count) × Remembers true (now text) (now terms) (firstValues (now text) (now terms) b fixed) (now failed) ⌝ }
+    requires { ⌜ Capacity (comingIn (levelsOf (now text) (now terms) outer at start)) (valuesOf (now text) (now terms) b) ⌝ }
+    ensures { λ r. ⌜ (r ≡ resume (levelsOf (now (text .entry)) (now (terms .entry)) outer at start) (valuesOf (now (text .entry)) (now (terms .entry)) b))
+        × Remembers true (now (text .entry)) (now (terms .entry)) (firstValues (now (text .entry)) (now (terms .entry)) b fixed) (now (failed .exit)) ⌝ }
+{
+    let n = outer.count;
+    if n == 0 {
+        return true;
+    }
+    let top = n - 1;
+    let mut out = outer;
+    out.count = top;
+    let end = wide(outer.patterns[top]);
+    let row_end = wide(outer.rows[top]);
+    let pattern = &terms[at..end];
+    let row = &terms[start..row_end];
+    let sure = Sure {
+        fixed: fixed,
+        places: fixed,
+    };
+    literal_run(text, terms, pattern, at, row, start, out, b, sure, failed)
+}
+
+// An e. variable without a value, then the rest of the pattern: every length in turn.
+fn literal_lengths(
+    text: &[u8],
+    terms: &[u8],
+    pattern: &[u8],
+    at: usize,
+    row: &[u8],
+    start: usize,
+    outer: Pending,
+    b: Bindings,
+    sure: Sure,
+    failed: &mut [u16; 2048],
+) -> bool
+    requires { ⌜ LiteralAsked (now text) (now terms) (now pattern) at (now row) start outer b × (24 ≤ length (now pattern)) × Settled (now text) (now terms) (now pattern) b sure × Remembers true (now text) (now terms) (firstValues (now text) (now terms) b (sure .fixed)) (now failed) ⌝ }
+    requires { ⌜ Free (rowOf (now text) (now pattern)) (firstVariable (now text) (now pattern)) (valuesOf (now text) (now terms) b) ⌝ }
+    ensures { λ r. ⌜ (r ≡ someHolds (resume (levelsOf (now (text .entry)) (now (terms .entry)) outer (at + length (now (pattern .entry))) (start + length (now (row .entry)))))
+        (eachLength (now (text .entry)) true (now (pattern .entry)) (now (row .entry)) (valuesOf (now (text .entry)) (now (terms .entry)) b)))
+        × Remembers true (now (text .entry)) (now (terms .entry)) (firstValues (now (text .entry)) (now (terms .entry)) b (sure .fixed)) (now (failed .exit)) ⌝ }
+{
+    let end = end_of(pattern);
+    let rest = &pattern[end..];
+    let next = at + end;
+    let mut n = 0;
+    loop {
+        let left = &row[n..];
+        let more = bind(b, at, start, n);
+        let j = start + n;
+        if literal_run(text, terms, rest, next, left, j, outer, more, sure, failed) {
+            break true;
+        }
+        if left.len() < 24 {
+            break false;
+        }
+        n += end_of(left);
+    }
+}
+
+// The same, with a search that remembers anew, from the values that there are now.
+fn literal_anew(
+    text: &[u8],
+    terms: &[u8],
+    pattern: &[u8],
+    at: usize,
+    row: &[u8],
+    start: usize,
+    outer: Pending,
+    b: Bindings,
+) -> bool
+    requires { ⌜ LiteralAsked (now text) (now terms) (now pattern) at (now row) start outer b × (24 ≤ length (now pattern)) ⌝ }
+    requires { ⌜ Free (rowOf (now text) (now pattern)) (firstVariable (now text) (now pattern)) (valuesOf (now text) (now terms) b) ⌝ }
+    ensures { λ r. ⌜ r ≡ someHolds (resume (levelsOf (now (text .entry)) (now (terms .entry)) outer (at + length (now (pattern .entry))) (start + length (now (row .entry)))))
+        (eachLength (now (text .entry)) true (now (pattern .entry)) (now (row .entry)) (valuesOf (now (text .entry)) (now (terms .entry)) b)) ⌝ }
+{
+    let mut failed: [u16; 2048] = [0; 2048];
+    let len = b.count;
+    let all = Sure {
+        fixed: len,
+        places: len,
+    };
+    literal_lengths(
+        text,
+        terms,
+        pattern,
+        at,
+        row,
+        start,
+        outer,
+        b,
+        all,
+        &mut failed,
+    )
+}
+
+// The same, unless it is remembered that there is no match: where nothing is around and the variables of the pattern have the values of the fixed places, or
+// none, this does not depend on the others.
+fn literal_tries(
+    text: &[u8],
+    terms: &[u8],
+    pattern: &[u8],
+    at: usize,
+    row: &[u8],
+    start: usize,
+    outer: Pending,
+    b: Bindings,
+    sure: Sure,
+    failed: &mut [u16; 2048],
+) -> bool
+    requires { ⌜ LiteralAsked (now text) (now terms) (now pattern) at (now row) start outer b × (24 ≤ length (now pattern)) × Settled (now text) (now terms) (now pattern) b sure × Remembers true (now text) (now terms) (firstValues (now text) (now terms) b (sure .fixed)) (now failed) ⌝ }
+    requires { ⌜ Free (rowOf (now text) (now pattern)) (firstVariable (now text) (now pattern)) (valuesOf (now text) (now terms) b) ⌝ }
+    requires { ⌜ TriesAll (now text) (now pattern) (now row) (valuesOf (now text) (now terms) b) ⌝ }
+    ensures { λ r. ⌜ (r ≡ someHolds (resume (levelsOf (now (text .entry)) (now (terms .entry)) outer (at + length (now (pattern .entry))) (start + length (now (row .entry)))))
+        (eachLength (now (text .entry)) true (now (pattern .entry)) (now (row .entry)) (valuesOf (now (text .entry)) (now (terms .entry)) b)))
+        × Remembers true (now (text .entry)) (now (terms .entry)) (firstValues (now (text .entry)) (now (terms .entry)) b (sure .fixed)) (now (failed .exit)) ⌝ }
+{
+    if outer.count != 0 {
+        return literal_lengths(text, terms, pattern, at, row, start, outer, b, sure, failed);
+    }
+    let len = b.count;
+    let places = sure.places;
+    if !closed(text, terms, pattern, &b.keys, places, len) {
+        return literal_anew(text, terms, pattern, at, row, start, outer, b);
+    }
+    let end = at + pattern.len();
+    let row_end = start + row.len();
+    if failed_before(failed, at, end, start, row_end) {
+        return false;
+    }
+    let all = Sure {
+        fixed: sure.fixed,
+        places: len,
+    };
+    let found = literal_lengths(text, terms, pattern, at, row, start, outer, b, all, failed);
+    if !found {
+        note_failed(failed, at, end, start, row_end);
+    }
+    found
+}
+
+// A bracket against a bracket: the contents, and then what is around them.
+fn literal_inside(
+    text: &[u8],
+    terms: &[u8],
+    pattern: &[u8],
+    at: usize,
+    row: &[u8],
+    start: usize,
+    outer: Pending,
+    b: Bindings,
+    sure: Sure,
+    failed: &mut [u16; 2048],
+) -> bool
+    requires { ⌜ LiteralAsked (now text) (now terms) (now pattern) at (now row) start outer b × (24 ≤ length (now pattern)) × Facing (rowOf (now text) (now pattern)) (now row) × Settled (now text) (now terms) (now pattern) b sure × Remembers true (now text) (now terms) (firstValues (now text) (now terms) b (sure .fixed)) (now failed) ⌝ }
+    ensures { λ r. ⌜ (r ≡ someHolds (resume (levelsOf (now (text .entry)) (now (terms .entry)) outer (at + length (now (pattern .entry))) (start + length (now (row .entry)))))
+        (eachInside (now (text .entry)) true (now (pattern .entry)) (now (row .entry)) (valuesOf (now (text .entry)) (now (terms .entry)) b)))
+        × Remembers true (now (text .entry)) (now (terms .entry)) (firstValues (now (text .entry)) (now (terms .entry)) b (sure .fixed)) (now (failed .exit)) ⌝ }
+{
+    let m = end_of(pattern);
+    let n = end_of(row);
+    let around = push(outer, at + pattern.len(), start + row.len());
+    let contents = &pattern[24..m];
+    let inside = &row[24..n];
+    let i = at + 24;
+    let j = start + 24;
+    literal_run(text, terms, contents, i, inside, j, around, b, sure, failed)
+}
+
+// A bracket against a bracket, with nothing around and no variable in common with the rest: one match of the contents is as good as another, so that contents and
+// rest are asked for by themselves, and nothing is gone back into.
+fn literal_apart(
+    text: &[u8],
+    terms: &[u8],
+    pattern: &[u8],
+    at: usize,
+    row: &[u8],
+    start: usize,
+    outer: Pending,
+    b: Bindings,
+    sure: Sure,
+    failed: &mut [u16; 2048],
+) -> bool
+    requires { ⌜ LiteralAsked (now text) (now terms) (now pattern) at (now row) start outer b × (24 ≤ length (now pattern)) × Facing (rowOf (now text) (now pattern)) (now row) × Settled (now text) (now terms) (now pattern) b sure × Remembers true (now text) (now terms) (firstValues (now text) (now terms) b (sure .fixed)) (now failed) ⌝ }
+    requires { ⌜ (outer .count ≡ 0) × Disjoint (variablesIn (rowOf (now text) (contents 24 endOf (now pattern)))) (variablesIn (rowOf (now text) (rest 24 endOf (now pattern)))) ⌝ }
+    ensures { λ r. ⌜ (r ≡ someHolds (resume (levelsOf (now (text .entry)) (now (terms .entry)) outer (at + length (now (pattern .entry))) (start + length (now (row .entry)))))
+        (eachInside (now (text .entry)) true (now (pattern .entry)) (now (row .entry)) (valuesOf (now (text .entry)) (now (terms .entry)) b)))
+        × Remembers true (now (text .entry)) (now (terms .entry)) (firstValues (now (text .entry)) (now (terms .entry)) b (sure .fixed)) (now (failed .exit)) ⌝ }
+{
+    let m = end_of(pattern);
+    let n = end_of(row);
+    let contents = &pattern[24..m];
+    let inside = &row[24..n];
+    let i = at + 24;
+    let j = start + 24;
+    if !literal_run(text, terms, contents, i, inside, j, outer, b, sure, failed) {
+        return false;
+    }
+    let rest = &pattern[m..];
+    let left = &row[n..];
+    let next = at + m;
+    let j = start + n;
+    literal_run(text, terms, rest, next, left, j, outer, b, sure, failed)
+}
+
+// A bracket against a bracket.
+fn literal_bracket(
+    text: &[u8],
+    terms: &[u8],
+    pattern: &[u8],
+    at: usize,
+    row: &[u8],
+    start: usize,
+    outer: Pending,
+    b: Bindings,
+    sure: Sure,
+    failed: &mut [u16; 2048],
+) -> bool
+    requires { ⌜ LiteralAsked (now text) (now terms) (now pattern) at (now row) start outer b × (24 ≤ length (now pattern)) × Facing (rowOf (now text) (now pattern)) (now row) × Settled (now text) (now terms) (now pattern) b sure × Remembers true (now text) (now terms) (firstValues (now text) (now terms) b (sure .fixed)) (now failed) ⌝ }
+    ensures { λ r. ⌜ (r ≡ someHolds (resume (levelsOf (now (text .entry)) (now (terms .entry)) outer (at + length (now (pattern .entry))) (start + length (now (row .entry)))))
+        (eachInside (now (text .entry)) true (now (pattern .entry)) (now (row .entry)) (valuesOf (now (text .entry)) (now (terms .entry)) b)))
+        × Remembers true (now (text .entry)) (now (terms .entry)) (firstValues (now (text .entry)) (now (terms .entry)) b (sure .fixed)) (now (failed .exit)) ⌝ }
+{
+    let m = end_of(pattern);
+    let contents = &pattern[24..m];
+    if stands_apart(text, contents, &pattern[m..], outer.count) {
+        return literal_apart(text, terms, pattern, at, row, start, outer, b, sure, failed);
+    }
+    literal_inside(text, terms, pattern, at, row, start, outer, b, sure, failed)
+}
+
+// Is there a match of a pattern with a row, and then of all that is around them? By what the pattern's first record leaves to do.
+fn literal_first(
+    text: &[u8],
+    terms: &[u8],
+    pattern: &[u8],
+    at: usize,
+    row: &[u8],
+    start: usize,
+    outer: Pending,
+    b: Bindings,
+    sure: Sure,
+    failed: &mut [u16; 2048],
+    first: First,
+) -> bool
+    requires { ⌜ LiteralAsked (now text) (now terms) (now pattern) at (now row) start outer b × Settled (now text) (now terms) (now pattern) b sure × Remembers true (now text) (now terms) (firstValues (now text) (now terms) b (sure .fixed)) (now failed) ⌝ }
+    requires { ⌜ Stopped (now text) (now pattern) (now row) (valuesOf (now text) (now terms) b) first ⌝ }
+    ensures { λ r. ⌜ (r ≡ someHolds (resume (levelsOf (now (text .entry)) (now (terms .entry)) outer (at + length (now (pattern .entry))) (start + length (now (row .entry)))))
+        (found true (rowOf (now (text .entry)) (now (pattern .entry))) (rowOf (now (text .entry)) (now (row .entry))) (valuesOf (now (text .entry)) (now (terms .entry)) b)))
+        × Remembers true (now (text .entry)) (now (terms .entry)) (firstValues (now (text .entry)) (now (terms .entry)) b (sure .fixed)) (now (failed .exit)) ⌝ }
+{
+    match first {
+        First::Fails => false,
+        First::Goes(_, _) => false,
+        First::Binds(n) => {
+            let end = end_of(pattern);
+            let rest = &pattern[end..];
+            let left = &row[n..];
+            let next = at + end;
+            let more = bind(b, at, start, n);
+            let j = start + n;
+            literal_run(text, terms, rest, next, left, j, outer, more, sure, failed)
+        }
+        First::Tries => {
+            literal_tries(text, terms, pattern, at, row, start, outer, b, sure, failed)
+        }
+        First::Inside => {
+            literal_bracket(text, terms, pattern, at, row, start, outer, b, sure, failed)
+        }
+    }
+}
+
+// Is there a match of a pattern with a row, and then of all that is around them?
+fn literal_run(
+    text: &[u8],
+    terms: &[u8],
+    pattern: &[u8],
+    at: usize,
+    row: &[u8],
+    start: usize,
+    outer: Pending,
+    b: Bindings,
+    sure: Sure,
+    failed: &mut [u16; 2048],
+) -> bool
+    requires { ⌜ LiteralAsked (now text) (now terms) (now pattern) at (now row) start outer b × Settled (now text) (now terms) (now pattern) b sure × Remembers true (now text) (now terms) (firstValues (now text) (now terms) b (sure .fixed)) (now failed) ⌝ }
+    ensures { λ r. ⌜ (r ≡ someHolds (resume (levelsOf (now (text .entry)) (now (terms .entry)) outer (at + length (now (pattern .entry))) (start + length (now (row .entry)))))
+        (found true (rowOf (now (text .entry)) (now (pattern .entry))) (rowOf (now (text .entry)) (now (row .entry))) (valuesOf (now (text .entry)) (now (terms .entry)) b)))
+        × Remembers true (now (text .entry)) (now (terms .entry)) (firstValues (now (text .entry)) (now (terms .entry)) b (sure .fixed)) (now (failed .exit)) ⌝ }
+{
+    let len = b.count;
+    match known_front(text, terms, pattern, row, &b.keys, &b.starts, &b.sizes, len) {
+        Known::Fails => false,
+        Known::End(_, n) => {
+            let left = &row[n..];
+            if left.len() < 24 {
+                let next = at + pattern.len();
+                let end = start + row.len();
+                return literal_out(text, terms, next, end, outer, b, sure.fixed, failed);
+            }
+            false
+        }
+        Known::Stop(m, n, first) => {
+            let rest = &pattern[m..];
+            let left = &row[n..];
+            let i = at + m;
+            let j = start + n;
+            literal_first(text, terms, rest, i, left, j, outer, b, sure, failed, first)
+        }
+    }
+}
+
+// Has a part no variable, call or block at any depth?
+pub fn is_literal(part: &[u8]) -> bool
+    ensures { λ r. ⌜ r ≡ literalPart (now (part .entry)) ⌝ }
+{
+    let mut i = 0;
+    loop {
+        let rest = &part[i..];
+        if rest.len() < 24 {
+            break true;
+        }
+        let kind = word_at(rest, 0);
+        let end = end_of(rest);
+        if 2 < kind {
+            if kind != 6 {
+                break false;
+            }
+            if !is_literal(&rest[24..end]) {
+                break false;
+            }
+        }
+        i += end;
+    }
+}
+
+// Does a pattern match a literal part? The search from no values, with nothing around.
+pub fn search_literal(
+    text: &[u8],
+    terms: &[u8],
+    pattern: &[u8],
+    at: usize,
+    row: &[u8],
+    start: usize,
+) -> bool
+    requires { ⌜ (length (now terms) < 65536) × Stands (now terms) (now pattern) at × Stands (now terms) (now row) start ⌝ }
+    requires { ⌜ (distinct (variablesIn (rowOf (now text) (now pattern))) ≤ 32) × (nesting (rowOf (now text) (now pattern)) ≤ 33) × (literalPart (now row) ≡ true) ⌝ }
+    ensures { λ r. ⌜ r ≡ literalMatches (rowOf (now (text .entry)) (now (pattern .entry))) (symbolsOf (now (text .entry)) (now (row .entry))) ⌝ }
+{
+    let mut failed: [u16; 2048] = [0; 2048];
+    let sure = Sure {
+        fixed: 0,
+        places: 0,
+    };
+    let outer = alone();
+    literal_run(
+        text,
+        terms,
+        pattern,
+        at,
+        row,
+        start,
+        outer,
+        none(),
+        sure,
+        &mut failed,
+    )
+}
