@@ -3,6 +3,8 @@ use crate::NONE;
 use crate::Tally;
 use crate::Task;
 use crate::walk::lint_law;
+use formats::Slots;
+use law::Index;
 use lints::levels::is_shown;
 use lints::levels::severity_of;
 ghost use mathlib.Core.Path.{_≡_};
@@ -43,8 +45,8 @@ fn is_due(task: Task) -> bool
 // Does a lint's task.
 fn lint_task(
     law: &[u8],
-    index: &[u16; 972],
-    slots: &[u8; 577],
+    index: &Index,
+    slots: &Slots,
     store: &[u32],
     task: Task,
     out: &mut [u32],
@@ -63,8 +65,8 @@ fn lint_task(
 // Notes the findings of a law that the settings show.
 pub fn lint_all(
     law: &[u8],
-    index: &[u16; 972],
-    slots: &[u8; 577],
+    index: &Index,
+    slots: &Slots,
     store: &[u32],
     mode: u32,
     overrides: &[u32],

@@ -5,6 +5,8 @@ use crate::Tally;
 use crate::Task;
 use crate::put_note;
 use file::word_at;
+use formats::Slots;
+use law::Index;
 use law::places::records;
 use law::places::term_word;
 use law::places::text;
@@ -31,7 +33,7 @@ ghost use Rattle.findings.specs.Code.Tasks.{remarkEvents, recognitionEve
 ghost use Rattle.findings.specs.Code.Judging.{callNote, callFound, verdictEvents, failureEvents, isOver};
 
 // A finding about the call at a term record, with a word of its own.
-fn call_note(law: &[u8], index: &[u16; 972], t: usize, a: u32) -> Note
+fn call_note(law: &[u8], index: &Index, t: usize, a: u32) -> Note
     requires { ⌜ Indexed (now law) (now index) × Accepted (now law) × (t < fileOf (now law) .terms .count) ⌝ }
     ensures { λ r. ⌜ r ≡ callNote (fileOf (now (law .entry))) t a ⌝ }
 {
@@ -48,7 +50,7 @@ fn call_note(law: &[u8], index: &[u16; 972], t: usize, a: u32) -> Note
 // Counts a finding about it, and writes it where there is room.
 fn put_call(
     law: &[u8],
-    index: &[u16; 972],
+    index: &Index,
     task: Task,
     t: usize,
     a: u32,
@@ -65,7 +67,7 @@ fn put_call(
 // The same where findings are shown.
 fn put_shown(
     law: &[u8],
-    index: &[u16; 972],
+    index: &Index,
     task: Task,
     t: usize,
     a: u32,
@@ -84,7 +86,7 @@ fn put_shown(
 // Notes what lint 2 says of the call at a term record.
 fn note_verdict(
     law: &[u8],
-    index: &[u16; 972],
+    index: &Index,
     task: Task,
     t: usize,
     verdict: Verdict,
@@ -112,8 +114,8 @@ fn is_over(tally: Tally) -> bool
 // Lint 2 at the call at a term record; nothing is added once the count has ended.
 fn note_recognition(
     law: &[u8],
-    index: &[u16; 972],
-    slots: &[u8; 577],
+    index: &Index,
+    slots: &Slots,
     store: &[u32],
     task: Task,
     t: usize,
@@ -134,7 +136,7 @@ fn note_recognition(
 // Notes why the call at a term record fails, if that is certain.
 fn note_failure(
     law: &[u8],
-    index: &[u16; 972],
+    index: &Index,
     task: Task,
     t: usize,
     fails: Fails,
@@ -155,7 +157,7 @@ fn note_failure(
 // Lint 3 at the call at a term record.
 fn note_builtin(
     law: &[u8],
-    index: &[u16; 972],
+    index: &Index,
     task: Task,
     t: usize,
     out: &mut [u32],
@@ -175,8 +177,8 @@ fn note_builtin(
 // Notes what the task's lint says of the term record t, where it is a call.
 pub fn note_call(
     law: &[u8],
-    index: &[u16; 972],
-    slots: &[u8; 577],
+    index: &Index,
+    slots: &Slots,
     store: &[u32],
     task: Task,
     t: usize,

@@ -5,6 +5,7 @@ use crate::Tally;
 use crate::Task;
 use crate::put_note;
 use file::word_at;
+use law::Index;
 use lints::dead::earliest_shadow;
 ghost use mathlib.Core.Path.{_≡_};
 ghost use mathlib.Core.Bool.{Bool};
@@ -29,7 +30,7 @@ fn wide(word: u16) -> usize
 }
 
 // A word of a sentence record.
-fn field(law: &[u8], index: &[u16; 972], s: usize, at: usize) -> u32
+fn field(law: &[u8], index: &Index, s: usize, at: usize) -> u32
     requires { ⌜ Indexed (now law) (now index) × (s < fileOf (now law) .sentences .count) × (at + 4 ≤ 20) ⌝ }
     ensures { λ r. ⌜ r ≡ wordAt (fileOf (now (law .entry)) .sentences .records) (20 * s + at) ⌝ }
 {
@@ -40,7 +41,7 @@ fn field(law: &[u8], index: &[u16; 972], s: usize, at: usize) -> u32
 // Notes a sentence with two numbers.
 pub fn put_sentence(
     law: &[u8],
-    index: &[u16; 972],
+    index: &Index,
     task: Task,
     s: usize,
     a: u32,
@@ -66,7 +67,7 @@ pub fn put_sentence(
 // Notes the sentence after `later` sentences from `first` on, where one of these shadows it.
 fn note_shadowed(
     law: &[u8],
-    index: &[u16; 972],
+    index: &Index,
     task: Task,
     first: usize,
     later: usize,
@@ -88,7 +89,7 @@ fn note_shadowed(
 // The same, without a search where no further finding counts.
 fn note_sentence(
     law: &[u8],
-    index: &[u16; 972],
+    index: &Index,
     task: Task,
     first: usize,
     later: usize,
@@ -107,7 +108,7 @@ fn note_sentence(
 // Notes the dead ones among so many sentences from `first` on.
 pub fn note_dead(
     law: &[u8],
-    index: &[u16; 972],
+    index: &Index,
     task: Task,
     first: usize,
     count: usize,

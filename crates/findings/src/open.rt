@@ -2,6 +2,7 @@
 use crate::Tally;
 use crate::Task;
 use crate::dead::put_sentence;
+use law::Index;
 use law::places::pattern;
 use lints::open::e_occurrences;
 ghost use mathlib.Core.Path.{_≡_};
@@ -18,7 +19,7 @@ ghost use Rattle.findings.specs.Code.Tasks.{remarkEvents};
 // Notes a sentence, where its pattern has two e. occurrences or more.
 fn note_pattern(
     law: &[u8],
-    index: &[u16; 972],
+    index: &Index,
     task: Task,
     s: usize,
     out: &mut [u32],
@@ -39,7 +40,7 @@ fn note_pattern(
 // Notes those of so many sentences from `first` on whose patterns have two e. occurrences or more.
 pub fn note_open(
     law: &[u8],
-    index: &[u16; 972],
+    index: &Index,
     task: Task,
     first: usize,
     count: usize,

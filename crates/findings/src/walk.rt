@@ -6,6 +6,8 @@ use crate::dead::note_dead;
 use crate::open::note_open;
 use file::term_at;
 use file::word_at;
+use formats::Slots;
+use law::Index;
 use law::depth::sentences_in;
 use law::places::asked;
 use law::places::asked_at;
@@ -39,7 +41,7 @@ ghost use Rattle.findings.specs.Code.Tasks.{ownAlone, blockEvents, termE
 // Notes the dead ones of a block's own sentences, where the task is lint 1.
 fn note_block(
     law: &[u8],
-    index: &[u16; 972],
+    index: &Index,
     task: Task,
     first: usize,
     count: usize,
@@ -59,8 +61,8 @@ fn note_block(
 // Goes through the first term of a part of the term records, whose record is number `at`.
 fn walk_term(
     law: &[u8],
-    index: &[u16; 972],
-    slots: &[u8; 577],
+    index: &Index,
+    slots: &Slots,
     store: &[u32],
     task: Task,
     part: &[u8],
@@ -89,8 +91,8 @@ fn walk_term(
 // which nothing is met. Their n is 0 (refusal 5), so that the step is constant and the next record does not wait for n.
 fn walk_run(
     law: &[u8],
-    index: &[u16; 972],
-    slots: &[u8; 577],
+    index: &Index,
+    slots: &Slots,
     store: &[u32],
     task: Task,
     part: &[u8],
@@ -121,8 +123,8 @@ fn walk_run(
 // Goes through so many sentences from one on.
 fn walk_sentences(
     law: &[u8],
-    index: &[u16; 972],
-    slots: &[u8; 577],
+    index: &Index,
+    slots: &Slots,
     store: &[u32],
     task: Task,
     first: usize,
@@ -147,8 +149,8 @@ fn walk_sentences(
 // Goes through one sentence.
 fn walk_sentence(
     law: &[u8],
-    index: &[u16; 972],
-    slots: &[u8; 577],
+    index: &Index,
+    slots: &Slots,
     store: &[u32],
     task: Task,
     s: usize,
@@ -172,8 +174,8 @@ fn walk_sentence(
 // Goes through a pattern, where the task is lint 1.
 fn walk_pattern(
     law: &[u8],
-    index: &[u16; 972],
-    slots: &[u8; 577],
+    index: &Index,
+    slots: &Slots,
     store: &[u32],
     task: Task,
     part: &[u8],
@@ -195,8 +197,8 @@ fn walk_pattern(
 // Goes through a sentence's conditions.
 fn walk_conditions(
     law: &[u8],
-    index: &[u16; 972],
-    slots: &[u8; 577],
+    index: &Index,
+    slots: &Slots,
     store: &[u32],
     task: Task,
     s: usize,
@@ -226,7 +228,7 @@ fn walk_conditions(
 }
 
 // Does lint 1 meet nothing but the functions' own sentences? Where the functions have all sentences, no block has any.
-fn own_alone(index: &[u16; 972], lint: u32) -> bool
+fn own_alone(index: &Index, lint: u32) -> bool
     requires { ⌜ getD (now index) 4 0 ≤ 64 ⌝ }
     ensures { λ r. ⌜ r ≡ ownAlone (now (index .entry)) lint ⌝ }
 {
@@ -239,8 +241,8 @@ fn own_alone(index: &[u16; 972], lint: u32) -> bool
 // Notes what the task's lint says of a function.
 fn lint_function(
     law: &[u8],
-    index: &[u16; 972],
-    slots: &[u8; 577],
+    index: &Index,
+    slots: &Slots,
     store: &[u32],
     task: Task,
     f: usize,
@@ -267,8 +269,8 @@ fn lint_function(
 // Notes what the task's lint says of a law, function by function.
 pub fn lint_law(
     law: &[u8],
-    index: &[u16; 972],
-    slots: &[u8; 577],
+    index: &Index,
+    slots: &Slots,
     store: &[u32],
     task: Task,
     out: &mut [u32],

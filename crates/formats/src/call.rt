@@ -1,9 +1,11 @@
 // Inference of a law's formats into a lent store, from its start to its end.
+use crate::Slots;
 use crate::infer::Inference;
 use crate::infer::infer_arguments;
 use crate::infer::infer_rounds;
 use crate::slots::wide;
 use buffers::clear_words;
+use law::Index;
 ghost use mathlib.Core.List.{List, _++_};
 ghost use mathlib.Core.Path.{_≡_};
 ghost use Prim.Native.Nat.{ℕ, _+_, _*_, _≤_};
@@ -42,8 +44,8 @@ fn start_store(store: &mut [u32], limit: usize, most: usize)
 // The argument formats, then the rounds, in a store where every format is never.
 fn infer_started(
     law: &[u8],
-    index: &[u16; 972],
-    slots: &[u8; 577],
+    index: &Index,
+    slots: &Slots,
     store: &mut [u32],
     limit: usize,
     count: usize,
@@ -72,8 +74,8 @@ fn infer_started(
 // The formats of a law in a store, or zeros where a row has too many shapes.
 pub fn infer_store(
     law: &[u8],
-    index: &[u16; 972],
-    slots: &[u8; 577],
+    index: &Index,
+    slots: &Slots,
     store: &mut [u32],
     limit: usize,
 ) -> Inference

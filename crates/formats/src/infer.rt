@@ -1,9 +1,11 @@
 // Inference of a law's formats by rounds, in place in a lent store.
 use crate::Row;
+use crate::Slots;
 use crate::rows::write_row;
 use crate::slots::wide;
 use buffers::clear_words;
 use buffers::copy_words;
+use law::Index;
 use law::places::first_sentence;
 use law::places::functions;
 use law::places::pattern;
@@ -52,7 +54,7 @@ pub enum Inference {
 // The format of a run of term records, every word of it, or false where it has too many shapes.
 pub fn row_format(
     law: &[u8],
-    slots: &[u8; 577],
+    slots: &Slots,
     store: &[u32],
     part: &[u8],
     at: usize,
@@ -88,8 +90,8 @@ fn join_into(limit: usize, format: &mut [u32], other: &[u32])
 // The format of a sentence's pattern or result.
 fn sentence_format(
     law: &[u8],
-    index: &[u16; 972],
-    slots: &[u8; 577],
+    index: &Index,
+    slots: &Slots,
     store: &[u32],
     s: usize,
     patterns: bool,
@@ -120,8 +122,8 @@ fn sentence_format(
 // Joins the formats of so many sentences' patterns or results, from a sentence on, into a format.
 fn join_sentences(
     law: &[u8],
-    index: &[u16; 972],
-    slots: &[u8; 577],
+    index: &Index,
+    slots: &Slots,
     store: &[u32],
     first: usize,
     number: usize,
@@ -161,8 +163,8 @@ fn join_sentences(
 // join is made, since a join with never would only copy it.
 fn sentences_format(
     law: &[u8],
-    index: &[u16; 972],
-    slots: &[u8; 577],
+    index: &Index,
+    slots: &Slots,
     store: &[u32],
     from: usize,
     number: usize,
@@ -238,8 +240,8 @@ fn renew_format(store: &mut [u32], k: usize, limit: usize, other: &[u32]) -> boo
 // Joins the patterns or the results of a function into its name's format in the store.
 fn function_turn(
     law: &[u8],
-    index: &[u16; 972],
-    slots: &[u8; 577],
+    index: &Index,
+    slots: &Slots,
     store: &mut [u32],
     f: usize,
     patterns: bool,
@@ -287,8 +289,8 @@ fn format_number(patterns: bool, place: usize) -> usize
 // The argument formats: each function's patterns, in file order. False where a pattern's format passes the limit on shapes.
 pub fn infer_arguments(
     law: &[u8],
-    index: &[u16; 972],
-    slots: &[u8; 577],
+    index: &Index,
+    slots: &Slots,
     store: &mut [u32],
     limit: usize,
     count: usize,
@@ -312,8 +314,8 @@ pub fn infer_arguments(
 // One round: each function's results, in file order, using what was renewed before in the round.
 fn infer_round(
     law: &[u8],
-    index: &[u16; 972],
-    slots: &[u8; 577],
+    index: &Index,
+    slots: &Slots,
     store: &mut [u32],
     limit: usize,
     count: usize,
@@ -344,8 +346,8 @@ fn infer_round(
 // Rounds, at most so many; one that changes nothing is the last.
 pub fn infer_rounds(
     law: &[u8],
-    index: &[u16; 972],
-    slots: &[u8; 577],
+    index: &Index,
+    slots: &Slots,
     store: &mut [u32],
     limit: usize,
     count: usize,

@@ -4,6 +4,7 @@ use crate::infer::Inference;
 use crate::slots::slots_of;
 use file::Refusal;
 use law::Check;
+use law::Index;
 use law::read_law;
 ghost use mathlib.Core.Path.{_≡_};
 ghost use Rattle.file.specs.Answer.{given};
@@ -16,6 +17,9 @@ pub mod call;
 pub mod infer;
 pub mod rows;
 pub mod slots;
+
+// The places of names: of each function's, of each call's, and how many names there are (specs/Code/Slots.antt).
+pub type Slots = [u8; 577];
 
 // A row of shapes that was written: it passes the room that there is, or it ends before a position, closed or open.
 pub enum Row {
@@ -38,7 +42,7 @@ const SHAPES: usize = 64;
 const STORE: usize = 8320;
 
 // Infers the formats of an accepted law into a store.
-fn infer_accepted(law: &[u8], index: &[u16; 972], store: &mut [u32]) -> Answered
+fn infer_accepted(law: &[u8], index: &Index, store: &mut [u32]) -> Answered
     requires { ⌜ Indexed (now law) (now index) × Readable (fileOf (now law)) ⌝ }
     ensures { λ r. ⌜ outcomeOf r (now (store .exit)) ≡ lawOutcome 64 (now (store .entry)) (given (treeOf (fileOf (now (law .entry))))) ⌝ }
 {
@@ -56,7 +60,7 @@ fn infer_accepted(law: &[u8], index: &[u16; 972], store: &mut [u32]) -> Answered
 pub fn infer_formats(law: &[u8], store: &mut [u32]) -> Answered
     ensures { λ r. ⌜ outcomeOf r (now (store .exit)) ≡ callOutcome 64 (now (law .entry)) (now (store .entry)) ⌝ }
 {
-    let mut index: [u16; 972] = [0; 972];
+    let mut index: Index = [0; 972];
     match read_law(law, &mut index) {
         Check::Refused(why) => Answered::Refused(why),
         Check::Accepted => infer_accepted(law, &index, store),

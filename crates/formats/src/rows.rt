@@ -1,5 +1,6 @@
 // The shapes of a run of term records, written as words into a buffer.
 use crate::Row;
+use crate::Slots;
 use crate::slots::wide;
 use file::Symbol;
 use file::Term;
@@ -157,7 +158,7 @@ fn write_bracket(
     part: &[u8],
     at: usize,
     store: &[u32],
-    slots: &[u8; 577],
+    slots: &Slots,
     limit: usize,
     count: usize,
     out: &mut [u32],
@@ -191,7 +192,7 @@ fn write_first(
     part: &[u8],
     at: usize,
     store: &[u32],
-    slots: &[u8; 577],
+    slots: &Slots,
     limit: usize,
     count: usize,
     out: &mut [u32],
@@ -217,7 +218,7 @@ pub fn write_row(
     part: &[u8],
     at: usize,
     store: &[u32],
-    slots: &[u8; 577],
+    slots: &Slots,
     limit: usize,
     count: usize,
     out: &mut [u32],

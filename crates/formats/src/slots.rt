@@ -1,4 +1,6 @@
-// Where a law's names stand among its sorted folded names (specs/Slots.antt).
+// Where a law's names stand among its sorted folded names (specs/Code/Slots.antt).
+use crate::Slots;
+use law::Index;
 use law::places::function_name;
 use law::places::functions;
 use law::places::term_word;
@@ -19,7 +21,7 @@ ghost use Rattle.law.specs.Code.Index.{Indexed};
 ghost use Rattle.formats.specs.Code.Slots.{position, functionFolded, fileNames, SlotsOf, lessCount, newly, NamedFrom, Weights, Places, SlotsUpTo, CalleeSlot};
 
 // The first function from `from` on that has a name; the number of functions where none has it.
-fn first_named(law: &[u8], index: &[u16; 972], name: &[u8], from: usize) -> usize
+fn first_named(law: &[u8], index: &Index, name: &[u8], from: usize) -> usize
     requires { ⌜ Indexed (now law) (now index) × (fieldsAllowed (fileOf (now law)) ≡ true) × (from ≤ fileOf (now law) .functions .count) ⌝ }
     ensures { λ r. ⌜ NamedFrom (fileOf (now (law .entry))) from (folded (now (name .entry))) r ⌝ }
 {
@@ -35,7 +37,7 @@ fn first_named(law: &[u8], index: &[u16; 972], name: &[u8], from: usize) -> usiz
 }
 
 // 1 where no later function has the name of the function f, else 0, so that each name counts once.
-fn weight(law: &[u8], index: &[u16; 972], f: usize) -> u8
+fn weight(law: &[u8], index: &Index, f: usize) -> u8
     requires { ⌜ Indexed (now law) (now index) × (fieldsAllowed (fileOf (now law)) ≡ true) × (f < fileOf (now law) .functions .count) ⌝ }
     ensures { λ r. ⌜ (r ≡ newly (fileOf (now (law .entry))) f 1) × (r ≤ 1) ⌝ }
 {
@@ -46,7 +48,7 @@ fn weight(law: &[u8], index: &[u16; 972], f: usize) -> u8
 }
 
 // Writes the weight of each function, and answers the number of names.
-fn fill_weights(law: &[u8], index: &[u16; 972], weights: &mut [u8; 64]) -> u8
+fn fill_weights(law: &[u8], index: &Index, weights: &mut [u8; 64]) -> u8
     requires { ⌜ Indexed (now law) (now index) × (fieldsAllowed (fileOf (now law)) ≡ true) × (length (now weights) ≡ 64) ⌝ }
     ensures { λ r. ⌜ (r ≡ length (fileNames (fileOf (now (law .entry))))) × Weights (fileOf (now (law .entry))) (now (weights .exit)) ⌝ }
 {
@@ -74,7 +76,7 @@ fn less_count(order: Order) -> u8
 }
 
 // 1 where the function g is the last of its name, and that comes before the given name, else 0.
-fn counted(law: &[u8], index: &[u16; 972], weights: &[u8; 64], name: &[u8], g: usize) -> u8
+fn counted(law: &[u8], index: &Index, weights: &[u8; 64], name: &[u8], g: usize) -> u8
     requires { ⌜ Indexed (now law) (now index) × (fieldsAllowed (fileOf (now law)) ≡ true) × Weights (fileOf (now law)) (now weights) × (g < fileOf (now law) .functions .count) ⌝ }
     ensures { λ r. ⌜ (r ≡ newly (fileOf (now (law .entry))) g (lessCount (orderBytes (functionFolded (fileOf (now (law .entry))) g) (folded (now (name .entry)))))) × (r ≤ 1) ⌝ }
 {
@@ -85,7 +87,7 @@ fn counted(law: &[u8], index: &[u16; 972], weights: &[u8; 64], name: &[u8], g: u
 }
 
 // The place of the name of the function f: the number of names that come before it.
-fn place(law: &[u8], index: &[u16; 972], weights: &[u8; 64], f: usize) -> u8
+fn place(law: &[u8], index: &Index, weights: &[u8; 64], f: usize) -> u8
     requires { ⌜ Indexed (now law) (now index) × (fieldsAllowed (fileOf (now law)) ≡ true) × Weights (fileOf (now law)) (now weights) × (f < fileOf (now law) .functions .count) ⌝ }
     ensures { λ r. ⌜ r ≡ position (fileNames (fileOf (now (law .entry)))) (functionFolded (fileOf (now (law .entry))) f) ⌝ }
 {
@@ -101,7 +103,7 @@ fn place(law: &[u8], index: &[u16; 972], weights: &[u8; 64], f: usize) -> u8
 }
 
 // Writes the place of the name of each function.
-fn fill_functions(law: &[u8], index: &[u16; 972], weights: &[u8; 64], slots: &mut [u8; 577])
+fn fill_functions(law: &[u8], index: &Index, weights: &[u8; 64], slots: &mut Slots)
     requires { ⌜ Indexed (now law) (now index) × (fieldsAllowed (fileOf (now law)) ≡ true) × Weights (fileOf (now law)) (now weights) × (length (now slots) ≡ 577) ⌝ }
     ensures { λ _. ⌜ (length (now (slots .exit)) ≡ 577) × Places (fileOf (now (law .entry))) (now (slots .exit)) ⌝ }
 {
@@ -115,7 +117,7 @@ fn fill_functions(law: &[u8], index: &[u16; 972], weights: &[u8; 64], slots: &mu
 
 // The slot that has the place of the name of the call at the term record t: that of a function with this name, or the number of
 // names where there is none.
-fn callee_slot(law: &[u8], index: &[u16; 972], t: usize) -> usize
+fn callee_slot(law: &[u8], index: &Index, t: usize) -> usize
     requires { ⌜ Indexed (now law) (now index) × (fieldsAllowed (fileOf (now law)) ≡ true) × (t < fileOf (now law) .terms .count) ⌝ }
     ensures { λ r. ⌜ CalleeSlot (fileOf (now (law .entry))) t r ⌝ }
 {
@@ -132,7 +134,7 @@ fn callee_slot(law: &[u8], index: &[u16; 972], t: usize) -> usize
 }
 
 // Writes the place of the name of each call, where those of the functions and the number of names are written.
-fn fill_calls(law: &[u8], index: &[u16; 972], slots: &mut [u8; 577])
+fn fill_calls(law: &[u8], index: &Index, slots: &mut Slots)
     requires { ⌜ Indexed (now law) (now index) × (fieldsAllowed (fileOf (now law)) ≡ true) × (length (now slots) ≡ 577) × SlotsUpTo (fileOf (now law)) (now slots) 0 ⌝ }
     ensures { λ _. ⌜ SlotsUpTo (fileOf (now (law .entry))) (now (slots .exit)) (fileOf (now (law .entry)) .terms .count) ⌝ }
 {
@@ -146,13 +148,13 @@ fn fill_calls(law: &[u8], index: &[u16; 972], slots: &mut [u8; 577])
 }
 
 // The slots of a law.
-pub fn slots_of(law: &[u8], index: &[u16; 972]) -> [u8; 577]
+pub fn slots_of(law: &[u8], index: &Index) -> Slots
     requires { ⌜ Indexed (now law) (now index) × (fieldsAllowed (fileOf (now law)) ≡ true) ⌝ }
     ensures { λ r. ⌜ SlotsOf (fileOf (now (law .entry))) r ⌝ }
 {
     let mut weights: [u8; 64] = [0; 64];
     let count = fill_weights(law, index, &mut weights);
-    let mut slots: [u8; 577] = [0; 577];
+    let mut slots: Slots = [0; 577];
     fill_functions(law, index, &weights, &mut slots);
     slots[576] = count;
     fill_calls(law, index, &mut slots);

@@ -1,4 +1,5 @@
 // Blocks of sentences (refusal 7).
+use crate::Index;
 use crate::places::block_first;
 use crate::places::first_sentence;
 use crate::places::functions;
@@ -13,7 +14,7 @@ ghost use Rattle.law.specs.Runs.{blockLater, sentenceBlocks, blocksAllow
 ghost use Rattle.law.specs.Code.Index.{Indexed};
 
 // The number of sentences of the block at a term record, 0 where it is no block.
-pub fn block_size(law: &[u8], index: &[u16; 972], t: usize) -> usize
+pub fn block_size(law: &[u8], index: &Index, t: usize) -> usize
     requires { ⌜ Indexed (now law) (now index) × (t < fileOf (now law) .terms .count) ⌝ }
     ensures { λ r. ⌜ r ≡ blockSize (fileOf (now (law .entry))) t ⌝ }
 {
@@ -24,7 +25,7 @@ pub fn block_size(law: &[u8], index: &[u16; 972], t: usize) -> usize
 }
 
 // Is the term record t, which stands in the sentence s, no block with sentences, or is its first sentence later than s?
-fn block_later(law: &[u8], index: &[u16; 972], s: usize, t: usize) -> bool
+fn block_later(law: &[u8], index: &Index, s: usize, t: usize) -> bool
     requires { ⌜ Indexed (now law) (now index) × (t < fileOf (now law) .terms .count) ⌝ }
     ensures { λ r. ⌜ r ≡ blockLater (fileOf (now (law .entry))) s t ⌝ }
 {
@@ -35,7 +36,7 @@ fn block_later(law: &[u8], index: &[u16; 972], s: usize, t: usize) -> bool
 }
 
 // Are the blocks of a sentence later than the sentence?
-fn sentence_blocks(law: &[u8], index: &[u16; 972], s: usize) -> bool
+fn sentence_blocks(law: &[u8], index: &Index, s: usize) -> bool
     requires { ⌜ Indexed (now law) (now index) × (s < fileOf (now law) .sentences .count) ⌝ }
     ensures { λ r. ⌜ r ≡ sentenceBlocks (fileOf (now (law .entry))) s ⌝ }
 {
@@ -52,7 +53,7 @@ fn sentence_blocks(law: &[u8], index: &[u16; 972], s: usize) -> bool
 }
 
 // Are the blocks of each sentence later than the sentence?
-pub fn blocks_allowed(law: &[u8], index: &[u16; 972]) -> bool
+pub fn blocks_allowed(law: &[u8], index: &Index) -> bool
     requires { ⌜ Indexed (now law) (now index) ⌝ }
     ensures { λ r. ⌜ r ≡ blocksAllowed (fileOf (now (law .entry))) ⌝ }
 {

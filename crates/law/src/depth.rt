@@ -1,4 +1,5 @@
 // How deep the terms of a law stand (refusal 8).
+use crate::Index;
 use crate::places::asked;
 use crate::places::asked_at;
 use crate::places::asked_size;
@@ -43,7 +44,7 @@ pub fn sentences_in(term: Term) -> usize
 
 // Whether no term of a part of the term records has over 32 brackets, calls and blocks around it, of which `depth` are around the part.
 // The part's first record is number `at`. Symbols and variables hold no term, so that only records of kind 6 to 8 are entered.
-fn run_depth(law: &[u8], index: &[u16; 972], part: &[u8], at: usize, depth: usize) -> bool
+fn run_depth(law: &[u8], index: &Index, part: &[u8], at: usize, depth: usize) -> bool
     requires { ⌜ Indexed (now law) (now index) × Readable (fileOf (now law)) × PartAt (fileOf (now law)) at (now part) × (depth ≤ 33) ⌝ }
     ensures { λ r. ⌜ r ≡ leb (deepest (runOf (fileOf (now (law .entry))) (own (fileOf (now (law .entry)))) at (now (part .entry))) depth) 32 ⌝ }
 {
@@ -69,7 +70,7 @@ fn run_depth(law: &[u8], index: &[u16; 972], part: &[u8], at: usize, depth: usiz
 }
 
 // The same of a part's first term alone: what is inside it and, where it is a block, its sentences.
-fn term_depth(law: &[u8], index: &[u16; 972], part: &[u8], at: usize, depth: usize) -> bool
+fn term_depth(law: &[u8], index: &Index, part: &[u8], at: usize, depth: usize) -> bool
     requires { ⌜ Indexed (now law) (now index) × Readable (fileOf (now law)) × PartAt (fileOf (now law)) at (now part) × (24 ≤ length (now part)) × (depth ≤ 32) ⌝ }
     ensures { λ r. ⌜ r ≡ leb (deepest (firstTerm (runOf (fileOf (now (law .entry))) (own (fileOf (now (law .entry)))) at (now (part .entry)))) depth) 32 ⌝ }
 {
@@ -85,7 +86,7 @@ fn term_depth(law: &[u8], index: &[u16; 972], part: &[u8], at: usize, depth: usi
 }
 
 // The same of so many sentences from one on.
-fn sentences_depth(law: &[u8], index: &[u16; 972], first: usize, count: usize, depth: usize) -> bool
+fn sentences_depth(law: &[u8], index: &Index, first: usize, count: usize, depth: usize) -> bool
     requires { ⌜ Indexed (now law) (now index) × Readable (fileOf (now law)) × (first + count ≤ fileOf (now law) .sentences .count) × (depth ≤ 33) ⌝ }
     ensures { λ r. ⌜ r ≡ leb (deepestSentences (keep count (sentencesAt (fileOf (now (law .entry))) first)) depth) 32 ⌝ }
 {
@@ -100,7 +101,7 @@ fn sentences_depth(law: &[u8], index: &[u16; 972], first: usize, count: usize, d
 }
 
 // The same of one sentence.
-fn sentence_depth(law: &[u8], index: &[u16; 972], s: usize, depth: usize) -> bool
+fn sentence_depth(law: &[u8], index: &Index, s: usize, depth: usize) -> bool
     requires { ⌜ Indexed (now law) (now index) × Readable (fileOf (now law)) × (s < fileOf (now law) .sentences .count) × (depth ≤ 33) ⌝ }
     ensures { λ r. ⌜ r ≡ leb (deepestSentences (keep 1 (sentencesAt (fileOf (now (law .entry))) s)) depth) 32 ⌝ }
 {
@@ -126,7 +127,7 @@ fn sentence_depth(law: &[u8], index: &[u16; 972], s: usize, depth: usize) -> boo
 }
 
 // The same of a sentence's conditions.
-fn conditions_depth(law: &[u8], index: &[u16; 972], s: usize, depth: usize) -> bool
+fn conditions_depth(law: &[u8], index: &Index, s: usize, depth: usize) -> bool
     requires { ⌜ Indexed (now law) (now index) × Readable (fileOf (now law)) × (s < fileOf (now law) .sentences .count) × (depth ≤ 33) ⌝ }
     ensures { λ r. ⌜ r ≡ leb (deepestConditions (conditionsFrom (fileOf (now (law .entry))) (own (fileOf (now (law .entry)))) s
         (conditionsOf (fileOf (now (law .entry))) s) (firstCondition (fileOf (now (law .entry))) s)) depth) 32 ⌝ }
@@ -149,7 +150,7 @@ fn conditions_depth(law: &[u8], index: &[u16; 972], s: usize, depth: usize) -> b
 }
 
 // Whether no term of the law has over 32 brackets, calls and blocks around it.
-pub fn depth_allowed(law: &[u8], index: &[u16; 972]) -> bool
+pub fn depth_allowed(law: &[u8], index: &Index) -> bool
     requires { ⌜ Indexed (now law) (now index) × Readable (fileOf (now law)) ⌝ }
     ensures { λ r. ⌜ r ≡ leb (depthOf (treeOf (fileOf (now (law .entry))))) 32 ⌝ }
 {

@@ -1,4 +1,5 @@
-// The index of a file: where its functions, sentences, conditions, terms and blocks stand (specs/Index.antt has the layout).
+// The index of a file: where its functions, sentences, conditions, terms and blocks stand (specs/Code/Index.antt has the layout).
+use crate::Index;
 use file::Sections;
 use file::word_at;
 ghost use mathlib.Core.List.{_++_};
@@ -18,7 +19,7 @@ ghost use Rattle.file.specs.Code.Counts.{Limits, fileLength};
 
 // Writes the sums of one word of each record, from no record to all of them, and answers the last.
 fn fill_sums(
-    index: &mut [u16; 972],
+    index: &mut Index,
     from: usize,
     records: &[u8],
     count: usize,
@@ -42,7 +43,7 @@ fn fill_sums(
 
 // Writes the sums of two words of each record, the first and another, from no record to all of them, and answers the last.
 fn fill_pair_sums(
-    index: &mut [u16; 972],
+    index: &mut Index,
     from: usize,
     records: &[u8],
     count: usize,
@@ -78,13 +79,7 @@ fn block_size(terms: &[u8], t: usize) -> usize
 }
 
 // Writes the first sentence of the block at each term record, where the first block's stands at `first`, and answers the sentences of all blocks.
-fn fill_blocks(
-    index: &mut [u16; 972],
-    from: usize,
-    terms: &[u8],
-    count: usize,
-    first: usize,
-) -> usize
+fn fill_blocks(index: &mut Index, from: usize, terms: &[u8], count: usize, first: usize) -> usize
     requires { ⌜ (24 * count ≤ length (now terms)) × (from + count ≤ 972) × (first ≤ 274877906880) × (length (now index) ≡ 972) ⌝ }
     ensures { λ r. ⌜ (r ≡ blockSum (now (terms .entry)) count) × (r ≤ 4294967295 * count) × (length (now (index .exit)) ≡ 972)
         × Table (now (index .entry)) (now (index .exit)) from count (λ t. asWord (first + blockSum (now (terms .entry)) t)) ⌝ }
@@ -107,7 +102,7 @@ fn used_exactly(sentences: usize, conditions: usize, terms: usize, sections: Sec
 }
 
 // Fills the tables, and answers whether sections 3 to 5 are used up exactly.
-fn fill_tables(index: &mut [u16; 972], law: &[u8], sections: Sections) -> bool
+fn fill_tables(index: &mut Index, law: &[u8], sections: Sections) -> bool
     requires { ⌜ (countsOf (fileOf (now law)) ≡ sections) × Limits sections × (length (now law) ≡ fileLength sections) × (length (now index) ≡ 972) ⌝ }
     ensures { λ r. ⌜ (r ≡ usedUp (fileOf (now (law .entry)))) × (length (now (index .exit)) ≡ 972) × TablesOf (fileOf (now (law .entry))) (now (index .exit)) ⌝ }
 {
@@ -137,7 +132,7 @@ fn fill_tables(index: &mut [u16; 972], law: &[u8], sections: Sections) -> bool
 }
 
 // Writes the positions of the records of sections 2 to 5, and their numbers.
-fn fill_header(index: &mut [u16; 972], sections: Sections)
+fn fill_header(index: &mut Index, sections: Sections)
     requires { ⌜ Limits sections × (length (now index) ≡ 972) ⌝ }
     ensures { λ _. ⌜ now (index .exit) ≡ header sections ++ drop 8 (now (index .entry)) ⌝ }
 {
@@ -157,7 +152,7 @@ fn fill_header(index: &mut [u16; 972], sections: Sections)
 
 // Fills the index of a file that is cut into its sections, and answers whether sections 3 to 5 are used up exactly.
 // Sums past 65,535 are cut in the index, and then they are not.
-pub fn place_records(law: &[u8], sections: Sections, index: &mut [u16; 972]) -> bool
+pub fn place_records(law: &[u8], sections: Sections, index: &mut Index) -> bool
     requires { ⌜ (sectionsOf (now law) ≡ given (fileOf (now law))) × (countsOf (fileOf (now law)) ≡ sections) × (length (now index) ≡ 972) ⌝ }
     ensures { λ r. ⌜ (r ≡ usedUp (fileOf (now (law .entry)))) × (r ≡ true → Indexed (now (law .entry)) (now (index .exit))) ⌝ }
 {

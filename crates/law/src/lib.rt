@@ -25,6 +25,9 @@ pub mod patterns;
 pub mod places;
 pub mod runs;
 
+// The words that say where things stand in a law: eight for its sections, then five tables (specs/Code/Index.antt).
+pub type Index = [u16; 972];
+
 // Whether a file is a law. `checkAnswer` of specs/Law.antt gives document 01's number for each case.
 pub enum Check {
     Accepted,
@@ -32,7 +35,7 @@ pub enum Check {
 }
 
 // Refusals 6 to 9 of a file whose sections are used up exactly.
-fn check_placed(law: &[u8], index: &[u16; 972]) -> Check
+fn check_placed(law: &[u8], index: &Index) -> Check
     requires { ⌜ Indexed (now law) (now index) × (fieldsAllowed (fileOf (now law)) ≡ true) ⌝ }
     ensures { λ r. ⌜ checkAnswer r ≡ verdictOf (now (law .entry)) ⌝ }
 {
@@ -52,7 +55,7 @@ fn check_placed(law: &[u8], index: &[u16; 972]) -> Check
 }
 
 // The check of a file that is cut into its sections. The index of an accepted one is filled.
-fn check_sections(law: &[u8], sections: Sections, index: &mut [u16; 972]) -> Check
+fn check_sections(law: &[u8], sections: Sections, index: &mut Index) -> Check
     requires { ⌜ (sectionsOf (now law) ≡ given (fileOf (now law))) × (countsOf (fileOf (now law)) ≡ sections) × (length (now index) ≡ 972) ⌝ }
     ensures { λ r. ⌜ (checkAnswer r ≡ verdictOf (now (law .entry))) × (r ≡ Check.Accepted → Indexed (now (law .entry)) (now (index .exit))) ⌝ }
 {
@@ -67,7 +70,7 @@ fn check_sections(law: &[u8], sections: Sections, index: &mut [u16; 972]) -> Che
 }
 
 // The check of any bytes. The index of a law is filled.
-fn check_bytes(law: &[u8], index: &mut [u16; 972]) -> Check
+fn check_bytes(law: &[u8], index: &mut Index) -> Check
     requires { ⌜ length (now index) ≡ 972 ⌝ }
     ensures { λ r. ⌜ (checkAnswer r ≡ verdictOf (now (law .entry))) × (r ≡ Check.Accepted → Indexed (now (law .entry)) (now (index .exit))) ⌝ }
 {
@@ -78,7 +81,7 @@ fn check_bytes(law: &[u8], index: &mut [u16; 972]) -> Check
 }
 
 // Whether any bytes are a law, with the index of an accepted one.
-pub fn read_law(law: &[u8], index: &mut [u16; 972]) -> Check
+pub fn read_law(law: &[u8], index: &mut Index) -> Check
     requires { ⌜ length (now index) ≡ 972 ⌝ }
     ensures { λ r. ⌜ (checkAnswer r ≡ verdictOf (now (law .entry))) × IndexAfter r (now (law .entry)) (now (index .exit)) ⌝ }
 {
@@ -96,6 +99,6 @@ pub fn read_law(law: &[u8], index: &mut [u16; 972]) -> Check
 pub fn check_law(law: &[u8]) -> Check
     ensures { λ r. ⌜ checkAnswer r ≡ verdictOf (now (law .entry)) ⌝ }
 {
-    let mut index: [u16; 972] = [0; 972];
+    let mut index: Index = [0; 972];
     read_law(law, &mut index)
 }

@@ -1,4 +1,5 @@
 // The variables of sentences' patterns (refusal 9).
+use crate::Index;
 use crate::places::pattern;
 use crate::places::pattern_size;
 use crate::places::sentences;
@@ -94,7 +95,7 @@ fn pattern_allowed(text: &[u8], pattern: &[u8], count: usize) -> bool
 }
 
 // Does a sentence's pattern have at most 32 different variables?
-fn sentence_pattern(law: &[u8], index: &[u16; 972], s: usize) -> bool
+fn sentence_pattern(law: &[u8], index: &Index, s: usize) -> bool
     requires { ⌜ Indexed (now law) (now index) × (fieldsAllowed (fileOf (now law)) ≡ true) × (s < fileOf (now law) .sentences .count) ⌝ }
     ensures { λ r. ⌜ r ≡ leb (distinct (patternVariables (fileOf (now (law .entry))) s)) 32 ⌝ }
 {
@@ -103,7 +104,7 @@ fn sentence_pattern(law: &[u8], index: &[u16; 972], s: usize) -> bool
 }
 
 // Does each sentence's pattern have at most 32 different variables?
-pub fn patterns_allowed(law: &[u8], index: &[u16; 972]) -> bool
+pub fn patterns_allowed(law: &[u8], index: &Index) -> bool
     requires { ⌜ Indexed (now law) (now index) × (fieldsAllowed (fileOf (now law)) ≡ true) ⌝ }
     ensures { λ r. ⌜ r ≡ patternsAllowed (fileOf (now (law .entry))) ⌝ }
 {

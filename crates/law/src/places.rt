@@ -1,4 +1,5 @@
 // Where things stand in a file, read off its index: no lookup goes through the file. specs/Places.antt says what each answer is.
+use crate::Index;
 use file::word_at;
 use names::name_in;
 ghost use mathlib.Core.Path.{_≡_};
@@ -20,7 +21,7 @@ fn wide(word: u16) -> usize
 }
 
 // A word of the index.
-fn word(index: &[u16; 972], i: usize) -> usize
+fn word(index: &Index, i: usize) -> usize
     requires { ⌜ i < 972 ⌝ }
     ensures { λ r. ⌜ (r ≡ getD (now (index .entry)) i 0) × (r < 65536) ⌝ }
 {
@@ -28,26 +29,26 @@ fn word(index: &[u16; 972], i: usize) -> usize
 }
 
 // The numbers of functions, sentences, conditions and terms.
-pub fn functions(index: &[u16; 972]) -> usize
+pub fn functions(index: &Index) -> usize
     ensures { λ r. ⌜ r ≡ getD (now (index .entry)) 4 0 ⌝ }
 {
     word(index, 4)
 }
 
-pub fn sentences(index: &[u16; 972]) -> usize
+pub fn sentences(index: &Index) -> usize
     ensures { λ r. ⌜ r ≡ getD (now (index .entry)) 5 0 ⌝ }
 {
     word(index, 5)
 }
 
-pub fn terms(index: &[u16; 972]) -> usize
+pub fn terms(index: &Index) -> usize
     ensures { λ r. ⌜ r ≡ getD (now (index .entry)) 7 0 ⌝ }
 {
     word(index, 7)
 }
 
 // The first sentence of a function, up to the number of functions.
-pub fn first_sentence(index: &[u16; 972], f: usize) -> usize
+pub fn first_sentence(index: &Index, f: usize) -> usize
     requires { ⌜ f ≤ 64 ⌝ }
     ensures { λ r. ⌜ r ≡ getD (now (index .entry)) (8 + f) 0 ⌝ }
 {
@@ -55,7 +56,7 @@ pub fn first_sentence(index: &[u16; 972], f: usize) -> usize
 }
 
 // The first condition of a sentence, up to the number of sentences.
-pub fn first_condition(index: &[u16; 972], s: usize) -> usize
+pub fn first_condition(index: &Index, s: usize) -> usize
     requires { ⌜ s ≤ 128 ⌝ }
     ensures { λ r. ⌜ r ≡ getD (now (index .entry)) (73 + s) 0 ⌝ }
 {
@@ -63,7 +64,7 @@ pub fn first_condition(index: &[u16; 972], s: usize) -> usize
 }
 
 // The first sentence of the block at a term record.
-pub fn block_first(index: &[u16; 972], t: usize) -> usize
+pub fn block_first(index: &Index, t: usize) -> usize
     requires { ⌜ t < 512 ⌝ }
     ensures { λ r. ⌜ r ≡ getD (now (index .entry)) (460 + t) 0 ⌝ }
 {
@@ -71,7 +72,7 @@ pub fn block_first(index: &[u16; 972], t: usize) -> usize
 }
 
 // A word of a function record.
-fn function_word(law: &[u8], index: &[u16; 972], f: usize, at: usize) -> usize
+fn function_word(law: &[u8], index: &Index, f: usize, at: usize) -> usize
     requires { ⌜ Indexed (now law) (now index) × (f < fileOf (now law) .functions .count) × (at + 4 ≤ 20) ⌝ }
     ensures { λ r. ⌜ r ≡ wordAt (fileOf (now (law .entry)) .functions .records) (20 * f + at) ⌝ }
 {
@@ -80,7 +81,7 @@ fn function_word(law: &[u8], index: &[u16; 972], f: usize, at: usize) -> usize
 }
 
 // A word of a sentence record.
-fn sentence_word(law: &[u8], index: &[u16; 972], s: usize, at: usize) -> usize
+fn sentence_word(law: &[u8], index: &Index, s: usize, at: usize) -> usize
     requires { ⌜ Indexed (now law) (now index) × (s < fileOf (now law) .sentences .count) × (at + 4 ≤ 20) ⌝ }
     ensures { λ r. ⌜ r ≡ wordAt (fileOf (now (law .entry)) .sentences .records) (20 * s + at) ⌝ }
 {
@@ -89,7 +90,7 @@ fn sentence_word(law: &[u8], index: &[u16; 972], s: usize, at: usize) -> usize
 }
 
 // A word of a condition record.
-fn condition_word(law: &[u8], index: &[u16; 972], c: usize, at: usize) -> usize
+fn condition_word(law: &[u8], index: &Index, c: usize, at: usize) -> usize
     requires { ⌜ Indexed (now law) (now index) × (c < fileOf (now law) .conditions .count) × (at + 4 ≤ 16) ⌝ }
     ensures { λ r. ⌜ r ≡ wordAt (fileOf (now (law .entry)) .conditions .records) (16 * c + at) ⌝ }
 {
@@ -98,7 +99,7 @@ fn condition_word(law: &[u8], index: &[u16; 972], c: usize, at: usize) -> usize
 }
 
 // A word of a term record.
-pub fn term_word(law: &[u8], index: &[u16; 972], t: usize, at: usize) -> usize
+pub fn term_word(law: &[u8], index: &Index, t: usize, at: usize) -> usize
     requires { ⌜ Indexed (now law) (now index) × (t < fileOf (now law) .terms .count) × (at + 4 ≤ 24) ⌝ }
     ensures { λ r. ⌜ r ≡ wordAt (fileOf (now (law .entry)) .terms .records) (24 * t + at) ⌝ }
 {
@@ -107,7 +108,7 @@ pub fn term_word(law: &[u8], index: &[u16; 972], t: usize, at: usize) -> usize
 }
 
 // The bytes of so many term records from one on.
-pub fn records<'a>(law: &'a [u8], index: &[u16; 972], at: usize, count: usize) -> &'a [u8]
+pub fn records<'a>(law: &'a [u8], index: &Index, at: usize, count: usize) -> &'a [u8]
     requires { ⌜ Indexed (now law) (now index) × (at + count ≤ fileOf (now law) .terms .count) ⌝ }
     ensures { λ r. ⌜ now r ≡ termsAt (fileOf (now (law .entry))) at count ⌝ }
 {
@@ -117,7 +118,7 @@ pub fn records<'a>(law: &'a [u8], index: &[u16; 972], at: usize, count: usize) -
 }
 
 // The number of records of a sentence's pattern.
-pub fn pattern_size(law: &[u8], index: &[u16; 972], s: usize) -> usize
+pub fn pattern_size(law: &[u8], index: &Index, s: usize) -> usize
     requires { ⌜ Indexed (now law) (now index) × (s < fileOf (now law) .sentences .count) ⌝ }
     ensures { λ r. ⌜ r ≡ patternSize (fileOf (now (law .entry))) s ⌝ }
 {
@@ -125,7 +126,7 @@ pub fn pattern_size(law: &[u8], index: &[u16; 972], s: usize) -> usize
 }
 
 // The first record of a sentence's pattern, up to the number of sentences.
-pub fn pattern_at(law: &[u8], index: &[u16; 972], s: usize) -> usize
+pub fn pattern_at(law: &[u8], index: &Index, s: usize) -> usize
     requires { ⌜ Indexed (now law) (now index) × (s ≤ fileOf (now law) .sentences .count) ⌝ }
     ensures { λ r. ⌜ r ≡ patternAt (fileOf (now (law .entry))) s ⌝ }
 {
@@ -134,7 +135,7 @@ pub fn pattern_at(law: &[u8], index: &[u16; 972], s: usize) -> usize
 }
 
 // The first record of a sentence's result.
-pub fn result_at(law: &[u8], index: &[u16; 972], s: usize) -> usize
+pub fn result_at(law: &[u8], index: &Index, s: usize) -> usize
     requires { ⌜ Indexed (now law) (now index) × (s < fileOf (now law) .sentences .count) ⌝ }
     ensures { λ r. ⌜ r ≡ resultAt (fileOf (now (law .entry))) s ⌝ }
 {
@@ -143,7 +144,7 @@ pub fn result_at(law: &[u8], index: &[u16; 972], s: usize) -> usize
 }
 
 // The first record of the result of a condition of a sentence.
-pub fn asked_at(law: &[u8], index: &[u16; 972], s: usize, c: usize) -> usize
+pub fn asked_at(law: &[u8], index: &Index, s: usize, c: usize) -> usize
     requires { ⌜ Indexed (now law) (now index) × (s < fileOf (now law) .sentences .count) × (c < fileOf (now law) .conditions .count) ⌝ }
     ensures { λ r. ⌜ r ≡ askedAt (fileOf (now (law .entry))) s c ⌝ }
 {
@@ -151,7 +152,7 @@ pub fn asked_at(law: &[u8], index: &[u16; 972], s: usize, c: usize) -> usize
 }
 
 // The number of records of a condition's result.
-pub fn asked_size(law: &[u8], index: &[u16; 972], c: usize) -> usize
+pub fn asked_size(law: &[u8], index: &Index, c: usize) -> usize
     requires { ⌜ Indexed (now law) (now index) × (c < fileOf (now law) .conditions .count) ⌝ }
     ensures { λ r. ⌜ r ≡ askedSize (fileOf (now (law .entry))) c ⌝ }
 {
@@ -159,7 +160,7 @@ pub fn asked_size(law: &[u8], index: &[u16; 972], c: usize) -> usize
 }
 
 // A sentence's pattern: the bytes of its records.
-pub fn pattern<'a>(law: &'a [u8], index: &[u16; 972], s: usize) -> &'a [u8]
+pub fn pattern<'a>(law: &'a [u8], index: &Index, s: usize) -> &'a [u8]
     requires { ⌜ Indexed (now law) (now index) × (s < fileOf (now law) .sentences .count) ⌝ }
     ensures { λ r. ⌜ now r ≡ patternPart (fileOf (now (law .entry))) s ⌝ }
 {
@@ -168,7 +169,7 @@ pub fn pattern<'a>(law: &'a [u8], index: &[u16; 972], s: usize) -> &'a [u8]
 }
 
 // A sentence's result.
-pub fn result<'a>(law: &'a [u8], index: &[u16; 972], s: usize) -> &'a [u8]
+pub fn result<'a>(law: &'a [u8], index: &Index, s: usize) -> &'a [u8]
     requires { ⌜ Indexed (now law) (now index) × (s < fileOf (now law) .sentences .count) ⌝ }
     ensures { λ r. ⌜ now r ≡ resultPart (fileOf (now (law .entry))) s ⌝ }
 {
@@ -177,7 +178,7 @@ pub fn result<'a>(law: &'a [u8], index: &[u16; 972], s: usize) -> &'a [u8]
 }
 
 // The result of a condition c of a sentence s.
-pub fn asked<'a>(law: &'a [u8], index: &[u16; 972], s: usize, c: usize) -> &'a [u8]
+pub fn asked<'a>(law: &'a [u8], index: &Index, s: usize, c: usize) -> &'a [u8]
     requires { ⌜ Indexed (now law) (now index) × Owns (fileOf (now law)) s c ⌝ }
     ensures { λ r. ⌜ now r ≡ askedPart (fileOf (now (law .entry))) s c ⌝ }
 {
@@ -186,7 +187,7 @@ pub fn asked<'a>(law: &'a [u8], index: &[u16; 972], s: usize, c: usize) -> &'a [
 }
 
 // The pattern of a condition c of a sentence s.
-pub fn wanted<'a>(law: &'a [u8], index: &[u16; 972], s: usize, c: usize) -> &'a [u8]
+pub fn wanted<'a>(law: &'a [u8], index: &Index, s: usize, c: usize) -> &'a [u8]
     requires { ⌜ Indexed (now law) (now index) × Owns (fileOf (now law)) s c ⌝ }
     ensures { λ r. ⌜ now r ≡ wantedPart (fileOf (now (law .entry))) s c ⌝ }
 {
@@ -195,7 +196,7 @@ pub fn wanted<'a>(law: &'a [u8], index: &[u16; 972], s: usize, c: usize) -> &'a 
 }
 
 // The text section.
-pub fn text<'a>(law: &'a [u8], index: &[u16; 972]) -> &'a [u8]
+pub fn text<'a>(law: &'a [u8], index: &Index) -> &'a [u8]
     requires { ⌜ Indexed (now law) (now index) ⌝ }
     ensures { λ r. ⌜ now r ≡ fileOf (now (law .entry)) .text .records ⌝ }
 {
@@ -204,7 +205,7 @@ pub fn text<'a>(law: &'a [u8], index: &[u16; 972]) -> &'a [u8]
 }
 
 // A function's name, as the part of the text where it is spelled.
-pub fn function_name<'a>(law: &'a [u8], index: &[u16; 972], f: usize) -> &'a [u8]
+pub fn function_name<'a>(law: &'a [u8], index: &Index, f: usize) -> &'a [u8]
     requires { ⌜ Indexed (now law) (now index) × (f < fileOf (now law) .functions .count) × (fieldsAllowed (fileOf (now law)) ≡ true) ⌝ }
     ensures { λ r. ⌜ now r ≡ functionName (fileOf (now (law .entry))) f .spelled ⌝ }
 {

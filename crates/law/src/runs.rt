@@ -1,4 +1,5 @@
 // Runs of term records (refusal 6).
+use crate::Index;
 use crate::places::asked;
 use crate::places::first_condition;
 use crate::places::pattern;
@@ -52,7 +53,7 @@ pub fn run_fits(part: &[u8]) -> bool
 }
 
 // Whether the runs of a sentence's conditions fit.
-fn conditions_fit(law: &[u8], index: &[u16; 972], s: usize) -> bool
+fn conditions_fit(law: &[u8], index: &Index, s: usize) -> bool
     requires { ⌜ Indexed (now law) (now index) × (s < fileOf (now law) .sentences .count) ⌝ }
     ensures { λ r. ⌜ r ≡ every (conditionsOf (fileOf (now (law .entry))) s)
         (λ i. conditionFits (fileOf (now (law .entry))) s (firstCondition (fileOf (now (law .entry))) s + i)) ⌝ }
@@ -73,7 +74,7 @@ fn conditions_fit(law: &[u8], index: &[u16; 972], s: usize) -> bool
 }
 
 // Whether all runs of a sentence fit.
-fn sentence_fits(law: &[u8], index: &[u16; 972], s: usize) -> bool
+fn sentence_fits(law: &[u8], index: &Index, s: usize) -> bool
     requires { ⌜ Indexed (now law) (now index) × (s < fileOf (now law) .sentences .count) ⌝ }
     ensures { λ r. ⌜ r ≡ sentenceFits (fileOf (now (law .entry))) s ⌝ }
 {
@@ -87,7 +88,7 @@ fn sentence_fits(law: &[u8], index: &[u16; 972], s: usize) -> bool
 }
 
 // Whether all runs of all sentences fit.
-pub fn runs_fit(law: &[u8], index: &[u16; 972]) -> bool
+pub fn runs_fit(law: &[u8], index: &Index) -> bool
     requires { ⌜ Indexed (now law) (now index) ⌝ }
     ensures { λ r. ⌜ r ≡ every (fileOf (now (law .entry)) .sentences .count) (sentenceFits (fileOf (now (law .entry)))) ⌝ }
 {

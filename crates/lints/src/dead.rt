@@ -1,4 +1,5 @@
 // Lint 1: sentences that an earlier one without conditions shadows.
+use law::Index;
 use law::places::first_condition;
 use sentences::shadow_sentences;
 ghost use mathlib.Core.Path.{_≡_};
@@ -12,7 +13,7 @@ ghost use Rattle.lints.specs.Dead.{earliest};
 ghost use Rattle.lints.specs.Code.Records.{earlierAt, numberOr0};
 
 // The number from 1 of the earliest of so many sentences from `first` on that has no conditions and shadows the sentence after them; 0 where none does.
-pub fn earliest_shadow(law: &[u8], index: &[u16; 972], first: usize, later: usize) -> usize
+pub fn earliest_shadow(law: &[u8], index: &Index, first: usize, later: usize) -> usize
     requires { ⌜ Indexed (now law) (now index) × Accepted (now law) × (first + later < fileOf (now law) .sentences .count) ⌝ }
     ensures { λ r. ⌜ (r ≡ numberOr0 (earliest [] (earlierAt (fileOf (now (law .entry))) first later) (patternIn (fileOf (now (law .entry))) (first + later)))) × (r ≤ later) ⌝ }
 {

@@ -1,6 +1,8 @@
 // Lint 2: calls that no sentence of their function can match.
+use formats::Slots;
 use formats::infer::row_format;
 use formats::slots::wide;
+use law::Index;
 use law::places::first_sentence;
 use law::places::functions;
 use searches::literal::is_literal;
@@ -33,7 +35,7 @@ pub enum Verdict {
 }
 
 // The last of so many functions whose name has this place; their number where no name has it.
-fn last_placed(slots: &[u8; 577], count: usize, place: usize) -> usize
+fn last_placed(slots: &Slots, count: usize, place: usize) -> usize
     requires { ⌜ count ≤ 64 ⌝ }
     ensures { λ r. ⌜ r ≡ lastPlaced (now (slots .entry)) place count count ⌝ }
 {
@@ -48,7 +50,7 @@ fn last_placed(slots: &[u8; 577], count: usize, place: usize) -> usize
 }
 
 // Does some sentence of the function f match the argument of the call at a term record, which is literal?
-fn some_matches(law: &[u8], index: &[u16; 972], f: usize, t: usize) -> bool
+fn some_matches(law: &[u8], index: &Index, f: usize, t: usize) -> bool
     requires { ⌜ Indexed (now law) (now index) × Accepted (now law) ⌝ }
     requires { ⌜ (f < fileOf (now law) .functions .count) × (t < fileOf (now law) .terms .count) × (isLiteral (argumentIn (fileOf (now law)) t) ≡ true) ⌝ }
     ensures { λ r. ⌜ r ≡ someMatches (functionSentences (fileOf (now (law .entry))) f) (literalTerms (argumentIn (fileOf (now (law .entry))) t)) ⌝ }
@@ -65,7 +67,7 @@ fn some_matches(law: &[u8], index: &[u16; 972], f: usize, t: usize) -> bool
 }
 
 // Is the argument of the call at a term record, with the function f, compared by formats?
-fn is_compared(law: &[u8], index: &[u16; 972], f: usize, t: usize, literal: bool) -> bool
+fn is_compared(law: &[u8], index: &Index, f: usize, t: usize, literal: bool) -> bool
     requires { ⌜ Indexed (now law) (now index) × Accepted (now law) ⌝ }
     requires { ⌜ (f < fileOf (now law) .functions .count) × (t < fileOf (now law) .terms .count) × (literal ≡ isLiteral (argumentIn (fileOf (now law)) t)) ⌝ }
     ensures { λ r. ⌜ r ≡ comparedWith (some (functionSentences (fileOf (now (law .entry))) f)) (argumentIn (fileOf (now (law .entry))) t) ⌝ }
@@ -79,8 +81,8 @@ fn is_compared(law: &[u8], index: &[u16; 972], f: usize, t: usize, literal: bool
 // What is said of the call at a term record, where it is compared. Its name has this place.
 fn compare_call(
     law: &[u8],
-    index: &[u16; 972],
-    slots: &[u8; 577],
+    index: &Index,
+    slots: &Slots,
     store: &[u32],
     limit: usize,
     t: usize,
@@ -112,8 +114,8 @@ fn compare_call(
 // What is said of the call at a term record.
 pub fn judge_call(
     law: &[u8],
-    index: &[u16; 972],
-    slots: &[u8; 577],
+    index: &Index,
+    slots: &Slots,
     store: &[u32],
     limit: usize,
     t: usize,

@@ -4,6 +4,7 @@ use file::Cut;
 use file::Sections;
 use file::sections_of;
 use law::Check;
+use law::Index;
 use law::read_law;
 use lints::levels::settings_allowed;
 ghost use mathlib.Core.Bool.{true};
@@ -57,7 +58,7 @@ pub fn check_front(
     overrides: &[u32],
     law: &[u8],
     words: usize,
-    index: &mut [u16; 972],
+    index: &mut Index,
 ) -> Front
     requires { ⌜ length (now index) ≡ 972 ⌝ }
     ensures { λ r. ⌜ ((store : List ℕ) → length store ≡ words → FrontIs 64 (settingsFrom mode (now (overrides .entry))) (now (law .entry)) store r (now (index .exit))) ⌝ }

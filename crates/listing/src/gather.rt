@@ -3,9 +3,11 @@ use findings::FULL;
 use findings::NONE;
 use findings::OVER;
 use findings::all::lint_all;
+use formats::Slots;
 use formats::call::clear_store;
 use formats::call::infer_store;
 use formats::infer::Inference;
+use law::Index;
 ghost use mathlib.Core.Path.{_≡_};
 ghost use Rattle.file.specs.Sections.{fileOf};
 ghost use Rattle.law.specs.Reading.{treeOf};
@@ -25,8 +27,8 @@ pub enum Gathered {
 // The findings of a law whose formats are in the store.
 fn gather_findings(
     law: &[u8],
-    index: &[u16; 972],
-    slots: &[u8; 577],
+    index: &Index,
+    slots: &Slots,
     store: &mut [u32],
     limit: usize,
     mode: u32,
@@ -53,8 +55,8 @@ fn gather_findings(
 // The formats of a law, and its findings under given settings, counted up to the room that there is.
 pub fn gather(
     law: &[u8],
-    index: &[u16; 972],
-    slots: &[u8; 577],
+    index: &Index,
+    slots: &Slots,
     store: &mut [u32],
     limit: usize,
     mode: u32,

@@ -8,8 +8,10 @@ use crate::gather::gather;
 use buffers::copy_words;
 use file::Refusal;
 use findings::all::lint_all;
+use formats::Slots;
 use formats::call::clear_store;
 use formats::slots::slots_of;
+use law::Index;
 use law::places::sentences;
 use lints::levels::settings_allowed;
 use messages::put_message;
@@ -68,8 +70,8 @@ const FEW: usize = 32;
 // Hands over findings: those of the call's own buffer, or, where that had no place for all, they are collected again.
 fn hand_over(
     law: &[u8],
-    index: &[u16; 972],
-    slots: &[u8; 577],
+    index: &Index,
+    slots: &Slots,
     store: &[u32],
     mode: u32,
     overrides: &[u32],
@@ -103,7 +105,7 @@ fn hand_over(
 // The findings call, of a law that is ready, with a buffer of its own.
 fn findings_gathered(
     law: &[u8],
-    index: &[u16; 972],
+    index: &Index,
     mode: u32,
     overrides: &[u32],
     store: &mut [u32],
@@ -129,7 +131,7 @@ fn findings_gathered(
 // The same, with a buffer by the number of sentences.
 fn findings_ready(
     law: &[u8],
-    index: &[u16; 972],
+    index: &Index,
     mode: u32,
     overrides: &[u32],
     store: &mut [u32],
@@ -183,7 +185,7 @@ pub fn findings(
     if is_empty(law) {
         return findings_none(mode, overrides, store);
     }
-    let mut index: [u16; 972] = [0; 972];
+    let mut index: Index = [0; 972];
     match check_front(mode, overrides, law, store.len(), &mut index) {
         Front::Refused(why) => Found::Refused(why),
         Front::Ready => findings_ready(law, &index, mode, overrides, store, words),
@@ -193,8 +195,8 @@ pub fn findings(
 // Writes the text of the finding at a position among the call's own.
 fn tell(
     law: &[u8],
-    index: &[u16; 972],
-    slots: &[u8; 577],
+    index: &Index,
+    slots: &Slots,
     store: &[u32],
     own: &[u32],
     count: usize,
@@ -223,7 +225,7 @@ fn tell(
 // The text call, of a law that is ready.
 fn text_ready(
     law: &[u8],
-    index: &[u16; 972],
+    index: &Index,
     mode: u32,
     overrides: &[u32],
     store: &mut [u32],
@@ -274,7 +276,7 @@ pub fn text(
     ensures { λ r. ⌜ textAfter r (now (store .exit)) (now (text .exit))
         ≡ textOutcome 64 (settingsFrom mode (now (overrides .entry))) (now (law .entry)) (now (store .entry)) position (now (text .entry)) ⌝ }
 {
-    let mut index: [u16; 972] = [0; 972];
+    let mut index: Index = [0; 972];
     match check_front(mode, overrides, law, store.len(), &mut index) {
         Front::Refused(why) => Told::Refused(why),
         Front::Ready => text_ready(law, &index, mode, overrides, store, position, text),

@@ -6,8 +6,10 @@ use crate::texts::put_by_literals;
 use crate::texts::put_dead;
 use crate::texts::put_fails;
 use crate::texts::put_open;
+use formats::Slots;
 use formats::infer::row_format;
 use formats::slots::wide;
+use law::Index;
 use law::places::first_sentence;
 use law::places::function_name;
 use law::places::functions;
@@ -51,7 +53,7 @@ fn word(words: &[u32], i: usize) -> usize
 }
 
 // The name of the call at a term record.
-fn call_name<'a>(law: &'a [u8], index: &[u16; 972], t: usize) -> &'a [u8]
+fn call_name<'a>(law: &'a [u8], index: &Index, t: usize) -> &'a [u8]
     requires { ⌜ Indexed (now law) (now index) × (fieldsAllowed (fileOf (now law)) ≡ true) × CallHere (fileOf (now law)) t ⌝ }
     ensures { λ r. ⌜ (callAt (fileOf (now (law .entry))) t .name .spelled ≡ now r) × (length (now r) ≤ 4096) ⌝ }
 {
@@ -63,7 +65,7 @@ fn call_name<'a>(law: &'a [u8], index: &[u16; 972], t: usize) -> &'a [u8]
 // Lint 1: a sentence of a function, or of a block in it.
 fn put_dead_sentence(
     law: &[u8],
-    index: &[u16; 972],
+    index: &Index,
     position: usize,
     s: usize,
     later: usize,
@@ -82,8 +84,8 @@ fn put_dead_sentence(
 // Lint 2 by formats: that which the store has for the callee, and that of the argument, made anew.
 fn put_apart(
     law: &[u8],
-    index: &[u16; 972],
-    slots: &[u8; 577],
+    index: &Index,
+    slots: &Slots,
     store: &[u32],
     limit: usize,
     t: usize,
@@ -117,8 +119,8 @@ fn put_apart(
 // Lint 2: a call that no sentence of its function matches, by formats (a = 1) or by literals.
 fn put_recognition(
     law: &[u8],
-    index: &[u16; 972],
-    slots: &[u8; 577],
+    index: &Index,
+    slots: &Slots,
     store: &[u32],
     limit: usize,
     t: usize,
@@ -137,7 +139,7 @@ fn put_recognition(
 }
 
 // Lint 3: why the builtin call at a term record fails, by its number.
-fn put_builtin(law: &[u8], index: &[u16; 972], t: usize, a: usize, out: &mut [u8]) -> usize
+fn put_builtin(law: &[u8], index: &Index, t: usize, a: usize, out: &mut [u8]) -> usize
     requires { ⌜ Indexed (now law) (now index) × (fieldsAllowed (fileOf (now law)) ≡ true) × CallHere (fileOf (now law)) t ⌝ }
     ensures { λ r. ⌜ ((owner : Name) (why : finding.Failure) → failureNumber why ≡ a
         → Put (now (out .entry)) 0 (claimText owner (fails (callAt (fileOf (now (law .entry))) t .name) why)) r (now (out .exit))) ⌝ }
@@ -155,8 +157,8 @@ fn put_builtin(law: &[u8], index: &[u16; 972], t: usize, a: usize, out: &mut [u8
 // The text of a finding, from its eight words, put at the start of a buffer where there is room; its length in any case.
 pub fn put_message(
     law: &[u8],
-    index: &[u16; 972],
-    slots: &[u8; 577],
+    index: &Index,
+    slots: &Slots,
     store: &[u32],
     limit: usize,
     words: &[u32],

@@ -10,6 +10,7 @@ use cases::number;
 use cases::read_label;
 use cases::read_law;
 use law::Check;
+use law::Index;
 use law::places::sentences;
 use law::places::terms;
 use libc::STDOUT_FILENO;
@@ -96,7 +97,7 @@ fn print_calls(law: &[u8], count: usize, records: usize) {
 
 // Writes the end of a case's line, and the lines after it.
 fn print_answers(law: &[u8]) {
-    let mut index: [u16; 972] = [0; 972];
+    let mut index: Index = [0; 972];
     match law::read_law(law, &mut index) {
         Check::Accepted => {
             io::write_all(STDOUT_FILENO, b" accepted\n");

@@ -6,6 +6,7 @@ use crate::loose::parted;
 use crate::parity::uneven;
 use file::Refusal;
 use law::Check;
+use law::Index;
 use law::places::pattern;
 use law::places::pattern_at;
 use law::places::records;
@@ -95,7 +96,7 @@ fn literal(text: &[u8], terms: &[u8], pattern: &[u8], at: usize, row: &[u8], sta
 }
 
 // Does an earlier sentence's pattern shadow a later one's?
-pub fn shadow_sentences(law: &[u8], index: &[u16; 972], earlier: usize, later: usize) -> bool
+pub fn shadow_sentences(law: &[u8], index: &Index, earlier: usize, later: usize) -> bool
     requires { ⌜ Indexed (now law) (now index) × Accepted (now law) ⌝ }
     requires { ⌜ (earlier < fileOf (now law) .sentences .count) × (later < fileOf (now law) .sentences .count) ⌝ }
     ensures { λ r. ⌜ r ≡ shadows (rowOf (fileOf (now (law .entry)) .text .records) (patternPart (fileOf (now (law .entry))) earlier))
@@ -115,7 +116,7 @@ pub fn shadow_sentences(law: &[u8], index: &[u16; 972], earlier: usize, later: u
 }
 
 // The records inside a term record: a call's argument.
-pub fn argument<'a>(law: &'a [u8], index: &[u16; 972], term: usize) -> &'a [u8]
+pub fn argument<'a>(law: &'a [u8], index: &Index, term: usize) -> &'a [u8]
     requires { ⌜ Indexed (now law) (now index) × Accepted (now law) × (term < fileOf (now law) .terms .count) ⌝ }
     ensures { λ r. ⌜ now r ≡ argumentPart (fileOf (now (law .entry))) term ⌝ }
 {
@@ -124,7 +125,7 @@ pub fn argument<'a>(law: &'a [u8], index: &[u16; 972], term: usize) -> &'a [u8]
 }
 
 // Does a sentence's pattern match a call's argument that is literal?
-pub fn literal_sentence(law: &[u8], index: &[u16; 972], sentence: usize, term: usize) -> bool
+pub fn literal_sentence(law: &[u8], index: &Index, sentence: usize, term: usize) -> bool
     requires { ⌜ Indexed (now law) (now index) × Accepted (now law) ⌝ }
     requires { ⌜ (sentence < fileOf (now law) .sentences .count) × (term < fileOf (now law) .terms .count) × (literalPart (argumentPart (fileOf (now law)) term) ≡ true) ⌝ }
     ensures { λ r. ⌜ r ≡ literalMatches (rowOf (fileOf (now (law .entry)) .text .records) (patternPart (fileOf (now (law .entry))) sentence))
@@ -144,7 +145,7 @@ pub fn literal_sentence(law: &[u8], index: &[u16; 972], sentence: usize, term: u
 }
 
 // Is a term record a call whose argument is literal?
-pub fn is_literal_call(law: &[u8], index: &[u16; 972], term: usize) -> bool
+pub fn is_literal_call(law: &[u8], index: &Index, term: usize) -> bool
     requires { ⌜ Indexed (now law) (now index) × Accepted (now law) ⌝ }
     ensures { λ r. ⌜ r ≡ literalCall (fileOf (now (law .entry))) term ⌝ }
 {
@@ -158,7 +159,7 @@ pub fn is_literal_call(law: &[u8], index: &[u16; 972], term: usize) -> bool
 }
 
 // Whether a sentence of an accepted law shadows another.
-fn shadow_accepted(law: &[u8], index: &[u16; 972], earlier: usize, later: usize) -> Shadowed
+fn shadow_accepted(law: &[u8], index: &Index, earlier: usize, later: usize) -> Shadowed
     requires { ⌜ Indexed (now law) (now index) × Accepted (now law) ⌝ }
     ensures { λ r. ⌜ shadowAnswer r ≡ given (shadowIn (fileOf (now (law .entry))) earlier later) ⌝ }
 {
@@ -173,7 +174,7 @@ fn shadow_accepted(law: &[u8], index: &[u16; 972], earlier: usize, later: usize)
 }
 
 // Whether a sentence's pattern matches a call's argument, in an accepted law.
-fn recognise_accepted(law: &[u8], index: &[u16; 972], sentence: usize, term: usize) -> Recognised
+fn recognise_accepted(law: &[u8], index: &Index, sentence: usize, term: usize) -> Recognised
     requires { ⌜ Indexed (now law) (now index) × Accepted (now law) ⌝ }
     ensures { λ r. ⌜ recogniseAnswer r ≡ given (recogniseIn (fileOf (now (law .entry))) sentence term) ⌝ }
 {
@@ -190,7 +191,7 @@ fn recognise_accepted(law: &[u8], index: &[u16; 972], sentence: usize, term: usi
 pub fn shadows_in(law: &[u8], earlier: usize, later: usize) -> Shadowed
     ensures { λ r. ⌜ shadowAnswer r ≡ shadowOutcome (now (law .entry)) earlier later ⌝ }
 {
-    let mut index: [u16; 972] = [0; 972];
+    let mut index: Index = [0; 972];
     match read_law(law, &mut index) {
         Check::Refused(why) => Shadowed::Refused(why),
         Check::Accepted => shadow_accepted(law, &index, earlier, later),
@@ -201,7 +202,7 @@ pub fn shadows_in(law: &[u8], earlier: usize, later: usize) -> Shadowed
 pub fn matches_in(law: &[u8], sentence: usize, term: usize) -> Recognised
     ensures { λ r. ⌜ recogniseAnswer r ≡ recogniseOutcome (now (law .entry)) sentence term ⌝ }
 {
-    let mut index: [u16; 972] = [0; 972];
+    let mut index: Index = [0; 972];
     match read_law(law, &mut index) {
         Check::Refused(why) => Recognised::Refused(why),
         Check::Accepted => recognise_accepted(law, &index, sentence, term),
