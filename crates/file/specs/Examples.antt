@@ -59,12 +59,13 @@ file-left-over : sectionsOf (replicate 21 0) ≡ refused 3
 unfolding sectionsOf section wordAt
 file-left-over = refl
 
--- a text of two bytes, and a count cut off after it
+-- a text of two bytes, and empty sections after it
 file-with-text : sectionsOf (2 ∷ 0 ∷ 0 ∷ 0 ∷ 65 ∷ 66 ∷ replicate 16 0)
     ≡ given (record { text = record { count = 2; records = 65 ∷ 66 ∷ [] }; functions = none; sentences = none; conditions = none; terms = none })
 unfolding sectionsOf section wordAt none
 file-with-text = refl
 
+-- the same text, and a count that is cut off after it
 count-cut-off : sectionsOf (2 ∷ 0 ∷ 0 ∷ 0 ∷ 65 ∷ 66 ∷ 0 ∷ 0 ∷ 0 ∷ []) ≡ refused 2
 unfolding sectionsOf section wordAt
 count-cut-off = refl

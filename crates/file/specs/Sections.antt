@@ -73,10 +73,11 @@ abbrev pub cutAnswer : Cut → Answer Sections
 cutAnswer (Refused r) = refused (numberOf r)
 cutAnswer (Whole s) = given s
 
--- the file that bytes are where no section is cut off, whatever its counts say
+-- so many bytes from a position on
 abbrev pub part : ℕ → ℕ → List ℕ → List ℕ
 part start len s = take len (drop start s)
 
+-- the file that bytes are where no section is cut off, whatever its counts say
 unfoldable pub fileOf : List ℕ → File
 fileOf bytes =
     let texts : ℕ = wordAt bytes 0 in

@@ -7,10 +7,10 @@ ghost use Rattle.findings.specs.Code.Events.{found, sinkOf, met};
 ghost use Rattle.findings.specs.Code.Tasks.{noteWords};
 
 pub mod all;
-pub mod calls;
-pub mod dead;
-pub mod open;
-pub mod walk;
+mod calls;
+mod dead;
+mod open;
+mod walk;
 
 // The count of findings, one number so that it is passed on in a register: it ended at an argument that has too many shapes to be compared (0), there are
 // more findings than there is room for (1), or it has come so far (2 and more). specs/Events.antt has these as `Over`, `Full` and `Upto`.

@@ -19,7 +19,7 @@ pub record Ran : Type 0 where
   pub rounds : ℕ
   pub settled : Bool
 
--- document 01's number of each refusal; 10, "over 64 shapes", and 15, "the store is too short", have variants of their own
+-- document 01's number of each refusal; 10, "over 64 shapes", and 15, a store "under 8,320 words", have variants of their own
 abbrev pub answerOf : Answered → Answer Ran
 answerOf (Refused why) = refused (numberOf why)
 answerOf ShapesOver = refused 10

@@ -121,6 +121,6 @@ inferWithin limit most law = do
   r ← roundsFrom limit most law (allAt never (namesOf law)) 0
   given (record { arguments = found; results = r .results; rounds = r .rounds; settled = r .settled })
 
--- the base: 64 shapes in a format
+-- what the inference of a law gives, with at most so many shapes in a format; document 01 asks for 64
 unfoldable pub infer : ℕ → Law → Answer Inferred
 infer limit law = inferWithin limit (roundLimit law) law

@@ -15,7 +15,7 @@ ghost use Rattle.formats.specs.Call.{lawOutcome, callOutcome, outcomeOf}
 
 pub mod call;
 pub mod infer;
-pub mod rows;
+mod rows;
 pub mod slots;
 
 // The places of names: of each function's, of each call's, and how many names there are (specs/Code/Slots.antt).

@@ -18,10 +18,10 @@ ghost use Rattle.file.specs.Fields.{fieldsAllowed};
 ghost use Rattle.law.specs.Code.Index.{Indexed};
 ghost use Rattle.law.specs.Law.{checkAnswer, verdictOf, IndexAfter};
 
-pub mod blocks;
+mod blocks;
 pub mod depth;
-pub mod index;
-pub mod patterns;
+mod index;
+mod patterns;
 pub mod places;
 pub mod runs;
 

@@ -21,8 +21,8 @@ pub enum Fails {
 }
 
 // What a builtin asks of its argument: two integers, of which the second may not be zero (true) or may (false); digits; or nothing that the lint
-// knows. `domainFrom` of specs/Part.antt gives the domain.
-pub enum Domain {
+// knows. `domainFrom` of specs/Code/Part.antt gives the domain.
+enum Domain {
     Integers(bool),
     Digits,
     Anything,
@@ -211,7 +211,7 @@ fn first_fails(text: &[u8], divides: bool, part: &[u8]) -> Fails
 }
 
 // Why a builtin that wants two integers, and divides or not, fails on an argument.
-pub fn integers_fail(text: &[u8], divides: bool, part: &[u8]) -> Fails
+fn integers_fail(text: &[u8], divides: bool, part: &[u8]) -> Fails
     ensures { λ r. ⌜ failureIn r ≡ integersFail divides (argumentOf (now (text .entry)) (now (part .entry))) ⌝ }
 {
     first_fails(text, divides, without_sign(text, part))
@@ -265,7 +265,7 @@ fn all_digits(part: &[u8]) -> All
 }
 
 // Why a builtin that wants digits fails on an argument.
-pub fn digits_fail(part: &[u8]) -> Fails
+fn digits_fail(part: &[u8]) -> Fails
     ensures { λ r. ⌜ ((text : List ℕ) → failureIn r ≡ digitsFail (charactersOf (argumentOf text (now (part .entry))))) ⌝ }
 {
     if part.len() < 24 {
@@ -281,7 +281,7 @@ pub fn digits_fail(part: &[u8]) -> Fails
 // ---- builtins by name
 
 // What the builtin of a name asks of its argument.
-pub fn domain_of(name: &[u8]) -> Domain
+fn domain_of(name: &[u8]) -> Domain
     ensures { λ r. ⌜ domainFrom r ≡ domainIn builtins (folded (now (name .entry))) ⌝ }
 {
     if names_equal(b"ADD", name) {

@@ -30,8 +30,8 @@ ghost use Rattle.listing.specs.Outcome.{findingsFront, findingsOutcome, 
 ghost use Rattle.listing.specs.Code.Gather.{Prepares, shownIn, Collected};
 ghost use Rattle.listing.specs.Promise.{findingsAfter, textAfter, toldPair, FindingsPromise};
 
-pub mod front;
-pub mod gather;
+mod front;
+mod gather;
 
 // Why a call is turned back. `turnedNumber` of specs/Outcome.antt gives document 01's number.
 pub enum Turned {

@@ -19,14 +19,14 @@ fn in_range(low: u8, high: u8, c: u8) -> bool
 }
 
 // A decimal digit.
-pub fn digit_byte(c: u8) -> bool
+fn digit_byte(c: u8) -> bool
     ensures { λ r. ⌜ r ≡ digitByte c ⌝ }
 {
     in_range(b'0', b'9', c)
 }
 
 // An ASCII letter, a digit, `-` or `_`.
-pub fn name_byte(c: u8) -> bool
+fn name_byte(c: u8) -> bool
     ensures { λ r. ⌜ r ≡ nameByte c ⌝ }
 {
     if in_range(b'a', b'z', c) {
@@ -45,7 +45,7 @@ pub fn name_byte(c: u8) -> bool
 }
 
 // Upper case: `a` to `z` become `A` to `Z`.
-pub fn upper_byte(c: u8) -> u8
+fn upper_byte(c: u8) -> u8
     ensures { λ r. ⌜ r ≡ upperByte c ⌝ }
 {
     if in_range(b'a', b'z', c) {
@@ -55,7 +55,7 @@ pub fn upper_byte(c: u8) -> u8
 }
 
 // Upper case, and `_` read as `-`.
-pub fn fold_byte(c: u8) -> u8
+fn fold_byte(c: u8) -> u8
     ensures { λ r. ⌜ r ≡ foldByte c ⌝ }
 {
     if c == b'_' {

@@ -145,7 +145,7 @@ pub fn literal_sentence(law: &[u8], index: &Index, sentence: usize, term: usize)
 }
 
 // Is a term record a call whose argument is literal?
-pub fn is_literal_call(law: &[u8], index: &Index, term: usize) -> bool
+fn is_literal_call(law: &[u8], index: &Index, term: usize) -> bool
     requires { ⌜ Indexed (now law) (now index) × Accepted (now law) ⌝ }
     ensures { λ r. ⌜ r ≡ literalCall (fileOf (now (law .entry))) term ⌝ }
 {

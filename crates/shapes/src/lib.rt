@@ -134,7 +134,7 @@ fn disjoint_shapes(a: &[u32], b: &[u32]) -> bool
 }
 
 // Is no expression in both rows of shapes?
-pub fn disjoint_rows(a: &[u32], a_open: bool, b: &[u32], b_open: bool) -> bool
+fn disjoint_rows(a: &[u32], a_open: bool, b: &[u32], b_open: bool) -> bool
     ensures { λ r. ⌜ r ≡ disjointShapes (shapesIn «a_open» (now (a .entry))) (shapesIn «b_open» (now (b .entry))) ⌝ }
 {
     if a.len() < 1 {
@@ -190,7 +190,7 @@ fn join_shapes(a: &[u32], b: &[u32], out: &mut [u32], at: usize) -> usize
 }
 
 // The join of two rows of shapes, written at a position.
-pub fn join_rows(
+fn join_rows(
     a: &[u32],
     a_open: bool,
     b: &[u32],
