@@ -9,7 +9,7 @@ ghost use lib.ListN.{length, drop};
 ghost use lib.Dec.{leb};
 ghost use Rattle.file.specs.Word.{wordAt};
 ghost use Rattle.file.specs.Answer.{given, mapAnswer};
-ghost use Rattle.file.specs.Sections.{section, cutAnswer, countsOf, sectionsOf, fileOf};
+ghost use Rattle.file.specs.Sections.{section, numberOf, cutAnswer, countsOf, sectionsOf, fileOf};
 ghost use Rattle.file.specs.Code.Counts.{foundAnswer, countedOf};
 ghost use Rattle.file.specs.Head.{termFrom, termAt};
 ghost use Rattle.file.specs.Fields.{spelled, unused, scalarAllowed, termAllowed, functionsAllowed, termsAllowed, fieldsAllowed};
@@ -71,6 +71,23 @@ pub enum Term {
     Bracket,
     Call(u32, u32),
     Block(u32),
+}
+
+// Document 01's number of a file's refusal.
+pub fn refusal_number(why: Refusal) -> u32
+    ensures { λ r. ⌜ r ≡ numberOf why ⌝ }
+{
+    match why {
+        Refusal::FileOver => 1,
+        Refusal::CutOff => 2,
+        Refusal::LeftOver => 3,
+        Refusal::CountOver => 4,
+        Refusal::Fields => 5,
+        Refusal::Runs => 6,
+        Refusal::Blocks => 7,
+        Refusal::Depth => 8,
+        Refusal::Patterns => 9,
+    }
 }
 
 // A byte as a word.
