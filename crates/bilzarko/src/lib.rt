@@ -1,47 +1,13 @@
 // The two calls for programs in other languages, as functions of C. A slice crosses as a pointer and a number of elements. Each call returns 0 or a refusal's
 // number; what it answers stands in lent words, which keep their values where it is refused.
-use file::Refusal;
 use listing::Found;
 use listing::Told;
-use listing::Turned;
+use listing::turned_number;
 ghost use mathlib.Core.Path.{_≡_};
 ghost use mathlib.Core.Bool.{cond};
-ghost use Rattle.file.specs.Sections.{numberOf};
 ghost use Rattle.lints.specs.Levels.{settingsFrom};
-ghost use Rattle.listing.specs.Outcome.{turnedNumber, textOutcome};
+ghost use Rattle.listing.specs.Outcome.{textOutcome};
 ghost use Rattle.bilzarko.specs.Exported.{FindingsExported, FindingsExit, TextExit, textExit};
-
-// Document 01's number of a file's refusal.
-fn file_number(why: Refusal) -> u32
-    ensures { λ r. ⌜ r ≡ numberOf why ⌝ }
-{
-    match why {
-        Refusal::FileOver => 1,
-        Refusal::CutOff => 2,
-        Refusal::LeftOver => 3,
-        Refusal::CountOver => 4,
-        Refusal::Fields => 5,
-        Refusal::Runs => 6,
-        Refusal::Blocks => 7,
-        Refusal::Depth => 8,
-        Refusal::Patterns => 9,
-    }
-}
-
-// Document 01's number of a refusal.
-fn turned_number(why: Turned) -> u32
-    ensures { λ r. ⌜ r ≡ turnedNumber why ⌝ }
-{
-    match why {
-        Turned::Settings => 14,
-        Turned::File(of_file) => file_number(of_file),
-        Turned::Store => 15,
-        Turned::Shapes => 10,
-        Turned::Findings => 11,
-        Turned::NoFinding => 12,
-        Turned::Text => 13,
-    }
-}
 
 // 1 for settled, 0 for not.
 fn settled_word(settled: bool) -> u64

@@ -3,13 +3,12 @@
 // A case is a label, one line of at most 80 bytes; the law's length, a 32-bit word with its least byte first; and the
 // law. Where a program asks for more, such as settings, their words stand after the label. The input ends where a label is
 // empty.
-use file::Refusal;
 use libc::STDIN_FILENO;
+ghost use mathlib.Core.Bool.{cond};
 ghost use mathlib.Core.Path.{_≡_};
 ghost use Prim.Native.Nat.{_≤_, _<_};
 ghost use lib.ListN.{length};
 ghost use Rattle.io.specs.Counts.{Counts};
-ghost use Rattle.file.specs.Sections.{numberOf};
 
 // A label's most bytes, with its line feed.
 pub const LABEL: usize = 81;
@@ -100,19 +99,9 @@ pub fn read_law(space: &mut [u8]) -> Found
     read_bytes(space, read_word() as usize)
 }
 
-// Document 01's number of a law's refusal.
-pub fn number(refusal: Refusal) -> u64
-    ensures { λ r. ⌜ r ≡ numberOf refusal ⌝ }
+// 1 for yes, 0 for no.
+pub fn digit(yes: bool) -> u64
+    ensures { λ r. ⌜ r ≡ cond yes 1 0 ⌝ }
 {
-    match refusal {
-        Refusal::FileOver => 1,
-        Refusal::CutOff => 2,
-        Refusal::LeftOver => 3,
-        Refusal::CountOver => 4,
-        Refusal::Fields => 5,
-        Refusal::Runs => 6,
-        Refusal::Blocks => 7,
-        Refusal::Depth => 8,
-        Refusal::Patterns => 9,
-    }
+    if yes { 1 } else { 0 }
 }

@@ -4,9 +4,9 @@
 // document 01's number.
 use cases::LABEL;
 use cases::LAW;
-use cases::number;
 use cases::read_label;
 use cases::read_law;
+use file::refusal_number;
 use law::Check;
 use libc::STDOUT_FILENO;
 
@@ -18,7 +18,7 @@ fn print_answer(answer: Check) {
         }
         Check::Refused(refusal) => {
             io::write_all(STDOUT_FILENO, b" refused ");
-            io::print_decimal(STDOUT_FILENO, number(refusal));
+            io::print_decimal(STDOUT_FILENO, refusal_number(refusal) as u64);
             io::write_all(STDOUT_FILENO, b"\n");
         }
     }

@@ -3,13 +3,14 @@
 // It writes a line with the number of findings, the rounds that ran, and 1 where the last of them changed nothing, else 0.
 // A line with its eight words follows for each finding. A law that is refused gives one line: `refused` and document 01's
 // number.
-use answers::digit;
-use answers::number;
 use libc::STDIN_FILENO;
 use libc::STDOUT_FILENO;
 use listing::Found;
 use listing::Turned;
 use listing::findings;
+use listing::turned_number;
+ghost use mathlib.Core.Bool.{cond};
+ghost use mathlib.Core.Path.{_≡_};
 
 // One byte more than a law file may have, so that a longer input is seen to be too long, and no more of it is read.
 const LAW: usize = 16385;
@@ -49,8 +50,15 @@ fn print_findings(words: &[u32], count: usize) {
 // Writes `refused` and the number.
 fn print_refused(why: Turned) {
     io::write_all(STDOUT_FILENO, b"refused ");
-    io::print_decimal(STDOUT_FILENO, number(why));
+    io::print_decimal(STDOUT_FILENO, turned_number(why) as u64);
     io::write_all(STDOUT_FILENO, b"\n");
+}
+
+// 1 for yes, 0 for no.
+fn digit(yes: bool) -> u64
+    ensures { λ r. ⌜ r ≡ cond yes 1 0 ⌝ }
+{
+    if yes { 1 } else { 0 }
 }
 
 // Writes how many findings there are, how many rounds ran, and whether the last of these changed nothing.

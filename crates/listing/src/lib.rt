@@ -7,6 +7,7 @@ use crate::gather::Gathered;
 use crate::gather::gather;
 use buffers::copy_words;
 use file::Refusal;
+use file::refusal_number;
 use findings::all::lint_all;
 use formats::Slots;
 use formats::call::clear_store;
@@ -24,9 +25,8 @@ ghost use Rattle.file.specs.Sections.{fileOf};
 ghost use Rattle.law.specs.Law.{lawOf};
 ghost use Rattle.law.specs.Reading.{treeOf};
 ghost use Rattle.buffers.specs.Written.{written};
-ghost use Rattle.lints.specs.Levels.{Settings, listingWords};
-ghost use Rattle.lints.specs.Levels.{settingsFrom};
-ghost use Rattle.listing.specs.Outcome.{findingsFront, findingsOutcome, textFront, textOf, findingAt, textOutcome};
+ghost use Rattle.lints.specs.Levels.{Settings, settingsFrom, listingWords};
+ghost use Rattle.listing.specs.Outcome.{turnedNumber, findingsFront, findingsOutcome, textFront, textOf, findingAt, textOutcome};
 ghost use Rattle.listing.specs.Code.Gather.{Prepares, shownIn, Collected};
 ghost use Rattle.listing.specs.Promise.{findingsAfter, textAfter, toldPair, FindingsPromise};
 
@@ -66,6 +66,21 @@ const OWN_FEW: usize = 256;
 
 // The most sentences that are few.
 const FEW: usize = 32;
+
+// Document 01's number of a refusal.
+pub fn turned_number(why: Turned) -> u32
+    ensures { λ r. ⌜ r ≡ turnedNumber why ⌝ }
+{
+    match why {
+        Turned::Settings => 14,
+        Turned::File(of_file) => refusal_number(of_file),
+        Turned::Store => 15,
+        Turned::Shapes => 10,
+        Turned::Findings => 11,
+        Turned::NoFinding => 12,
+        Turned::Text => 13,
+    }
+}
 
 // Hands over findings: those of the call's own buffer, or, where that had no place for all, they are collected again.
 fn hand_over(

@@ -6,9 +6,9 @@
 // of all functions and blocks are asked about, so that a case may spread its patterns over several.
 use cases::LABEL;
 use cases::LAW;
-use cases::number;
 use cases::read_label;
 use cases::read_law;
+use file::refusal_number;
 use law::Check;
 use law::Index;
 use law::places::sentences;
@@ -106,7 +106,7 @@ fn print_answers(law: &[u8]) {
         }
         Check::Refused(refusal) => {
             io::write_all(STDOUT_FILENO, b" refused ");
-            io::print_decimal(STDOUT_FILENO, number(refusal));
+            io::print_decimal(STDOUT_FILENO, refusal_number(refusal) as u64);
             io::write_all(STDOUT_FILENO, b"\n");
         }
     }

@@ -5,10 +5,9 @@
 //
 // Before each call every lent word and byte is given a value of its own, which no call writes. After the answer come all
 // words in order, as numbers and as `kept` where a word has its value still, with `*` and a number for so many in a row.
-use answers::digit;
-use answers::number;
 use cases::LABEL;
 use cases::LAW;
+use cases::digit;
 use cases::read_at_most;
 use cases::read_label;
 use cases::read_law;
@@ -20,6 +19,7 @@ use listing::Told;
 use listing::Turned;
 use listing::findings;
 use listing::text;
+use listing::turned_number;
 use std::num::wrapping_add_u32;
 use std::num::wrapping_add_u64;
 ghost use Prim.Native.Nat.{_≤_};
@@ -176,7 +176,7 @@ fn print_bytes(bytes: &[u8]) {
 // Writes `refused` and the number.
 fn print_refused(why: Turned) {
     io::write_all(STDOUT_FILENO, b"refused ");
-    io::print_decimal(STDOUT_FILENO, number(why));
+    io::print_decimal(STDOUT_FILENO, turned_number(why) as u64);
     io::write_all(STDOUT_FILENO, b"\n");
 }
 

@@ -6,7 +6,6 @@
 //
 // The label is written again. A line follows for each finding: lint, severity, span, a, b, and the text. Function position
 // and subject, which the Rust has no counterpart of, are left out.
-use answers::number;
 use cases::LAW;
 use cases::read_label;
 use cases::read_law;
@@ -18,6 +17,7 @@ use listing::Told;
 use listing::Turned;
 use listing::findings;
 use listing::text;
+use listing::turned_number;
 ghost use Prim.Native.Nat.{_≤_};
 
 // A label's most bytes, with its line feed. It may quote what the Rust lists.
@@ -47,7 +47,7 @@ fn least(one: usize, other: usize) -> usize
 // Writes `refused` and the number.
 fn print_refused(why: Turned) {
     io::write_all(STDOUT_FILENO, b"refused ");
-    io::print_decimal(STDOUT_FILENO, number(why));
+    io::print_decimal(STDOUT_FILENO, turned_number(why) as u64);
 }
 
 // Writes the text that the text call put into a buffer, or its refusal.

@@ -8,9 +8,9 @@
 // All cases share a store, so that words which a call should have set to 0 show what the case before left there.
 use cases::LABEL;
 use cases::LAW;
-use cases::number;
 use cases::read_label;
 use cases::read_law;
+use file::refusal_number;
 use formats::Answered;
 use formats::infer_formats;
 use libc::STDOUT_FILENO;
@@ -120,7 +120,7 @@ fn print_rounds(rounds: usize, settled: bool) {
 // Writes the end of a case's line, and the formats.
 fn print_answer(answer: Answered, store: &[u32]) {
     match answer {
-        Answered::Refused(refusal) => print_refused(number(refusal)),
+        Answered::Refused(refusal) => print_refused(refusal_number(refusal) as u64),
         Answered::ShapesOver => print_refused(10),
         Answered::StoreShort => print_refused(15),
         Answered::Formed(rounds, settled) => {
