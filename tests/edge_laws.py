@@ -1,7 +1,7 @@
-"""Writes the cases of the program crates/edges: laws at the edges of document 01's refusals 1 to 9.
+"""Writes the cases of the program crates/test_edges: laws at the edges of document 01's refusals 1 to 9.
 
 Run at the repository's root: python3 tests/edge_laws.py
-It writes crates/edges/stdin, which the program reads, and crates/edges/stdout, which the program has to write.
+It writes crates/test_edges/stdin, which the program reads, and crates/test_edges/stdout, which the program has to write.
 
 The expected answer stands beside each case. It was written by hand from document 01 ("The law file", and the rows 1 to 9
 of "Where a call is turned back"); nothing here decodes a law or works an answer out.
@@ -700,7 +700,7 @@ def main():
     pattern_cases()
     order_cases()
     accepted_cases()
-    folder = Path(__file__).resolve().parent.parent / "crates" / "edges"
+    folder = Path(__file__).resolve().parent.parent / "crates" / "test_edges"
     with open(folder / "stdin", "wb") as given, open(folder / "stdout", "wb") as expected:
         for label, answer, data in cases:
             given.write(label.encode("ascii") + b"\n" + word(len(data)) + data)

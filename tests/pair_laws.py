@@ -1,7 +1,7 @@
-"""Writes the cases of the program crates/pairs: laws, which of their sentences shadow which, and which match their literal calls.
+"""Writes the cases of the program crates/test_pairs: laws, which of their sentences shadow which, and which match their literal calls.
 
 Run at the repository's root: python3 tests/pair_laws.py
-It writes crates/pairs/stdin, which the program reads, and crates/pairs/stdout, which the program has to write.
+It writes crates/test_pairs/stdin, which the program reads, and crates/test_pairs/stdout, which the program has to write.
 
 The expected answers are computed by the model in this file, written from document 01 and, for what a match is, from the
 Refal-5 manual: it yields all matches of a pattern in order. No comparison with the Rust has been run. The model works on
@@ -336,7 +336,7 @@ def main():
     empty_cases()
     limit_cases()
     random_cases(40)
-    folder = Path(__file__).resolve().parent.parent / "crates" / "pairs"
+    folder = Path(__file__).resolve().parent.parent / "crates" / "test_pairs"
     with open(folder / "stdin", "wb") as given, open(folder / "stdout", "wb") as expected:
         for label, data, lines in cases:
             given.write(label.encode("ascii") + b"\n" + word(len(data)) + data)

@@ -1,7 +1,7 @@
-"""Writes the cases of the program crates/refusals: what both calls answer, and what every lent word holds then.
+"""Writes the cases of the program crates/test_refusals: what both calls answer, and what every lent word holds then.
 
 Run at the repository's root: python3 tests/refusal_laws.py
-It writes crates/refusals/stdin, which the program reads, and crates/refusals/stdout, which the program has to write.
+It writes crates/test_refusals/stdin, which the program reads, and crates/test_refusals/stdout, which the program has to write.
 
 A law is written as Refal and its spans are its places there; what is listed of it is computed by the model in
 tests/listing_model.py. The refusals 1 to 9 are written by hand beside the cases, as in tests/edge_laws.py; the other
@@ -426,7 +426,7 @@ def main():
     builtin_cases()
     walk_cases()
     random_cases(40)
-    folder = Path(__file__).resolve().parent.parent / "crates" / "refusals"
+    folder = Path(__file__).resolve().parent.parent / "crates" / "test_refusals"
     with open(folder / "stdin", "wb") as given, open(folder / "stdout", "wb") as expected:
         for label, data, lines in cases:
             given.write(label.encode("ascii") + b"\n" + data)

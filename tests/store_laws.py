@@ -1,7 +1,7 @@
-"""Writes the cases of the program crates/stores: laws and the formats that are inferred for them.
+"""Writes the cases of the program crates/test_stores: laws and the formats that are inferred for them.
 
 Run at the repository's root: python3 tests/store_laws.py
-It writes crates/stores/stdin, which the program reads, and crates/stores/stdout, which the program has to write.
+It writes crates/test_stores/stdin, which the program reads, and crates/test_stores/stdout, which the program has to write.
 
 The expected rounds, formats and words are computed by the model in this file, written from document 01; no comparison
 with the Rust has been run. The text of a format, and that a call or block in a pattern opens the format, are from reading
@@ -360,7 +360,7 @@ def main():
     limit_cases()
     refused_cases()
     random_cases(60)
-    folder = Path(__file__).resolve().parent.parent / "crates" / "stores"
+    folder = Path(__file__).resolve().parent.parent / "crates" / "test_stores"
     with open(folder / "stdin", "wb") as given, open(folder / "stdout", "wb") as expected:
         for label, data, lines in cases:
             given.write(label.encode("ascii") + b"\n" + word(len(data)) + data)

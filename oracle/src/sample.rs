@@ -1,4 +1,4 @@
-//! The stored sample of the Rust's answers, which the program crates/replay goes through.
+//! The stored sample of the Rust's answers, which the program crates/test_replay goes through.
 //!
 //! Laws are taken for what they show (`features.rs`): document 01's small laws and a few by hand first, then for each
 //! feature that too few of these have, rarest first, the smallest random laws that have it, with the parts taken away that
@@ -400,7 +400,7 @@ fn printed(line: &Line) -> String {
 
 /// The files with what they shall have.
 fn files(cases: &[Case]) -> Result<[(PathBuf, Vec<u8>); 2], String> {
-    let folder = Path::new(env!("CARGO_MANIFEST_DIR")).join("../crates/replay");
+    let folder = Path::new(env!("CARGO_MANIFEST_DIR")).join("../crates/test_replay");
     let (mut input, mut output) = (Vec::new(), Vec::new());
     for case in cases {
         let label = case.label()?;

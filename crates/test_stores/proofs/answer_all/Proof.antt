@@ -1,0 +1,30 @@
+-- `test_stores::answer_all` is safe and ends. The measure is the number of turns that are left; the space and the store keep their lengths.
+use mathlib.Core.Path.{_≡_}
+use native.Mathlib.Omega.{arith}
+use lib.ListN.{length}
+use Rattle.test_stores.proofs.answer_all.Statement.{statement}
+use Rattle.test_stores.proofs.answer_all.Tie as tie
+
+abbrev Inv-loop : tie.InvT-loop
+Inv-loop space₀ store₀ turns₀ space store turns = (length space ≡ length space₀) × (length store ≡ length store₀)
+
+abbrev μ-loop : tie.MeasureT-loop
+μ-loop space₀ store₀ turns₀ space store turns = turns
+
+pub answer-all-spec : {M : Type 1} → statement M
+answer-all-spec =
+    tie.close
+    (tie.spec
+    Inv-loop
+    μ-loop
+    (λ c. omega arith)
+    (λ c κs. tt)
+    (λ c. omega arith)
+    (λ c. omega arith)
+    (λ c. omega arith)
+    (λ c. omega arith)
+    (λ c. omega arith)
+    (λ c. tt)
+    (λ c. omega arith)
+    (λ c. omega arith)
+    (λ c. tt))
