@@ -7,3 +7,4 @@ pub mod Shadowed
 pub mod WholeRun
 pub mod FindingsHold
 pub mod NoFalse
+pub mod Ends
