@@ -33,4 +33,21 @@ lint-all-spec =
     let start = c .before .before .before .before .before .before .before .before .before .before .before .before .before .before .before .before .before .before .before .before .before in
     task-asks (settingsFrom (start .args .mode) (start .args .overrides .now)) (start .args .room) (start .args .limit) openExpressions (start .pre) (c .before .task-of4 .ensures))
     (λ c. omega (arith, (c .before .out4 .given), (c .before .before .before .before .before .before .out3 .given), (c .before .before .before .before .before .before .before .before .before .before .before .out2 .given), (c .before .before .before .before .before .before .before .before .before .before .before .before .before .before .before .before .out .given)))
-    (λ c. let settings = settingsFrom (c .before .before .before .before .before .before .before .before .before .before .before .before .before .before .before .before .before .before .before .before .before .before .before .before .args .mode) (c .before .before .before .before .before .before .before .before .before .before .before .before .before .before .before .before .before .before .before .before .before .before .before .before .args .overrides .now) in let file = fileOf (c .before .before .before .before .before .before .before .before .before .before .before .before .before .before .before .before .before .before .before .before .before .before .before .before .args .law .now) in let start = sinkOf (Upto 0) (c .before .before .before .before .before .before .before .before .before .before .before .before .before .before .before .before .before .before .before .before .before .before .before .before .args .out .now) in let first = sinkOf (c .before .before .before .before .before .before .before .before .before .before .before .before .before .before .before .before .before .lint-task .result) (c .before .before .before .before .before .before .before .before .before .before .before .before .before .before .before .before .before .lint-task .last .1 .1 .1 .1 .1 .0) in let second = sinkOf (c .before .before .before .before .before .before .before .before .before .before .before .before .lint-task2 .result) (c .before .before .before .before .before .before .before .before .before .before .before .before .lint-task2 .last .1 .1 .1 .1 .1 .0) in let third = sinkOf (c .before .before .before .before .before .before .before .lint-task3 .result) (c .before .before .before .before .before .before .before .lint-task3 .last .1 .1 .1 .1 .1 .0) in all-met settings (c .before .before .before .before .before .before .before .before .before .before .before .before .before .before .before .before .before .before .before .before .before .before .before .before .args .room) (c .before .before .before .before .before .before .before .before .before .before .before .before .before .before .before .before .before .before .before .before .before .before .before .before .args .limit) file (c .before .before .before .before .before .before .before .before .before .before .before .before .before .before .before .before .before .before .before .before .before .before .before .before .args .store .now) start first second third (task-met settings (c .before .before .before .before .before .before .before .before .before .before .before .before .before .before .before .before .before .before .before .before .before .before .before .before .args .room) (c .before .before .before .before .before .before .before .before .before .before .before .before .before .before .before .before .before .before .before .before .before .before .before .before .args .limit) file (c .before .before .before .before .before .before .before .before .before .before .before .before .before .before .before .before .before .before .before .before .before .before .before .before .args .store .now) start deadSentence (c .before .before .before .before .before .before .before .before .before .before .before .before .before .before .before .before .before .before .before .task-of .ensures) (c .before .before .before .before .before .before .before .before .before .before .before .before .before .before .before .before .before .lint-task .ensures)) (task-met settings (c .before .before .before .before .before .before .before .before .before .before .before .before .before .before .before .before .before .before .before .before .before .before .before .before .args .room) (c .before .before .before .before .before .before .before .before .before .before .before .before .before .before .before .before .before .before .before .before .before .before .before .before .args .limit) file (c .before .before .before .before .before .before .before .before .before .before .before .before .before .before .before .before .before .before .before .before .before .before .before .before .args .store .now) first recognitionImpossible (c .before .before .before .before .before .before .before .before .before .before .before .before .before .before .task-of2 .ensures) (c .before .before .before .before .before .before .before .before .before .before .before .before .lint-task2 .ensures)) (task-met settings (c .before .before .before .before .before .before .before .before .before .before .before .before .before .before .before .before .before .before .before .before .before .before .before .before .args .room) (c .before .before .before .before .before .before .before .before .before .before .before .before .before .before .before .before .before .before .before .before .before .before .before .before .args .limit) file (c .before .before .before .before .before .before .before .before .before .before .before .before .before .before .before .before .before .before .before .before .before .before .before .before .args .store .now) second builtinDomain (c .before .before .before .before .before .before .before .before .before .task-of3 .ensures) (c .before .before .before .before .before .before .before .lint-task3 .ensures)) (task-met settings (c .before .before .before .before .before .before .before .before .before .before .before .before .before .before .before .before .before .before .before .before .before .before .before .before .args .room) (c .before .before .before .before .before .before .before .before .before .before .before .before .before .before .before .before .before .before .before .before .before .before .before .before .args .limit) file (c .before .before .before .before .before .before .before .before .before .before .before .before .before .before .before .before .before .before .before .before .before .before .before .before .args .store .now) third openExpressions (c .before .before .before .before .task-of4 .ensures) (c .before .before .lint-task4 .ensures))))
+    (λ c.
+    let fourth = c .before .before in
+    let third = fourth .before .before .before .before .before in
+    let second = third .before .before .before .before .before in
+    let first = second .before .before .before .before .before in
+    let args = first .before .before .before .before .before .before .before .args in
+    let settings = settingsFrom (args .mode) (args .overrides .now) in
+    let file = fileOf (args .law .now) in
+    let store = args .store .now in
+    let sink₀ = sinkOf (Upto 0) (args .out .now) in
+    let sink₁ = sinkOf (first .lint-task .result) (first .lint-task .last .1 .1 .1 .1 .1 .0) in
+    let sink₂ = sinkOf (second .lint-task2 .result) (second .lint-task2 .last .1 .1 .1 .1 .1 .0) in
+    let sink₃ = sinkOf (third .lint-task3 .result) (third .lint-task3 .last .1 .1 .1 .1 .1 .0) in
+    all-met settings (args .room) (args .limit) file store sink₀ sink₁ sink₂ sink₃
+    (task-met settings (args .room) (args .limit) file store sink₀ deadSentence (first .before .before .task-of .ensures) (first .lint-task .ensures))
+    (task-met settings (args .room) (args .limit) file store sink₁ recognitionImpossible (second .before .before .task-of2 .ensures) (second .lint-task2 .ensures))
+    (task-met settings (args .room) (args .limit) file store sink₂ builtinDomain (third .before .before .task-of3 .ensures) (third .lint-task3 .ensures))
+    (task-met settings (args .room) (args .limit) file store sink₃ openExpressions (fourth .before .before .task-of4 .ensures) (fourth .lint-task4 .ensures))))
