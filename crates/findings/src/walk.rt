@@ -31,12 +31,12 @@ ghost use Rattle.file.specs.Sections.{fileOf};
 ghost use Rattle.law.specs.Tree.{keep};
 ghost use Rattle.law.specs.Places.{sentencesOf, firstSentence};
 ghost use Rattle.matching.specs.Match.{when};
-ghost use Rattle.law.specs.Reading.{runOf, own, sentencesAt, treeOf};
+ghost use Rattle.law.specs.Reading.{own, sentencesAt, treeOf};
 ghost use Rattle.law.specs.Code.Index.{Indexed, PartAt};
 ghost use Rattle.law.specs.Law.{Accepted};
 ghost use Rattle.lints.specs.Code.Records.{Prepared, formatsIn, conditionsAt};
-ghost use Rattle.findings.specs.Code.Events.{sinkOf, collect};
-ghost use Rattle.findings.specs.Code.Tasks.{ownAlone, blockEvents, termEvents, runEvents, insideEvents, conditionEvents, functionEvents, lintEvents};
+ghost use Rattle.findings.specs.Code.Events.{Leaves};
+ghost use Rattle.findings.specs.Code.Tasks.{ownAlone, blockEvents, conditionEvents, functionEvents, lintEvents, runMet, termMet, sentencesMet};
 
 // Notes the dead ones of a block's own sentences, where the task is lint 1.
 fn note_block(
@@ -49,7 +49,7 @@ fn note_block(
     tally: Tally,
 ) -> Tally
     requires { ⌜ Indexed (now law) (now index) × Accepted (now law) × (first + count ≤ fileOf (now law) .sentences .count) ⌝ }
-    ensures { λ r. ⌜ sinkOf r (now (out .exit)) ≡ collect (task .room) (sinkOf tally (now (out .entry)))
+    ensures { λ r. ⌜ Leaves (task .room) tally (now (out .entry)) r (now (out .exit))
         (blockEvents task (keep count (sentencesAt (fileOf (now (law .entry))) first))) ⌝ }
 {
     if task.lint != 1 {
@@ -71,9 +71,8 @@ fn walk_term(
     tally: Tally,
 ) -> Tally
     requires { ⌜ Prepared (now law) (now index) (now slots) (now store) (task .limit) × PartAt (fileOf (now law)) at (now part) × (24 ≤ length (now part)) ⌝ }
-    ensures { λ r. ⌜ sinkOf r (now (out .exit)) ≡ collect (task .room) (sinkOf tally (now (out .entry)))
-        (termEvents (treeOf (fileOf (now (law .entry)))) (formatsIn (fileOf (now (law .entry))) (task .limit) (now (store .entry))) task
-        (runOf (fileOf (now (law .entry))) (own (fileOf (now (law .entry)))) at (now (part .entry)))) ⌝ }
+    ensures { λ r. ⌜ Leaves (task .room) tally (now (out .entry)) r (now (out .exit))
+        (termMet (now (law .entry)) (now (store .entry)) task at (now (part .entry))) ⌝ }
 {
     let called = note_call(law, index, slots, store, task, at, out, tally);
     let inside = &part[24..end_of(part)];
@@ -101,9 +100,8 @@ fn walk_run(
     tally: Tally,
 ) -> Tally
     requires { ⌜ Prepared (now law) (now index) (now slots) (now store) (task .limit) × PartAt (fileOf (now law)) at (now part) ⌝ }
-    ensures { λ r. ⌜ sinkOf r (now (out .exit)) ≡ collect (task .room) (sinkOf tally (now (out .entry)))
-        (runEvents (treeOf (fileOf (now (law .entry)))) (formatsIn (fileOf (now (law .entry))) (task .limit) (now (store .entry))) task
-        (runOf (fileOf (now (law .entry))) (own (fileOf (now (law .entry)))) at (now (part .entry)))) ⌝ }
+    ensures { λ r. ⌜ Leaves (task .room) tally (now (out .entry)) r (now (out .exit))
+        (runMet (now (law .entry)) (now (store .entry)) task at (now (part .entry))) ⌝ }
 {
     let mut so_far = tally;
     let mut i = 0;
@@ -133,9 +131,8 @@ fn walk_sentences(
     tally: Tally,
 ) -> Tally
     requires { ⌜ Prepared (now law) (now index) (now slots) (now store) (task .limit) × (first + count ≤ fileOf (now law) .sentences .count) ⌝ }
-    ensures { λ r. ⌜ sinkOf r (now (out .exit)) ≡ collect (task .room) (sinkOf tally (now (out .entry)))
-        (insideEvents (treeOf (fileOf (now (law .entry)))) (formatsIn (fileOf (now (law .entry))) (task .limit) (now (store .entry))) task
-        (keep count (sentencesAt (fileOf (now (law .entry))) first))) ⌝ }
+    ensures { λ r. ⌜ Leaves (task .room) tally (now (out .entry)) r (now (out .exit))
+        (sentencesMet (now (law .entry)) (now (store .entry)) task first count) ⌝ }
 {
     let mut so_far = tally;
     let mut i = 0;
@@ -158,9 +155,8 @@ fn walk_sentence(
     tally: Tally,
 ) -> Tally
     requires { ⌜ Prepared (now law) (now index) (now slots) (now store) (task .limit) × (s < fileOf (now law) .sentences .count) ⌝ }
-    ensures { λ r. ⌜ sinkOf r (now (out .exit)) ≡ collect (task .room) (sinkOf tally (now (out .entry)))
-        (insideEvents (treeOf (fileOf (now (law .entry)))) (formatsIn (fileOf (now (law .entry))) (task .limit) (now (store .entry))) task
-        (keep 1 (sentencesAt (fileOf (now (law .entry))) s))) ⌝ }
+    ensures { λ r. ⌜ Leaves (task .room) tally (now (out .entry)) r (now (out .exit))
+        (sentencesMet (now (law .entry)) (now (store .entry)) task s 1) ⌝ }
 {
     let at = pattern_at(law, index, s);
     let first = pattern(law, index, s);
@@ -184,9 +180,8 @@ fn walk_pattern(
     tally: Tally,
 ) -> Tally
     requires { ⌜ Prepared (now law) (now index) (now slots) (now store) (task .limit) × PartAt (fileOf (now law)) at (now part) ⌝ }
-    ensures { λ r. ⌜ sinkOf r (now (out .exit)) ≡ collect (task .room) (sinkOf tally (now (out .entry)))
-        (when (eqb (task .lint) 1) (runEvents (treeOf (fileOf (now (law .entry)))) (formatsIn (fileOf (now (law .entry))) (task .limit) (now (store .entry))) task
-        (runOf (fileOf (now (law .entry))) (own (fileOf (now (law .entry)))) at (now (part .entry))))) ⌝ }
+    ensures { λ r. ⌜ Leaves (task .room) tally (now (out .entry)) r (now (out .exit))
+        (when (eqb (task .lint) 1) (runMet (now (law .entry)) (now (store .entry)) task at (now (part .entry)))) ⌝ }
 {
     if task.lint != 1 {
         return tally;
@@ -206,7 +201,7 @@ fn walk_conditions(
     tally: Tally,
 ) -> Tally
     requires { ⌜ Prepared (now law) (now index) (now slots) (now store) (task .limit) × (s < fileOf (now law) .sentences .count) ⌝ }
-    ensures { λ r. ⌜ sinkOf r (now (out .exit)) ≡ collect (task .room) (sinkOf tally (now (out .entry)))
+    ensures { λ r. ⌜ Leaves (task .room) tally (now (out .entry)) r (now (out .exit))
         (conditionEvents (treeOf (fileOf (now (law .entry)))) (formatsIn (fileOf (now (law .entry))) (task .limit) (now (store .entry))) task
         (conditionsAt (fileOf (now (law .entry))) s)) ⌝ }
 {
@@ -250,7 +245,7 @@ fn lint_function(
     tally: Tally,
 ) -> Tally
     requires { ⌜ Prepared (now law) (now index) (now slots) (now store) (task .limit) × (f < fileOf (now law) .functions .count) ⌝ }
-    ensures { λ r. ⌜ sinkOf r (now (out .exit)) ≡ collect (task .room) (sinkOf tally (now (out .entry)))
+    ensures { λ r. ⌜ Leaves (task .room) tally (now (out .entry)) r (now (out .exit))
         (functionEvents (treeOf (fileOf (now (law .entry)))) (formatsIn (fileOf (now (law .entry))) (task .limit) (now (store .entry))) task
         (keep (sentencesOf (fileOf (now (law .entry))) f) (sentencesAt (fileOf (now (law .entry))) (firstSentence (fileOf (now (law .entry))) f)))) ⌝ }
 {
@@ -277,7 +272,7 @@ pub fn lint_law(
     tally: Tally,
 ) -> Tally
     requires { ⌜ Prepared (now law) (now index) (now slots) (now store) (task .limit) ⌝ }
-    ensures { λ r. ⌜ sinkOf r (now (out .exit)) ≡ collect (task .room) (sinkOf tally (now (out .entry)))
+    ensures { λ r. ⌜ Leaves (task .room) tally (now (out .entry)) r (now (out .exit))
         (lintEvents (treeOf (fileOf (now (law .entry)))) (formatsIn (fileOf (now (law .entry))) (task .limit) (now (store .entry))) task) ⌝ }
 {
     let count = functions(index);

@@ -2,6 +2,7 @@
 use Prim.Native.Nat.{ℕ, zero, suc, _+_, _*_}
 use mathlib.Core.Bool.{cond}
 use mathlib.Core.List.{List, [], _∷_}
+use mathlib.Core.Path.{_≡_}
 use lib.ListN.{length}
 use lib.Dec.{leb}
 use Rattle.buffers.specs.Written.{written}
@@ -51,3 +52,7 @@ met room tooWide (suc (suc n)) words = sinkOf Over words
 unfoldable pub collect : ℕ → Sink → List Event → Sink
 collect room s [] = s
 collect room s (e ∷ es) = collect room (met room e (s .tally) (s .words)) es
+
+-- what is met leaves this count and this buffer, from those before it
+abbrev pub Leaves : ℕ → Tally → List ℕ → Tally → List ℕ → List Event → Type 0
+Leaves room before words after left events = sinkOf after left ≡ collect room (sinkOf before words) events

@@ -6,8 +6,9 @@ use mathlib.Core.List.{List, [], _∷_, _++_, map}
 use lib.ListN.{getD}
 use lib.Dec.{eqb, ltb}
 use Rattle.file.specs.Word.{wordAt}
-use Rattle.file.specs.Sections.{File}
-use Rattle.law.specs.Tree.{Run, Sentences, Conditions, Function, Law}
+use Rattle.file.specs.Sections.{File, fileOf}
+use Rattle.law.specs.Tree.{Run, Sentences, Conditions, Function, Law, keep}
+use Rattle.law.specs.Reading.{runOf, own, sentencesAt, treeOf}
 use Rattle.shapes.specs.Format.{size}
 use Rattle.formats.specs.Infer.{Inferred}
 use Rattle.matching.specs.Match.{when, each}
@@ -17,7 +18,7 @@ use Rattle.lints.specs.Dead.{ownDead, blockDead}
 use Rattle.lints.specs.Recognition.{compared, passed, judged}
 use Rattle.lints.specs.Builtin.{builtinOn}
 use Rattle.lints.specs.Open.{openIn}
-use Rattle.lints.specs.Code.Records.{callAt}
+use Rattle.lints.specs.Code.Records.{formatsIn, callAt}
 use Rattle.findings.specs.declared.Task.{Task}
 use Rattle.findings.specs.declared.Note.{Note}
 use Rattle.findings.specs.Code.Events.{Event, found, tooWide}
@@ -101,3 +102,17 @@ functionsEvents law formats task position (f ∷ fs) =
 -- one lint
 abbrev pub lintEvents : Law → Inferred → Task → List Event
 lintEvents law formats task = functionsEvents law formats task 0 law
+
+-- ---- by the bytes of a law and the words of a store, as contracts say it
+
+abbrev pub runMet : List ℕ → List ℕ → Task → ℕ → List ℕ → List Event
+runMet bytes store task at part =
+    runEvents (treeOf (fileOf bytes)) (formatsIn (fileOf bytes) (task .limit) store) task (runOf (fileOf bytes) (own (fileOf bytes)) at part)
+
+abbrev pub termMet : List ℕ → List ℕ → Task → ℕ → List ℕ → List Event
+termMet bytes store task at part =
+    termEvents (treeOf (fileOf bytes)) (formatsIn (fileOf bytes) (task .limit) store) task (runOf (fileOf bytes) (own (fileOf bytes)) at part)
+
+abbrev pub sentencesMet : List ℕ → List ℕ → Task → ℕ → ℕ → List Event
+sentencesMet bytes store task first count =
+    insideEvents (treeOf (fileOf bytes)) (formatsIn (fileOf bytes) (task .limit) store) task (keep count (sentencesAt (fileOf bytes) first))
