@@ -1,19 +1,19 @@
 // Literal matching: does a pattern match a row without variables, calls and blocks? A bracket whose contents matched is gone back into.
+use crate::failed::failed_before;
+use crate::failed::note_failed;
+use crate::repeats::Sure;
+use crate::repeats::closed;
+use crate::repeats::stands_apart;
+use file::word_at;
+use law::runs::end_of;
 use matching::Bindings;
 use matching::First;
 use matching::Known;
 use matching::bind;
-use crate::failed::failed_before;
-use crate::failed::note_failed;
 use matching::known_front;
 use matching::narrow;
 use matching::none;
-use crate::repeats::Sure;
-use crate::repeats::closed;
-use crate::repeats::stands_apart;
 use matching::wide;
-use file::word_at;
-use law::runs::end_of;
 ghost use mathlib.Core.Path.{_≡_};
 ghost use mathlib.Core.Bool.{true, false};
 ghost use mathlib.Core.Option.{none};

@@ -1,15 +1,15 @@
 // Shadowing: does an earlier pattern match whatever a later one matches? A bracket whose contents matched is not gone back into.
+use crate::failed::failed_before;
+use crate::failed::note_failed;
+use crate::repeats::Sure;
+use crate::repeats::closed;
+use law::runs::end_of;
 use matching::Bindings;
 use matching::First;
 use matching::Known;
 use matching::bind;
-use crate::failed::failed_before;
-use crate::failed::note_failed;
 use matching::known_front;
 use matching::none;
-use crate::repeats::Sure;
-use crate::repeats::closed;
-use law::runs::end_of;
 ghost use mathlib.Core.Path.{_≡_};
 ghost use mathlib.Core.Bool.{false};
 ghost use mathlib.Core.List.{[]};

@@ -190,14 +190,7 @@ fn join_shapes(a: &[u32], b: &[u32], out: &mut [u32], at: usize) -> usize
 }
 
 // The join of two rows of shapes, written at a position.
-fn join_rows(
-    a: &[u32],
-    a_open: bool,
-    b: &[u32],
-    b_open: bool,
-    out: &mut [u32],
-    at: usize,
-) -> Joined
+fn join_rows(a: &[u32], a_open: bool, b: &[u32], b_open: bool, out: &mut [u32], at: usize) -> Joined
     requires { ⌜ (at + length (now a) ≤ length (now out)) × (length (now a) ≤ 127) ⌝ }
     ensures { λ r. ⌜ (r .next ≤ at + length (now (a .entry)))
         × ShapesWritten (joinShapes (shapesIn «a_open» (now (a .entry))) (shapesIn «b_open» (now (b .entry)))) (now (out .entry)) at (r .next) (r .«is_open») (now (out .exit)) ⌝ }
