@@ -1,19 +1,13 @@
 -- What the exported calls return, from what the two calls of `listing` answer.
-use Prim.Native.Nat.{ℕ, _*_}
+use Prim.Native.Nat.{ℕ}
 use mathlib.Core.Bool.{Bool, true, false, cond}
-use mathlib.Core.List.{List, [], _∷_}
+use mathlib.Core.List.{List, _∷_}
 use mathlib.Core.Path.{_≡_, refl}
 use native.Mathlib.Omega.{arith}
-use lib.ListN.{take, getD}
 use Rattle.file.specs.declared.Refusal.{Refusal}
 use Rattle.file.specs.declared.Refusal.the-variants as file
-use Rattle.file.specs.Answer.{given}
 use Rattle.file.specs.Sections.{numberOf}
-use Rattle.law.specs.Tree.{Law}
-use Rattle.law.specs.Law.{lawOf}
 use Rattle.lints.specs.Levels.{Settings}
-use Rattle.runs.specs.Numbers.{noNeedlessZeros}
-use Rattle.runs.specs.Claim.{NoFalseFinding}
 use Rattle.listing.specs.declared.Turned.{Turned}
 use Rattle.listing.specs.declared.Turned.the-variants as turned
 use Rattle.listing.specs.declared.Found.{Found}
@@ -22,7 +16,7 @@ use Rattle.listing.specs.declared.Told.{Told}
 use Rattle.listing.specs.declared.Told.the-variants as told
 use Rattle.listing.specs.Outcome.{turnedNumber, TextOutcome}
 use Rattle.listing.specs.Promise.{textAfter, FindingsPromise}
-use Rattle.bilzarko.specs.Exported.{countWords, FindingsExit, FindingsExported, TextExit, textExit}
+use Rattle.bilzarko.specs.Exported.{FindingsExported, TextExit, textExit}
 
 -- no refusal's number is 0
 file-number-some : (why : Refusal) → numberOf why ≡ 0 → ⊥

@@ -7,7 +7,7 @@ ghost use mathlib.Core.Path.{_≡_};
 ghost use mathlib.Core.Bool.{cond};
 ghost use Rattle.lints.specs.Levels.{settingsFrom};
 ghost use Rattle.listing.specs.Outcome.{textOutcome};
-ghost use Rattle.bilzarko.specs.Exported.{FindingsExported, FindingsExit, TextExit, textExit};
+ghost use Rattle.bilzarko.specs.Exported.{FindingsExported, TextExit, textExit};
 
 // 1 for settled, 0 for not.
 fn settled_word(settled: bool) -> u64

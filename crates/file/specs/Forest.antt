@@ -2,7 +2,7 @@
 -- contents of a run's first record end, since term records (24 bytes) and the shapes of a format (one word) are both read so.
 use Prim.Native.Nat.{ℕ, zero, suc, _-_}
 use mathlib.Core.List.{List}
-use mathlib.Core.Bool.{Bool, true, false}
+use mathlib.Core.Bool.{true, false}
 use lib.ListN.{length, take, drop}
 use lib.Dec.{ltb}
 

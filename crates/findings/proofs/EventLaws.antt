@@ -1,13 +1,12 @@
 -- Where no argument is too wide, what all lints meet are the findings that are shown, in their order.
 use Prim.Native.Nat.{ℕ, suc}
 use mathlib.Core.Bool.{Bool, true, false, cond, _&&_, _||_}
-use mathlib.Core.List.{List, [], _∷_, _++_, map, append-assoc, append-nil}
+use mathlib.Core.List.{List, _∷_, _++_, map}
 use mathlib.Core.Option.{Option, none, some}
 use mathlib.Core.Path.{_≡_, refl, sym, ap, _∙_}
 use lib.Dec.{eqb, ltb, leb}
-use Rattle.law.specs.Tree.{Name, Mark, Run, Sentences, noSentence, sentence, Function, Law}
+use Rattle.law.specs.Tree.{Name, Mark, Sentences, noSentence, sentence, Function, Law}
 use Rattle.law.specs.Variables.{Variable}
-use Rattle.law.specs.Definition.{definition}
 use Rattle.shapes.specs.Format.{of, size}
 use Rattle.shapes.specs.Disjoint.{disjoint}
 use Rattle.formats.specs.Infer.{Inferred}
@@ -19,14 +18,13 @@ use Rattle.lints.specs.Finding.{Failure, byFormats, byLiterals, lintOf, Remark,
 use Rattle.lints.specs.Calls.{Call, callee, sentenceCalls}
 use Rattle.lints.specs.Dead.{Earlier, unconditional, earliest, deadBy, deadAfter, ownDead, blockDead, sentenceBlocks, deadRemarks, deadFindings}
 use Rattle.lints.specs.Recognition.{compared, passed, accepted, judged, recognitionRemarks, recognitionFindings, someOver, argumentsOver}
-use Rattle.lints.specs.Builtin.{failed, failure, domainIn, builtins, lookedAt, builtinOn, builtinRemarks, builtinFindings}
+use Rattle.lints.specs.Builtin.{failed, failure, domainIn, builtins, builtinOn, builtinRemarks, builtinFindings}
 use Rattle.lints.specs.Open.{eOccurrences, openIn, openRemarks, openFindings}
 use Rattle.lints.specs.Levels.{Settings, severityOf, isShown, shown}
 use Rattle.lints.specs.Findings.{findingsOf}
 use Rattle.findings.specs.declared.Task.{Task}
 use Rattle.findings.specs.Code.Events.{Event, found, tooWide}
-use Rattle.findings.specs.Code.Walk.{walkedSentences}
-use Rattle.findings.specs.Code.Tasks.{remarkEvent, remarkEvents, recognitionEvents, callEvents, blockEvents, functionEvents, atPosition, functionsEvents, lintEvents}
+use Rattle.findings.specs.Code.Tasks.{remarkEvent, remarkEvents, recognitionEvents, callEvents, blockEvents, functionEvents, atPosition, functionsEvents}
 use Rattle.findings.specs.Code.All.{taskFor, taskEvents, allEvents}
 use Rattle.findings.proofs.WalkEvents.{each-append, walk-sentence-calls, walk-sentence-blocks}
 

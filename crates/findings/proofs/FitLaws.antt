@@ -1,18 +1,16 @@
 -- What is collected where only findings are met: their number, and their words where there is room for them all.
-use Prim.Native.Nat.{ℕ, zero, suc, _+_, _*_, _≤_, _<_}
-use mathlib.Core.Bool.{Bool, true, false, cond}
-use mathlib.Core.List.{List, [], _∷_, _++_, map}
-use mathlib.Core.Path.{_≡_, refl, sym, ap, _∙_}
+use Prim.Native.Nat.{ℕ, suc, _+_, _*_, _≤_, _<_}
+use mathlib.Core.List.{List, _∷_, map}
+use mathlib.Core.Path.{_≡_, refl, ap, _∙_}
 use native.Mathlib.Omega.{arith}
 use native.Mathlib.Decide.{decLe}
 use native.Mathlib.Nat.{add-zero}
 use borrow.Author.Tests.{le-leb, lt-leb}
 use lib.ListN.{length}
-use lib.Dec.{ltb, leb}
 use Rattle.buffers.specs.Written.{written}
 use Rattle.buffers.proofs.WrittenLaws.{written-none, written-more, written-length}
 use Rattle.matching.specs.Match.{each}
-use Rattle.findings.specs.Code.Events.{Full, Upto, Event, found, tooWide, Sink, sinkOf, afterNote, noted, met, collect}
+use Rattle.findings.specs.Code.Events.{Full, Upto, Event, found, Sink, sinkOf, afterNote, met, collect}
 
 -- findings of eight words each
 module _ {X : Type 0} (words : X → List ℕ) (eight : (x : X) → length (words x) ≡ 8) where

@@ -1,8 +1,8 @@
 -- Where the functions have all sentences no block has any, so that lint 1 meets nothing inside the functions' sentences.
 use Prim.Native.Nat.{ℕ, zero, suc, _+_, _-_, _≤_}
 use mathlib.Core.Bool.{true}
-use mathlib.Core.List.{List, []}
-use mathlib.Core.Path.{_≡_, refl, sym, _∙_}
+use mathlib.Core.List.{List}
+use mathlib.Core.Path.{_≡_, refl}
 use native.Mathlib.Omega.{arith}
 use lib.ListN.{getD}
 use lib.Dec.{eqb}
@@ -21,7 +21,6 @@ use Rattle.law.specs.Reading.{markAt, termRun, forestRun, runOf, conditionsFrom
 use Rattle.law.specs.Code.Index.{Indexed, Readable}
 use Rattle.law.proofs.PlaceLaws.{block-start, block-grows}
 use Rattle.law.proofs.Functions.{keep-none, kept-reads}
-use Rattle.lints.specs.Calls.{Call as CallOf}
 use Rattle.formats.specs.Infer.{Inferred}
 use Rattle.law.specs.Tree.{Law}
 use Rattle.findings.specs.declared.Task.{Task}

@@ -1,10 +1,10 @@
 -- Where an argument that is compared is too wide, collecting ends there.
 use Prim.Native.Nat.{ℕ, zero, suc}
 use mathlib.Core.Bool.{Bool, true, false, cond, _&&_, _||_}
-use mathlib.Core.List.{List, [], _∷_, _++_}
-use mathlib.Core.Path.{_≡_, refl, sym, ap, _∙_}
+use mathlib.Core.List.{List, _∷_, _++_}
+use mathlib.Core.Path.{_≡_, refl, ap}
 use lib.Dec.{ltb}
-use Rattle.law.specs.Tree.{Sentences, Function, Law}
+use Rattle.law.specs.Tree.{Function, Law}
 use Rattle.shapes.specs.Format.{size}
 use Rattle.formats.specs.Infer.{Inferred}
 use Rattle.matching.specs.Match.{when, each}
@@ -13,7 +13,7 @@ use Rattle.lints.specs.Calls.{Call, sentenceCalls}
 use Rattle.lints.specs.Recognition.{compared, passed, judged, someOver, argumentsOver}
 use Rattle.lints.specs.Levels.{Settings, isShown}
 use Rattle.findings.specs.declared.Task.{Task}
-use Rattle.findings.specs.Code.Events.{Tally, Over, Event, found, tooWide, Sink, sinkOf, met, collect}
+use Rattle.findings.specs.Code.Events.{Tally, Over, Event, tooWide, Sink, sinkOf, met, collect}
 use Rattle.findings.specs.Code.Tasks.{remarkEvents, recognitionEvents, callEvents, blockEvents, functionEvents, atPosition, functionsEvents}
 use Rattle.findings.specs.Code.All.{taskFor, taskEvents, allEvents}
 use Rattle.findings.proofs.CollectLaws.{collect-append}

@@ -1,9 +1,9 @@
 -- The way through a law meets what the lists of calls and of blocks have.
-use mathlib.Core.Bool.{Bool, true, false}
-use mathlib.Core.List.{List, [], _∷_, _++_, append-assoc, append-nil}
-use mathlib.Core.Path.{_≡_, refl, sym, ap, _∙_}
+use mathlib.Core.Bool.{true, false}
+use mathlib.Core.List.{List, _∷_, _++_, append-assoc}
+use mathlib.Core.Path.{_≡_, refl}
 use Rattle.law.specs.Tree.{Run, empty, symbol, variable, bracket, call, block, Sentences, noSentence, sentence, Conditions, noCondition, condition}
-use Rattle.matching.specs.Match.{when, each}
+use Rattle.matching.specs.Match.{each}
 use Rattle.lints.specs.Calls.{Call, calls, sentenceCalls, conditionCalls}
 use Rattle.lints.specs.Dead.{blocks, sentenceBlocks, conditionBlocks}
 use Rattle.findings.specs.Code.Events.{Event}

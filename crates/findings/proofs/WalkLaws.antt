@@ -2,7 +2,7 @@
 -- sentences.
 use Prim.Native.Nat.{ℕ, zero, suc, _+_, _<_}
 use mathlib.Core.Bool.{Bool, true, false}
-use mathlib.Core.List.{List, [], _∷_, _++_, map, append-nil, append-assoc}
+use mathlib.Core.List.{List, _∷_, _++_, map, append-nil, append-assoc}
 use mathlib.Core.Option.{Option, none, some}
 use mathlib.Core.Path.{_≡_, refl, sym, ap, _∙_}
 use native.Mathlib.Omega.{arith}
@@ -17,7 +17,6 @@ use Rattle.law.specs.Reading.{nameAt, sentencesIn, termRun}
 use Rattle.law.proofs.Terms.{InsideAllowed}
 use Rattle.matching.specs.Pattern.{patternOf}
 use Rattle.matching.specs.Match.{when, each}
-use Rattle.lints.specs.Calls.{Call as CallOf}
 use Rattle.lints.specs.Dead.{Earlier, unconditional, earliest, deadBy, deadAfter, ownDead, blockDead}
 use Rattle.findings.specs.declared.Task.{Task}
 use Rattle.findings.specs.Code.Events.{Event, Sink, collect}

@@ -9,7 +9,6 @@ use law::Index;
 use lints::dead::earliest_shadow;
 ghost use mathlib.Core.Path.{_≡_};
 ghost use mathlib.Core.Bool.{Bool};
-ghost use mathlib.Core.List.{[]};
 ghost use Prim.Native.Nat.{_+_, _*_, _≤_, _<_};
 ghost use Rattle.file.specs.Word.{wordAt};
 ghost use Rattle.file.specs.Sections.{fileOf};

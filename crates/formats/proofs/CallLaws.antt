@@ -1,7 +1,7 @@
 -- From the argument formats and the rounds to the whole call.
 use Prim.Native.Nat.{ℕ, zero, suc, _+_, _*_, _≤_, _<_}
-use mathlib.Core.Bool.{Bool, true, false, _||_, not}
-use mathlib.Core.List.{List, [], _∷_, _++_}
+use mathlib.Core.Bool.{Bool, true, false, _||_}
+use mathlib.Core.List.{List, _∷_, _++_}
 use mathlib.Core.Path.{_≡_, refl, sym, ap, _∙_}
 use native.Mathlib.Omega.{arith}
 use borrow.Author.Tests.{lt-ltb, le-ltb}
@@ -11,7 +11,6 @@ use Rattle.file.specs.Answer.{Answer, refused, given, _>>=_, _>>_, refuseIf}
 use Rattle.law.specs.Tree.{Law, Sentences, noSentence, sentence}
 use Rattle.shapes.specs.Format.{Format, never, of, size}
 use Rattle.shapes.specs.Join.{join}
-use Rattle.shapes.specs.Same.{sameFormat}
 use Rattle.formats.specs.FormatOf.{Results, resultShapes, patternShapes}
 use Rattle.formats.specs.Infer.{Entry, Inferred, Rounds, namesOf, allAt, find, joinResults, joinPatterns, round, roundsFrom, roundLimit, arguments, inferWithin, infer}
 use Rattle.formats.specs.Store.{StoreHolds, storeSize, startOf}

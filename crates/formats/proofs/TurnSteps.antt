@@ -4,7 +4,6 @@ use mathlib.Core.Bool.{Bool, true, false, not}
 use mathlib.Core.List.{List}
 use mathlib.Core.Path.{_≡_, refl, sym, ap, _∙_}
 use native.Mathlib.Omega.{arith}
-use borrow.Author.Tests.{not-true, not-false}
 use lib.ListN.{length, getD}
 use Rattle.file.specs.Answer.{Answer, refused, given}
 use Rattle.file.specs.Sections.{fileOf}
@@ -13,20 +12,19 @@ use Rattle.law.specs.Reading.{sentencesAt}
 use Rattle.law.specs.Places.{sentencesOf, firstSentence}
 use Rattle.law.proofs.IndexLaws as indexed
 use Rattle.law.proofs.PlaceLaws as places
-use Rattle.shapes.specs.Format.{Format, never, formatSize}
+use Rattle.shapes.specs.Format.{Format, never}
 use Rattle.shapes.specs.Join.{join}
 use Rattle.shapes.specs.Same.{sameFormat}
 use Rattle.shapes.specs.Words.{formatWords, readFormat, FormatIn}
 use Rattle.buffers.specs.Written.{written}
 use Rattle.shapes.proofs.WordLaws.{read-write}
 use Rattle.formats.specs.FormatOf.{Results}
-use Rattle.formats.specs.Infer.{joinResults, joinPatterns}
 use Rattle.formats.specs.Store.{Small, formatIn}
 use Rattle.formats.specs.Code.Rows.{formatAt}
 use Rattle.formats.specs.Code.Slots.{fileNames, functionFolded, position}
 use Rattle.formats.specs.Code.Turns.{Asked, Holding, rowsJoined, JoinedIs, formatNumber, turnOf, TurnIs}
 use Rattle.formats.specs.declared.infer.Turn.{Turn}
-use Rattle.formats.specs.declared.infer.Turn.the-variants.{Over, Changed, Same}
+use Rattle.formats.specs.declared.infer.Turn.the-variants.{Over}
 use Rattle.formats.proofs.EntryLaws.{results-small, patterns-small, format-small}
 use Rattle.formats.proofs.SlotLaws.{function-placed, names-few}
 use Rattle.formats.proofs.StateLaws.{part-inside, read-argument, read-result}

@@ -6,7 +6,7 @@ use mathlib.Core.List.{List, _++_}
 use lib.ListN.{length, drop, replicate}
 use lib.Dec.{ltb}
 use Rattle.file.specs.Sections.{numberOf}
-use Rattle.file.specs.Answer.{Answer, refused, given, _>>=_, _>>_, refuseIf}
+use Rattle.file.specs.Answer.{Answer, refused, given}
 use Rattle.law.specs.Tree.{Law}
 use Rattle.law.specs.Law.{lawOf}
 use Rattle.formats.specs.Infer.{Inferred, infer}

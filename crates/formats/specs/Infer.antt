@@ -3,17 +3,15 @@
 -- changed nothing, else 0." The limit on shapes and the limit on rounds are parameters.
 use Prim.Native.Nat.{ℕ, zero, suc, _+_}
 use mathlib.Core.Bool.{Bool, true, false, cond, not, _||_}
-use mathlib.Core.List.{List, [], _∷_}
+use mathlib.Core.List.{List, _∷_}
 use mathlib.Core.Option.{Option, none, some}
 use lib.ListN.{length}
 use lib.Dec.{ltb}
 use Rattle.names.specs.Name.{folded, sameBytes, orderBytes}
-use Rattle.names.specs.declared.Order.{Order}
 use Rattle.names.specs.declared.Order.the-variants.{Less, Equal, Greater}
-use Rattle.file.specs.Answer.{Answer, refused, given, refuseIf, _>>=_, _>>_}
-use Rattle.law.specs.Tree.{Sentences, noSentence, sentence, Function, Law}
-use Rattle.shapes.specs.Leaf.{Leaf, leafWord}
-use Rattle.shapes.specs.Format.{Shapes, end, item, group, Format, never, of, size}
+use Rattle.file.specs.Answer.{Answer, given, refuseIf}
+use Rattle.law.specs.Tree.{Sentences, noSentence, sentence, Law}
+use Rattle.shapes.specs.Format.{Format, never, of, size}
 use Rattle.shapes.specs.Join.{join}
 use Rattle.formats.specs.FormatOf.{patternShapes, Results, resultShapes}
 use Rattle.shapes.specs.Same.{sameFormat}

@@ -6,7 +6,7 @@ use mathlib.Core.Path.{_≡_, refl}
 use native.Mathlib.Omega.{arith}
 use borrow.Author.Tests.{ltb-false, le-ltb, not-false}
 use Rattle.file.specs.Answer.{Answer, refused, given, refuseIf, _>>=_, _>>_}
-use Rattle.file.specs.Sections.{File, sectionsOf, fileOf}
+use Rattle.file.specs.Sections.{sectionsOf, fileOf}
 use Rattle.file.proofs.SectionLaws.{sections-file}
 use Rattle.file.specs.Fields.{fieldsAllowed}
 use Rattle.law.specs.Tree.{Law}

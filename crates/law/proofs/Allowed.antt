@@ -1,15 +1,13 @@
 -- What the refusals leave of a file's sentences: their runs fit, their blocks come later, and their patterns have few variables.
-use Prim.Native.Nat.{ℕ, suc, _+_, _*_, _-_, _≤_, _<_}
+use Prim.Native.Nat.{ℕ, suc, _+_, _-_, _≤_, _<_}
 use mathlib.Core.List.{List}
 use mathlib.Core.Bool.{Bool, true, false, _||_}
 use mathlib.Core.Path.{_≡_, refl}
 use native.Mathlib.Omega.{arith}
-use lib.ListN.{length}
 use lib.Dec.{eqb, ltb, leb}
 use borrow.Author.Tests.{eqb-true, ltb-true, leb-true}
 use Rattle.file.specs.Below.{every}
 use Rattle.file.specs.Sections.{File, fileOf}
-use Rattle.file.specs.Fields.{fieldsAllowed}
 use Rattle.file.proofs.SectionLaws.{sections-records}
 use Rattle.file.proofs.Below.{both-first, both-second, every-at}
 use Rattle.law.specs.Code.Index.{Readable}

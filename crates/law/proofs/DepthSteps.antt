@@ -16,7 +16,7 @@ use Rattle.file.specs.Head.{termFrom, termAt}
 use Rattle.file.specs.Sections.{File}
 use Rattle.file.specs.declared.Term.{Term}
 use Rattle.file.specs.declared.Term.the-variants.{Symbol, SVariable, TVariable, EVariable, Bracket, Call, Block}
-use Rattle.law.specs.Tree.{Mark, Run, empty, Sentences, noSentence, sentence, Conditions, noCondition, condition, keep, firstTerm}
+use Rattle.law.specs.Tree.{Mark, Run, empty, Sentences, noSentence, keep, firstTerm}
 use Rattle.law.specs.Places.{blockFirst, sentencesOf, firstSentence, conditionsOf, firstCondition, patternAt, resultAt, patternPart, resultPart, askedAt, askedSize, askedPart, wantedPart}
 use Rattle.law.specs.Runs.{endOf}
 use Rattle.law.specs.Reading.{markAt, termRun, runOf, own, sentencesAt, sentencesIn, conditionsFrom, treeOf}
@@ -24,7 +24,7 @@ use Rattle.law.specs.Depth.{deepest, deepestSentences, deepestConditions
 use Rattle.law.specs.Code.Index.{Readable, PartAt}
 use Rattle.law.proofs.RunLaws.{run-empty, run-node}
 use Rattle.law.proofs.Terms.{InsideAllowed}
-use Rattle.law.proofs.Functions.{functionsAt, functionAt, tree-functions, function-reads, functions-end, kept-reads}
+use Rattle.law.proofs.Functions.{functionsAt, tree-functions, function-reads, functions-end, kept-reads}
 use Rattle.law.proofs.Parts.{from, from-all, from-length, from-from}
 use Rattle.law.proofs.PartLaws.{part-length, part-inside, part-end, part-within, rest-part, part-leaf}
 

@@ -1,15 +1,15 @@
 -- Runs of term records as the code goes through them: n is the word that it read, and the contents end at 24 + 24 * n.
 use Prim.Native.Nat.{ℕ, _+_, _*_, _-_, _≤_, _<_}
 use mathlib.Core.List.{List}
-use mathlib.Core.Bool.{Bool, true, false, _&&_}
-use mathlib.Core.Path.{_≡_, refl, sym, _∙_}
+use mathlib.Core.Bool.{true, false, _&&_}
+use mathlib.Core.Path.{_≡_, sym, _∙_}
 use native.Mathlib.Omega.{arith}
 use lib.ListN.{length, take, drop, length-take}
-use lib.Dec.{leb, lit<}
+use lib.Dec.{lit<}
 use borrow.Author.Tests.{le-leb, lt-leb}
 use Rattle.file.specs.Word.{wordAt}
 use Rattle.file.proofs.Forest.{contents-falls, rest-falls}
-use Rattle.law.specs.Runs.{endOf, fits, runFits}
+use Rattle.law.specs.Runs.{endOf, runFits}
 use Rattle.law.proofs.Parts.{from, from-all, from-length, from-from, part-part, part-word}
 use Rattle.law.proofs.RunLaws as runs
 

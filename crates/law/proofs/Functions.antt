@@ -1,11 +1,10 @@
 -- The functions of a law and the sentences of each, in file order.
-use Prim.Native.Nat.{ℕ, zero, suc, _+_, _*_, _-_, _≤_, _<_}
-use mathlib.Core.List.{[], _∷_}
+use Prim.Native.Nat.{ℕ, zero, suc, _+_, _-_, _≤_, _<_}
+use mathlib.Core.List.{_∷_}
 use mathlib.Core.Path.{_≡_, refl}
 use native.Mathlib.Omega.{arith}
 use native.Mathlib.Nat.{sub-zero, zero-add, add-zero, suc-sub-suc, zero-sub}
 use lib.ListN.{length, getD}
-use Rattle.file.specs.Word.{wordAt}
 use Rattle.file.specs.Sections.{File}
 use Rattle.law.specs.Tree.{Sentences, noSentence, sentence, Function, Law, keep, skip}
 use Rattle.law.specs.Places.{sentencesOf, firstSentence}

@@ -1,16 +1,16 @@
 -- What the words of an index (specs/Index.antt) tell of the bytes that they index.
 use Prim.Native.Nat.{ℕ, suc, _+_, _*_, _-_, _≤_, _<_}
 use mathlib.Core.List.{List}
-use mathlib.Core.Path.{_≡_, refl, sym, ap, _∙_}
+use mathlib.Core.Path.{_≡_}
 use native.Mathlib.Omega.{arith}
 use native.Mathlib.Nat.{add-zero}
 use native.Mathlib.Numerals.{add-one}
 use lib.ListN.{length, take, drop, getD}
 use Rattle.file.specs.Word.{wordAt}
-use Rattle.file.specs.Sections.{File, fileOf, part}
+use Rattle.file.specs.Sections.{fileOf}
 use Rattle.file.proofs.Words.{word-part}
-use Rattle.file.proofs.SectionLaws.{sections-length, sections-limits, sections-records, lengthBy}
-use Rattle.law.specs.Places.{sentencesOf, patternSize, conditionsOf, resultSize, askedSize, wantedSize, firstSentence, firstCondition, conditionRecords, sentenceRecords, patternAt, askedAt, resultAt, termsAt, patternPart, resultPart, askedPart, wantedPart, Owns}
+use Rattle.file.proofs.SectionLaws.{sections-length, sections-limits, lengthBy}
+use Rattle.law.specs.Places.{sentencesOf, patternSize, conditionsOf, resultSize, askedSize, wantedSize, firstSentence, firstCondition, patternAt, askedAt, resultAt, termsAt, Owns}
 use Rattle.law.specs.Code.Index.{Indexed, functionsStart, sentencesStart, conditionsStart, termsStart}
 use Rattle.law.proofs.PlaceLaws as places
 use Rattle.law.proofs.Parts.{part-part}

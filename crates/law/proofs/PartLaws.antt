@@ -9,7 +9,7 @@ use Rattle.file.specs.Word.{wordAt}
 use Rattle.file.specs.Forest.{contents, rest}
 use Rattle.file.specs.Head.{termFrom, termAt}
 use Rattle.file.specs.Sections.{File, fileOf}
-use Rattle.law.specs.Places.{blockSize, blockFirst, termsAt, patternAt, patternSize, patternPart, resultAt, resultSize, resultPart, askedAt, askedSize, askedPart, wantedSize, wantedPart, Owns}
+use Rattle.law.specs.Places.{blockFirst, termsAt, patternAt, patternSize, patternPart, resultAt, resultSize, resultPart, askedAt, askedSize, askedPart, wantedSize, wantedPart, Owns}
 use Rattle.law.specs.Runs.{endOf, runFits}
 use Rattle.law.specs.Reading.{sentencesIn}
 use Rattle.law.specs.Code.Index.{Indexed, Readable, PartAt}

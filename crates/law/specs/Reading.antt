@@ -1,7 +1,7 @@
 -- The tree that a file means, once refusals 1 to 7 have let it pass. A block's sentences are later records (row 7), so that the
 -- sentences are read from the last to the first, and a block picks its own out of those already read.
 use Prim.Native.Nat.{ℕ, zero, suc, _+_, _*_, _-_}
-use mathlib.Core.List.{List, [], _∷_}
+use mathlib.Core.List.{List, _∷_}
 use lib.ListN.{take, drop}
 use Rattle.file.specs.Word.{wordAt}
 use Rattle.file.specs.Sections.{File}
@@ -9,7 +9,7 @@ use Rattle.file.specs.Forest.{Forest, end, node}
 use Rattle.file.specs.Head.{termAt}
 use Rattle.file.specs.declared.Symbol as heads
 use Rattle.file.specs.declared.Term as terms
-use Rattle.law.specs.Tree.{Name, Symbol, character, identifier, number, Kind, symbolKind, termKind, expressionKind, Mark, Run, empty, symbol, variable, bracket, call, block, Sentences, noSentence, sentence, Conditions, noCondition, condition, Function, Law, keep, skip}
+use Rattle.law.specs.Tree.{Name, Symbol, character, identifier, number, symbolKind, termKind, expressionKind, Mark, Run, empty, symbol, variable, bracket, call, block, Sentences, noSentence, sentence, Conditions, noCondition, condition, Law, keep, skip}
 use Rattle.law.specs.Places.{sentencesOf, firstSentence, blockFirst, firstCondition, conditionsOf, askedAt, askedSize, patternAt, resultAt, patternPart, resultPart, askedPart, wantedPart}
 use Rattle.law.specs.Runs.{termForest}
 

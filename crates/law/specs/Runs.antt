@@ -2,7 +2,7 @@
 -- 6: "n passes its enclosing run, or section 3, 4 or 5 is not used up exactly". 7: "a block has sentences and its first is not later than the one it stands in".
 use Prim.Native.Nat.{ℕ, suc, _+_, _*_, _-_, min}
 use mathlib.Core.List.{List}
-use mathlib.Core.Bool.{Bool, true, false, _&&_, _||_}
+use mathlib.Core.Bool.{Bool, true, _&&_, _||_}
 use lib.ListN.{length}
 use lib.Dec.{leb, ltb, eqb}
 use Rattle.file.specs.Word.{wordAt}

@@ -4,12 +4,12 @@ use file::word_at;
 use names::name_in;
 ghost use mathlib.Core.Path.{_≡_};
 ghost use mathlib.Core.Bool.{true};
-ghost use Prim.Native.Nat.{suc, _+_, _*_, _≤_, _<_};
-ghost use lib.ListN.{length, take, drop, getD};
+ghost use Prim.Native.Nat.{_+_, _*_, _≤_, _<_};
+ghost use lib.ListN.{getD};
 ghost use Rattle.file.specs.Word.{wordAt};
 ghost use Rattle.file.specs.Sections.{fileOf};
 ghost use Rattle.file.specs.Fields.{fieldsAllowed};
-ghost use Rattle.law.specs.Places.{patternSize, conditionsOf, resultSize, askedSize, wantedSize, firstSentence, firstCondition, blockFirst, patternAt, askedAt, resultAt, termsAt, patternPart, resultPart, askedPart, wantedPart, Owns};
+ghost use Rattle.law.specs.Places.{patternSize, askedSize, patternAt, askedAt, resultAt, termsAt, patternPart, resultPart, askedPart, wantedPart, Owns};
 ghost use Rattle.law.specs.Reading.{functionName};
 ghost use Rattle.law.specs.Code.Index.{Indexed};
 

@@ -1,19 +1,17 @@
 -- From what was inferred and gathered to what the calls hand over.
-use Prim.Native.Nat.{ℕ, zero, suc, _+_, _*_, _/_, _≤_, _<_}
-use mathlib.Core.Bool.{Bool, true, false}
-use mathlib.Core.List.{List, [], _∷_, _++_, map}
+use Prim.Native.Nat.{ℕ, _+_, _*_, _≤_}
+use mathlib.Core.Bool.{Bool, false}
+use mathlib.Core.List.{List, _++_}
 use mathlib.Core.Logic.{_⊎_, inl, inr}
 use mathlib.Core.Path.{_≡_, refl, sym, ap, _∙_}
 use native.Mathlib.Omega.{arith}
 use native.Mathlib.Decide.{decLe}
 use borrow.Author.Tests.{le-ltb}
-use lib.ListN.{length, take, drop, replicate, length-append}
-use lib.Seq.{take-at}
+use lib.ListN.{length, drop, replicate, length-append}
 use Rattle.file.specs.Answer.{Answer, refused, given}
-use Rattle.file.specs.Sections.{File, fileOf}
+use Rattle.file.specs.Sections.{fileOf}
 use Rattle.law.specs.Tree.{Law}
 use Rattle.law.specs.Reading.{treeOf}
-use Rattle.law.specs.Code.Index.{Indexed}
 use Rattle.law.proofs.Accepted.{passed, taken}
 use Rattle.law.proofs.Allowed.{accepted-readable}
 use Rattle.law.proofs.Functions.{tree-length}
@@ -21,7 +19,6 @@ use Rattle.law.proofs.IndexLaws.{functions-limit}
 use Rattle.formats.specs.Infer.{Inferred, infer}
 use Rattle.formats.specs.Store.{StoreHolds, storeSize, storeWords}
 use Rattle.formats.specs.Code.Slots.{SlotsOf, fileNames}
-use Rattle.formats.specs.Code.Turns.{Asked, Holding, argumentsIn, resultsIn}
 use Rattle.formats.specs.Code.Turns.{InferIs}
 use Rattle.formats.specs.declared.infer.Inference.{Inference}
 use Rattle.formats.specs.declared.infer.Inference.the-variants.{TooWide, Ran}
@@ -29,20 +26,19 @@ use Rattle.formats.proofs.CallLaws.{outcome-over}
 use Rattle.formats.proofs.StateLaws.{read-past, store-length}
 use Rattle.formats.proofs.SizeLaws.{infer-storable}
 use Rattle.formats.proofs.SentenceLaws.{arguments-said, results-said}
-use Rattle.buffers.specs.Written.{written}
 use Rattle.lints.specs.Finding.{Finding}
 use Rattle.lints.specs.Recognition.{argumentsOver}
 use Rattle.lints.specs.Levels.{Settings, shown, listingWords}
 use Rattle.lints.specs.Findings.{findingsOf, Listing, listing}
 use Rattle.lints.specs.Code.Records.{Prepared, formatsIn}
-use Rattle.findings.specs.Code.Events.{Tally, Over, Full, Upto, Sink, sinkOf, collect}
+use Rattle.findings.specs.Code.Events.{Tally, Over, Full, Upto, sinkOf, collect}
 use Rattle.findings.specs.Code.All.{allEvents}
 use Rattle.listing.specs.declared.gather.Gathered.{Gathered}
 use Rattle.listing.specs.declared.gather.Gathered.the-variants as gathered
 use Rattle.listing.specs.Outcome.{storeAfter}
-use Rattle.listing.specs.Code.Gather.{Prepares, Filled, Fitted, GatheredIs, GatherIs, shownIn, Collected}
+use Rattle.listing.specs.Code.Gather.{Prepares, Filled, Fitted, GatherIs, shownIn, Collected}
 use Rattle.listing.proofs.PromiseLaws.{words-length, start-taken}
-use Rattle.listing.proofs.GatherLaws.{same-findings, same-over, Wide, Narrow, comes-to, Left, all-left}
+use Rattle.listing.proofs.GatherLaws.{same-findings, same-over, Wide, Narrow, comes-to}
 
 module _ {limit : ℕ} {bytes index store : List ℕ} (p : Prepares limit bytes index store) {slots : List ℕ} (s : SlotsOf (fileOf bytes) slots) where
   few : length (treeOf (fileOf bytes)) ≤ 64

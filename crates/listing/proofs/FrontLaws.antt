@@ -2,17 +2,15 @@
 use Prim.Native.Nat.{ℕ, _≤_, _<_}
 use mathlib.Core.Bool.{Bool, true, false}
 use mathlib.Core.List.{List}
-use mathlib.Core.Path.{_≡_, refl, sym, ap, _∙_}
+use mathlib.Core.Path.{_≡_, refl, ap, _∙_}
 use native.Mathlib.Omega.{arith}
 use borrow.Author.Tests.{lt-ltb, le-ltb}
 use lib.ListN.{length}
-use Rattle.file.specs.Answer.{Answer, refused, given}
+use Rattle.file.specs.Answer.{refused, given}
 use Rattle.file.specs.Sections.{fileOf, numberOf}
 use Rattle.file.specs.declared.Refusal.{Refusal}
 use Rattle.file.proofs.Answers.{map-refused, map-given}
-use Rattle.law.specs.Tree.{Law}
 use Rattle.law.specs.Reading.{treeOf}
-use Rattle.law.specs.Code.Index.{Indexed}
 use Rattle.law.specs.Law.{lawOf, checkAnswer, verdictOf, IndexAfter, Accepted}
 use Rattle.law.specs.declared.Check.{Check}
 use Rattle.law.specs.declared.Check.the-variants as checks
@@ -22,7 +20,7 @@ use Rattle.listing.specs.declared.Turned.the-variants as turned
 use Rattle.listing.specs.declared.front.Front.{Front}
 use Rattle.listing.specs.declared.front.Front.the-variants.{Refused, Ready}
 use Rattle.listing.specs.Outcome.{front}
-use Rattle.listing.specs.Code.Gather.{Prepares, FrontIs}
+use Rattle.listing.specs.Code.Gather.{FrontIs}
 
 module _ (settings : Settings) (bytes : List ℕ) (words : ℕ) where
   abbrev Says : Front → List ℕ → Type 0

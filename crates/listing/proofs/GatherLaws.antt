@@ -1,25 +1,21 @@
 -- What collecting all lints comes to is what the listing says.
-use Prim.Native.Nat.{ℕ, zero, suc, _+_, _*_, _≤_, _<_}
+use Prim.Native.Nat.{ℕ, _*_, _≤_, _<_}
 use mathlib.Core.Bool.{Bool, true, false}
-use mathlib.Core.List.{List, [], _∷_, _++_, map}
+use mathlib.Core.List.{List, _∷_, map}
 use mathlib.Core.Logic.{_⊎_, inl, inr}
-use mathlib.Core.Path.{_≡_, refl, sym, ap, _∙_}
+use mathlib.Core.Path.{_≡_, refl, ap, _∙_}
 use native.Mathlib.Omega.{arith}
-use native.Mathlib.Decide.{decLe}
 use native.Mathlib.Nat.{zero-add}
-use lib.ListN.{length, drop, replicate}
-use Rattle.file.specs.Answer.{Answer, refused, given}
-use Rattle.file.specs.Sections.{File, fileOf}
+use lib.ListN.{length}
+use Rattle.file.specs.Answer.{refused, given}
 use Rattle.law.specs.Tree.{Law}
-use Rattle.law.specs.Reading.{treeOf}
 use Rattle.formats.specs.Infer.{Entry, Inferred, infer}
 use Rattle.buffers.specs.Written.{written}
-use Rattle.matching.specs.Match.{each}
-use Rattle.lints.specs.Finding.{Finding, lintOf, findingWords}
+use Rattle.lints.specs.Finding.{Finding, findingWords}
 use Rattle.lints.specs.Recognition.{judged, recognitionRemarks, recognitionFindings, someOver, argumentsOver}
-use Rattle.lints.specs.Levels.{Settings, severityOf, shown, listingWords}
-use Rattle.lints.specs.Findings.{findingsOf, Listing, listing}
-use Rattle.findings.specs.Code.Events.{Tally, Over, Full, Upto, Sink, sinkOf, collect}
+use Rattle.lints.specs.Levels.{Settings, shown, listingWords}
+use Rattle.lints.specs.Findings.{findingsOf, listing}
+use Rattle.findings.specs.Code.Events.{Over, Full, Upto, Sink, sinkOf, collect}
 use Rattle.findings.specs.Code.All.{allEvents}
 use Rattle.findings.proofs.FitLaws.{collect-fits, collect-counts, collect-full}
 use Rattle.findings.proofs.EventLaws.{wordsUnder, eventOf, all-found}

@@ -1,10 +1,10 @@
 -- Demand 3 of what the findings call lists.
-use Prim.Native.Nat.{ℕ, _+_, _*_, _≤_}
+use Prim.Native.Nat.{ℕ, _+_, _*_}
 use mathlib.Core.Bool.{Bool, true, false, not, cond}
-use mathlib.Core.List.{List, [], _∷_, _++_}
+use mathlib.Core.List.{List, _∷_}
 use mathlib.Core.Path.{_≡_, refl, sym, ap, _∙_}
 use native.Mathlib.Omega.{arith}
-use lib.ListN.{length, take, drop, length-append}
+use lib.ListN.{length, take, drop}
 use lib.Seq.{take-at}
 use lib.Dec.{leb, ltb}
 use Rattle.file.specs.Answer.{Answer, refused, given, refuseIf, _>>=_, _>>_}
@@ -21,7 +21,7 @@ use Rattle.runs.specs.Numbers.{noNeedlessZeros}
 use Rattle.runs.specs.Claim.{NoFalseFinding}
 use Rattle.runs.proofs.NoFalse as runs
 use Rattle.listing.specs.declared.Found.{Found}
-use Rattle.listing.specs.Outcome.{Count, foundAnswer, front, listed, listedBy, findingsFront, findingsOutcome}
+use Rattle.listing.specs.Outcome.{Count, foundAnswer, front, listedBy, findingsFront, findingsOutcome}
 use Rattle.listing.specs.Promise.{findingsAfter, FindingsPromise}
 
 -- eight words a finding

@@ -1,18 +1,17 @@
 -- What the two calls answer of a law that is ready, by what was gathered.
-use Prim.Native.Nat.{ℕ, zero, suc, _+_, _*_, _/_, _≤_, _<_}
-use mathlib.Core.Bool.{Bool, true, false}
-use mathlib.Core.List.{List, [], _∷_, _++_}
+use Prim.Native.Nat.{ℕ, _*_, _≤_, _<_}
+use mathlib.Core.Bool.{Bool}
+use mathlib.Core.List.{List}
 use mathlib.Core.Path.{_≡_, refl, sym, ap, _∙_}
 use native.Mathlib.Omega.{arith}
 use native.Mathlib.Decide.{decLe}
 use borrow.Author.Tests.{lt-ltb, le-ltb, le-leb, lt-leb}
-use lib.ListN.{length, take, drop}
+use lib.ListN.{length}
 use Rattle.file.specs.Answer.{Answer, refused, given}
 use Rattle.file.specs.Sections.{fileOf}
 use Rattle.law.specs.Reading.{treeOf}
 use Rattle.formats.specs.Code.Slots.{SlotsOf}
 use Rattle.buffers.specs.Written.{written}
-use Rattle.lints.specs.Finding.{Finding}
 use Rattle.lints.specs.Levels.{Settings, listingWords}
 use Rattle.lints.specs.Findings.{Listing, listing}
 use Rattle.listing.specs.declared.Turned.the-variants as turned

@@ -1,20 +1,17 @@
 -- The text of one of the findings that were gathered.
 use Prim.Native.Nat.{ℕ, zero, suc, _+_, _*_, _-_, _≤_, _<_}
-use mathlib.Core.Bool.{Bool, true, false, cond}
-use mathlib.Core.List.{List, [], _∷_, _++_, List·Memᴰ, List·Memᴰ·head, List·Memᴰ·tail}
+use mathlib.Core.List.{List, _∷_, _++_, List·Memᴰ, List·Memᴰ·head, List·Memᴰ·tail}
 use mathlib.Core.Option.{Option, some}
 use mathlib.Core.Option as option
 use mathlib.Core.Path.{_≡_, refl, sym, ap, _∙_}
 use native.Mathlib.Omega.{arith}
-use native.Mathlib.Nat.{zero-add}
 use borrow.Author.Tests.{le-leb, lt-leb}
 use lib.ListN.{length, take, drop, take-append-drop}
-use Rattle.file.specs.Answer.{Answer, refused, given}
 use Rattle.file.specs.Sections.{fileOf}
 use Rattle.law.specs.Reading.{treeOf}
-use Rattle.buffers.specs.Written.{written, Put}
+use Rattle.buffers.specs.Written.{Put}
 use Rattle.lints.specs.Finding.{Finding, lintOf, findingWords}
-use Rattle.lints.specs.Levels.{Settings, severityOf, shown, listingWords}
+use Rattle.lints.specs.Levels.{Settings, severityOf, listingWords}
 use Rattle.lints.specs.Findings.{findingsOf}
 use Rattle.lints.specs.Message.{message}
 use Rattle.lints.specs.Code.Records.{formatsIn}

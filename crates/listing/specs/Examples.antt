@@ -1,11 +1,11 @@
 -- The two calls on small files, by computation, every lent word included. Formats have at most one shape here, so that a store has 256 words.
-use Prim.Native.Nat.{ℕ, zero, suc}
-use mathlib.Core.Bool.{true, false}
-use mathlib.Core.List.{List, [], _∷_, _++_, flatMap}
+use Prim.Native.Nat.{ℕ}
+use mathlib.Core.Bool.{true}
+use mathlib.Core.List.{List, _∷_, _++_, flatMap}
 use mathlib.Core.Path.{_≡_, refl}
-use lib.ListN.{length, take, drop, replicate}
+use lib.ListN.{replicate}
 use Rattle.names.specs.Name.{everyByte, sameBytes, orderBytes}
-use Rattle.file.specs.Answer.{Answer, refused, given}
+use Rattle.file.specs.Answer.{refused, given}
 use Rattle.file.specs.Word.{wordAt}
 use Rattle.file.specs.Below.{every, total}
 use Rattle.file.specs.Sections.{section, sectionsOf}

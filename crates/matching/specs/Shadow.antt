@@ -4,9 +4,9 @@
 use mathlib.Core.Bool.{Bool, true, false}
 use mathlib.Core.List.{List}
 use Rattle.law.specs.Tree.{Kind, symbolKind, termKind, expressionKind}
-use Rattle.law.specs.Expression.{Terms, nothing, symbol, brackets}
+use Rattle.law.specs.Expression.{nothing, symbol}
 use Rattle.law.specs.Variables.{Variable, sameVariable}
-use Rattle.matching.specs.Pattern.{Symbol, sameSymbol, Atom, literal, variable, other, Pattern}
+use Rattle.matching.specs.Pattern.{sameSymbol, Atom, literal, variable, other, Pattern}
 use Rattle.matching.specs.Match.{Values, none-bound, bound, some-in, matches}
 
 -- calls and blocks are the same as nothing

@@ -2,13 +2,13 @@
 -- premise is dropped. Each law is read from its file. That no two functions have one folded name is no premise: nothing breaks without it.
 use Prim.Native.Nat.{ℕ, zero, suc, _+_}
 use mathlib.Core.Bool.{Bool, true, false}
-use mathlib.Core.List.{List, [], _∷_, _++_, flatMap, List·Memᴰ·head, List·Memᴰ·tail}
+use mathlib.Core.List.{List, _∷_, _++_, flatMap, List·Memᴰ·head, List·Memᴰ·tail}
 use mathlib.Core.Logic.{inl}
 use mathlib.Core.Option.{Option, none, some}
 use mathlib.Core.Path.{_≡_, refl}
 use native.Mathlib.Omega.{arith}
 use Rattle.names.specs.Name.{everyByte, sameBytes, orderBytes}
-use Rattle.file.specs.Answer.{Answer, given, _>>=_}
+use Rattle.file.specs.Answer.{Answer, given}
 use Rattle.file.specs.Word.{wordAt}
 use Rattle.file.specs.Below.{every, total}
 use Rattle.file.specs.Sections.{section, sectionsOf}

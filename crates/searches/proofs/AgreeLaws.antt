@@ -1,13 +1,13 @@
 -- A search depends on the values of the pattern's variables alone, and gives values to no others.
-use mathlib.Core.Bool.{Bool, true, false, cond, _||_, _&&_}
-use mathlib.Core.List.{List, [], _∷_, _++_, List·Memᴰ, List·Memᴰ·head}
+use mathlib.Core.Bool.{Bool, true, false, cond, _||_}
+use mathlib.Core.List.{List, _∷_, _++_, List·Memᴰ, List·Memᴰ·head}
 use mathlib.Core.Option.{Option, none, some}
 use mathlib.Core.Path.{_≡_, refl, sym, ap, _∙_}
 use Rattle.law.specs.Tree.{Kind}
 use Rattle.law.specs.Expression.{Terms, nothing, symbol, brackets}
 use Rattle.law.specs.Variables.{Variable, sameVariable, occurs}
 use Rattle.matching.specs.Pattern.{Symbol, literal, variable, other, Pattern}
-use Rattle.matching.specs.Match.{Values, bound, valueIn, noted, when, each, all-or-first, some-in, choices, matches}
+use Rattle.matching.specs.Match.{Values, valueIn, noted, when, each, all-or-first, some-in, choices, matches}
 use Rattle.searches.specs.Code.Capacity.{variablesIn}
 use Rattle.searches.specs.Code.Repeats.{Agree}
 use Rattle.matching.proofs.SearchLaws.{in-when, in-each, each-in, in-all-or-first, some-member, member-some}

@@ -1,17 +1,16 @@
 -- Literal matching where nothing is around: what is remembered, and brackets that share no variable with what follows.
-use Prim.Native.Nat.{ℕ, suc, _+_, _-_, _≤_, _<_}
+use Prim.Native.Nat.{ℕ, _+_, _-_, _≤_}
 use mathlib.Core.Bool.{Bool, true, false}
-use mathlib.Core.List.{List, [], _∷_}
+use mathlib.Core.List.{List, _∷_}
 use mathlib.Core.Path.{_≡_, refl, sym, ap, _∙_}
 use native.Mathlib.Omega.{arith}
 use lib.ListN.{length, take, drop}
 use Rattle.file.specs.Forest.{contents, rest}
 use Rattle.law.specs.Runs.{endOf}
-use Rattle.matching.specs.Pattern.{Atom, literal, Pattern}
+use Rattle.matching.specs.Pattern.{Atom, literal}
 use Rattle.matching.specs.Match.{Values, some-in, each}
 use Rattle.matching.specs.Shadow.{sameAtom, symbolLike, singleTerm}
 use Rattle.matching.specs.Code.Part.{rowOf, from}
-use Rattle.matching.specs.Code.Bound.{valuesOf}
 use Rattle.matching.specs.Code.Step.{found, Facing, eachInside}
 use Rattle.searches.specs.Code.Capacity.{variablesIn}
 use Rattle.searches.specs.Code.Asked.{someHolds, resume, comingIn, levels, levelsOf, LiteralAsked}

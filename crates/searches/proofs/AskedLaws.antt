@@ -1,8 +1,8 @@
 -- What the matchers ask for (`Asked`, specs/Asked.antt) holds of the parts that they hand on.
-use Prim.Native.Nat.{ℕ, zero, suc, _+_, _-_, _≤_, _<_}
-use mathlib.Core.Bool.{Bool, true, false}
-use mathlib.Core.List.{List, [], _∷_, _++_, append-assoc, append-nil}
-use mathlib.Core.Option.{none, some}
+use Prim.Native.Nat.{ℕ, _+_, _-_, _≤_, _<_}
+use mathlib.Core.Bool.{true, false}
+use mathlib.Core.List.{List, _++_, append-assoc, append-nil}
+use mathlib.Core.Option.{some}
 use mathlib.Core.Path.{_≡_, refl, sym, ap, _∙_}
 use native.Mathlib.Omega.{arith}
 use lib.ListN.{length, take, drop}
@@ -10,13 +10,13 @@ use Rattle.file.specs.Forest.{contents, rest}
 use Rattle.file.specs.Head.{termAt}
 use Rattle.file.specs.declared.Term.{Term}
 use Rattle.file.specs.declared.Term.the-variants.{Symbol as Symbolic, SVariable, TVariable, EVariable, Bracket, Call, Block}
-use Rattle.law.specs.Expression.{nothing, symbol, brackets}
+use Rattle.law.specs.Expression.{symbol, brackets}
 use Rattle.law.specs.Runs.{endOf}
 use Rattle.law.specs.Variables.{Variable, occurs}
 use Rattle.law.proofs.RunLaws.{end-low, end-high}
-use Rattle.matching.specs.Pattern.{Atom, literal, variable, other, Pattern}
-use Rattle.matching.specs.Match.{Values, bound, valueIn}
-use Rattle.matching.specs.Code.Part.{rowOf, from, Begin, at-start, one-on, Stands, atomOf, termRow}
+use Rattle.matching.specs.Pattern.{Atom, variable, Pattern}
+use Rattle.matching.specs.Match.{Values, bound}
+use Rattle.matching.specs.Code.Part.{rowOf, from, Begin, at-start, one-on, atomOf, termRow}
 use Rattle.matching.specs.Code.Bound.{variableIn, valuesOf, Kept, Bound}
 use Rattle.matching.specs.Code.Step.{found, Free, Facing, firstVariable}
 use Rattle.searches.specs.Code.Capacity.{variablesIn, Capacity}

@@ -1,9 +1,9 @@
 -- What a search remembers (specs/Failed.antt) is so at the start, and stays so when a rest is noted that has no match.
 use Prim.Native.Nat.{ℕ, zero, suc, _+_, _*_, _-_, _≤_, _<_}
 use mathlib.Core.Bool.{Bool, true, false}
-use mathlib.Core.List.{List, [], _∷_}
+use mathlib.Core.List.{List, _∷_}
 use mathlib.Core.Logic.{_⊎_, inl, inr}
-use mathlib.Core.Option.{none, some, Option·none-ne-some}
+use mathlib.Core.Option.{none, Option·none-ne-some}
 use mathlib.Core.Path.{_≡_, refl, sym, ap, _∙_}
 use native.Mathlib.Omega.{arith}
 use native.Mathlib.Decide.{decLt}
@@ -12,7 +12,7 @@ use lib.Dec.{eqb}
 use borrow.Author.Tests.{eqb-true}
 use lib.Seq.{getD-set-same, getD-set-other}
 use Rattle.law.specs.Variables.{Variable}
-use Rattle.matching.specs.Pattern.{Atom, literal, Pattern}
+use Rattle.matching.specs.Pattern.{Atom, literal}
 use Rattle.matching.specs.Match.{Values, some-in}
 use Rattle.matching.specs.Shadow.{sameAtom, symbolLike, singleTerm}
 use Rattle.matching.specs.Code.Part.{rowOf, Stands}

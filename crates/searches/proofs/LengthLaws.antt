@@ -2,8 +2,8 @@
 -- before it are done, and those from it on are left.
 use Prim.Native.Nat.{ℕ, _+_, _≤_, _<_}
 use mathlib.Core.Bool.{Bool}
-use mathlib.Core.List.{List, [], _∷_, _++_, map}
-use mathlib.Core.Path.{_≡_, refl, sym, ap, _∙_}
+use mathlib.Core.List.{List, _∷_, _++_, map}
+use mathlib.Core.Path.{_≡_, refl, sym, ap}
 use native.Mathlib.Omega.{arith}
 use lib.ListN.{length, take}
 use Rattle.file.specs.Forest.{contents, rest}
@@ -15,11 +15,11 @@ use Rattle.law.specs.Runs.{endOf}
 use Rattle.law.specs.Variables.{Variable}
 use Rattle.matching.specs.Pattern.{Atom, Pattern}
 use Rattle.matching.specs.Match.{Values, bound, splits, each}
-use Rattle.matching.specs.Code.Part.{rowOf, from, Begin, at-start, one-on, termRow}
+use Rattle.matching.specs.Code.Part.{rowOf, from, Begin, termRow}
 use Rattle.matching.specs.Code.Step.{found, firstVariable, eachLength}
 use Rattle.matching.proofs.PartLaws.{row-empty, row-node}
 use Rattle.matching.proofs.RowLaws.{row-assoc, row-nothing}
-use Rattle.matching.proofs.CutLaws.{from-all, from-from, alone, one-more}
+use Rattle.matching.proofs.CutLaws.{from-all, from-from, one-more}
 
 module _ (back : Bool) (p : Pattern) (v : Variable) (vs : Values Atom) where
   -- the lengths from a position on: `before` is the row up to it, `left` the row from it on

@@ -1,7 +1,7 @@
 -- What is still to be matched around the brackets that were gone into (`Pending`, specs/Asked.antt): one level more, and one level out.
 use Prim.Native.Nat.{ℕ, zero, suc, _+_, _-_, _≤_, _<_}
 use mathlib.Core.Bool.{Bool, true, false, _||_}
-use mathlib.Core.List.{List, [], _∷_, _++_}
+use mathlib.Core.List.{List, _∷_, _++_}
 use mathlib.Core.Path.{_≡_, refl, sym, ap, subst, _∙_}
 use native.Mathlib.Omega.{arith}
 use native.Mathlib.Decide.{decLt}
@@ -11,7 +11,7 @@ use Rattle.file.specs.Forest.{contents, rest}
 use Rattle.file.specs.Head.{termAt}
 use Rattle.file.specs.declared.Term.{Term}
 use Rattle.file.specs.declared.Term.the-variants.{Symbol as Symbolic, SVariable, TVariable, EVariable, Bracket, Call, Block}
-use Rattle.law.specs.Expression.{nothing, brackets}
+use Rattle.law.specs.Expression.{brackets}
 use Rattle.law.specs.Runs.{endOf}
 use Rattle.law.proofs.RunLaws.{end-low, end-high}
 use Rattle.matching.specs.Pattern.{Atom, Pattern}
@@ -28,7 +28,6 @@ use Rattle.matching.proofs.CutLaws.{from-length, from-all, from-from, stands-fr
 use Rattle.searches.proofs.LengthLaws.{leftAt, lengthAt, left-first, left-last, left-more, length-search}
 use Rattle.searches.proofs.CapacityLaws.{capacity-right}
 use Rattle.searches.proofs.AskedLaws.{asked-later, asked-more, asked-inside, row-brackets, values-more}
-use Rattle.searches.proofs.ShadowSteps.{end-both}
 
 -- ---- a test that holds of one of a list
 

@@ -1,7 +1,7 @@
 -- The records of a part by their numbers: a variable of a pattern is one of its records; what `again` has gone through.
 use Prim.Native.Nat.{ℕ, zero, suc, _+_, _*_, _-_, _≤_, _<_, min}
 use mathlib.Core.Bool.{Bool, true, false}
-use mathlib.Core.List.{List, [], _∷_, _++_}
+use mathlib.Core.List.{List, _∷_, _++_}
 use mathlib.Core.Logic.{_⊎_, inl, inr}
 use mathlib.Core.Path.{_≡_, refl, sym, ap, _∙_}
 use native.Mathlib.Omega.{arith}
@@ -11,7 +11,6 @@ use lib.Seq.{take-all}
 use Rattle.file.specs.Word.{wordAt}
 use Rattle.file.specs.Forest.{contents, rest}
 use Rattle.file.specs.Head.{termFrom, termAt}
-use Rattle.file.specs.declared.Symbol as heads
 use Rattle.file.specs.declared.Term.{Term}
 use Rattle.file.specs.declared.Term.the-variants.{Symbol as Symbolic, SVariable, TVariable, EVariable, Bracket, Call, Block}
 use Rattle.law.specs.Runs.{endOf}

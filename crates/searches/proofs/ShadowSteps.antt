@@ -1,7 +1,7 @@
 -- What the code of src/shadow.rt answers at each of its returns, in the terms of its contracts: the first of all matches.
 use Prim.Native.Nat.{ℕ, _+_, _-_, _≤_, _<_}
 use mathlib.Core.Bool.{Bool, true, false, cond}
-use mathlib.Core.List.{List, [], _∷_, _++_, append-nil}
+use mathlib.Core.List.{List, _∷_, _++_, append-nil}
 use mathlib.Core.Option.{Option, none, some}
 use mathlib.Core.Path.{_≡_, refl, sym, ap, _∙_}
 use native.Mathlib.Omega.{arith}
@@ -16,15 +16,15 @@ use Rattle.file.specs.declared.Term.the-variants.{Symbol as Symbolic, SVariable
 use Rattle.law.specs.Expression.{nothing}
 use Rattle.law.specs.Runs.{endOf}
 use Rattle.matching.specs.Pattern.{Atom, Pattern}
-use Rattle.matching.specs.Match.{Values, bound, each, all-or-first, matches}
+use Rattle.matching.specs.Match.{Values, each, all-or-first, matches}
 use Rattle.matching.specs.Code.Part.{rowOf, from, Begin, termRow}
 use Rattle.matching.specs.Code.Bound.{valuesOf, Bound}
-use Rattle.matching.specs.Code.Step.{found, eachLength, eachInside, Free, Facing, firstVariable}
+use Rattle.matching.specs.Code.Step.{found, eachLength, eachInside, Free, firstVariable}
 use Rattle.searches.specs.Code.Asked.{firstIn, Asked, matchedValues}
 use Rattle.matching.specs.declared.Bindings.{Bindings}
 use Rattle.searches.specs.declared.shadow.Matched.{Matched}
 use Rattle.matching.proofs.PartLaws.{row-empty, row-node}
-use Rattle.matching.proofs.CutLaws.{from-length, begin-inside}
+use Rattle.matching.proofs.CutLaws.{begin-inside}
 use Rattle.searches.proofs.LengthLaws.{leftAt, lengthAt, left-first, left-last, left-more, length-search}
 use Rattle.searches.proofs.AskedLaws.{values-more}
 

@@ -2,12 +2,12 @@
 -- variable more has a value.
 use Prim.Native.Nat.{ℕ, zero, suc, _+_, _-_, _≤_, _<_}
 use mathlib.Core.Bool.{Bool, true}
-use mathlib.Core.List.{List, [], _∷_, _++_, append-nil}
-use mathlib.Core.Path.{_≡_, refl, sym, ap, _∙_}
+use mathlib.Core.List.{List, append-nil}
+use mathlib.Core.Path.{_≡_, refl, _∙_}
 use native.Mathlib.Omega.{arith}
 use native.Mathlib.Decide.{decLt}
 use lib.ListN.{length, take, drop}
-use Rattle.file.specs.Forest.{contents, rest}
+use Rattle.file.specs.Forest.{contents}
 use Rattle.law.specs.Runs.{endOf}
 use Rattle.law.specs.Variables.{Variable, occurs}
 use Rattle.matching.specs.Code.Part.{rowOf, from, Begin, at-start, one-on}

@@ -16,7 +16,7 @@ use Rattle.file.specs.declared.Term.the-variants.{Symbol as Symbolic, SVariable
 use Rattle.law.specs.Expression.{nothing, symbol, brackets}
 use Rattle.law.specs.Runs.{endOf}
 use Rattle.law.proofs.RunLaws.{end-high}
-use Rattle.matching.specs.Pattern.{literal, variable, Pattern}
+use Rattle.matching.specs.Pattern.{literal, Pattern}
 use Rattle.matching.specs.Shadow.{sameAtom, symbolLike, singleTerm}
 use Rattle.matching.specs.Code.Part.{rowOf, from, symbolAt, atomOf, termRow, isBracket}
 use Rattle.matching.specs.Code.Step.{openTerm, mayStand}

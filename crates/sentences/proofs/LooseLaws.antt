@@ -1,6 +1,6 @@
 -- The loose test misses no match, and where no variable is repeated it finds none too many.
-use mathlib.Core.Bool.{Bool, true, false, cond, not, _||_}
-use mathlib.Core.List.{List, [], _∷_, _++_, List·Memᴰ, List·Memᴰ·head, List·Memᴰ·tail, Memᴰ·map}
+use mathlib.Core.Bool.{Bool, true, false, not, _||_}
+use mathlib.Core.List.{List, _∷_, _++_, List·Memᴰ, List·Memᴰ·head, List·Memᴰ·tail, Memᴰ·map}
 use mathlib.Core.Option.{Option, none, some, Option·none-ne-some}
 use mathlib.Core.Path.{_≡_, refl, sym, _∙_}
 use Rattle.law.specs.Tree.{Kind, symbolKind, termKind, expressionKind}
@@ -11,8 +11,8 @@ use Rattle.matching.specs.Match.{Values, none-bound, bound, valueIn, some-in, m
 use Rattle.matching.specs.Fill.{Plain, filled, OfKind, Kinded}
 use Rattle.matching.specs.Match.{each, all-or-first, splits, noted, choices}
 use Rattle.searches.specs.Code.Capacity.{variablesIn}
-use Rattle.matching.proofs.SearchLaws.{none-kinded, in-when, when-in, in-each, each-in, in-all-or-first, some-member, member-some}
-use Rattle.matching.proofs.SameLaws.{false-not-true, both-hold, variable-sound, variable-refl}
+use Rattle.matching.proofs.SearchLaws.{none-kinded, when-in, each-in, in-all-or-first, some-member, member-some}
+use Rattle.matching.proofs.SameLaws.{false-not-true, both-hold, variable-sound}
 use Rattle.matching.proofs.VariableLaws.{occurs-first, occurs-later, occurs-left, occurs-right}
 use Rattle.matching.proofs.FillLaws.{fills-of-match}
 use Rattle.searches.proofs.AgreeLaws.{noted-other, match-values, not-left}

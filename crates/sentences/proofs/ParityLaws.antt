@@ -2,7 +2,7 @@
 -- what `odd_terms`, `odd_times` and `evenly` have gone through.
 use Prim.Native.Nat.{ℕ, _+_, _≤_, _<_}
 use mathlib.Core.Bool.{Bool, true, false, cond, not, _||_, Bool·beq}
-use mathlib.Core.List.{List, [], _∷_}
+use mathlib.Core.List.{List, _∷_}
 use mathlib.Core.Logic.{_⊎_, inl, inr}
 use mathlib.Core.Path.{_≡_, refl, sym, ap, _∙_}
 use native.Mathlib.Omega.{arith}
@@ -15,8 +15,8 @@ use Rattle.law.specs.Tree.{Kind, symbolKind, termKind, expressionKind}
 use Rattle.law.specs.Expression.{Terms, nothing, symbol, brackets, _⊕_}
 use Rattle.law.specs.Variables.{Variable, sameVariable, occurs}
 use Rattle.law.specs.Runs.{endOf}
-use Rattle.law.proofs.RunLaws.{end-low, end-high}
-use Rattle.matching.specs.Pattern.{Symbol, character, Atom, literal, variable, other, Pattern}
+use Rattle.law.proofs.RunLaws.{end-high}
+use Rattle.matching.specs.Pattern.{Symbol, character, Atom, literal, variable, Pattern}
 use Rattle.matching.specs.Match.{Values, none-bound, some-in}
 use Rattle.matching.specs.Fill.{Plain, filled, OfKind, Kinded}
 use Rattle.matching.specs.Shadow.{sameAtom, symbolLike, singleTerm}
@@ -25,12 +25,12 @@ use Rattle.matching.specs.Code.Step.{found, openTerm}
 use Rattle.matching.proofs.SameLaws.{false-not-true, variable-sound, variable-refl, atom-sound}
 use Rattle.matching.proofs.SearchLaws.{none-kinded}
 use Rattle.matching.proofs.FillLaws.{fills-of-match}
-use Rattle.matching.proofs.VariableLaws.{occurs-first, occurs-later, occurs-cases}
+use Rattle.matching.proofs.VariableLaws.{occurs-cases}
 use Rattle.matching.proofs.PartLaws.{row-empty}
 use Rattle.matching.proofs.CutLaws.{from-all, from-length}
 use Rattle.sentences.specs.Code.Greedy.{openKind}
 use Rattle.sentences.specs.Code.Parity.{differ, oddTerms, outside, oddIn, Evenly}
-use Rattle.sentences.proofs.FrontLaws.{is-open, not-open}
+use Rattle.sentences.proofs.FrontLaws.{not-open}
 use Rattle.sentences.proofs.OpenLaws.{next-row}
 
 -- ---- one of two

@@ -4,7 +4,7 @@ use mathlib.Core.Logic.{_⊎_, inl, inr, ⊎-elim, _↔_}
 use mathlib.Core.Path.{_≡_, refl}
 use lib.Dec.{T, T-not}
 use Rattle.law.specs.Expression.{Expression, nothing, symbol, brackets}
-use Rattle.shapes.specs.Leaf.{unknown, holdsBrackets, apartLeaf}
+use Rattle.shapes.specs.Leaf.{holdsBrackets, apartLeaf}
 use Rattle.shapes.specs.Format.{Shapes, end, item, group, Format, never, of, Admits, FormatAdmits}
 use Rattle.shapes.specs.Disjoint.{disjointShapes, disjoint}
 use Rattle.shapes.proofs.LeafLaws.{apart-symbol, apart-brackets, shared-symbol}

@@ -1,15 +1,15 @@
 -- Join is the least format over both (specs/Join.antt). The order of formats is that of what they admit; between formats that are not never it is
 -- an order on their shapes, `Below`, in which join is a least upper bound by induction.
-use Prim.Native.Nat.{ℕ, suc, _+_, _≤_}
-use mathlib.Core.Bool.{Bool, true, false, not, _||_}
+use Prim.Native.Nat.{_≤_}
+use mathlib.Core.Bool.{true, false, not, _||_}
 use mathlib.Core.Path.{_≡_, refl, ap}
 use native.Mathlib.Omega.{arith}
 use lib.Dec.{T}
 use Rattle.law.specs.Expression.{Expression, nothing, symbol, brackets}
-use Rattle.shapes.specs.Leaf.{unknown, holdsBrackets, joinLeaf}
+use Rattle.shapes.specs.Leaf.{holdsBrackets}
 use Rattle.shapes.specs.Format.{Shapes, end, item, group, Format, never, of, Admits, FormatAdmits, size, formatSize}
 use Rattle.shapes.specs.Join.{joinShapes, join}
-use Rattle.shapes.proofs.LeafLaws.{someLiteral, some-literal-held, LeafWithin, leaf-within-itself, leaf-within-unknown, unknown-within, leaf-within-same, join-leaf-left, join-leaf-right, join-leaf-least}
+use Rattle.shapes.proofs.LeafLaws.{someLiteral, some-literal-held, LeafWithin, leaf-within-unknown, unknown-within, leaf-within-same, join-leaf-left, join-leaf-right, join-leaf-least}
 
 -- every format but never admits something
 abbrev pub someOf : Shapes → Expression

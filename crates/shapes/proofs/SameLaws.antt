@@ -6,7 +6,7 @@ use lib.Dec.{T, eqb, eqb→eq}
 use borrow.Author.Tests.{eq-eqb}
 use Rattle.shapes.specs.Leaf.{leafWord}
 use Rattle.shapes.specs.Format.{Shapes, end, item, group, Format, never, of}
-use Rattle.shapes.specs.Same.{sameBool, sameShapes, sameFormat}
+use Rattle.shapes.specs.Same.{sameShapes, sameFormat}
 use Rattle.shapes.proofs.LeafLaws.{leaf-word-same}
 
 both : (a b : Bool) → T (a && b) → T a × T b

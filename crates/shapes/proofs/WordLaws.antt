@@ -1,20 +1,19 @@
 -- Laws of the store's words (specs/Words.antt): the shapes that words say, first shape by first shape, and reading back what was written.
-use Prim.Native.Nat.{ℕ, zero, suc, _+_, _*_, _-_, _/_, _%_, _≤_, _<_}
+use Prim.Native.Nat.{ℕ, zero, suc, _+_, _*_, _-_, _%_, _≤_, _<_}
 use mathlib.Core.Bool.{Bool, true, false, cond}
-use mathlib.Core.List.{List, [], _∷_, _++_}
+use mathlib.Core.List.{List, _∷_, _++_}
 use mathlib.Core.Path.{_≡_, refl, sym, ap, _∙_}
 use native.Mathlib.Omega.{arith}
-use native.Mathlib.Nat.{mul-add-div, mul-add-mod-self-left}
 use native.Mathlib.Decide.{decLt}
 use lib.ListN.{length, take, drop, getD, replicate, length-append, length-take, length-drop, length-replicate}
 use lib.Seq.{take-all, take-at, drop-at}
-use lib.Dec.{eqb, leb}
+use lib.Dec.{leb}
 use borrow.Author.Tests.{le-leb, lt-leb, eq-eqb}
 use Rattle.file.specs.Forest.{contents, rest}
 use Rattle.file.proofs.Forest.{contents-falls, rest-falls, forest-end, forest-node}
 use Rattle.shapes.specs.Leaf.{leafWord, leafAt}
 use Rattle.shapes.specs.Format.{Shapes, end, item, group, Format, never, of, size, formatSize, isOpen}
-use Rattle.shapes.specs.Words.{bracketWord, shapeWords, headerWord, usedWords, filled, formatWords, isBracket, insideOpen, insideOf, shapesEnd, shapesOf, shapesIn, readFormat}
+use Rattle.shapes.specs.Words.{bracketWord, shapeWords, usedWords, filled, formatWords, isBracket, insideOpen, insideOf, shapesEnd, shapesOf, shapesIn, readFormat}
 use Rattle.shapes.proofs.LeafLaws.{leaf-at-word, leaf-word-plain}
 
 -- ---- the shapes that words say

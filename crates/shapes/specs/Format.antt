@@ -4,7 +4,7 @@ use Prim.Native.Nat.{ℕ, suc, _+_}
 use mathlib.Core.Bool.{Bool, true, false}
 use lib.Dec.{T}
 use Rattle.law.specs.Expression.{Expression, nothing, symbol, brackets}
-use Rattle.shapes.specs.Leaf.{Leaf, leaf-discrete, holdsSymbol, holdsBrackets}
+use Rattle.shapes.specs.Leaf.{Leaf, holdsSymbol, holdsBrackets}
 
 -- the shapes of a format that is not never; their row ends closed (false) or open (true)
 pub data Shapes : Type 0 where

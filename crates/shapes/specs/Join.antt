@@ -1,5 +1,5 @@
 -- Join, as in formats.rs: "Join is the least format over both."
-use mathlib.Core.Bool.{Bool, true, false, _||_}
+use mathlib.Core.Bool.{true, _||_}
 use Rattle.shapes.specs.Leaf.{unknown, joinLeaf}
 use Rattle.shapes.specs.Format.{Shapes, end, item, group, Format, never, of}
 

@@ -1,7 +1,7 @@
 -- Are two formats the same?
 use mathlib.Core.Bool.{Bool, true, false, _&&_}
 use lib.Dec.{eqb}
-use Rattle.shapes.specs.Leaf.{Leaf, leafWord}
+use Rattle.shapes.specs.Leaf.{leafWord}
 use Rattle.shapes.specs.Format.{Shapes, end, item, group, Format, never, of}
 
 abbrev pub sameBool : Bool → Bool → Bool

@@ -1,6 +1,6 @@
 -- Every part lies inside the file, whose length follows from its counts.
 use native.Mathlib.Omega.{arith}
-use mathlib.Core.Path.{_≡_, refl, sym, ap, _∙_}
+use mathlib.Core.Path.{sym, _∙_}
 use borrow.Author.Tests.{not-true, not-false}
 use Rattle.file.proofs.Below.{first-fails}
 use Rattle.file.proofs.Parts.{counts-known, fields-parts}

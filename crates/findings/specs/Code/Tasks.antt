@@ -2,16 +2,16 @@
 -- of the function that is gone through, the words that there is room for, and the most shapes of a format.
 use Prim.Native.Nat.{ℕ, suc, _+_, _*_}
 use mathlib.Core.Bool.{Bool, cond, _&&_}
-use mathlib.Core.List.{List, [], _∷_, _++_, map}
+use mathlib.Core.List.{List, _∷_, _++_, map}
 use lib.ListN.{getD}
 use lib.Dec.{eqb, ltb}
 use Rattle.file.specs.Word.{wordAt}
 use Rattle.file.specs.Sections.{File, fileOf}
-use Rattle.law.specs.Tree.{Run, Sentences, Conditions, Function, Law, keep}
+use Rattle.law.specs.Tree.{Run, Sentences, Conditions, Law, keep}
 use Rattle.law.specs.Reading.{runOf, own, sentencesAt, treeOf}
 use Rattle.shapes.specs.Format.{size}
 use Rattle.formats.specs.Infer.{Inferred}
-use Rattle.matching.specs.Match.{when, each}
+use Rattle.matching.specs.Match.{when}
 use Rattle.lints.specs.Finding.{wordA, wordB, Remark}
 use Rattle.lints.specs.Calls.{Call}
 use Rattle.lints.specs.Dead.{ownDead, blockDead}

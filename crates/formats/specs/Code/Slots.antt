@@ -3,11 +3,11 @@
 --   64 + t     the place of the name of the call at term record t; the number of names where no function has it
 --   576        the number of names
 use Prim.Native.Nat.{ℕ, zero, suc, _+_, _*_, _-_, _≤_, _<_}
-use mathlib.Core.List.{List, [], _∷_}
+use mathlib.Core.List.{List, _∷_}
 use mathlib.Core.Bool.{Bool, true, false, cond, _||_}
 use mathlib.Core.Path.{_≡_}
 use lib.ListN.{length, take, drop, getD}
-use Rattle.names.specs.Name.{folded, sameBytes, orderBytes}
+use Rattle.names.specs.Name.{folded, sameBytes}
 use Rattle.names.specs.declared.Order.{Order}
 use Rattle.names.specs.declared.Order.the-variants.{Less, Equal, Greater}
 use Rattle.file.specs.Word.{wordAt}

@@ -1,7 +1,7 @@
 -- What the functions that infer formats promise, between a row of shapes and the whole call.
 use Prim.Native.Nat.{ℕ, _+_, _*_, _≤_, _<_}
 use mathlib.Core.Bool.{Bool, true, false, not}
-use mathlib.Core.List.{List, [], _∷_, _++_}
+use mathlib.Core.List.{List, _∷_, _++_}
 use mathlib.Core.Path.{_≡_}
 use lib.ListN.{length, drop, replicate}
 use Rattle.file.specs.Answer.{Answer, refused, given}
@@ -10,13 +10,13 @@ use Rattle.law.specs.Tree.{Sentences}
 use Rattle.law.specs.Places.{patternAt, patternPart, resultAt, resultPart}
 use Rattle.law.specs.Reading.{runOf, own}
 use Rattle.law.specs.Code.Index.{Indexed, Readable}
-use Rattle.shapes.specs.Format.{Shapes, Format, never, of, size}
+use Rattle.shapes.specs.Format.{Shapes, Format, of, size}
 use Rattle.shapes.specs.Join.{join}
 use Rattle.shapes.specs.Same.{sameFormat}
 use Rattle.shapes.specs.Words.{formatWords, readFormat}
 use Rattle.buffers.specs.Written.{written}
 use Rattle.formats.specs.FormatOf.{patternShapes, Results, resultShapes}
-use Rattle.formats.specs.Infer.{Entry, find, joinResults, joinPatterns, Rounds, Inferred}
+use Rattle.formats.specs.Infer.{Entry, joinResults, joinPatterns, Rounds, Inferred}
 use Rattle.formats.specs.Store.{StoreHolds, storeSize, storeWords}
 use Rattle.formats.specs.Code.Slots.{SlotsOf, fileNames}
 use Rattle.formats.specs.Code.Rows.{formatAt}

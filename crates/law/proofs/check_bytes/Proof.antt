@@ -1,5 +1,4 @@
 -- A file that the sections refuse, or the check of one that is cut into its sections.
-use mathlib.Core.Path.{_≡_, refl, sym, ap, _∙_}
 use Rattle.file.proofs.SectionLaws.{cut-whole, cut-refused}
 use Rattle.law.proofs.Verdict as verdict
 use borrow.Author.Needs.{needs}

@@ -1,11 +1,9 @@
 -- One law for each refusal (proofs/Verdict.antt), with the tests that led there.
-use native.Mathlib.Omega.{arith}
-use mathlib.Core.Path.{_≡_, refl, sym, ap, _∙_}
+use mathlib.Core.Path.{sym, _∙_}
 use borrow.Author.Tests.{not-true, not-false}
 use borrow.Author.Needs.{needs}
 use Rattle.file.proofs.SectionLaws.{sections-records}
 use Rattle.file.specs.Sections.{fileOf}
-use Rattle.law.specs.Code.Index.{Readable}
 use Rattle.law.proofs.Verdict as verdict
 use borrow.Author.Needs.{needs}
 use Rattle.law.proofs.check_placed.Statement.{statement}

@@ -1,5 +1,5 @@
 -- One law for each refusal (proofs/Verdict.antt), with the tests that led there.
-use mathlib.Core.Path.{_≡_, refl, sym, ap, _∙_}
+use mathlib.Core.Path.{sym, _∙_}
 use borrow.Author.Tests.{not-true, not-false}
 use Rattle.law.proofs.Verdict as verdict
 use borrow.Author.Needs.{needs}

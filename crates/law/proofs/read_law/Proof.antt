@@ -1,5 +1,5 @@
 -- The index of an accepted file as it is filled; zeros for a refused one.
-use mathlib.Core.Path.{_≡_, refl}
+use mathlib.Core.Path.{refl}
 use Rattle.law.proofs.Verdict as verdict
 use borrow.Author.Needs.{needs}
 use Rattle.law.proofs.read_law.Statement.{statement}

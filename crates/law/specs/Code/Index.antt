@@ -6,9 +6,9 @@
 --   202 + c    the term records of the conditions before c, up to the number of conditions
 --   331 + s    the term records of the patterns and results of the sentences before s, up to the number of sentences
 --   460 + t    the first sentence of the block at term record t, below the number of terms
-use Prim.Native.Nat.{ℕ, _+_, _*_, _≤_, _<_, _%_}
+use Prim.Native.Nat.{ℕ, _+_, _*_, _≤_, _<_}
 use mathlib.Core.List.{List}
-use mathlib.Core.Bool.{Bool, true, false}
+use mathlib.Core.Bool.{true}
 use mathlib.Core.Path.{_≡_}
 use lib.ListN.{length, getD}
 use Rattle.file.specs.Answer.{given}

@@ -2,9 +2,6 @@ use Rattle.listing.proofs.TellLaws.{tell-none, spoken, tell-short, tell
 use borrow.Author.Needs.{needs}
 use Rattle.listing.proofs.tell.Statement.{statement}
 use Rattle.listing.proofs.tell.Tie as tie
-use Rattle.listing.proofs.tell.Reads as reads
-use Rattle.listing.proofs.tell.Lts as lts
-use Rattle.messages.proofs.put_message.Reads as put-message-reads
 
 pub tell-spec : {M : Type 1} → statement M
 tell-spec =

@@ -4,11 +4,6 @@ use Rattle.listing.proofs.ReadyLaws.{text-wide, text-full, text-told, f
 use borrow.Author.Needs.{needs}
 use Rattle.listing.proofs.text_ready.Statement.{statement}
 use Rattle.listing.proofs.text_ready.Tie as tie
-use Rattle.listing.proofs.text_ready.Reads as reads
-use Rattle.listing.proofs.text_ready.Lts as lts
-use Rattle.formats.proofs.slots.slots_of.Reads as slots-of-reads
-use Rattle.listing.proofs.gather.gather.Reads as gather-reads
-use Rattle.listing.proofs.tell.Reads as tell-reads
 
 pub text-ready-spec : {M : Type 1} → statement M
 text-ready-spec =

@@ -1,7 +1,7 @@
 -- Parts of the term records, as patterns and as rows that are matched.
 use Prim.Native.Nat.{ℕ, _+_, _-_, _≤_}
 use mathlib.Core.Bool.{Bool, true, false, cond, _&&_}
-use mathlib.Core.List.{List, []}
+use mathlib.Core.List.{List}
 use mathlib.Core.Path.{_≡_}
 use lib.ListN.{length, take, drop}
 use Rattle.names.specs.Name.{foldedIndex}
@@ -9,7 +9,7 @@ use Rattle.file.specs.declared.Symbol as heads
 use Rattle.file.specs.declared.Term.{Term}
 use Rattle.file.specs.declared.Term.the-variants.{Symbol as Symbolic, SVariable, TVariable, EVariable, Bracket, Call, Block}
 use Rattle.law.specs.Tree.{Kind, symbolKind, termKind, expressionKind, noSentence}
-use Rattle.law.specs.Expression.{Terms, nothing, symbol, brackets}
+use Rattle.law.specs.Expression.{Terms, symbol, brackets}
 use Rattle.file.specs.Forest.{contents}
 use Rattle.file.specs.Head.{termAt}
 use Rattle.law.specs.Runs.{endOf, termForest}

@@ -12,7 +12,7 @@ use Rattle.file.specs.declared.Term.the-variants.{Symbol as Symbolic, SVariable
 use Rattle.law.specs.Expression.{nothing, symbol, brackets}
 use Rattle.law.specs.Runs.{endOf}
 use Rattle.law.specs.Variables.{Variable}
-use Rattle.matching.specs.Pattern.{Atom, literal, variable, Pattern}
+use Rattle.matching.specs.Pattern.{literal, variable, Pattern}
 use Rattle.matching.specs.Shadow.{sameAtom, symbolLike, singleTerm}
 use Rattle.matching.specs.Code.Part.{rowOf, from, atomOf, isBracket}
 use Rattle.matching.specs.Code.Step.{mayStand}

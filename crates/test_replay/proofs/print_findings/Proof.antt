@@ -1,9 +1,9 @@
 -- `test_replay::print_findings` is safe and ends. The measure is the number of findings that are left; the store keeps its length.
 use mathlib.Core.Path.{_≡_}
-use Prim.Native.Nat.{_≤_, _-_}
+use Prim.Native.Nat.{_-_}
 use borrow.Author.Needs.{needs}
 use native.Mathlib.Omega.{arith}
-use lib.ListN.{length, length-take}
+use lib.ListN.{length}
 use Rattle.test_replay.proofs.print_findings.Statement.{statement}
 use Rattle.test_replay.proofs.print_findings.Tie as tie
 

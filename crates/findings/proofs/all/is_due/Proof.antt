@@ -1,8 +1,6 @@
 use borrow.Author.Needs.{needs}
 use Rattle.findings.proofs.all.is_due.Statement.{statement}
 use Rattle.findings.proofs.all.is_due.Tie as tie
-use Rattle.findings.proofs.all.is_due.Reads as reads
-use Rattle.findings.proofs.all.is_due.Lts as lts
 
 pub is-due-spec : {M : Type 1} → statement M
 is-due-spec = tie.close (tie.spec

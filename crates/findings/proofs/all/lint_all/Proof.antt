@@ -7,10 +7,6 @@ use Rattle.findings.proofs.AllLaws.{task-asks, task-met, all-met}
 use borrow.Author.Needs.{needs}
 use Rattle.findings.proofs.all.lint_all.Statement.{statement}
 use Rattle.findings.proofs.all.lint_all.Tie as tie
-use Rattle.findings.proofs.all.lint_all.Reads as reads
-use Rattle.findings.proofs.all.lint_all.Lts as lts
-use Rattle.findings.proofs.all.lint_task.Reads as lint-task-reads
-use Rattle.findings.proofs.all.task_of.Reads as task-of-reads
 
 pub lint-all-spec : {M : Type 1} → statement M
 lint-all-spec =

@@ -7,10 +7,6 @@ use Rattle.findings.proofs.AllLaws.{not-due, is-due}
 use borrow.Author.Needs.{needs}
 use Rattle.findings.proofs.all.lint_task.Statement.{statement}
 use Rattle.findings.proofs.all.lint_task.Tie as tie
-use Rattle.findings.proofs.all.lint_task.Reads as reads
-use Rattle.findings.proofs.all.lint_task.Lts as lts
-use Rattle.findings.proofs.all.is_due.Reads as is-due-reads
-use Rattle.findings.proofs.walk.lint_law.Reads as lint-law-reads
 
 pub lint-task-spec : {M : Type 1} → statement M
 lint-task-spec =

@@ -2,10 +2,6 @@ use Rattle.findings.proofs.AllLaws.{task-is}
 use borrow.Author.Needs.{needs}
 use Rattle.findings.proofs.all.task_of.Statement.{statement}
 use Rattle.findings.proofs.all.task_of.Tie as tie
-use Rattle.findings.proofs.all.task_of.Reads as reads
-use Rattle.findings.proofs.all.task_of.Lts as lts
-use Rattle.lints.proofs.levels.is_shown.Reads as is-shown-reads
-use Rattle.lints.proofs.levels.severity_of.Reads as severity-of-reads
 
 pub task-of-spec : {M : Type 1} → statement M
 task-of-spec = tie.close (tie.spec

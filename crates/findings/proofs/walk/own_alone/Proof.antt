@@ -2,11 +2,6 @@ use borrow.Author.Needs.{needs}
 use borrow.Author.Tests.{eq-eqb, ne-eqb}
 use Rattle.findings.proofs.walk.own_alone.Statement.{statement}
 use Rattle.findings.proofs.walk.own_alone.Tie as tie
-use Rattle.findings.proofs.walk.own_alone.Reads as reads
-use Rattle.findings.proofs.walk.own_alone.Lts as lts
-use Rattle.law.proofs.places.first_sentence.Reads as first-sentence-reads
-use Rattle.law.proofs.places.functions.Reads as functions-reads
-use Rattle.law.proofs.places.sentences.Reads as sentences-reads
 
 pub own-alone-spec : {M : Type 1} → statement M
 own-alone-spec =

@@ -1,6 +1,5 @@
 -- The part that is lent is as long as the store's formats.
 use borrow.Author.Needs.{needs}
-use native.Mathlib.Omega.{arith}
 use Prim.Native.Nat.{_+_, _*_}
 use mathlib.Core.Path.{sym}
 use lib.Seq.{length-take-le}

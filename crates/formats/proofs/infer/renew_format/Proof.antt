@@ -8,13 +8,6 @@ use Rattle.shapes.proofs.FormatLaws.{format-in-length}
 use Rattle.formats.proofs.TurnLaws.{lent-format-length, kept-words, kept-test, started-words, started-test}
 use Rattle.formats.proofs.infer.renew_format.Statement.{statement}
 use Rattle.formats.proofs.infer.renew_format.Tie as tie
-use Rattle.formats.proofs.infer.renew_format.Reads as reads
-use Rattle.formats.proofs.infer.renew_format.Lts as lts
-use Rattle.formats.proofs.infer.renew_joined.Reads as renew-joined-reads
-use Rattle.buffers.proofs.copy_words.Reads as copy-words-reads
-use Rattle.shapes.proofs.is_never.Reads as is-never-reads
-use Rattle.shapes.proofs.row_end.Reads as row-end-reads
-use Rattle.shapes.proofs.same_words.Reads as same-words-reads
 
 pub renew-format-spec : {M : Type 1} → statement M
 renew-format-spec =

@@ -1,5 +1,5 @@
 -- `infer::sentences_format` meets its contract, by a law of proofs/SentenceLaws.antt for each return.
-use mathlib.Core.Path.{sym, _∙_}
+use mathlib.Core.Path.{_∙_}
 use native.Mathlib.Omega.{arith}
 use borrow.Author.Needs.{needs}
 use borrow.Author.Tests.{not-true, not-false}

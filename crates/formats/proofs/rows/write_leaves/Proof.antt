@@ -9,10 +9,6 @@ use Rattle.formats.specs.Code.Rows.{LeavesAre}
 use Rattle.formats.proofs.RowLaws.{left-length, leaves-none, leaves-next}
 use Rattle.formats.proofs.rows.write_leaves.Statement.{statement}
 use Rattle.formats.proofs.rows.write_leaves.Tie as tie
-use Rattle.formats.proofs.rows.write_leaves.Reads as reads
-use Rattle.formats.proofs.rows.write_leaves.Lts as lts
-use Rattle.file.proofs.word_at.Reads as word-at-reads
-use Rattle.formats.proofs.rows.leaf_word.Reads as leaf-word-reads
 
 abbrev Inv-loop : tie.InvT-loop
 Inv-loop part out₀ to most n₀ out n = (24 * n ≤ length part) × (to + n ≤ most) × (length out ≡ length out₀) × LeavesAre part out₀ out to most n

@@ -1,5 +1,5 @@
 -- Tables, then the header before them; what is known of the counts comes from the sections.
-use mathlib.Core.Path.{refl, sym, _∙_}
+use mathlib.Core.Path.{sym, _∙_}
 use Rattle.file.proofs.Parts.{counts-known}
 use Rattle.law.proofs.Tables.{indexed-made}
 use Rattle.law.proofs.index.place_records.Statement.{statement}

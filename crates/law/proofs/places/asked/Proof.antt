@@ -1,7 +1,7 @@
 use Rattle.law.specs.Places.{askedPart}
 use native.Mathlib.Omega.{arith}
-use Prim.Native.Nat.{_+_, _*_, _-_, _≤_, _<_}
-use mathlib.Core.Path.{_≡_, sym, ap, _∙_}
+use Prim.Native.Nat.{_-_}
+use mathlib.Core.Path.{_∙_}
 use Rattle.law.proofs.IndexLaws as laws
 use Rattle.law.proofs.places.asked.Statement.{statement}
 use Rattle.law.proofs.places.asked.Tie as tie

@@ -1,5 +1,4 @@
-use mathlib.Core.Path.{_≡_, sym, ap, _∙_}
-use native.Mathlib.Omega.{arith}
+use mathlib.Core.Path.{_∙_}
 use Rattle.file.specs.Sections.{fileOf}
 use Rattle.file.proofs.Fields.{function-inside, fields-functions}
 use Rattle.law.proofs.IndexLaws as laws

@@ -1,6 +1,5 @@
 use native.Mathlib.Omega.{arith}
-use Prim.Native.Nat.{_+_, _*_, _-_, _≤_, _<_}
-use mathlib.Core.Path.{_≡_, sym, ap, _∙_}
+use Prim.Native.Nat.{_-_}
 use Rattle.law.proofs.IndexLaws as laws
 use borrow.Author.Needs.{needs}
 use Rattle.law.proofs.places.records.Statement.{statement}

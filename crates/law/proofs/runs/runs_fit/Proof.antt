@@ -1,14 +1,14 @@
 -- The loop's invariant: the runs of the sentences before s fit.
 use borrow.Author.Needs.{needs}
-use Prim.Native.Nat.{ℕ, _+_, _-_, _≤_, _<_}
+use Prim.Native.Nat.{_-_, _≤_}
 use native.Mathlib.Omega.{arith}
 use borrow.Author.Tests.{not-true, not-false}
-use mathlib.Core.Path.{_≡_, sym, ap, _∙_}
-use mathlib.Core.Bool.{true, false, _&&_}
+use mathlib.Core.Path.{_≡_, sym, _∙_}
+use mathlib.Core.Bool.{true}
 use Rattle.file.specs.Below.{every}
 use Rattle.file.specs.Sections.{fileOf}
-use Rattle.file.proofs.Below.{every-none, every-next, every-fails, first-fails, second-fails, both}
-use Rattle.law.specs.Runs.{runFits, sentenceFits}
+use Rattle.file.proofs.Below.{every-none, every-next, every-fails}
+use Rattle.law.specs.Runs.{sentenceFits}
 use Rattle.law.proofs.runs.runs_fit.Statement.{statement}
 use Rattle.law.proofs.runs.runs_fit.Tie as tie
 

@@ -1,11 +1,9 @@
-use Prim.Native.Nat.{ℕ, _+_, _-_, _≤_, _<_}
-use native.Mathlib.Omega.{arith}
+use Prim.Native.Nat.{_-_}
 use borrow.Author.Tests.{not-true, not-false}
-use mathlib.Core.Path.{_≡_, sym, ap, _∙_}
-use mathlib.Core.Bool.{true, false, _&&_}
+use mathlib.Core.Path.{sym, ap, _∙_}
 use Rattle.file.specs.Sections.{fileOf}
 use Rattle.law.proofs.FitLaws.{pattern-unfit, conditions-unfit, result-decides}
-use Rattle.law.specs.Runs.{runFits, sentenceFits}
+use Rattle.law.specs.Runs.{runFits}
 use borrow.Author.Needs.{needs}
 use Rattle.law.proofs.runs.sentence_fits.Statement.{statement}
 use Rattle.law.proofs.runs.sentence_fits.Tie as tie

@@ -2,10 +2,6 @@ use Rattle.lints.proofs.LevelLaws.{shown-own, shown-said}
 use borrow.Author.Needs.{needs}
 use Rattle.lints.proofs.levels.is_shown.Statement.{statement}
 use Rattle.lints.proofs.levels.is_shown.Tie as tie
-use Rattle.lints.proofs.levels.is_shown.Reads as reads
-use Rattle.lints.proofs.levels.is_shown.Lts as lts
-use Rattle.lints.proofs.levels.is_shown_itself.Reads as is-shown-itself-reads
-use Rattle.lints.proofs.levels.level_of.Reads as level-of-reads
 
 pub is-shown-spec : {M : Type 1} → statement M
 is-shown-spec =

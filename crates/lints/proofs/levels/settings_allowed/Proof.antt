@@ -2,9 +2,6 @@ use Rattle.lints.proofs.LevelLaws.{mode-over, words-over, settings-are}
 use borrow.Author.Needs.{needs}
 use Rattle.lints.proofs.levels.settings_allowed.Statement.{statement}
 use Rattle.lints.proofs.levels.settings_allowed.Tie as tie
-use Rattle.lints.proofs.levels.settings_allowed.Reads as reads
-use Rattle.lints.proofs.levels.settings_allowed.Lts as lts
-use Rattle.lints.proofs.levels.overrides_allowed.Reads as overrides-allowed-reads
 
 pub settings-allowed-spec : {M : Type 1} → statement M
 settings-allowed-spec = tie.close (tie.spec

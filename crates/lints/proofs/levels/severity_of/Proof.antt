@@ -2,10 +2,6 @@ use Rattle.lints.proofs.LevelLaws.{severity-own, severity-said}
 use borrow.Author.Needs.{needs}
 use Rattle.lints.proofs.levels.severity_of.Statement.{statement}
 use Rattle.lints.proofs.levels.severity_of.Tie as tie
-use Rattle.lints.proofs.levels.severity_of.Reads as reads
-use Rattle.lints.proofs.levels.severity_of.Lts as lts
-use Rattle.lints.proofs.levels.level_of.Reads as level-of-reads
-use Rattle.lints.proofs.levels.own_severity.Reads as own-severity-reads
 
 pub severity-of-spec : {M : Type 1} → statement M
 severity-of-spec =

@@ -1,4 +1,3 @@
-use borrow.Author.Needs.{needs}
 use borrow.Author.Tests.{eqb-true}
 use Rattle.listing.proofs.EmptyLaws.{false-says}
 use Rattle.listing.proofs.front.no_records.Statement.{statement}

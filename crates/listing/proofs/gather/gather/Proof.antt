@@ -4,10 +4,6 @@ use Rattle.listing.proofs.CollectedLaws.{infer-wide, filled-prepares, f
 use borrow.Author.Needs.{needs}
 use Rattle.listing.proofs.gather.gather.Statement.{statement}
 use Rattle.listing.proofs.gather.gather.Tie as tie
-use Rattle.listing.proofs.gather.gather.Reads as reads
-use Rattle.listing.proofs.gather.gather.Lts as lts
-use Rattle.formats.proofs.call.infer_store.Reads as infer-store-reads
-use Rattle.listing.proofs.gather.gather_findings.Reads as gather-findings-reads
 
 pub gather-spec : {M : Type 1} → statement M
 gather-spec =

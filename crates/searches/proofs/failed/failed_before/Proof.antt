@@ -1,5 +1,4 @@
 -- `failed_before` meets its contract: it says yes only where the four words are those of the rest.
-use mathlib.Core.Path.{_∙_, sym}
 use borrow.Author.Needs.{needs}
 use Rattle.matching.proofs.SameLaws.{false-not-true}
 use Rattle.searches.proofs.FailedLaws.{rest-within}

@@ -4,9 +4,6 @@ use lib.ListN.{set}
 use borrow.Author.Needs.{needs}
 use Rattle.searches.proofs.literal.push.Statement.{statement}
 use Rattle.searches.proofs.literal.push.Tie as tie
-use Rattle.searches.proofs.literal.push.Reads as reads
-use Rattle.searches.proofs.literal.push.Lts as lts
-use Rattle.matching.proofs.narrow.Reads as narrow-reads
 
 pub push-spec : {M : Type 1} → statement M
 push-spec =

@@ -1,7 +1,5 @@
 -- `parted` meets its contract, by a law of proofs/OpenLaws.antt where the symbols are compared.
-use mathlib.Core.Path.{sym}
 use native.Mathlib.Omega.{arith}
-use borrow.Author.Needs.{needs}
 use Rattle.matching.proofs.SameLaws.{false-not-true}
 use Rattle.sentences.proofs.OpenLaws as laws
 use Rattle.sentences.proofs.loose.parted.Statement.{statement}
