@@ -9,7 +9,7 @@ use borrow.Author.Tests.{lt-ltb, le-ltb}
 use Rattle.file.specs.Word.{wordAt}
 use Rattle.file.specs.Answer.{refused, given, mapAnswer}
 use Rattle.file.specs.Sections.{Section, section, sectionsOf, countsOf, numberOf}
-use Rattle.file.specs.Code.Counts.{countedOf, foundAnswer}
+use Rattle.file.specs.Code.Counts.{countedOf, sectionAnswer}
 use Rattle.file.specs.declared.Counted.{Counted}
 use Rattle.file.specs.declared.Found.{Found}
 use Rattle.file.specs.declared.Found.the-variants.{Refused, Part}
@@ -55,7 +55,7 @@ pub record Reached (law : List ℕ) (limit size at : ℕ) (p : Counted) : Type 0
 
 -- what the code answers of a section that it found, and what is known of it
 pub reached : (law : List ℕ) (limit size at : ℕ) (r : Found) (p : Counted)
-    → foundAnswer r ≡ mapAnswer (countedOf law) (section limit size (drop at law)) → r ≡ Part p → Reached law limit size at p
+    → sectionAnswer r ≡ mapAnswer (countedOf law) (section limit size (drop at law)) → r ≡ Part p → Reached law limit size at p
 reached law limit size at r p h i =
     let g : given p ≡ mapAnswer (countedOf law) (section limit size (drop at law)) = rw i at h in
     map-given (countedOf law) (section limit size (drop at law)) p g λ x e q.
@@ -73,7 +73,7 @@ reached law limit size at r p h i =
 
 -- a section that the code found to be refused
 pub turned-back : (law : List ℕ) (limit size at : ℕ) (r : Found) (n : Refusal)
-    → foundAnswer r ≡ mapAnswer (countedOf law) (section limit size (drop at law)) → r ≡ Refused n → section limit size (drop at law) ≡ refused (numberOf n)
+    → sectionAnswer r ≡ mapAnswer (countedOf law) (section limit size (drop at law)) → r ≡ Refused n → section limit size (drop at law) ≡ refused (numberOf n)
 turned-back law limit size at r n h i =
     let g : refused (numberOf n) ≡ mapAnswer (countedOf law) (section limit size (drop at law)) = rw i at h in
     map-refused (countedOf law) (section limit size (drop at law)) (numberOf n) g
@@ -86,35 +86,35 @@ file-over law h = rw (lt-ltb 16384 (length law) h)
 -- the first section that is refused: `r` is what the code found there
 module _ (law : List ℕ) (small : length law ≤ 16384) (r : Found) (n : Refusal) (i : r ≡ Refused n) where
   -- no section stands before it
-  pub text-refused : foundAnswer r ≡ mapAnswer (countedOf law) (section 4096 1 (drop 0 law))
+  pub text-refused : sectionAnswer r ≡ mapAnswer (countedOf law) (section 4096 1 (drop 0 law))
       → refused (numberOf n) ≡ mapAnswer countsOf (sectionsOf law)
   unfolding sectionsOf
   text-refused h = rw (le-ltb 16384 (length law) small, turned-back law 4096 1 0 r n h i)
 
   module _ (t : Counted) (w₁ : Reached law 4096 1 0 t) where
     -- the text stands before it
-    pub functions-refused : foundAnswer r ≡ mapAnswer (countedOf law) (section 64 20 (drop (t .end) law))
+    pub functions-refused : sectionAnswer r ≡ mapAnswer (countedOf law) (section 64 20 (drop (t .end) law))
         → refused (numberOf n) ≡ mapAnswer countsOf (sectionsOf law)
     unfolding sectionsOf
     functions-refused h = rw (le-ltb 16384 (length law) small, w₁ .whole, turned-back law 64 20 (t .end) r n h i)
 
     module _ (f : Counted) (w₂ : Reached law 64 20 (t .end) f) where
       -- the text and the functions stand before it
-      pub sentences-refused : foundAnswer r ≡ mapAnswer (countedOf law) (section 128 20 (drop (f .end) law))
+      pub sentences-refused : sectionAnswer r ≡ mapAnswer (countedOf law) (section 128 20 (drop (f .end) law))
           → refused (numberOf n) ≡ mapAnswer countsOf (sectionsOf law)
       unfolding sectionsOf
       sentences-refused h = rw (le-ltb 16384 (length law) small, w₁ .whole, w₂ .whole, turned-back law 128 20 (f .end) r n h i)
 
       module _ (s : Counted) (w₃ : Reached law 128 20 (f .end) s) where
         -- the text, the functions and the sentences stand before it
-        pub conditions-refused : foundAnswer r ≡ mapAnswer (countedOf law) (section 128 16 (drop (s .end) law))
+        pub conditions-refused : sectionAnswer r ≡ mapAnswer (countedOf law) (section 128 16 (drop (s .end) law))
             → refused (numberOf n) ≡ mapAnswer countsOf (sectionsOf law)
         unfolding sectionsOf
         conditions-refused h = rw (le-ltb 16384 (length law) small, w₁ .whole, w₂ .whole, w₃ .whole, turned-back law 128 16 (s .end) r n h i)
 
         module _ (k : Counted) (w₄ : Reached law 128 16 (s .end) k) where
           -- all but the last stand before it
-          pub terms-refused : foundAnswer r ≡ mapAnswer (countedOf law) (section 512 24 (drop (k .end) law))
+          pub terms-refused : sectionAnswer r ≡ mapAnswer (countedOf law) (section 512 24 (drop (k .end) law))
               → refused (numberOf n) ≡ mapAnswer countsOf (sectionsOf law)
           unfolding sectionsOf
           terms-refused h = rw (le-ltb 16384 (length law) small, w₁ .whole, w₂ .whole, w₃ .whole, w₄ .whole, turned-back law 512 24 (k .end) r n h i)

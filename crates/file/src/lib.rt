@@ -10,7 +10,7 @@ ghost use lib.Dec.{leb};
 ghost use Rattle.file.specs.Word.{wordAt};
 ghost use Rattle.file.specs.Answer.{given, mapAnswer};
 ghost use Rattle.file.specs.Sections.{section, numberOf, cutAnswer, countsOf, sectionsOf, fileOf};
-ghost use Rattle.file.specs.Code.Counts.{foundAnswer, countedOf};
+ghost use Rattle.file.specs.Code.Counts.{sectionAnswer, countedOf};
 ghost use Rattle.file.specs.Head.{termFrom, termAt};
 ghost use Rattle.file.specs.Fields.{spelled, unused, scalarAllowed, termAllowed, functionsAllowed, termsAllowed, fieldsAllowed};
 ghost use Rattle.names.specs.Name.{nameAllowed, numberAllowed};
@@ -133,7 +133,7 @@ pub fn term_at(s: &[u8], at: usize) -> Term
 // The section at a byte position. The count is held to its limit before it is multiplied, so that the product cannot wrap.
 fn section_at(law: &[u8], at: usize, limit: usize, size: usize) -> Found
     requires { ⌜ (at ≤ length (now law)) × (limit ≤ 4096) × (size ≤ 24) ⌝ }
-    ensures { λ r. ⌜ foundAnswer r ≡ mapAnswer (countedOf (now (law .entry))) (section limit size (drop at (now (law .entry)))) ⌝ }
+    ensures { λ r. ⌜ sectionAnswer r ≡ mapAnswer (countedOf (now (law .entry))) (section limit size (drop at (now (law .entry)))) ⌝ }
 {
     let left = law.len() - at;
     if left < 4 {

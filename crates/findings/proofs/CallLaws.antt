@@ -18,7 +18,7 @@ use Rattle.law.specs.Reading.{own}
 use Rattle.law.proofs.IndexLaws.{zero-offset}
 use Rattle.law.proofs.Parts.{terms-length, terms-word}
 use Rattle.shapes.specs.Format.{of, size}
-use Rattle.shapes.specs.Disjoint.{disjoint}
+use Rattle.shapes.specs.Disjoint.{disjointFormats}
 use Rattle.formats.specs.Infer.{Inferred}
 use Rattle.formats.specs.Code.Slots.{callFolded}
 use Rattle.formats.proofs.SlotLaws.{call-name-inside, call-name-read}
@@ -36,7 +36,7 @@ use Rattle.findings.specs.declared.Task.{Task}
 use Rattle.findings.specs.declared.Note.{Note}
 use Rattle.lints.specs.declared.recognition.Verdict.{Verdict}
 use Rattle.lints.specs.declared.recognition.Verdict.the-variants.{Nothing, TooWide, ByFormats, ByLiterals}
-use Rattle.findings.specs.Code.Events.{Tally, Over, Event, found, tooWide, Sink, sinkOf, met, collect}
+use Rattle.findings.specs.Code.Events.{Tally, Over, Event, noting, tooWide, Sink, sinkOf, met, collect}
 use Rattle.findings.specs.Code.Tasks.{noteWords, remarkEvents, recognitionEvents, callEvents, callsAt}
 use Rattle.findings.specs.Code.Judging.{callNote, callFound, verdictEvents, failureEvents, isOver}
 use Rattle.lints.specs.Code.Verdicts.{verdictOf}
@@ -85,8 +85,8 @@ module _ (file : File) (whole : length (file .terms .records) ≡ 24 * file .ter
 
 -- a finding as it is put
 pub put-met : (file : File) (task : Task) (t a room : ℕ) (tally : Tally) (words : List ℕ) {note : Note} {s : Sink} → note ≡ callNote file t a
-    → s ≡ met room (found (noteWords task note)) tally words → s ≡ met room (callFound file task t a) tally words
-put-met file task t a room tally words e h = h ∙ ap (λ n. met room (found (noteWords task n)) tally words) e
+    → s ≡ met room (noting (noteWords task note)) tally words → s ≡ met room (callFound file task t a) tally words
+put-met file task t a room tally words e h = h ∙ ap (λ n. met room (noting (noteWords task n)) tally words) e
 
 -- findings that are hidden, or shown
 pub shown-not : (room : ℕ) (s : Sink) (shown : Bool) (es : List Event) → not shown ≡ true → s ≡ collect room s (when shown es)
@@ -108,7 +108,7 @@ verdict-events : (file : File) (task : Task) (formats : Inferred) (law : Law) (t
 unfolding verdictOf recognitionEvents judged remarkEvents
 verdict-events file task formats law t =
     go (compared law (callAt file t)) (ltb (task .limit) (size (passed formats (callAt file t))))
-    (disjoint (of (passed formats (callAt file t))) (accepted formats (callAt file t))) (isLiteral (argumentIn file t))
+    (disjointFormats (of (passed formats (callAt file t))) (accepted formats (callAt file t))) (isLiteral (argumentIn file t))
   where
     go : (a b c d : Bool)
         → verdictEvents file task t (cond a (cond b TooWide (cond c ByFormats (cond d ByLiterals Nothing))) Nothing)

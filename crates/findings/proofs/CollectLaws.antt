@@ -7,7 +7,7 @@ use lib.ListN.{length, set}
 use borrow.Author.Tests.{le-leb, lt-leb}
 use Rattle.buffers.specs.Written.{written}
 use Rattle.buffers.proofs.WrittenLaws.{written-one, written-more, written-length}
-use Rattle.findings.specs.Code.Events.{Tally, Full, Upto, Event, found, Sink, sinkOf, afterNote, met, collect}
+use Rattle.findings.specs.Code.Events.{Tally, Full, Upto, Event, noting, Sink, sinkOf, afterNote, met, collect}
 
 -- ---- writing
 
@@ -44,17 +44,17 @@ pub note-left : (words after finding : List ℕ) (n : ℕ) → length words / 8 
 note-left words after finding n h e = rw (lt-leb (8 * n + 8) (length words) (omega arith)) e
 
 -- no finding counts after the end, or where there are too many
-pub note-ended : (room : ℕ) (tally : Tally) (words finding : List ℕ) → tally < 2 → sinkOf tally words ≡ met room (found finding) tally words
+pub note-ended : (room : ℕ) (tally : Tally) (words finding : List ℕ) → tally < 2 → sinkOf tally words ≡ met room (noting finding) tally words
 note-ended room zero words finding h = refl
 note-ended room (suc zero) words finding h = refl
 note-ended room (suc (suc n)) words finding h = absurd (omega (arith, h))
 
 -- after n of them
-pub note-none : (room n : ℕ) (tally : Tally) (words finding : List ℕ) → tally ≡ Upto n → room / 8 ≤ n → sinkOf Full words ≡ met room (found finding) tally words
+pub note-none : (room n : ℕ) (tally : Tally) (words finding : List ℕ) → tally ≡ Upto n → room / 8 ≤ n → sinkOf Full words ≡ met room (noting finding) tally words
 note-none room n tally words finding e h = rw (e, lt-leb (8 * n + 8) room (omega (arith, h)))
 
 pub note-one : (room n : ℕ) (tally : Tally) (words after finding : List ℕ) → tally ≡ Upto n → n < room / 8 → after ≡ afterNote words n finding
-    → sinkOf (tally + 1) after ≡ met room (found finding) tally words
+    → sinkOf (tally + 1) after ≡ met room (noting finding) tally words
 note-one room n tally words after finding e h p =
     let next : tally + 1 ≡ Upto (n + 1) = omega (arith, e) in
     rw (next, e, le-leb (8 * n + 8) room (omega (arith, h)), p)

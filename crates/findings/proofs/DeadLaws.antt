@@ -22,7 +22,7 @@ use Rattle.lints.specs.Dead.{Earlier, unconditional, earliest, deadAfter}
 use Rattle.lints.specs.Code.Records.{conditionsAt, earlierAt, numberOr0}
 use Rattle.lints.proofs.DeadLaws.{orElse, earliest-append}
 use Rattle.findings.specs.declared.Task.{Task}
-use Rattle.findings.specs.Code.Events.{Tally, found, Sink, sinkOf, met, collect}
+use Rattle.findings.specs.Code.Events.{Tally, noting, Sink, sinkOf, met, collect}
 use Rattle.findings.specs.Code.Tasks.{noteWords, remarkEvent, remarkEvents}
 use Rattle.findings.proofs.CollectLaws.{collect-append}
 use Rattle.findings.specs.Code.DeadSteps.{sentenceWords, deadEvents, deadFrom}
@@ -80,8 +80,8 @@ some-of (some k) n e z = ap (λ m. some m) (sym e)
 -- the eight words of a finding on a sentence, as the code reads its span
 pub sentence-noted : (file : File) (task : Task) (s a b start stop : ℕ) (tally : Tally) (words : List ℕ) {after : Sink}
     → start ≡ wordAt (file .sentences .records) (20 * s + 12) → stop ≡ wordAt (file .sentences .records) (20 * s + 16)
-    → after ≡ met (task .room) (found (noteWords task (record { start = start; end = stop; a = a; b = b; subject = s }))) tally words
-    → after ≡ met (task .room) (found (sentenceWords file task s a b)) tally words
+    → after ≡ met (task .room) (noting (noteWords task (record { start = start; end = stop; a = a; b = b; subject = s }))) tally words
+    → after ≡ met (task .room) (noting (sentenceWords file task s a b)) tally words
 sentence-noted file task s a b start stop tally words p q h =
     let place : 20 * s + 12 + 4 ≡ 20 * s + 16 = omega arith in
     rw (place, ← p, ← q) h
@@ -105,7 +105,7 @@ module _ (file : File) (task : Task) (first : ℕ) where
 
     -- one does
     pub is-dead : {after : Sink} → (n ≡ 0 → ⊥)
-        → after ≡ met (task .room) (found (sentenceWords file task (first + later) (later + 1) n)) tally words → (inBlock : Bool)
+        → after ≡ met (task .room) (noting (sentenceWords file task (first + later) (later + 1) n)) tally words → (inBlock : Bool)
         → after ≡ collect (task .room) (sinkOf tally words) (deadEvents file task inBlock first later)
     unfolding deadEvents collect remarkEvents
     is-dead z e inBlock = rw (some-of (earliestBefore later) n h z, ← add-one later) e

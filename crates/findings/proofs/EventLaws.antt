@@ -8,7 +8,7 @@ use lib.Dec.{eqb, ltb, leb}
 use Rattle.law.specs.Tree.{Name, Mark, Sentences, noSentence, sentence, Function, Law}
 use Rattle.law.specs.Variables.{Variable}
 use Rattle.shapes.specs.Format.{of, size}
-use Rattle.shapes.specs.Disjoint.{disjoint}
+use Rattle.shapes.specs.Disjoint.{disjointFormats}
 use Rattle.formats.specs.Infer.{Inferred}
 use Rattle.matching.specs.Pattern.{patternOf}
 use Rattle.matching.specs.Match.{when, each}
@@ -23,7 +23,7 @@ use Rattle.lints.specs.Open.{eOccurrences, openIn, openRemarks, openFindings}
 use Rattle.lints.specs.Levels.{Settings, severityOf, isShown, shown}
 use Rattle.lints.specs.Findings.{findingsOf}
 use Rattle.findings.specs.declared.Task.{Task}
-use Rattle.findings.specs.Code.Events.{Event, found, tooWide}
+use Rattle.findings.specs.Code.Events.{Event, noting, tooWide}
 use Rattle.findings.specs.Code.Tasks.{remarkEvent, remarkEvents, recognitionEvents, callEvents, blockEvents, functionEvents, atPosition, functionsEvents}
 use Rattle.findings.specs.Code.All.{taskFor, taskEvents, allEvents}
 use Rattle.findings.proofs.WalkEvents.{each-append, walk-sentence-calls, walk-sentence-blocks}
@@ -87,7 +87,7 @@ dead-of f =
 
 judged-of : (formats : Inferred) (c : Call) → Of recognitionImpossible (judged formats c)
 unfolding judged
-judged-of formats c = go (disjoint (of (passed formats c)) (accepted formats c)) (isLiteral (c .argument))
+judged-of formats c = go (disjointFormats (of (passed formats c)) (accepted formats c)) (isLiteral (c .argument))
   where
     go : (apart literal : Bool) → Of recognitionImpossible (cond apart
         (record { subject = c .mark; claim = byFormats (c .name) (accepted formats c) (of (passed formats c)) } ∷ [])
@@ -147,7 +147,7 @@ module _ (settings : Settings) where
   wordsUnder f = findingWords (severityOf settings (lintOf (f .claim))) f
 
   abbrev pub eventOf : Finding → Event
-  eventOf f = found (wordsUnder f)
+  eventOf f = noting (wordsUnder f)
 
   -- settings show all findings of a lint, or none
   shown-of : (l : Lint) (b : Bool) → isShown settings l ≡ b → (fs : List Finding) → OfFound l fs → shown settings fs ≡ when b fs

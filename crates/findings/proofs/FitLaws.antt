@@ -10,19 +10,19 @@ use lib.ListN.{length}
 use Rattle.buffers.specs.Written.{written}
 use Rattle.buffers.proofs.WrittenLaws.{written-none, written-more, written-length}
 use Rattle.matching.specs.Match.{each}
-use Rattle.findings.specs.Code.Events.{Full, Upto, Event, found, Sink, sinkOf, afterNote, met, collect}
+use Rattle.findings.specs.Code.Events.{Full, Upto, Event, noting, Sink, sinkOf, afterNote, met, collect}
 
 -- findings of eight words each
 module _ {X : Type 0} (words : X → List ℕ) (eight : (x : X) → length (words x) ≡ 8) where
   abbrev pub allFound : List X → List Event
-  allFound xs = map (λ (x : X). found (words x)) xs
+  allFound xs = map (λ (x : X). noting (words x)) xs
 
   -- the first of them, with room for it
   first-fits : (room n : ℕ) (buffer : List ℕ) (x : X) → 8 * n + 8 ≤ room
-      → met room (found (words x)) (Upto n) buffer ≡ sinkOf (Upto (n + 1)) (afterNote buffer n (words x))
+      → met room (noting (words x)) (Upto n) buffer ≡ sinkOf (Upto (n + 1)) (afterNote buffer n (words x))
   first-fits room n buffer x h = rw (le-leb (8 * n + 8) room h)
 
-  first-over : (room n : ℕ) (buffer : List ℕ) (x : X) → room < 8 * n + 8 → met room (found (words x)) (Upto n) buffer ≡ sinkOf Full buffer
+  first-over : (room n : ℕ) (buffer : List ℕ) (x : X) → room < 8 * n + 8 → met room (noting (words x)) (Upto n) buffer ≡ sinkOf Full buffer
   first-over room n buffer x h = rw (lt-leb (8 * n + 8) room h)
 
   first-written : (n : ℕ) (buffer : List ℕ) (x : X) → 8 * n + 8 ≤ length buffer → afterNote buffer n (words x) ≡ written buffer (8 * n) (words x)
@@ -70,7 +70,7 @@ module _ {X : Type 0} (words : X → List ℕ) (eight : (x : X) → length (word
   collect-full room n buffer (x ∷ xs) low more = go (decLe (8 * n + 8) room) (λ l. collect-full room (n + 1) (afterNote buffer n (words x)) xs (omega (arith, l)) (omega (arith, more)))
     where
       go : Dec (8 * n + 8 ≤ room) → (8 * n + 8 ≤ room → collect room (sinkOf (Upto (n + 1)) (afterNote buffer n (words x))) (allFound xs) .tally ≡ Full)
-          → collect room (met room (found (words x)) (Upto n) buffer) (allFound xs) .tally ≡ Full
+          → collect room (met room (noting (words x)) (Upto n) buffer) (allFound xs) .tally ≡ Full
       go (yes l) rest = ap (λ (s : Sink). collect room s (allFound xs) .tally) (first-fits room n buffer x l) ∙ rest l
       go (no l) rest =
           ap (λ (s : Sink). collect room s (allFound xs) .tally) (first-over room n buffer x (omega (arith, l)))

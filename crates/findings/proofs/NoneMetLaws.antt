@@ -15,7 +15,7 @@ use Rattle.file.proofs.Below.{both-first, both-second}
 use Rattle.file.specs.declared.Term.{Term}
 use Rattle.file.specs.declared.Term.the-variants.{Symbol as Symbolic, SVariable, TVariable, EVariable, Bracket, Call, Block}
 use Rattle.law.specs.Tree.{Mark, Run, Sentences, noSentence, keep}
-use Rattle.law.specs.Places.{firstSentence, blockFirst, askedAt, askedSize, askedPart, wantedPart, conditionsOf, firstCondition, patternAt, patternPart, resultAt, resultPart}
+use Rattle.law.specs.Places.{firstSentence, blockFirst, conditionResultAt, conditionResultSize, conditionResultPart, conditionPatternPart, conditionsOf, firstCondition, patternAt, patternPart, resultAt, resultPart}
 use Rattle.law.specs.Runs.{termForest}
 use Rattle.law.specs.Reading.{markAt, termRun, forestRun, runOf, conditionsFrom, sentencesFrom, sentencesAt, own}
 use Rattle.law.specs.Code.Index.{Indexed, Readable}
@@ -66,7 +66,7 @@ module _ (onCall : CallOf → List Event) (onBlock : Sentences → List Event) (
     unfolding walked conditionsFrom
     none-in-conditions s zero c = refl
     none-in-conditions s (suc n) c =
-        rw (none-in-run (askedAt file s c) (askedPart file s c), none-in-run (askedAt file s c + askedSize file c) (wantedPart file s c), none-in-conditions s n (suc c))
+        rw (none-in-run (conditionResultAt file s c) (conditionResultPart file s c), none-in-run (conditionResultAt file s c + conditionResultSize file c) (conditionPatternPart file s c), none-in-conditions s n (suc c))
 
     none-in-sentences : Readable file → (n s : ℕ) → s + n ≤ file .sentences .count → walkedSentences onCall onBlock true (keep n (sentencesAt file s)) ≡ []
     unfolding walked keep

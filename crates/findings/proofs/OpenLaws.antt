@@ -20,7 +20,7 @@ use Rattle.lints.specs.Open.{eOccurrences, openIn}
 use Rattle.lints.specs.Code.Part.{argumentOf}
 use Rattle.lints.proofs.PartLaws.{e-same}
 use Rattle.findings.specs.declared.Task.{Task}
-use Rattle.findings.specs.Code.Events.{Tally, Event, found, Sink, sinkOf, met, collect}
+use Rattle.findings.specs.Code.Events.{Tally, Event, noting, Sink, sinkOf, met, collect}
 use Rattle.findings.specs.Code.Tasks.{remarkEvents}
 use Rattle.findings.specs.Code.DeadSteps.{sentenceWords}
 use Rattle.findings.proofs.CollectLaws.{collect-append}
@@ -64,7 +64,7 @@ module _ (file : File) (readable : Readable file) (task : Task) where
     open-few h = rw (open-one s inside, number-is, lt-leb 2 n h)
 
     -- two or more
-    pub open-many : (after : Sink) → 2 ≤ n → after ≡ met (task .room) (found (sentenceWords file task s n 0)) tally words
+    pub open-many : (after : Sink) → 2 ≤ n → after ≡ met (task .room) (noting (sentenceWords file task s n 0)) tally words
         → after ≡ collect (task .room) (sinkOf tally words) (openFrom file task 1 s)
     unfolding collect remarkEvents
     open-many after h e = rw (open-one s inside, number-is, le-leb 2 n h) e

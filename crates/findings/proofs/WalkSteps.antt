@@ -15,16 +15,16 @@ use Rattle.file.specs.Forest.{contents, rest}
 use Rattle.file.specs.Head.{termAt}
 use Rattle.file.specs.Sections.{File, fileOf}
 use Rattle.law.specs.Tree.{empty, noSentence, keep}
-use Rattle.law.specs.Places.{blockFirst, sentencesOf, firstSentence, conditionsOf, firstCondition, patternAt, resultAt, patternPart, resultPart, askedAt, askedSize, askedPart, wantedPart, Owns}
+use Rattle.law.specs.Places.{blockFirst, sentencesOf, firstSentence, conditionsOf, firstCondition, patternAt, resultAt, patternPart, resultPart, conditionResultAt, conditionResultSize, conditionResultPart, conditionPatternPart, Owns}
 use Rattle.law.specs.Runs.{endOf}
 use Rattle.law.specs.Reading.{markAt, runOf, own, sentencesAt, sentencesIn, conditionsFrom, treeOf}
 use Rattle.law.specs.Code.Index.{Indexed, Readable, PartAt}
 use Rattle.law.proofs.Parts.{terms-word, terms-contents}
 use Rattle.law.proofs.RunLaws.{end-high, run-empty, run-node, fits-first}
 use Rattle.law.proofs.Functions.{functionsAt, tree-functions, function-reads, functions-end as functions-over, kept-reads}
-use Rattle.law.proofs.PartLaws.{part-length, part-at, part-inside, part-leaf, part-end, part-sentences, contents-part, rest-part, part-small, pattern-part, result-part, asked-part, wanted-part}
+use Rattle.law.proofs.PartLaws.{part-length, part-at, part-inside, part-leaf, part-end, part-sentences, contents-part, rest-part, part-small, pattern-part, result-part, condition-result-part, condition-pattern-part}
 use Rattle.law.proofs.PlaceLaws.{function-inside}
-use Rattle.law.proofs.IndexLaws.{functions-limit, sentences-limit, conditions-limit, terms-limit, sentences-before, conditions-before, owns, owned, asked-fits}
+use Rattle.law.proofs.IndexLaws.{functions-limit, sentences-limit, conditions-limit, terms-limit, sentences-before, conditions-before, owns, owned, condition-result-fits}
 use Rattle.formats.specs.Infer.{Inferred}
 use Rattle.matching.specs.Match.{when, each}
 use Rattle.sentences.specs.Entry.{argumentPart, argumentIn}
@@ -161,8 +161,8 @@ module _ (file : File) (formats : Inferred) (task : Task) where
   -- one condition, and the conditions after it
   conditions-first : (s n c : ℕ)
       → conditionsMet s (suc n) c
-      ≡ runMet (askedAt file s c) (askedPart file s c)
-      ++ patternMet (askedAt file s c + askedSize file c) (wantedPart file s c)
+      ≡ runMet (conditionResultAt file s c) (conditionResultPart file s c)
+      ++ patternMet (conditionResultAt file s c + conditionResultSize file c) (conditionPatternPart file s c)
       ++ conditionsMet s n (suc c)
   unfolding walked conditionsFrom
   conditions-first s n c = refl
@@ -266,8 +266,8 @@ module _ (file : File) (formats : Inferred) (task : Task) where
 
   -- the conditions that a loop has left, after i of them
   pub conditions-next : (s count first i at next : ℕ) (p w : List ℕ) (whole now left t : Sink) → i < count
-      → at ≡ askedAt file s (first + i) → p ≡ askedPart file s (first + i)
-      → next ≡ askedSize file (first + i) → w ≡ wantedPart file s (first + i)
+      → at ≡ conditionResultAt file s (first + i) → p ≡ conditionResultPart file s (first + i)
+      → next ≡ conditionResultSize file (first + i) → w ≡ conditionPatternPart file s (first + i)
       → whole ≡ after now (conditionsMet file formats task s (count - i) (first + i))
       → left ≡ after now (runMet file formats task at p)
       → t ≡ after left (patternMet file formats task (at + next) w)
@@ -278,7 +278,7 @@ module _ (file : File) (formats : Inferred) (task : Task) where
       let both = rw (a, b, c, d) at (collect-then (task .room) now left t _ _ j k) in
       inv
       ∙ rw (less, conditions-first file formats task s (count - (i + 1)) (first + i))
-      (rw (collect-append (task .room) now (runMet file formats task (askedAt file s (first + i)) (askedPart file s (first + i)) ++ patternMet file formats task (askedAt file s (first + i) + askedSize file (first + i)) (wantedPart file s (first + i))), ← both, place) refl)
+      (rw (collect-append (task .room) now (runMet file formats task (conditionResultAt file s (first + i)) (conditionResultPart file s (first + i)) ++ patternMet file formats task (conditionResultAt file s (first + i) + conditionResultSize file (first + i)) (conditionPatternPart file s (first + i))), ← both, place) refl)
 
   pub conditions-start : (s count first : ℕ) (start : Sink) → first ≡ firstCondition file s → count ≡ conditionsOf file s
       → after start (conditionsMet file formats task s (conditionsOf file s) (firstCondition file s))
@@ -413,16 +413,16 @@ module _ (file : File) where
 
   conditions-size : (s n c : ℕ)
       → conditionsSize (conditionsFrom file (own file) s (suc n) c)
-      ≡ suc (runSize (runOf file (own file) (askedAt file s c) (askedPart file s c))
-      + (runSize (runOf file (own file) (askedAt file s c + askedSize file c) (wantedPart file s c))
+      ≡ suc (runSize (runOf file (own file) (conditionResultAt file s c) (conditionResultPart file s c))
+      + (runSize (runOf file (own file) (conditionResultAt file s c + conditionResultSize file c) (conditionPatternPart file s c))
       + conditionsSize (conditionsFrom file (own file) s n (suc c))))
   unfolding runSize conditionsFrom
   conditions-size s n c = refl
 
   -- one of some conditions
   condition-in : (s n c i : ℕ) → i < n
-      → runSize (runOf file (own file) (askedAt file s (c + i)) (askedPart file s (c + i)))
-      + runSize (runOf file (own file) (askedAt file s (c + i) + askedSize file (c + i)) (wantedPart file s (c + i)))
+      → runSize (runOf file (own file) (conditionResultAt file s (c + i)) (conditionResultPart file s (c + i)))
+      + runSize (runOf file (own file) (conditionResultAt file s (c + i) + conditionResultSize file (c + i)) (conditionPatternPart file s (c + i)))
       < conditionsSize (conditionsFrom file (own file) s n c)
   condition-in s zero c i h = absurd (omega arith)
   condition-in s (suc n) c zero h =
@@ -432,13 +432,13 @@ module _ (file : File) where
       let place : c + suc i ≡ suc c + i = omega arith in
       rw place (omega (arith, conditions-size s n c, condition-in s n (suc c) i (omega arith)))
 
-  pub asked-less : (s i at t : ℕ) (p : List ℕ) → i < conditionsOf file s → at ≡ askedAt file s (firstCondition file s + i)
-      → p ≡ askedPart file s (firstCondition file s + i) → conditionsWork s ≡ t → runWork at p < t
-  asked-less s i at t p h a b m = rw (a, b) (omega (arith, condition-in s (conditionsOf file s) (firstCondition file s) i h, m))
+  pub condition-result-less : (s i at t : ℕ) (p : List ℕ) → i < conditionsOf file s → at ≡ conditionResultAt file s (firstCondition file s + i)
+      → p ≡ conditionResultPart file s (firstCondition file s + i) → conditionsWork s ≡ t → runWork at p < t
+  condition-result-less s i at t p h a b m = rw (a, b) (omega (arith, condition-in s (conditionsOf file s) (firstCondition file s) i h, m))
 
-  pub wanted-less : (s i at n t : ℕ) (p : List ℕ) → i < conditionsOf file s → at ≡ askedAt file s (firstCondition file s + i)
-      → n ≡ askedSize file (firstCondition file s + i) → p ≡ wantedPart file s (firstCondition file s + i) → conditionsWork s ≡ t → patternWork (at + n) p < t
-  wanted-less s i at n t p h a b c m = rw (a, b, c) (omega (arith, condition-in s (conditionsOf file s) (firstCondition file s) i h, m))
+  pub condition-pattern-less : (s i at n t : ℕ) (p : List ℕ) → i < conditionsOf file s → at ≡ conditionResultAt file s (firstCondition file s + i)
+      → n ≡ conditionResultSize file (firstCondition file s + i) → p ≡ conditionPatternPart file s (firstCondition file s + i) → conditionsWork s ≡ t → patternWork (at + n) p < t
+  condition-pattern-less s i at n t p h a b c m = rw (a, b, c) (omega (arith, condition-in s (conditionsOf file s) (firstCondition file s) i h, m))
 
   -- a pattern as a run
   pub run-less : (at t : ℕ) (p : List ℕ) → patternWork at p ≡ t → runWork at p < t
@@ -573,29 +573,29 @@ module _ {bytes index slots store : List ℕ} {limit : ℕ} (prepared : Prepared
       pub condition-small : first + i < 128
       condition-small = omega (arith, condition-inside, conditions-limit bytes index indexed)
 
-      pub asked-reads : (at : ℕ) (p : List ℕ) → at ≡ askedAt (fileOf bytes) s (first + i) → p ≡ askedPart (fileOf bytes) s (first + i)
+      pub condition-result-reads : (at : ℕ) (p : List ℕ) → at ≡ conditionResultAt (fileOf bytes) s (first + i) → p ≡ conditionResultPart (fileOf bytes) s (first + i)
           → PartAt (fileOf bytes) at p
-      asked-reads at p a b = rw (a, b) (asked-part (fileOf bytes) readable s (first + i) condition-owned)
+      condition-result-reads at p a b = rw (a, b) (condition-result-part (fileOf bytes) readable s (first + i) condition-owned)
 
-      pub wanted-reads : (at n : ℕ) (p : List ℕ) → at ≡ askedAt (fileOf bytes) s (first + i) → n ≡ askedSize (fileOf bytes) (first + i)
-          → p ≡ wantedPart (fileOf bytes) s (first + i) → PartAt (fileOf bytes) (at + n) p
-      wanted-reads at n p a b c = rw (a, b, c) (wanted-part (fileOf bytes) readable s (first + i) condition-owned)
+      pub condition-pattern-reads : (at n : ℕ) (p : List ℕ) → at ≡ conditionResultAt (fileOf bytes) s (first + i) → n ≡ conditionResultSize (fileOf bytes) (first + i)
+          → p ≡ conditionPatternPart (fileOf bytes) s (first + i) → PartAt (fileOf bytes) (at + n) p
+      condition-pattern-reads at n p a b c = rw (a, b, c) (condition-pattern-part (fileOf bytes) readable s (first + i) condition-owned)
 
-      pub wanted-small : (at n : ℕ) → at ≡ askedAt (fileOf bytes) s (first + i) → n ≡ askedSize (fileOf bytes) (first + i) → at + n ≤ 512
-      wanted-small at n a b = omega (arith, asked-fits bytes index indexed s (first + i) condition-owned, terms-limit bytes index indexed, a, b)
+      pub condition-pattern-small : (at n : ℕ) → at ≡ conditionResultAt (fileOf bytes) s (first + i) → n ≡ conditionResultSize (fileOf bytes) (first + i) → at + n ≤ 512
+      condition-pattern-small at n a b = omega (arith, condition-result-fits bytes index indexed s (first + i) condition-owned, terms-limit bytes index indexed, a, b)
 
       -- each is smaller than the conditions
-      pub asked-falls : (at t : ℕ) (p : List ℕ) → at ≡ askedAt (fileOf bytes) s (first + i) → p ≡ askedPart (fileOf bytes) s (first + i)
+      pub asked-falls : (at t : ℕ) (p : List ℕ) → at ≡ conditionResultAt (fileOf bytes) s (first + i) → p ≡ conditionResultPart (fileOf bytes) s (first + i)
           → conditionsWork (fileOf bytes) s ≡ t → runWork (fileOf bytes) at p < t
       asked-falls at t p a b m =
-          asked-less (fileOf bytes) s i at t p (omega (arith, all)) (a ∙ ap (λ c. askedAt (fileOf bytes) s (c + i)) from)
-          (b ∙ ap (λ c. askedPart (fileOf bytes) s (c + i)) from) m
+          condition-result-less (fileOf bytes) s i at t p (omega (arith, all)) (a ∙ ap (λ c. conditionResultAt (fileOf bytes) s (c + i)) from)
+          (b ∙ ap (λ c. conditionResultPart (fileOf bytes) s (c + i)) from) m
 
-      pub wanted-falls : (at n t : ℕ) (p : List ℕ) → at ≡ askedAt (fileOf bytes) s (first + i) → n ≡ askedSize (fileOf bytes) (first + i)
-          → p ≡ wantedPart (fileOf bytes) s (first + i) → conditionsWork (fileOf bytes) s ≡ t → patternWork (fileOf bytes) (at + n) p < t
+      pub wanted-falls : (at n t : ℕ) (p : List ℕ) → at ≡ conditionResultAt (fileOf bytes) s (first + i) → n ≡ conditionResultSize (fileOf bytes) (first + i)
+          → p ≡ conditionPatternPart (fileOf bytes) s (first + i) → conditionsWork (fileOf bytes) s ≡ t → patternWork (fileOf bytes) (at + n) p < t
       wanted-falls at n t p a b c m =
-          wanted-less (fileOf bytes) s i at n t p (omega (arith, all)) (a ∙ ap (λ c. askedAt (fileOf bytes) s (c + i)) from)
-          (b ∙ ap (λ c. askedSize (fileOf bytes) (c + i)) from) (c ∙ ap (λ c. wantedPart (fileOf bytes) s (c + i)) from) m
+          condition-pattern-less (fileOf bytes) s i at n t p (omega (arith, all)) (a ∙ ap (λ c. conditionResultAt (fileOf bytes) s (c + i)) from)
+          (b ∙ ap (λ c. conditionResultSize (fileOf bytes) (c + i)) from) (c ∙ ap (λ c. conditionPatternPart (fileOf bytes) s (c + i)) from) m
 
   -- a function's own sentences: the first of them, their number, and that they are in the file
   module _ (f : ℕ) (inside : f < fileOf bytes .functions .count) where

@@ -17,7 +17,7 @@ ghost use Rattle.law.specs.Reading.{sentencesAt};
 ghost use Rattle.law.specs.Code.Index.{Indexed};
 ghost use Rattle.law.specs.Law.{Accepted};
 ghost use Rattle.lints.specs.Dead.{earliest, deadAfter};
-ghost use Rattle.findings.specs.Code.Events.{found, sinkOf, met, collect};
+ghost use Rattle.findings.specs.Code.Events.{noting, sinkOf, met, collect};
 ghost use Rattle.findings.specs.Code.Tasks.{remarkEvents};
 ghost use Rattle.findings.specs.Code.DeadSteps.{sentenceWords, deadEvents};
 
@@ -49,7 +49,7 @@ pub fn put_sentence(
     tally: Tally,
 ) -> Tally
     requires { ⌜ Indexed (now law) (now index) × (s < fileOf (now law) .sentences .count) ⌝ }
-    ensures { λ r. ⌜ sinkOf r (now (out .exit)) ≡ met (task .room) (found (sentenceWords (fileOf (now (law .entry))) task s a b)) tally (now (out .entry)) ⌝ }
+    ensures { λ r. ⌜ sinkOf r (now (out .exit)) ≡ met (task .room) (noting (sentenceWords (fileOf (now (law .entry))) task s a b)) tally (now (out .entry)) ⌝ }
 {
     let start = field(law, index, s, 12);
     let end = field(law, index, s, 16);

@@ -3,7 +3,7 @@ ghost use mathlib.Core.Path.{_≡_};
 ghost use Prim.Native.Nat.{_+_, _*_, _≤_};
 ghost use lib.ListN.{length};
 ghost use Rattle.buffers.specs.Written.{written};
-ghost use Rattle.findings.specs.Code.Events.{found, sinkOf, met};
+ghost use Rattle.findings.specs.Code.Events.{noting, sinkOf, met};
 ghost use Rattle.findings.specs.Code.Tasks.{noteWords};
 
 pub mod all;
@@ -59,7 +59,7 @@ fn write_note(task: Task, note: Note, out: &mut [u32], at: usize)
 
 // Counts a finding, and writes it where the buffer has room for it.
 pub fn put_note(task: Task, note: Note, out: &mut [u32], tally: Tally) -> Tally
-    ensures { λ r. ⌜ sinkOf r (now (out .exit)) ≡ met (task .room) (found (noteWords task note)) tally (now (out .entry)) ⌝ }
+    ensures { λ r. ⌜ sinkOf r (now (out .exit)) ≡ met (task .room) (noting (noteWords task note)) tally (now (out .entry)) ⌝ }
 {
     if tally < NONE {
         return tally;

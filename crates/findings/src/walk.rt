@@ -9,9 +9,9 @@ use file::word_at;
 use formats::Slots;
 use law::Index;
 use law::depth::sentences_in;
-use law::places::asked;
-use law::places::asked_at;
-use law::places::asked_size;
+use law::places::condition_result;
+use law::places::condition_result_at;
+use law::places::condition_result_size;
 use law::places::block_first;
 use law::places::first_condition;
 use law::places::first_sentence;
@@ -21,7 +21,7 @@ use law::places::pattern_at;
 use law::places::result;
 use law::places::result_at;
 use law::places::sentences;
-use law::places::wanted;
+use law::places::condition_pattern;
 use law::runs::end_of;
 ghost use mathlib.Core.Path.{_≡_};
 ghost use Prim.Native.Nat.{_+_, _≤_, _<_};
@@ -35,7 +35,7 @@ ghost use Rattle.law.specs.Reading.{own, sentencesAt, treeOf};
 ghost use Rattle.law.specs.Code.Index.{Indexed, PartAt};
 ghost use Rattle.law.specs.Law.{Accepted};
 ghost use Rattle.lints.specs.Code.Records.{Prepared, formatsIn, conditionsAt};
-ghost use Rattle.findings.specs.Code.Events.{Leaves};
+ghost use Rattle.findings.specs.Code.Events.{Collects};
 ghost use Rattle.findings.specs.Code.Tasks.{ownAlone, blockEvents, conditionEvents, functionEvents, lintEvents, runMet, termMet, sentencesMet};
 
 // Notes the dead ones of a block's own sentences, where the task is lint 1.
@@ -49,7 +49,7 @@ fn note_block(
     tally: Tally,
 ) -> Tally
     requires { ⌜ Indexed (now law) (now index) × Accepted (now law) × (first + count ≤ fileOf (now law) .sentences .count) ⌝ }
-    ensures { λ r. ⌜ Leaves (task .room) tally (now (out .entry)) r (now (out .exit))
+    ensures { λ r. ⌜ Collects (task .room) tally (now (out .entry)) r (now (out .exit))
         (blockEvents task (keep count (sentencesAt (fileOf (now (law .entry))) first))) ⌝ }
 {
     if task.lint != 1 {
@@ -71,7 +71,7 @@ fn walk_term(
     tally: Tally,
 ) -> Tally
     requires { ⌜ Prepared (now law) (now index) (now slots) (now store) (task .limit) × PartAt (fileOf (now law)) at (now part) × (24 ≤ length (now part)) ⌝ }
-    ensures { λ r. ⌜ Leaves (task .room) tally (now (out .entry)) r (now (out .exit))
+    ensures { λ r. ⌜ Collects (task .room) tally (now (out .entry)) r (now (out .exit))
         (termMet (now (law .entry)) (now (store .entry)) task at (now (part .entry))) ⌝ }
 {
     let called = note_call(law, index, slots, store, task, at, out, tally);
@@ -100,7 +100,7 @@ fn walk_run(
     tally: Tally,
 ) -> Tally
     requires { ⌜ Prepared (now law) (now index) (now slots) (now store) (task .limit) × PartAt (fileOf (now law)) at (now part) ⌝ }
-    ensures { λ r. ⌜ Leaves (task .room) tally (now (out .entry)) r (now (out .exit))
+    ensures { λ r. ⌜ Collects (task .room) tally (now (out .entry)) r (now (out .exit))
         (runMet (now (law .entry)) (now (store .entry)) task at (now (part .entry))) ⌝ }
 {
     let mut so_far = tally;
@@ -131,7 +131,7 @@ fn walk_sentences(
     tally: Tally,
 ) -> Tally
     requires { ⌜ Prepared (now law) (now index) (now slots) (now store) (task .limit) × (first + count ≤ fileOf (now law) .sentences .count) ⌝ }
-    ensures { λ r. ⌜ Leaves (task .room) tally (now (out .entry)) r (now (out .exit))
+    ensures { λ r. ⌜ Collects (task .room) tally (now (out .entry)) r (now (out .exit))
         (sentencesMet (now (law .entry)) (now (store .entry)) task first count) ⌝ }
 {
     let mut so_far = tally;
@@ -155,7 +155,7 @@ fn walk_sentence(
     tally: Tally,
 ) -> Tally
     requires { ⌜ Prepared (now law) (now index) (now slots) (now store) (task .limit) × (s < fileOf (now law) .sentences .count) ⌝ }
-    ensures { λ r. ⌜ Leaves (task .room) tally (now (out .entry)) r (now (out .exit))
+    ensures { λ r. ⌜ Collects (task .room) tally (now (out .entry)) r (now (out .exit))
         (sentencesMet (now (law .entry)) (now (store .entry)) task s 1) ⌝ }
 {
     let at = pattern_at(law, index, s);
@@ -180,7 +180,7 @@ fn walk_pattern(
     tally: Tally,
 ) -> Tally
     requires { ⌜ Prepared (now law) (now index) (now slots) (now store) (task .limit) × PartAt (fileOf (now law)) at (now part) ⌝ }
-    ensures { λ r. ⌜ Leaves (task .room) tally (now (out .entry)) r (now (out .exit))
+    ensures { λ r. ⌜ Collects (task .room) tally (now (out .entry)) r (now (out .exit))
         (when (eqb (task .lint) 1) (runMet (now (law .entry)) (now (store .entry)) task at (now (part .entry)))) ⌝ }
 {
     if task.lint != 1 {
@@ -201,7 +201,7 @@ fn walk_conditions(
     tally: Tally,
 ) -> Tally
     requires { ⌜ Prepared (now law) (now index) (now slots) (now store) (task .limit) × (s < fileOf (now law) .sentences .count) ⌝ }
-    ensures { λ r. ⌜ Leaves (task .room) tally (now (out .entry)) r (now (out .exit))
+    ensures { λ r. ⌜ Collects (task .room) tally (now (out .entry)) r (now (out .exit))
         (conditionEvents (treeOf (fileOf (now (law .entry)))) (formatsIn (fileOf (now (law .entry))) (task .limit) (now (store .entry))) task
         (conditionsAt (fileOf (now (law .entry))) s)) ⌝ }
 {
@@ -211,11 +211,11 @@ fn walk_conditions(
     let mut i = 0;
     while i < count {
         let c = first + i;
-        let at = asked_at(law, index, s, c);
-        let part = asked(law, index, s, c);
+        let at = condition_result_at(law, index, s, c);
+        let part = condition_result(law, index, s, c);
         let left = walk_run(law, index, slots, store, task, part, at, out, so_far);
-        let next = at + asked_size(law, index, c);
-        let whole = wanted(law, index, s, c);
+        let next = at + condition_result_size(law, index, c);
+        let whole = condition_pattern(law, index, s, c);
         so_far = walk_pattern(law, index, slots, store, task, whole, next, out, left);
         i += 1;
     }
@@ -245,7 +245,7 @@ fn lint_function(
     tally: Tally,
 ) -> Tally
     requires { ⌜ Prepared (now law) (now index) (now slots) (now store) (task .limit) × (f < fileOf (now law) .functions .count) ⌝ }
-    ensures { λ r. ⌜ Leaves (task .room) tally (now (out .entry)) r (now (out .exit))
+    ensures { λ r. ⌜ Collects (task .room) tally (now (out .entry)) r (now (out .exit))
         (functionEvents (treeOf (fileOf (now (law .entry)))) (formatsIn (fileOf (now (law .entry))) (task .limit) (now (store .entry))) task
         (keep (sentencesOf (fileOf (now (law .entry))) f) (sentencesAt (fileOf (now (law .entry))) (firstSentence (fileOf (now (law .entry))) f)))) ⌝ }
 {
@@ -272,7 +272,7 @@ pub fn lint_law(
     tally: Tally,
 ) -> Tally
     requires { ⌜ Prepared (now law) (now index) (now slots) (now store) (task .limit) ⌝ }
-    ensures { λ r. ⌜ Leaves (task .room) tally (now (out .entry)) r (now (out .exit))
+    ensures { λ r. ⌜ Collects (task .room) tally (now (out .entry)) r (now (out .exit))
         (lintEvents (treeOf (fileOf (now (law .entry)))) (formatsIn (fileOf (now (law .entry))) (task .limit) (now (store .entry))) task) ⌝ }
 {
     let count = functions(index);

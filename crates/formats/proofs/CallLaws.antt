@@ -10,12 +10,12 @@ use lib.ListN.{length, drop, getD, replicate}
 use Rattle.file.specs.Answer.{Answer, refused, given, _>>=_, _>>_, refuseIf}
 use Rattle.law.specs.Tree.{Law, Sentences, noSentence, sentence}
 use Rattle.shapes.specs.Format.{Format, never, of, size}
-use Rattle.shapes.specs.Join.{join}
+use Rattle.shapes.specs.Join.{joinFormats}
 use Rattle.formats.specs.FormatOf.{Results, resultShapes, patternShapes}
 use Rattle.formats.specs.Infer.{Entry, Inferred, Rounds, namesOf, allAt, find, joinResults, joinPatterns, round, roundsFrom, roundLimit, arguments, inferWithin, infer}
 use Rattle.formats.specs.Store.{StoreHolds, storeSize, startOf}
-use Rattle.formats.specs.Code.Turns.{Asked, Holding, ArgumentsIs, RoundsIs, StartedIs, InferIs}
-use Rattle.formats.specs.Call.{inferredOutcome, lawOutcome, callOutcome, outcomeOf}
+use Rattle.formats.specs.Code.Turns.{RoundAsked, Holding, ArgumentsIs, RoundsIs, StartedIs, InferIs}
+use Rattle.formats.specs.Call.{inferredOutcome, lawOutcome, callOutcome, inferOutcome}
 use Rattle.formats.specs.declared.infer.Inference.{Inference}
 use Rattle.formats.specs.declared.infer.Inference.the-variants.{TooWide, Ran}
 use Rattle.formats.specs.declared.Answered.{Answered}
@@ -28,7 +28,7 @@ use Rattle.file.specs.Sections.{fileOf, numberOf}
 use Rattle.file.proofs.Answers.{map-refused, map-given}
 use Rattle.law.specs.Code.Index.{Indexed, Readable}
 use Rattle.law.specs.Reading.{treeOf}
-use Rattle.law.specs.Law.{lawOf, checkAnswer, verdictOf, IndexAfter}
+use Rattle.law.specs.Law.{lawOf, checkAnswer, checkOf, IndexAfter}
 use Rattle.law.specs.declared.Check.{Check}
 use Rattle.law.specs.declared.Check.the-variants as check
 use Rattle.file.specs.declared.Refusal.{Refusal}
@@ -54,15 +54,15 @@ results-ten : (limit : ℕ) (t : Results) (f : Format) (ss : Sentences) → Only
 unfolding joinResults
 results-ten limit t f noSentence = tt
 results-ten limit t f (sentence m p cs r ss) =
-    only-pass (ltb limit (size (resultShapes t r))) (joinResults limit t (join f (of (resultShapes t r))) ss)
-    (results-ten limit t (join f (of (resultShapes t r))) ss)
+    only-pass (ltb limit (size (resultShapes t r))) (joinResults limit t (joinFormats f (of (resultShapes t r))) ss)
+    (results-ten limit t (joinFormats f (of (resultShapes t r))) ss)
 
 patterns-ten : (limit : ℕ) (f : Format) (ss : Sentences) → OnlyTen (joinPatterns limit f ss)
 unfolding joinPatterns
 patterns-ten limit f noSentence = tt
 patterns-ten limit f (sentence m p cs r ss) =
-    only-pass (ltb limit (size (patternShapes p))) (joinPatterns limit (join f (of (patternShapes p))) ss)
-    (patterns-ten limit (join f (of (patternShapes p))) ss)
+    only-pass (ltb limit (size (patternShapes p))) (joinPatterns limit (joinFormats f (of (patternShapes p))) ss)
+    (patterns-ten limit (joinFormats f (of (patternShapes p))) ss)
 
 round-ten : (limit : ℕ) (law : Law) (es : List Entry) (changed : Bool) → OnlyTen (round limit law es changed)
 unfolding round
@@ -154,7 +154,7 @@ holding {limit} {names} {found} {results} {tail} h = record { arguments = found;
 
 module _ {bytes index slots : List ℕ} {limit : ℕ} (h : Indexed bytes index) (readable : Readable (fileOf bytes)) (places : SlotsOf (fileOf bytes) slots)
     (small : limit ≤ 64) (count : ℕ) (names : count ≡ getD slots 576 0) where
-  pub store-asked : Asked bytes index slots limit count
+  pub store-asked : RoundAsked bytes index slots limit count
   store-asked = record { indexed = h; readable = readable; places = places; names = names ∙ places .count; small = small }
 
   pub store-few : 2 * count ≤ 128
@@ -198,22 +198,22 @@ module _ (limit : ℕ) (law : Law) (before middle : List ℕ) (r : Inference) (h
 -- ---- what the call answers
 
 pub outcome-short : (limit : ℕ) (law : Law) (before : List ℕ) → length before < storeSize limit
-    → outcomeOf StoreShort before ≡ lawOutcome limit before (given law)
+    → inferOutcome StoreShort before ≡ lawOutcome limit before (given law)
 outcome-short limit law before short = rw (lt-ltb (length before) (storeSize limit) short, lawOutcome)
 
 module _ (limit : ℕ) (law : Law) (before after : List ℕ) (long : storeSize limit ≤ length before) (r : Inference)
     (h : InferIs limit (infer limit law) before after r) where
-  pub outcome-over : r ≡ TooWide → outcomeOf ShapesOver after ≡ lawOutcome limit before (given law)
+  pub outcome-over : r ≡ TooWide → inferOutcome ShapesOver after ≡ lawOutcome limit before (given law)
   outcome-over e = rw (le-ltb (length before) (storeSize limit) long, lawOutcome) (go (infer limit law) (infer-ten limit law) h)
     where
-      go : (a : Answer Inferred) → OnlyTen a → InferIs limit a before after r → outcomeOf ShapesOver after ≡ inferredOutcome limit before a
+      go : (a : Answer Inferred) → OnlyTen a → InferIs limit a before after r → inferOutcome ShapesOver after ≡ inferredOutcome limit before a
       go (given i) ten k = absurd (ran-wide (i .rounds) (i .settled) (sym (k .1) ∙ e))
       go (refused n) ten k = rw (ten, k .0)
 
-  pub outcome-formed : (rounds : ℕ) (settled : Bool) → r ≡ Ran rounds settled → outcomeOf (Formed rounds settled) after ≡ lawOutcome limit before (given law)
+  pub outcome-formed : (rounds : ℕ) (settled : Bool) → r ≡ Ran rounds settled → inferOutcome (Formed rounds settled) after ≡ lawOutcome limit before (given law)
   outcome-formed rounds settled e = rw (le-ltb (length before) (storeSize limit) long, lawOutcome) (go (infer limit law) h)
     where
-      go : (a : Answer Inferred) → InferIs limit a before after r → outcomeOf (Formed rounds settled) after ≡ inferredOutcome limit before a
+      go : (a : Answer Inferred) → InferIs limit a before after r → inferOutcome (Formed rounds settled) after ≡ inferredOutcome limit before a
       go (refused n) k = absurd (ran-wide rounds settled (sym e ∙ k .1))
       go (given i) k =
           let same : Ran (i .rounds) (i .settled) ≡ Ran rounds settled = sym (k .1) ∙ e in
@@ -223,27 +223,27 @@ module _ (limit : ℕ) (law : Law) (before after : List ℕ) (long : storeSize l
 
 -- ---- a law that is accepted, and one that is not
 
-law-read : (bytes : List ℕ) (answer : Check) → answer ≡ check.Accepted → checkAnswer answer ≡ verdictOf bytes
+law-read : (bytes : List ℕ) (answer : Check) → answer ≡ check.Accepted → checkAnswer answer ≡ checkOf bytes
     → Readable (fileOf bytes) × (lawOf bytes ≡ given (treeOf (fileOf bytes)))
 law-read bytes answer e h =
-    let accepted : given tt ≡ verdictOf bytes = rw e at h in
+    let accepted : given tt ≡ checkOf bytes = rw e at h in
     map-given (λ _. tt) (lawOf bytes) tt accepted (λ law is same.
     let (all, tree) = law-accepted bytes law is in
     (accepted-readable bytes all, is ∙ ap (λ x. given x) tree)
     )
 
-pub call-accepted : (bytes index : List ℕ) (answer : Check) → answer ≡ check.Accepted → checkAnswer answer ≡ verdictOf bytes → IndexAfter answer bytes index
+pub call-accepted : (bytes index : List ℕ) (answer : Check) → answer ≡ check.Accepted → checkAnswer answer ≡ checkOf bytes → IndexAfter answer bytes index
     → Indexed bytes index × Readable (fileOf bytes)
 call-accepted bytes index answer e h k = (rw e at k, law-read bytes answer e h .0)
 
-pub outcome-accepted : (limit : ℕ) (bytes store after : List ℕ) (answer : Check) → answer ≡ check.Accepted → checkAnswer answer ≡ verdictOf bytes
-    → (r : Answered) → outcomeOf r after ≡ lawOutcome limit store (given (treeOf (fileOf bytes))) → outcomeOf r after ≡ callOutcome limit bytes store
+pub outcome-accepted : (limit : ℕ) (bytes store after : List ℕ) (answer : Check) → answer ≡ check.Accepted → checkAnswer answer ≡ checkOf bytes
+    → (r : Answered) → inferOutcome r after ≡ lawOutcome limit store (given (treeOf (fileOf bytes))) → inferOutcome r after ≡ callOutcome limit bytes store
 unfolding callOutcome
 outcome-accepted limit bytes store after answer e h r is = rw (law-read bytes answer e h .1) is
 
-pub outcome-refused : (limit : ℕ) (bytes store : List ℕ) (why : Refusal) (answer : Check) → answer ≡ check.Refused why → checkAnswer answer ≡ verdictOf bytes
-    → outcomeOf (Refused why) store ≡ callOutcome limit bytes store
+pub outcome-refused : (limit : ℕ) (bytes store : List ℕ) (why : Refusal) (answer : Check) → answer ≡ check.Refused why → checkAnswer answer ≡ checkOf bytes
+    → inferOutcome (Refused why) store ≡ callOutcome limit bytes store
 unfolding callOutcome
 outcome-refused limit bytes store why answer e h =
-    let refusal : refused (numberOf why) ≡ verdictOf bytes = rw e at h in
+    let refusal : refused (numberOf why) ≡ checkOf bytes = rw e at h in
     rw (map-refused (λ _. tt) (lawOf bytes) (numberOf why) refusal)

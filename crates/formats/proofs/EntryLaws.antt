@@ -19,7 +19,7 @@ use Rattle.law.specs.Reading.{runOf, own, sentencesAt}
 use Rattle.law.specs.Code.Index.{Readable}
 use Rattle.law.proofs.Functions.{functionsAt, functions-end, function-reads, kept-reads}
 use Rattle.shapes.specs.Format.{Shapes, Format, never, of, size}
-use Rattle.shapes.specs.Join.{join}
+use Rattle.shapes.specs.Join.{joinFormats}
 use Rattle.shapes.specs.Same.{sameFormat}
 use Rattle.shapes.proofs.JoinLaws.{join-size-left}
 use Rattle.shapes.proofs.SameLaws.{same-equal}
@@ -147,7 +147,7 @@ format-all-at (n ∷ ns) (suc p) = format-all-at ns p
 -- ---- no format has more shapes than the limit: one step
 
 -- a join of two formats that have not
-pub join-small : (limit : ℕ) (f g : Format) → Small limit f → Small limit g → Small limit (join f g)
+pub join-small : (limit : ℕ) (f g : Format) → Small limit f → Small limit g → Small limit (joinFormats f g)
 join-small limit never g h k = k
 join-small limit (of f) never h k = h
 join-small limit (of f) (of g) h k = omega (arith, join-size-left f g)
@@ -187,7 +187,7 @@ module _ (limit : ℕ) (file : File) where
   -- the result of the first of the sentences left fits: it is joined to what was joined before
   pub results-next : (t : Results) (g : Format) (left s next after : ℕ) → Readable file → s < file .sentences .count → left ≡ suc next → after ≡ suc s
       → size (resultRow file t s) ≤ limit
-      → joinResults limit t g (keep left (sentencesAt file s)) ≡ joinResults limit t (join g (of (resultRow file t s))) (keep next (sentencesAt file after))
+      → joinResults limit t g (keep left (sentencesAt file s)) ≡ joinResults limit t (joinFormats g (of (resultRow file t s))) (keep next (sentencesAt file after))
   unfolding joinResults
   results-next t g left s next after readable inside l a fits =
       rw (l, a, kept-reads file readable next s inside, le-ltb limit (size (resultRow file t s)) fits)
@@ -208,7 +208,7 @@ module _ (limit : ℕ) (file : File) where
   -- the pattern of the first of the sentences left fits: it is joined to what was joined before
   pub patterns-next : (g : Format) (left s next after : ℕ) → Readable file → s < file .sentences .count → left ≡ suc next → after ≡ suc s
       → size (patternRow file s) ≤ limit
-      → joinPatterns limit g (keep left (sentencesAt file s)) ≡ joinPatterns limit (join g (of (patternRow file s))) (keep next (sentencesAt file after))
+      → joinPatterns limit g (keep left (sentencesAt file s)) ≡ joinPatterns limit (joinFormats g (of (patternRow file s))) (keep next (sentencesAt file after))
   unfolding joinPatterns
   patterns-next g left s next after readable inside l a fits =
       rw (l, a, kept-reads file readable next s inside, le-ltb limit (size (patternRow file s)) fits)
@@ -241,27 +241,27 @@ module _ (limit : ℕ) (file : File) where
   pub round-next : (names : List (List ℕ)) (es : List Entry) (f after p : ℕ) (changed : Bool) (g : Format) → f < file .functions .count → after ≡ suc f
       → entryNames es ≡ names → p ≡ position names (functionFolded file f) → functionResults es f ≡ given g
       → round limit (functionsAt file f) es changed
-      ≡ round limit (functionsAt file after) (put p (join (formatIn es p) g) es) (changed || not (sameFormat (join (formatIn es p) g) (formatIn es p)))
+      ≡ round limit (functionsAt file after) (put p (joinFormats (formatIn es p) g) es) (changed || not (sameFormat (joinFormats (formatIn es p) g) (formatIn es p)))
   unfolding round
   round-next names es f after p changed g inside a same place is =
       rw (function-reads file f inside, is, a, found-at names es (functionFolded file f) p same place)
-      (ap (λ now. round limit (functionsAt file (suc f)) now (changed || not (sameFormat (join (formatIn es p) g) (formatIn es p))))
-      (renew-at names es (functionFolded file f) p same place (join (formatIn es p) g)))
+      (ap (λ now. round limit (functionsAt file (suc f)) now (changed || not (sameFormat (joinFormats (formatIn es p) g) (formatIn es p))))
+      (renew-at names es (functionFolded file f) p same place (joinFormats (formatIn es p) g)))
 
   -- nothing new: the entries stay the same
   pub round-same : (names : List (List ℕ)) (es : List Entry) (f after p : ℕ) (changed : Bool) (g : Format) → f < file .functions .count → after ≡ suc f
       → entryNames es ≡ names → p ≡ position names (functionFolded file f) → functionResults es f ≡ given g
-      → sameFormat (join (formatIn es p) g) (formatIn es p) ≡ true
+      → sameFormat (joinFormats (formatIn es p) g) (formatIn es p) ≡ true
       → round limit (functionsAt file f) es changed ≡ round limit (functionsAt file after) es changed
   round-same names es f after p changed g inside a same place is quiet =
       round-next names es f after p changed g inside a same place is
-      ∙ rw (quiet, same-equal (join (formatIn es p) g) (formatIn es p) quiet, put-same p es, or-false changed)
+      ∙ rw (quiet, same-equal (joinFormats (formatIn es p) g) (formatIn es p) quiet, put-same p es, or-false changed)
 
   -- something new: the round has changed a format
   pub round-changed : (names : List (List ℕ)) (es : List Entry) (f after p : ℕ) (changed : Bool) (g : Format) → f < file .functions .count → after ≡ suc f
       → entryNames es ≡ names → p ≡ position names (functionFolded file f) → functionResults es f ≡ given g
-      → sameFormat (join (formatIn es p) g) (formatIn es p) ≡ false
-      → round limit (functionsAt file f) es changed ≡ round limit (functionsAt file after) (put p (join (formatIn es p) g) es) true
+      → sameFormat (joinFormats (formatIn es p) g) (formatIn es p) ≡ false
+      → round limit (functionsAt file f) es changed ≡ round limit (functionsAt file after) (put p (joinFormats (formatIn es p) g) es) true
   round-changed names es f after p changed g inside a same place is new =
       round-next names es f after p changed g inside a same place is ∙ rw (new, or-true changed)
 
@@ -279,11 +279,11 @@ module _ (limit : ℕ) (file : File) where
   -- the join of the patterns of function f is given: it is joined to the format at its name's position
   pub arguments-next : (names : List (List ℕ)) (es : List Entry) (f after p : ℕ) (g : Format) → f < file .functions .count → after ≡ suc f
       → entryNames es ≡ names → p ≡ position names (functionFolded file f) → functionPatterns f ≡ given g
-      → arguments limit (functionsAt file f) es ≡ arguments limit (functionsAt file after) (put p (join (formatIn es p) g) es)
+      → arguments limit (functionsAt file f) es ≡ arguments limit (functionsAt file after) (put p (joinFormats (formatIn es p) g) es)
   unfolding arguments
   arguments-next names es f after p g inside a same place is =
       rw (function-reads file f inside, is, a, found-at names es (functionFolded file f) p same place)
-      (ap (λ now. arguments limit (functionsAt file (suc f)) now) (renew-at names es (functionFolded file f) p same place (join (formatIn es p) g)))
+      (ap (λ now. arguments limit (functionsAt file (suc f)) now) (renew-at names es (functionFolded file f) p same place (joinFormats (formatIn es p) g)))
 
   -- a pattern of function f does not fit: the refusal passes through
   pub arguments-over : (es : List Entry) (f n : ℕ) → f < file .functions .count → functionPatterns f ≡ refused n
@@ -354,11 +354,11 @@ nameOf f = folded (f .name .spelled)
 
 -- the entries after a function's turn
 abbrev pub updated : List ℕ → Format → List Entry → List Entry
-updated n g es = renew n (join (orNever (find es n)) g) es
+updated n g es = renew n (joinFormats (orNever (find es n)) g) es
 
 -- did a function's turn change its format?
 abbrev pub changes : Function → Format → List Entry → Bool
-changes f g es = not (sameFormat (join (orNever (find es (nameOf f))) g) (orNever (find es (nameOf f))))
+changes f g es = not (sameFormat (joinFormats (orNever (find es (nameOf f))) g) (orNever (find es (nameOf f))))
 
 -- a round: the first function's turn
 pub round-turn : {R : Type 0} (limit : ℕ) (f : Function) (fs : Law) (es : List Entry) (c : Bool) (next : List Entry × Bool)
@@ -421,8 +421,8 @@ results-small limit t f noSentence g small h =
     let e : f ≡ g = cc in
     rw e at small
 results-small limit t f (sentence m p cs r ss) g small h =
-    pass-given 10 (ltb limit (size (resultShapes t r))) (joinResults limit t (join f (of (resultShapes t r))) ss) g h (λ few k.
-    results-small limit t (join f (of (resultShapes t r))) ss g
+    pass-given 10 (ltb limit (size (resultShapes t r))) (joinResults limit t (joinFormats f (of (resultShapes t r))) ss) g h (λ few k.
+    results-small limit t (joinFormats f (of (resultShapes t r))) ss g
     (join-small limit f (of (resultShapes t r)) small (ltb-false limit (size (resultShapes t r)) few)) k
     )
 
@@ -433,8 +433,8 @@ patterns-small limit f noSentence g small h =
     let e : f ≡ g = cc in
     rw e at small
 patterns-small limit f (sentence m p cs r ss) g small h =
-    pass-given 10 (ltb limit (size (patternShapes p))) (joinPatterns limit (join f (of (patternShapes p))) ss) g h (λ few k.
-    patterns-small limit (join f (of (patternShapes p))) ss g
+    pass-given 10 (ltb limit (size (patternShapes p))) (joinPatterns limit (joinFormats f (of (patternShapes p))) ss) g h (λ few k.
+    patterns-small limit (joinFormats f (of (patternShapes p))) ss g
     (join-small limit f (of (patternShapes p)) small (ltb-false limit (size (patternShapes p)) few)) k
     )
 
@@ -442,8 +442,8 @@ patterns-small limit f (sentence m p cs r ss) g small h =
 turn-small : (limit : ℕ) (n : List ℕ) (g : Format) (es : List Entry) → Small limit g → EachEntry (Small limit) es
     → EachEntry (Small limit) (updated n g es)
 turn-small limit n g es small each =
-    rw (found-or-never es n, renew-put n (join (formatIn es (position (entryNames es) n)) g) es)
-    (put-small limit (position (entryNames es) n) (join (formatIn es (position (entryNames es) n)) g) es
+    rw (found-or-never es n, renew-put n (joinFormats (formatIn es (position (entryNames es) n)) g) es)
+    (put-small limit (position (entryNames es) n) (joinFormats (formatIn es (position (entryNames es) n)) g) es
     (join-small limit (formatIn es (position (entryNames es) n)) g (format-small limit es (position (entryNames es) n) each) small) each)
 
 -- the entries after a round; they have the same names
@@ -458,7 +458,7 @@ round-keeps limit (f ∷ fs) es changed next now each h =
     round-turn limit f fs es changed (next, now) h (λ g e k.
     let (small, names) = round-keeps limit fs (updated (nameOf f) g es) (changed || changes f g es) next now
     (turn-small limit (nameOf f) g es (results-small limit (find es) never (f .sentences) g (omega arith) e) each) k in
-    (small, names ∙ names-renew (nameOf f) (join (orNever (find es (nameOf f))) g) es)
+    (small, names ∙ names-renew (nameOf f) (joinFormats (orNever (find es (nameOf f))) g) es)
     )
 
 -- the entries of the arguments; they have the same names
@@ -472,7 +472,7 @@ arguments-keep limit (f ∷ fs) es next each h =
     arguments-turn limit f fs es next h (λ g e k.
     let (small, names) = arguments-keep limit fs (updated (nameOf f) g es) next
     (turn-small limit (nameOf f) g es (patterns-small limit never (f .sentences) g (omega arith) e) each) k in
-    (small, names ∙ names-renew (nameOf f) (join (orNever (find es (nameOf f))) g) es)
+    (small, names ∙ names-renew (nameOf f) (joinFormats (orNever (find es (nameOf f))) g) es)
     )
 
 -- the entries after rounds; they have the same names

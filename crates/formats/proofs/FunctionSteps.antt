@@ -14,14 +14,14 @@ use Rattle.law.specs.Places.{sentencesOf, firstSentence}
 use Rattle.law.specs.Reading.{sentencesAt, treeOf}
 use Rattle.law.proofs.Functions.{functionsAt, tree-functions}
 use Rattle.shapes.specs.Format.{Format, never}
-use Rattle.shapes.specs.Join.{join}
+use Rattle.shapes.specs.Join.{joinFormats}
 use Rattle.shapes.specs.Same.{sameFormat}
 use Rattle.shapes.specs.Words.{readFormat}
 use Rattle.formats.specs.Infer.{Entry, find, arguments, round}
 use Rattle.formats.specs.Store.{Small, formatIn, put, StoreHolds}
 use Rattle.formats.specs.Code.Slots.{fileNames, functionFolded, position}
 use Rattle.formats.specs.Code.Rows.{formatAt}
-use Rattle.formats.specs.Code.Turns.{Asked, Holding, resultsIn, rowsJoined, formatNumber, turnOf, TurnIs, ArgumentsIs, RoundIs}
+use Rattle.formats.specs.Code.Turns.{RoundAsked, Holding, resultsIn, rowsJoined, formatNumber, turnOf, TurnIs, ArgumentsIs, RoundIs}
 use Rattle.formats.specs.declared.infer.Turn.{Turn}
 use Rattle.formats.specs.declared.infer.Turn.the-variants.{Over, Changed, Same}
 use Rattle.formats.proofs.EntryLaws.{join-small, format-small, functionResults, functionPatterns, arguments-next, arguments-over, arguments-end, round-next, round-over, round-end}
@@ -32,7 +32,7 @@ use Rattle.formats.proofs.infer.Turn.{the-type}
 use Rattle.formats.proofs.TurnSteps.{rows-small}
 
 -- the number of functions, as the index says it
-pub functions-read : {bytes index slots : List ℕ} {limit count : ℕ} → Asked bytes index slots limit count → (most : ℕ) → most ≡ getD index 4 0
+pub functions-read : {bytes index slots : List ℕ} {limit count : ℕ} → RoundAsked bytes index slots limit count → (most : ℕ) → most ≡ getD index 4 0
     → most ≡ fileOf bytes .functions .count
 functions-read h most e = e ∙ h .indexed .words .functions
 
@@ -125,7 +125,7 @@ module _ {limit : ℕ} {file : File} {start store : List ℕ} {f : ℕ} (from : 
             → ArgumentsIs limit (fileNames file) (arguments limit (treeOf file) found) results tail next false
         go (given g) is (e, t) =
             let old : Format = readFormat (formatAt limit store (2 * placeOf file f)) in
-            absurd (never-over (sameFormat (join old g) old) (sym t ∙ over))
+            absurd (never-over (sameFormat (joinFormats old g) old) (sym t ∙ over))
         go (refused n) is (e, t) =
             rw (now .left ∙ arguments-over limit file (now .entries) f n inside is) (now .entries, rw e (now .holds), refl)
 
@@ -145,7 +145,7 @@ module _ {limit : ℕ} {file : File} {start store : List ℕ} {f : ℕ} (from : 
             let es : List Entry = now .entries in
             let old : readFormat (formatAt limit store (2 * placeOf file f)) ≡ formatIn es (placeOf file f) =
             read-argument-format (now .holds) (placeOf file f) placed (omega arith) in
-            let new : Format = join (formatIn es (placeOf file f)) g in
+            let new : Format = joinFormats (formatIn es (placeOf file f)) g in
             let small : Small limit new =
             join-small limit (formatIn es (placeOf file f)) g
             (format-small limit es (placeOf file f) (now .holds .entries .argumentsSmall))
@@ -229,7 +229,7 @@ module _ {limit : ℕ} {file : File} {start store : List ℕ} {f : ℕ} {changed
             → RoundIs limit (fileNames file) (round limit (treeOf file) results false) found tail next Over
         go (given g) is (e, t) =
             let old : Format = readFormat (formatAt limit store (2 * placeOf file f + 1)) in
-            absurd (never-over (sameFormat (join old g) old) (sym t ∙ over))
+            absurd (never-over (sameFormat (joinFormats old g) old) (sym t ∙ over))
         go (refused n) is (e, t) =
             rw (now .left ∙ round-over limit file (now .entries) f changed n inside is) (now .entries, rw e (now .holds), refl)
 
@@ -250,7 +250,7 @@ module _ {limit : ℕ} {file : File} {start store : List ℕ} {f : ℕ} {changed
             let es : List Entry = now .entries in
             let old : readFormat (formatAt limit store (2 * placeOf file f + 1)) ≡ formatIn es (placeOf file f) =
             read-result-format (now .holds) (placeOf file f) placed (omega arith) in
-            let new : Format = join (formatIn es (placeOf file f)) g in
+            let new : Format = joinFormats (formatIn es (placeOf file f)) g in
             let small : Small limit new =
             join-small limit (formatIn es (placeOf file f)) g
             (format-small limit es (placeOf file f) (now .holds .entries .resultsSmall))

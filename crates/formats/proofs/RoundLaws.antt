@@ -16,7 +16,7 @@ use Rattle.file.specs.Answer.{given, _>>=_}
 use Rattle.file.proofs.Answers.{bind-given, pass-given}
 use Rattle.law.specs.Tree.{Mark, Run, Sentences, noSentence, sentence, Conditions, Function, Law, skip}
 use Rattle.shapes.specs.Format.{Shapes, Format, never, of, size}
-use Rattle.shapes.specs.Join.{join}
+use Rattle.shapes.specs.Join.{joinFormats}
 use Rattle.shapes.specs.Same.{sameFormat}
 use Rattle.shapes.proofs.JoinLaws.{Within, someOf, some-admitted, join-over-left, join-over-right, within-join, join-within}
 use Rattle.shapes.proofs.SameLaws.{same-equal}
@@ -84,8 +84,8 @@ results-joined limit t f noSentence g h =
     let e : f ≡ g = cc in
     (λ x a. rw e at a, tt)
 results-joined limit t f (sentence m p cs r ss) g h =
-    pass-given 10 (ltb limit (size (resultShapes t r))) (joinResults limit t (join f (of (resultShapes t r))) ss) g h (λ few k.
-    let (over, each) = results-joined limit t (join f (of (resultShapes t r))) ss g k in (
+    pass-given 10 (ltb limit (size (resultShapes t r))) (joinResults limit t (joinFormats f (of (resultShapes t r))) ss) g h (λ few k.
+    let (over, each) = results-joined limit t (joinFormats f (of (resultShapes t r))) ss g k in (
       λ x a. over x (join-over-left f (of (resultShapes t r)) x a),
       (λ x a. over x (join-over-right f (of (resultShapes t r)) x a), each),
     )
@@ -99,8 +99,8 @@ patterns-joined limit f noSentence g h =
     let e : f ≡ g = cc in
     (λ x a. rw e at a, tt)
 patterns-joined limit f (sentence m p cs r ss) g h =
-    pass-given 10 (ltb limit (size (patternShapes p))) (joinPatterns limit (join f (of (patternShapes p))) ss) g h (λ few k.
-    let (over, each) = patterns-joined limit (join f (of (patternShapes p))) ss g k in (
+    pass-given 10 (ltb limit (size (patternShapes p))) (joinPatterns limit (joinFormats f (of (patternShapes p))) ss) g h (λ few k.
+    let (over, each) = patterns-joined limit (joinFormats f (of (patternShapes p))) ss g k in (
       λ x a. over x (join-over-left f (of (patternShapes p)) x a),
       (λ x a. over x (join-over-right f (of (patternShapes p)) x a), each),
     )
@@ -120,16 +120,16 @@ grows-then a b c h k n f e =
     (i, e₂, λ x p. v x (u x p))
 
 -- the function's own format is the join
-find-updated : (n : List ℕ) (g : Format) (es : List Entry) (f : Format) → find es n ≡ some f → find (updated n g es) n ≡ some (join f g)
-find-updated n g es f e = rw e (find-renew n (join f g) es (rw e))
+find-updated : (n : List ℕ) (g : Format) (es : List Entry) (f : Format) → find es n ≡ some f → find (updated n g es) n ≡ some (joinFormats f g)
+find-updated n g es f e = rw e (find-renew n (joinFormats f g) es (rw e))
 
 -- a function's turn lets the table grow
 updated-grows : (m : List ℕ) (g : Format) (es : List Entry) → Grows es (updated m g es)
 updated-grows m g es n f e = go (sameBytes m n) refl
   where
     go : (b : Bool) → sameBytes m n ≡ b → (h : Format) × (find (updated m g es) n ≡ some h) × Within f h
-    go true q = (join f g, rw (same-sound m n q) (find-updated n g es f e), join-over-left f g)
-    go false q = (f, find-renew-other n m (join (orNever (find es m)) g) es q ∙ e, λ x a. a)
+    go true q = (joinFormats f g, rw (same-sound m n q) (find-updated n g es f e), join-over-left f g)
+    go false q = (f, find-renew-other n m (joinFormats (orNever (find es m)) g) es q ∙ e, λ x a. a)
 
 -- ---- a round
 
@@ -144,14 +144,14 @@ round-grows limit (f ∷ fs) es c next h =
     round-turn limit f fs es c next h (λ g e k.
     let (grows, names) = round-grows limit fs (updated (nameOf f) g es) (c || changes f g es) next k in (
       grows-then es (updated (nameOf f) g es) (next .0) (updated-grows (nameOf f) g es) grows,
-      names ∙ names-renew (nameOf f) (join (orNever (find es (nameOf f))) g) es,
+      names ∙ names-renew (nameOf f) (joinFormats (orNever (find es (nameOf f))) g) es,
     )
     )
 
 -- a function whose turn finds nothing new in the table
 abbrev Quiet : ℕ → List Entry → Function → Type 0
 Quiet limit es f =
-    (g : Format) × (joinResults limit (find es) never (f .sentences) ≡ given g) × (join (orNever (find es (nameOf f))) g ≡ orNever (find es (nameOf f)))
+    (g : Format) × (joinResults limit (find es) never (f .sentences) ≡ given g) × (joinFormats (orNever (find es (nameOf f))) g ≡ orNever (find es (nameOf f)))
 
 -- neither of two tests holds
 neither : (a b : Bool) → a || b ≡ false → (a ≡ false) × (b ≡ false)
@@ -170,7 +170,7 @@ round-quiet limit (f ∷ fs) es c next h q =
     let (still, same, each) = round-quiet limit fs (updated (nameOf f) g es) (c || changes f g es) next k q in
     let (still-before, no-change) = neither c (changes f g es) still in
     let old : Format = orNever (find es (nameOf f)) in
-    let join-same : join old g ≡ old = same-equal (join old g) old (not-false (sameFormat (join old g) old) no-change) in
+    let join-same : joinFormats old g ≡ old = same-equal (joinFormats old g) old (not-false (sameFormat (joinFormats old g) old) no-change) in
     let table-same : updated (nameOf f) g es ≡ es = rw join-same (renew-same (nameOf f) es) in
     (still-before, same ∙ table-same, ((g, e, join-same), rw table-same at each))
     )
@@ -181,13 +181,13 @@ round-quiet limit (f ∷ fs) es c next h q =
 pub record ResultsWithin (results : List Entry) (f : Function) : Type 0 where
   pub format : Format
   pub is-found : find results (nameOf f) ≡ some format
-  pub each : EachSentence (λ p r. join format (of (resultShapes (find results) r)) ≡ format) (f .sentences)
+  pub each : EachSentence (λ p r. joinFormats format (of (resultShapes (find results) r)) ≡ format) (f .sentences)
 
 -- the same of the patterns
 pub record PatternsWithin (arguments : List Entry) (f : Function) : Type 0 where
   pub format : Format
   pub is-found : find arguments (nameOf f) ≡ some format
-  pub each : EachSentence (λ p r. join format (of (patternShapes p)) ≡ format) (f .sentences)
+  pub each : EachSentence (λ p r. joinFormats format (of (patternShapes p)) ≡ format) (f .sentences)
 
 -- hence the function's format admits what the format of any of its sentences' results admits
 pub results-admitted : (results : List Entry) (f : Function) (w : ResultsWithin results f)
@@ -220,7 +220,7 @@ names-found es law e = go law (λ n h. h)
 quiet-within : (limit : ℕ) (es : List Entry) (f : Function) (format : Format) → find es (nameOf f) ≡ some format → Quiet limit es f → ResultsWithin es f
 quiet-within limit es f format e (g, h, same) =
     let (over, each) = results-joined limit (find es) never (f .sentences) g h in
-    let join-same : join format g ≡ format = rw e at same in
+    let join-same : joinFormats format g ≡ format = rw e at same in
     record {
       format = format;
       is-found = e;
@@ -280,7 +280,7 @@ arguments-grow limit (f ∷ fs) es next h =
     arguments-turn limit f fs es next h (λ g e k.
     let (grows, names) = arguments-grow limit fs (updated (nameOf f) g es) next k in (
       grows-then es (updated (nameOf f) g es) next (updated-grows (nameOf f) g es) grows,
-      names ∙ names-renew (nameOf f) (join (orNever (find es (nameOf f))) g) es,
+      names ∙ names-renew (nameOf f) (joinFormats (orNever (find es (nameOf f))) g) es,
     )
     )
 
@@ -292,7 +292,7 @@ arguments-within limit (f ∷ fs) es next n h =
     let now : List Entry = updated (nameOf f) g es in
     let (old, is-old) = n .0 in
     let (grows, names) = arguments-grow limit fs now next k in
-    let (format, is-found, over) = grows (nameOf f) (join old g) (find-updated (nameOf f) g es old is-old) in
+    let (format, is-found, over) = grows (nameOf f) (joinFormats old g) (find-updated (nameOf f) g es old is-old) in
     let (start, each) = patterns-joined limit never (f .sentences) g e in (
       record {
         format = format;
@@ -347,11 +347,11 @@ round-fills limit (f ∷ fs) es c next n h =
     )
     )
   where
-    turn : (old g : Format) (o : Option Format) → o ≡ some (join old g) → (f .sentences ≡ noSentence) ⊎ ((h : Shapes) × (g ≡ of h))
+    turn : (old g : Format) (o : Option Format) → o ≡ some (joinFormats old g) → (f .sentences ≡ noSentence) ⊎ ((h : Shapes) × (g ≡ of h))
         → (f .sentences ≡ noSentence) ⊎ ((h : Shapes) × (o ≡ some (of h)))
     turn old g o e (inl q) = inl q
     turn old g o e (inr (h, q)) =
-        let (i, k) = within-of h (join old g) (λ x a. join-over-right old g x (rw q a)) in
+        let (i, k) = within-of h (joinFormats old g) (λ x a. join-over-right old g x (rw q a)) in
         inr (i, e ∙ ap some k)
 
 -- and so after any number of rounds but none
@@ -435,13 +435,13 @@ infer-holds limit law i h =
 module _ (limit : ℕ) (law : Law) (i : Inferred) (h : infer limit law ≡ given i) (k : ℕ) (f : Function) (at-k : getElem? law k ≡ some f)
     (j : ℕ) (m : Mark) (p : Run) (cs : Conditions) (r : Run) (after : Sentences) (at-j : skip j (f .sentences) ≡ sentence m p cs r after) where
   -- its pattern's format adds nothing to the function's argument format
-  pub pattern-closed : (format : Format) × (find (i .arguments) (nameOf f) ≡ some format) × (join format (of (patternShapes p)) ≡ format)
+  pub pattern-closed : (format : Format) × (find (i .arguments) (nameOf f) ≡ some format) × (joinFormats format (of (patternShapes p)) ≡ format)
   pattern-closed =
       let w : PatternsWithin (i .arguments) f = each-function-at (PatternsWithin (i .arguments)) k law f at-k (infer-holds limit law i h .patterns) in
       (w .format, w .is-found, each-sentence-at _ j (f .sentences) m p cs r after at-j (w .each))
 
   -- its result's format by a settled table adds nothing to the function's format there
-  pub result-closed : i .settled ≡ true → (format : Format) × (find (i .results) (nameOf f) ≡ some format) × (join format (of (resultShapes (find (i .results)) r)) ≡ format)
+  pub result-closed : i .settled ≡ true → (format : Format) × (find (i .results) (nameOf f) ≡ some format) × (joinFormats format (of (resultShapes (find (i .results)) r)) ≡ format)
   result-closed settled =
       let w : ResultsWithin (i .results) f = each-function-at (ResultsWithin (i .results)) k law f at-k (infer-holds limit law i h .results settled) in
       (w .format, w .is-found, each-sentence-at _ j (f .sentences) m p cs r after at-j (w .each))

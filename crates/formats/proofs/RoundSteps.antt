@@ -11,7 +11,7 @@ use Rattle.law.specs.Tree.{Law}
 use Rattle.law.proofs.IndexLaws.{functions-limit}
 use Rattle.formats.specs.Infer.{Entry, namesOf, round, roundsFrom}
 use Rattle.formats.specs.Store.{StoreHolds}
-use Rattle.formats.specs.Code.Turns.{Asked, Holding, turnOf, RoundIs, RoundsIs}
+use Rattle.formats.specs.Code.Turns.{RoundAsked, Holding, turnOf, RoundIs, RoundsIs}
 use Rattle.formats.specs.declared.infer.Turn.{Turn}
 use Rattle.formats.specs.declared.infer.Turn.the-variants.{Over, Changed, Same}
 use Rattle.formats.specs.declared.infer.Inference.{Inference}
@@ -20,7 +20,7 @@ use Rattle.formats.proofs.EntryLaws.{rounds-next, rounds-quiet, rounds-
 use Rattle.formats.proofs.SlotLaws.{names-few}
 
 -- a law that was let pass has few names
-pub names-at-most : {bytes index slots : List ℕ} {limit count : ℕ} → Asked bytes index slots limit count → count ≤ 64
+pub names-at-most : {bytes index slots : List ℕ} {limit count : ℕ} → RoundAsked bytes index slots limit count → count ≤ 64
 names-at-most {bytes} {index} h = omega (arith, h .names, names-few (fileOf bytes), functions-limit bytes index (h .indexed))
 
 -- ---- what a round's turn tells of its answer

@@ -18,7 +18,7 @@ use Rattle.law.specs.Reading.{runOf, own, sentencesAt}
 use Rattle.law.specs.Code.Index.{Readable, PartAt}
 use Rattle.law.proofs.PartLaws.{pattern-part, result-part}
 use Rattle.shapes.specs.Format.{Shapes, Format, never, of, size}
-use Rattle.shapes.specs.Join.{join}
+use Rattle.shapes.specs.Join.{joinFormats}
 use Rattle.shapes.specs.Words.{formatWords, readFormat, FormatIn}
 use Rattle.shapes.proofs.WordLaws.{format-words-length, read-write}
 use Rattle.formats.specs.FormatOf.{Results}
@@ -26,7 +26,7 @@ use Rattle.formats.specs.Infer.{Entry, find}
 use Rattle.formats.specs.Store.{entryNames, formatIn, Small, StoreHolds}
 use Rattle.formats.specs.Code.Slots.{fileNames, SlotsOf}
 use Rattle.formats.specs.Code.Rows.{formatAt, Knows, Stored, partShapes}
-use Rattle.formats.specs.Code.Turns.{Holding, entriesFrom, argumentsIn, resultsIn, FormatMade, rowOf, rowsJoined, JoinedIs}
+use Rattle.formats.specs.Code.Turns.{Holding, entriesFrom, argumentsIn, resultsIn, FormatMade, sentenceShapes, rowsJoined, JoinedIs}
 use Rattle.formats.proofs.EntryLaws.{join-small, format-small, results-next, results-over, results-end, patterns-next, patterns-over, patterns-end}
 use Rattle.formats.proofs.StateLaws.{arguments-length, results-length, read-result, read-argument-format, read-result-format, store-knows}
 use Rattle.formats.proofs.RowLaws.{pattern-row, knows-none}
@@ -100,14 +100,14 @@ module _ (file : File) (s : ℕ) {slots store : List ℕ} {limit count at : ℕ}
     (made : (t : Results) → Knows file slots store limit count t → FormatMade limit (partShapes file t at part) ok words) where
   -- a pattern's row is made with no call known
   pub pattern-made : (t : Results) → count ≡ 0 → patterns ≡ true → at ≡ patternAt file s → part ≡ patternPart file s
-      → FormatMade limit (rowOf file patterns t s) ok words
+      → FormatMade limit (sentenceShapes file patterns t s) ok words
   pattern-made t none-known which a p =
       rw (which, pattern-row (runOf file (own file) (patternAt file s) (patternPart file s)))
       (rw (a, p) at (made (λ _. none) (rw none-known (knows-none file slots store limit))))
 
   -- a result's row is made with what the store says of calls
   pub result-made : (t : Results) → Knows file slots store limit count t → patterns ≡ false → at ≡ resultAt file s → part ≡ resultPart file s
-      → FormatMade limit (rowOf file patterns t s) ok words
+      → FormatMade limit (sentenceShapes file patterns t s) ok words
   result-made t knows which a p = rw which (rw (a, p) at (made t knows))
 
 module _ {limit : ℕ} {f : Shapes} {ok : Bool} {words : List ℕ} (made : FormatMade limit f ok words) where
@@ -136,15 +136,15 @@ module _ {limit : ℕ} {f : Shapes} {ok : Bool} {words : List ℕ} (made : Forma
 module _ (limit : ℕ) (file : File) where
   -- the row of the first of the sentences left fits: it is joined to what was joined before
   rows-next : (patterns : Bool) (t : Results) (g : Format) (left s next after : ℕ) → Readable file → s < file .sentences .count → left ≡ suc next
-      → after ≡ suc s → size (rowOf file patterns t s) ≤ limit
+      → after ≡ suc s → size (sentenceShapes file patterns t s) ≤ limit
       → rowsJoined limit patterns t g (keep left (sentencesAt file s))
-      ≡ rowsJoined limit patterns t (join g (of (rowOf file patterns t s))) (keep next (sentencesAt file after))
+      ≡ rowsJoined limit patterns t (joinFormats g (of (sentenceShapes file patterns t s))) (keep next (sentencesAt file after))
   rows-next true t g left s next after readable inside l a fits = patterns-next limit file g left s next after readable inside l a fits
   rows-next false t g left s next after readable inside l a fits = results-next limit file t g left s next after readable inside l a fits
 
   -- it does not fit: refused
   rows-over : (patterns : Bool) (t : Results) (g : Format) (left s : ℕ) → Readable file → s < file .sentences .count → 0 < left
-      → limit < size (rowOf file patterns t s) → rowsJoined limit patterns t g (keep left (sentencesAt file s)) ≡ refused 10
+      → limit < size (sentenceShapes file patterns t s) → rowsJoined limit patterns t g (keep left (sentencesAt file s)) ≡ refused 10
   rows-over true t g left s readable inside some-left over = patterns-over limit file g left s readable inside some-left over
   rows-over false t g left s readable inside some-left over = results-over limit file t g left s readable inside some-left over
 
@@ -188,7 +188,7 @@ module _ {limit : ℕ} {file : File} {patterns : Bool} {t : Results} {before : F
   pub rows-all : number ≤ i → JoinedIs limit (rowsJoined limit patterns t before (keep number (sentencesAt file first))) true joined
   rows-all done = rw (h .left ∙ rows-end limit file patterns t (h .format) (number - i) (first + i) (omega arith)) (refl, h .words)
 
-  module _ {ok : Bool} {row : List ℕ} (made : FormatMade limit (rowOf file patterns t (first + i)) ok row) where
+  module _ {ok : Bool} {row : List ℕ} (made : FormatMade limit (sentenceShapes file patterns t (first + i)) ok row) where
     -- the row of the next sentence does not fit
     pub rows-refused : ok ≡ false → Readable file → first + number ≤ file .sentences .count → i < number
         → JoinedIs limit (rowsJoined limit patterns t before (keep number (sentencesAt file first))) false joined
@@ -198,24 +198,24 @@ module _ {limit : ℕ} {file : File} {patterns : Bool} {t : Results} {before : F
 
     -- it fits: its words are the front of a buffer
     module _ (good : ok ≡ true) (rest : List ℕ) where
-      front : take (limit + 1) (row ++ rest) ≡ formatWords limit (of (rowOf file patterns t (first + i)))
+      front : take (limit + 1) (row ++ rest) ≡ formatWords limit (of (sentenceShapes file patterns t (first + i)))
       front = take-at row rest (limit + 1) (made .kept) ∙ made-words made good
 
       -- they are a format's
       pub row-format : FormatIn limit (take (limit + 1) (row ++ rest))
-      row-format = record { format = of (rowOf file patterns t (first + i)); small = made-fits made good; same = front }
+      row-format = record { format = of (sentenceShapes file patterns t (first + i)); small = made-fits made good; same = front }
 
       -- the row is joined
       pub rows-more : {after : ℕ} {next : List ℕ} → limit ≤ 64 → Readable file → first + number ≤ file .sentences .count → i < number → after ≡ i + 1
-          → next ≡ formatWords limit (join (readFormat joined) (readFormat (take (limit + 1) (row ++ rest))))
+          → next ≡ formatWords limit (joinFormats (readFormat joined) (readFormat (take (limit + 1) (row ++ rest))))
           → RowsLeft limit file patterns t before first number after next
       rows-more {after} {next} few readable inside here a is =
-          let shapes : Shapes = rowOf file patterns t (first + i) in
+          let shapes : Shapes = sentenceShapes file patterns t (first + i) in
           let fits : size shapes ≤ limit = made-fits made good in
           let said : readFormat joined ≡ h .format = ap readFormat (h .words) ∙ read-write limit (h .format) (h .small) (omega arith) in
           let new : readFormat (take (limit + 1) (row ++ rest)) ≡ of shapes = ap readFormat front ∙ read-write limit (of shapes) fits (omega arith) in
           record {
-            format = join (h .format) (of shapes);
+            format = joinFormats (h .format) (of shapes);
             small = join-small limit (h .format) (of shapes) (h .small) fits;
             words = is ∙ rw (said, new);
             left =
@@ -235,26 +235,26 @@ module _ (limit : ℕ) (file : File) (patterns : Bool) (t : Results) (first numb
       (refl, ap (λ s. set s 0 512) (zero-words ∙ ap (λ k. replicate k 0) (size-is ∙ one)) ∙ ap (λ k. 512 ∷ replicate k 0) (sym less))
 
   -- the row of the first sentence: it does not fit, or its words are those of the join so far
-  module _ {ok : Bool} {row : List ℕ} (made : FormatMade limit (rowOf file patterns t first) ok row) (readable : Readable file)
+  module _ {ok : Bool} {row : List ℕ} (made : FormatMade limit (sentenceShapes file patterns t first) ok row) (readable : Readable file)
       (inside : first + number ≤ file .sentences .count) (some : 0 < number) where
     pub first-refused : ok ≡ false → JoinedIs limit (rowsJoined limit patterns t never (keep number (sentencesAt file first))) false row
     first-refused bad = rw (rows-over limit file patterns t never number first readable (omega arith) some (made-passes made bad)) (refl, made .kept)
 
     module _ (few : limit ≤ 64) (good : ok ≡ true) where
       pub first-format : FormatIn limit row
-      first-format = record { format = of (rowOf file patterns t first); small = made-fits made good; same = made-words made good }
+      first-format = record { format = of (sentenceShapes file patterns t first); small = made-fits made good; same = made-words made good }
 
-      said : readFormat row ≡ of (rowOf file patterns t first)
-      said = ap readFormat (made-words made good) ∙ read-write limit (of (rowOf file patterns t first)) (made-fits made good) (omega arith)
+      said : readFormat row ≡ of (sentenceShapes file patterns t first)
+      said = ap readFormat (made-words made good) ∙ read-write limit (of (sentenceShapes file patterns t first)) (made-fits made good) (omega arith)
 
       next : rowsJoined limit patterns t never (keep number (sentencesAt file first))
-          ≡ rowsJoined limit patterns t (of (rowOf file patterns t first)) (keep (number - 1) (sentencesAt file (first + 1)))
+          ≡ rowsJoined limit patterns t (of (sentenceShapes file patterns t first)) (keep (number - 1) (sentencesAt file (first + 1)))
       next = rows-next limit file patterns t never number first (number - 1) (first + 1) readable (omega arith) (omega arith) (omega arith) (made-fits made good)
 
       -- there is no other, or the others are joined to it
       pub first-alone : number ≡ 1 → JoinedIs limit (rowsJoined limit patterns t never (keep number (sentencesAt file first))) true row
       first-alone one =
-          rw (next, rows-end limit file patterns t (of (rowOf file patterns t first)) (number - 1) (first + 1) (omega arith)) (refl, made-words made good)
+          rw (next, rows-end limit file patterns t (of (sentenceShapes file patterns t first)) (number - 1) (first + 1) (omega arith)) (refl, made-words made good)
 
       pub first-joined : (r : Bool) (words : List ℕ)
           → JoinedIs limit (rowsJoined limit patterns t (readFormat row) (keep (number - 1) (sentencesAt file (first + 1)))) r words

@@ -23,7 +23,7 @@ use Rattle.law.specs.Reading.{functionName, functionsFrom, treeOf, sentencesFro
 use Rattle.law.proofs.IndexLaws.{zero-offset}
 use Rattle.law.proofs.Functions.{tree-length}
 use Rattle.formats.specs.Infer.{insertName, namesOf}
-use Rattle.formats.specs.Code.Slots.{position, functionFolded, callFolded, fileNames, listed, namesFrom, lessCount, namesAt, newly, Filled, NamedFrom, Places, SlotsUpTo, CalleeSlot}
+use Rattle.formats.specs.Code.Slots.{position, functionFolded, callFolded, fileNames, isAmong, namesFrom, lessCount, namesAt, newly, FilledTo, NamedFrom, Places, SlotsUpTo, CalleeSlot}
 
 -- ---- sorted names
 
@@ -115,30 +115,30 @@ or-twice true b = refl
 or-twice false b = refl
 
 -- a name that is put in its place is among the names, and no other is new
-pub listed-insert : (m : List ℕ) (ns : List (List ℕ)) (n : List ℕ) → listed (insertName m ns) n ≡ sameBytes m n || listed ns n
-unfolding insertName listed
+pub listed-insert : (m : List ℕ) (ns : List (List ℕ)) (n : List ℕ) → isAmong (insertName m ns) n ≡ sameBytes m n || isAmong ns n
+unfolding insertName isAmong
 listed-insert m [] n = refl
 listed-insert m (k ∷ ks) n = go (orderBytes m k) refl (listed-insert m ks n)
   where
-    go : (o : Order) → orderBytes m k ≡ o → listed (insertName m ks) n ≡ sameBytes m n || listed ks n
-        → listed (insertName m (k ∷ ks)) n ≡ sameBytes m n || (sameBytes k n || listed ks n)
+    go : (o : Order) → orderBytes m k ≡ o → isAmong (insertName m ks) n ≡ sameBytes m n || isAmong ks n
+        → isAmong (insertName m (k ∷ ks)) n ≡ sameBytes m n || (sameBytes k n || isAmong ks n)
     go Less e ih = rw (e, insertName) refl
-    go Equal e ih = rw (e, insertName, order-equal m k e) (or-twice (sameBytes k n) (listed ks n))
-    go Greater e ih = rw (e, insertName, ih) (or-swap (sameBytes k n) (sameBytes m n) (listed ks n))
+    go Equal e ih = rw (e, insertName, order-equal m k e) (or-twice (sameBytes k n) (isAmong ks n))
+    go Greater e ih = rw (e, insertName, ih) (or-swap (sameBytes k n) (sameBytes m n) (isAmong ks n))
 
 -- a name is not among names above it
-above-unlisted : (n : List ℕ) (ms : List (List ℕ)) → Above n ms → listed ms n ≡ false
-unfolding listed
+above-unlisted : (n : List ℕ) (ms : List (List ℕ)) → Above n ms → isAmong ms n ≡ false
+unfolding isAmong
 above-unlisted n [] a = refl
 above-unlisted n (m ∷ ms) a = rw (differ-after m n (a .0), above-unlisted n ms (a .1))
 
 -- names above m come after it
-above-listed : (m : List ℕ) (ms : List (List ℕ)) (n : List ℕ) → Above m ms → listed ms n ≡ true → orderBytes m n ≡ Less
-unfolding listed
+above-listed : (m : List ℕ) (ms : List (List ℕ)) (n : List ℕ) → Above m ms → isAmong ms n ≡ true → orderBytes m n ≡ Less
+unfolding isAmong
 above-listed m [] n a h = absurd (true≢false (sym h))
 above-listed m (k ∷ ks) n a h = go (sameBytes k n) refl h (above-listed m ks n (a .1))
   where
-    go : (b : Bool) → sameBytes k n ≡ b → b || listed ks n ≡ true → (listed ks n ≡ true → orderBytes m n ≡ Less) → orderBytes m n ≡ Less
+    go : (b : Bool) → sameBytes k n ≡ b → b || isAmong ks n ≡ true → (isAmong ks n ≡ true → orderBytes m n ≡ Less) → orderBytes m n ≡ Less
     go true e q ih = rw (← same-sound k n e) (a .0)
     go false e q ih = ih q
 
@@ -154,13 +154,13 @@ abbrev pub before : List ℕ → List (List ℕ) → ℕ
 before n ms = tally (λ m. lessCount (orderBytes m n)) ms
 
 -- a name that is put in its place is added where it is new
-pub tally-insert : (w : List ℕ → ℕ) (n : List ℕ) (ms : List (List ℕ)) → Sorted ms → tally w (insertName n ms) ≡ cond (listed ms n) 0 (w n) + tally w ms
-unfolding insertName tally listed
+pub tally-insert : (w : List ℕ → ℕ) (n : List ℕ) (ms : List (List ℕ)) → Sorted ms → tally w (insertName n ms) ≡ cond (isAmong ms n) 0 (w n) + tally w ms
+unfolding insertName tally isAmong
 tally-insert w n [] h = refl
 tally-insert w n (k ∷ ks) h = go (orderBytes n k) refl (tally-insert w n ks (h .1))
   where
-    go : (o : Order) → orderBytes n k ≡ o → tally w (insertName n ks) ≡ cond (listed ks n) 0 (w n) + tally w ks
-        → tally w (insertName n (k ∷ ks)) ≡ cond (sameBytes k n || listed ks n) 0 (w n) + (w k + tally w ks)
+    go : (o : Order) → orderBytes n k ≡ o → tally w (insertName n ks) ≡ cond (isAmong ks n) 0 (w n) + tally w ks
+        → tally w (insertName n (k ∷ ks)) ≡ cond (sameBytes k n || isAmong ks n) 0 (w n) + (w k + tally w ks)
     go Less e ih = rw (e, insertName, differ-after k n e, above-unlisted n ks (above-less n k ks e (h .0)))
     go Equal e ih = rw (e, insertName, order-equal n k e, same-refl k) (omega arith)
     go Greater e ih = rw (e, insertName, differ-before k n (greater-less n k e), ih) (omega arith)
@@ -180,12 +180,12 @@ before-above n (m ∷ ms) a = rw (less-greater n m (a .0), before-above n ms (a 
 -- ---- places
 
 -- the place of one of the names is the number of names before it
-pub position-before : (ms : List (List ℕ)) (n : List ℕ) → Sorted ms → listed ms n ≡ true → position ms n ≡ before n ms
-unfolding position listed tally
+pub position-before : (ms : List (List ℕ)) (n : List ℕ) → Sorted ms → isAmong ms n ≡ true → position ms n ≡ before n ms
+unfolding position isAmong tally
 position-before [] n s h = refl
 position-before (m ∷ ms) n s h = go (sameBytes m n) refl h (position-before ms n (s .1))
   where
-    go : (b : Bool) → sameBytes m n ≡ b → b || listed ms n ≡ true → (listed ms n ≡ true → position ms n ≡ before n ms)
+    go : (b : Bool) → sameBytes m n ≡ b → b || isAmong ms n ≡ true → (isAmong ms n ≡ true → position ms n ≡ before n ms)
         → cond b 0 (suc (position ms n)) ≡ lessCount (orderBytes m n) + before n ms
     go true e q ih =
         let same : m ≡ n = same-sound m n e in
@@ -194,22 +194,22 @@ position-before (m ∷ ms) n s h = go (sameBytes m n) refl h (position-before ms
     go false e q ih = rw (above-listed m ms n (s .0) q, ih q) (omega arith)
 
 -- and it is below their number
-pub position-inside : (ms : List (List ℕ)) (n : List ℕ) → listed ms n ≡ true → position ms n < length ms
-unfolding position listed
+pub position-inside : (ms : List (List ℕ)) (n : List ℕ) → isAmong ms n ≡ true → position ms n < length ms
+unfolding position isAmong
 position-inside [] n h = absurd (true≢false (sym h))
 position-inside (m ∷ ms) n h = go (sameBytes m n) h (position-inside ms n)
   where
-    go : (b : Bool) → b || listed ms n ≡ true → (listed ms n ≡ true → position ms n < length ms) → cond b 0 (suc (position ms n)) < suc (length ms)
+    go : (b : Bool) → b || isAmong ms n ≡ true → (isAmong ms n ≡ true → position ms n < length ms) → cond b 0 (suc (position ms n)) < suc (length ms)
     go true q ih = omega arith
     go false q ih = omega (arith, ih q)
 
 -- the place of another name is their number
-pub position-missing : (ms : List (List ℕ)) (n : List ℕ) → listed ms n ≡ false → position ms n ≡ length ms
-unfolding position listed
+pub position-missing : (ms : List (List ℕ)) (n : List ℕ) → isAmong ms n ≡ false → position ms n ≡ length ms
+unfolding position isAmong
 position-missing [] n h = refl
 position-missing (m ∷ ms) n h = go (sameBytes m n) h (position-missing ms n)
   where
-    go : (b : Bool) → b || listed ms n ≡ false → (listed ms n ≡ false → position ms n ≡ length ms) → cond b 0 (suc (position ms n)) ≡ suc (length ms)
+    go : (b : Bool) → b || isAmong ms n ≡ false → (isAmong ms n ≡ false → position ms n ≡ length ms) → cond b 0 (suc (position ms n)) ≡ suc (length ms)
     go true q ih = absurd (true≢false q)
     go false q ih = rw (ih q)
 
@@ -224,7 +224,7 @@ position-most (m ∷ ms) n = go (sameBytes m n) (position-most ms n)
     go false h = omega arith
 
 -- one more byte is written
-pub filled-next : (xs : List ℕ) (n : ℕ) (value : ℕ → ℕ) (v : ℕ) → Filled xs n value → n < length xs → v ≡ value n → Filled (set xs n v) (n + 1) value
+pub filled-next : (xs : List ℕ) (n : ℕ) (value : ℕ → ℕ) (v : ℕ) → FilledTo xs n value → n < length xs → v ≡ value n → FilledTo (set xs n v) (n + 1) value
 filled-next xs n value v filled l e = λ i k. go i k (decLt i n)
   where
     go : (i : ℕ) → i < n + 1 → Dec (i < n) → getD (set xs n v) i 0 ≡ value i
@@ -267,7 +267,7 @@ module _ (file : File) where
       rw (left, add-one f)
 
   -- a name is that of the function f, or among the names after it
-  listed-read : (f : ℕ) (n : List ℕ) → f < file .functions .count → listed (namesAt file f) n ≡ sameBytes (functionFolded file f) n || listed (namesAt file (f + 1)) n
+  listed-read : (f : ℕ) (n : List ℕ) → f < file .functions .count → isAmong (namesAt file f) n ≡ sameBytes (functionFolded file f) n || isAmong (namesAt file (f + 1)) n
   listed-read f n h = rw (names-read f h) (listed-insert (functionFolded file f) (namesAt file (f + 1)) n)
 
   -- a sum over the names from f on: a name counts at the last function that has it
@@ -277,7 +277,7 @@ module _ (file : File) where
       rw (names-read f h) (tally-insert w (functionFolded file f) (namesAt file (f + 1)) (sorted-from (functionFolded file) (file .functions .count - (f + 1)) (f + 1)))
 
   -- a function's name is among the names from any earlier function on
-  listed-later : (left f : ℕ) → f + left < file .functions .count → listed (namesAt file f) (functionFolded file (f + left)) ≡ true
+  listed-later : (left f : ℕ) → f + left < file .functions .count → isAmong (namesAt file f) (functionFolded file (f + left)) ≡ true
   listed-later zero f h =
       let here : f + 0 ≡ f = omega arith in
       rw (here, listed-read f (functionFolded file f) (omega arith), same-refl (functionFolded file f))
@@ -287,7 +287,7 @@ module _ (file : File) where
       (or-true (sameBytes (functionFolded file f) (functionFolded file (f + 1 + left))))
 
   -- a function's name is among all names
-  pub function-listed : (f : ℕ) → f < file .functions .count → listed (fileNames file) (functionFolded file f) ≡ true
+  pub function-listed : (f : ℕ) → f < file .functions .count → isAmong (fileNames file) (functionFolded file f) ≡ true
   function-listed f h = rw (← names-all) (rw (zero-add f) at (listed-later f 0 (omega arith)))
 
   -- a function's name has a place among the names
@@ -303,7 +303,7 @@ module _ (file : File) where
   module _ (from : ℕ) (name : List ℕ) where
     -- the search is at the function f: the name is among those from `from` on if it is among those from f on
     abbrev pub SearchAt : ℕ → Type 0
-    SearchAt f = (f ≤ file .functions .count) × (listed (namesAt file from) name ≡ listed (namesAt file f) name)
+    SearchAt f = (f ≤ file .functions .count) × (isAmong (namesAt file from) name ≡ isAmong (namesAt file f) name)
 
     -- the function f has the name
     pub named-here : (f : ℕ) (spelled : List ℕ) (t : Bool) → SearchAt f → f < file .functions .count → spelled ≡ functionName file f .spelled
@@ -325,7 +325,7 @@ module _ (file : File) where
 
     -- no function is left
     pub named-end : (f : ℕ) → SearchAt f → file .functions .count ≤ f → NamedFrom file from name f
-    unfolding listed
+    unfolding isAmong
     named-end f s l = record {
       inside = s .0;
       found = λ k. absurd (omega arith);
@@ -338,26 +338,26 @@ module _ (file : File) where
   pub weight-later : (f r : ℕ) (spelled : List ℕ) → spelled ≡ functionName file f .spelled → NamedFrom file (f + 1) (folded spelled) r
       → r < file .functions .count → 0 ≡ newly file f 1
   weight-later f r spelled e n l =
-      let known : listed (namesAt file (f + 1)) (functionFolded file f) ≡ true = rw (← e) (n .found l .1) in
+      let known : isAmong (namesAt file (f + 1)) (functionFolded file f) ≡ true = rw (← e) (n .found l .1) in
       rw known
 
   -- none has
   pub weight-last : (f r : ℕ) (spelled : List ℕ) → spelled ≡ functionName file f .spelled → NamedFrom file (f + 1) (folded spelled) r
       → file .functions .count ≤ r → 1 ≡ newly file f 1
   weight-last f r spelled e n l =
-      let known : listed (namesAt file (f + 1)) (functionFolded file f) ≡ false = rw (← e) (n .missing l) in
+      let known : isAmong (namesAt file (f + 1)) (functionFolded file f) ≡ false = rw (← e) (n .missing l) in
       rw known
 
   -- a weight of 0 adds nothing, another adds all
   pub newly-none : (f w n : ℕ) → w ≡ newly file f 1 → w ≡ 0 → 0 ≡ newly file f n
-  newly-none f w n e z = go (listed (namesAt file (f + 1)) (functionFolded file f)) (sym z ∙ e)
+  newly-none f w n e z = go (isAmong (namesAt file (f + 1)) (functionFolded file f)) (sym z ∙ e)
     where
       go : (b : Bool) → _≡_ {A = ℕ} 0 (cond b 0 1) → _≡_ {A = ℕ} 0 (cond b 0 n)
       go true q = refl
       go false q = absurd (omega arith)
 
   pub newly-all : (f w n : ℕ) → w ≡ newly file f 1 → (w ≡ 0 → ⊥) → n ≡ newly file f n
-  newly-all f w n e z = go (listed (namesAt file (f + 1)) (functionFolded file f)) (λ q. z (e ∙ q))
+  newly-all f w n e z = go (isAmong (namesAt file (f + 1)) (functionFolded file f)) (λ q. z (e ∙ q))
     where
       go : (b : Bool) → (_≡_ {A = ℕ} (cond b 0 1) 0 → ⊥) → n ≡ cond b 0 n
       go true q = absurd (q refl)

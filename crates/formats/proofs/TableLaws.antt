@@ -10,7 +10,7 @@ use Rattle.law.specs.Tree.{Law}
 use Rattle.shapes.specs.Format.{Format}
 use Rattle.formats.specs.Infer.{Entry, namesOf, find, renew, orNever}
 use Rattle.formats.specs.Store.{entryNames, formatIn}
-use Rattle.formats.specs.Code.Slots.{position, listed}
+use Rattle.formats.specs.Code.Slots.{position, isAmong}
 use Rattle.formats.proofs.SlotLaws.{listed-insert}
 use Rattle.formats.proofs.EntryLaws.{renew-put, found-or-never, put-same}
 
@@ -22,8 +22,8 @@ defines [] n = false
 defines (f ∷ fs) n = sameBytes (folded (f .name .spelled)) n || defines fs n
 
 -- the law's names are those of its functions
-pub listed-names : (law : Law) (n : List ℕ) → listed (namesOf law) n ≡ defines law n
-unfolding namesOf listed
+pub listed-names : (law : Law) (n : List ℕ) → isAmong (namesOf law) n ≡ defines law n
+unfolding namesOf isAmong
 listed-names [] n = refl
 listed-names (f ∷ fs) n = listed-insert (folded (f .name .spelled)) (namesOf fs) n ∙ rw (listed-names fs n)
 
@@ -35,12 +35,12 @@ found none = false
 found (some f) = true
 
 -- a format is found where the name is among the table's
-pub found-listed : (es : List Entry) (n : List ℕ) → found (find es n) ≡ listed (entryNames es) n
-unfolding find listed
+pub found-listed : (es : List Entry) (n : List ℕ) → found (find es n) ≡ isAmong (entryNames es) n
+unfolding find isAmong
 found-listed [] n = refl
 found-listed (e ∷ es) n = go (sameBytes (e .name) n) (found-listed es n)
   where
-    go : (b : Bool) → found (find es n) ≡ listed (entryNames es) n → found (cond b (some (e .format)) (find es n)) ≡ b || listed (entryNames es) n
+    go : (b : Bool) → found (find es n) ≡ isAmong (entryNames es) n → found (cond b (some (e .format)) (find es n)) ≡ b || isAmong (entryNames es) n
     go true ih = refl
     go false ih = ih
 

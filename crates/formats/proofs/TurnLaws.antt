@@ -13,7 +13,7 @@ use Rattle.law.specs.Code.Index.{PartAt}
 use Rattle.law.proofs.Parts.{drop-take}
 use Rattle.law.proofs.IndexLaws.{terms-limit}
 use Rattle.shapes.specs.Format.{Shapes, Format, never, of, size, formatSize, isOpen}
-use Rattle.shapes.specs.Join.{join}
+use Rattle.shapes.specs.Join.{joinFormats}
 use Rattle.shapes.specs.Same.{sameFormat}
 use Rattle.shapes.specs.Words.{shapeWords, usedWords, formatWords, readFormat, rowEnd, FormatIn}
 use Rattle.buffers.specs.Written.{written}
@@ -23,7 +23,7 @@ use Rattle.shapes.proofs.JoinLaws.{within-join}
 use Rattle.shapes.proofs.SameLaws.{same-itself}
 use Rattle.shapes.proofs.FormatLaws.{written-filled, format-in-length, format-in-read, format-in-words, read-never, read-row, join-small, join-format-in, same-words-format}
 use Rattle.formats.specs.Code.Rows.{formatAt, RowIs, RowAsked, Stored}
-use Rattle.formats.specs.Code.Turns.{Asked, FormatMade}
+use Rattle.formats.specs.Code.Turns.{RoundAsked, FormatMade}
 use Rattle.formats.specs.declared.Row.{Row}
 use Rattle.formats.specs.declared.Row.the-variants.{Over, Ends}
 use Rattle.formats.proofs.RowLaws.{over-passes, ends-fits, ends-at, ends-open}
@@ -32,7 +32,7 @@ use Rattle.formats.proofs.StateLaws.{lent-written}
 -- ---- the format of a row
 
 -- what is asked to write a row after the place of a header
-pub row-asked : {bytes index slots part store out : List ℕ} {limit count known at most : ℕ} → Asked bytes index slots limit count → PartAt (fileOf bytes) at part
+pub row-asked : {bytes index slots part store out : List ℕ} {limit count known at most : ℕ} → RoundAsked bytes index slots limit count → PartAt (fileOf bytes) at part
     → Stored store limit known → length out ≡ limit + 1 → most ≡ limit + 1 → RowAsked (fileOf bytes) at part store limit known out 1 most
 row-asked {bytes = bytes} {index = index} asked here stored long e = record {
   readable = asked .readable;
@@ -120,7 +120,7 @@ lentAt limit store k = take (k * (limit + 1) + (limit + 1) - k * (limit + 1)) (d
 
 -- its join with another
 abbrev joinedAt : ℕ → List ℕ → ℕ → List ℕ → Format
-joinedAt limit store k other = join (readFormat (formatAt limit store k)) (readFormat other)
+joinedAt limit store k other = joinFormats (readFormat (formatAt limit store k)) (readFormat other)
 
 -- the format that words say is no larger than they have room for
 read-small : (limit : ℕ) (words : List ℕ) → limit ≤ 64 → FormatIn limit words → formatSize (readFormat words) ≤ limit
@@ -141,7 +141,7 @@ module _ (limit : ℕ) (store : List ℕ) (k : ℕ) where
 
     module _ {other joined : List ℕ} (rest : List ℕ) (l : limit ≤ 64) (y : FormatIn limit other)
         (kept : length joined ≡ length (take (limit + 1) (replicate {A = ℕ} 65 0)))
-        (is : joined ≡ formatWords limit (join (readFormat (lentAt limit store k)) (readFormat other))) where
+        (is : joined ≡ formatWords limit (joinFormats (readFormat (lentAt limit store k)) (readFormat other))) where
       -- the join's words
       words : joined ≡ formatWords limit (joinedAt limit store k other)
       words = rw lent-is at is

@@ -13,7 +13,7 @@ use Rattle.law.specs.Places.{sentencesOf, firstSentence}
 use Rattle.law.proofs.IndexLaws as indexed
 use Rattle.law.proofs.PlaceLaws as places
 use Rattle.shapes.specs.Format.{Format, never}
-use Rattle.shapes.specs.Join.{join}
+use Rattle.shapes.specs.Join.{joinFormats}
 use Rattle.shapes.specs.Same.{sameFormat}
 use Rattle.shapes.specs.Words.{formatWords, readFormat, FormatIn}
 use Rattle.buffers.specs.Written.{written}
@@ -22,7 +22,7 @@ use Rattle.formats.specs.FormatOf.{Results}
 use Rattle.formats.specs.Store.{Small, formatIn}
 use Rattle.formats.specs.Code.Rows.{formatAt}
 use Rattle.formats.specs.Code.Slots.{fileNames, functionFolded, position}
-use Rattle.formats.specs.Code.Turns.{Asked, Holding, rowsJoined, JoinedIs, formatNumber, turnOf, TurnIs}
+use Rattle.formats.specs.Code.Turns.{RoundAsked, Holding, rowsJoined, JoinedIs, formatNumber, turnOf, TurnIs}
 use Rattle.formats.specs.declared.infer.Turn.{Turn}
 use Rattle.formats.specs.declared.infer.Turn.the-variants.{Over}
 use Rattle.formats.proofs.EntryLaws.{results-small, patterns-small, format-small}
@@ -62,20 +62,20 @@ module _ (limit : ℕ) (few : limit ≤ 64) (patterns : Bool) (t : Results) (ss 
 
   -- and it is joined into the format number k
   pub turn-renewed : (k : ℕ) (before after : List ℕ) (changed : Bool) (r : Turn)
-      → after ≡ written before (k * (limit + 1)) (formatWords limit (join (readFormat (formatAt limit before k)) (readFormat words)))
-      → changed ≡ not (sameFormat (join (readFormat (formatAt limit before k)) (readFormat words)) (readFormat (formatAt limit before k)))
+      → after ≡ written before (k * (limit + 1)) (formatWords limit (joinFormats (readFormat (formatAt limit before k)) (readFormat words)))
+      → changed ≡ not (sameFormat (joinFormats (readFormat (formatAt limit before k)) (readFormat words)) (readFormat (formatAt limit before k)))
       → r ≡ turnOf (not changed) → TurnIs limit (rowsJoined limit patterns t never ss) k before after r
   turn-renewed k before after changed r p q e =
       let (g, is, same) = joined-made limit (rowsJoined limit patterns t never ss) words ok made joined in
       let reads : readFormat words ≡ g = ap readFormat same ∙ read-write limit g (rows-small limit patterns t ss g is) (omega arith) in
-      rw is (rw reads at p, e ∙ ap turnOf (twice (sameFormat (join (readFormat (formatAt limit before k)) g) (readFormat (formatAt limit before k))) changed (rw reads at q)))
+      rw is (rw reads at p, e ∙ ap turnOf (twice (sameFormat (joinFormats (readFormat (formatAt limit before k)) g) (readFormat (formatAt limit before k))) changed (rw reads at q)))
     where
       twice : (b c : Bool) → c ≡ not b → not c ≡ b
       twice true c h = rw h
       twice false c h = rw h
 
 -- the sentences of a function, by the index
-module _ {bytes index slots : List ℕ} {limit count : ℕ} (h : Asked bytes index slots limit count) (f : ℕ) (inside : f < fileOf bytes .functions .count) where
+module _ {bytes index slots : List ℕ} {limit count : ℕ} (h : RoundAsked bytes index slots limit count) (f : ℕ) (inside : f < fileOf bytes .functions .count) where
   pub turn-few : f + 1 ≤ 64
   turn-few = omega (arith, indexed.functions-limit bytes index (h .indexed))
 

@@ -20,22 +20,22 @@ pub record Ran : Type 0 where
   pub settled : Bool
 
 -- document 01's number of each refusal; 10, "over 64 shapes", and 15, a store "under 8,320 words", have variants of their own
-abbrev pub answerOf : Answered → Answer Ran
-answerOf (Refused why) = refused (numberOf why)
-answerOf ShapesOver = refused 10
-answerOf StoreShort = refused 15
-answerOf (Formed rounds settled) = given (record { rounds = rounds; settled = settled })
+abbrev pub inferAnswer : Answered → Answer Ran
+inferAnswer (Refused why) = refused (numberOf why)
+inferAnswer ShapesOver = refused 10
+inferAnswer StoreShort = refused 15
+inferAnswer (Formed rounds settled) = given (record { rounds = rounds; settled = settled })
 
 -- what a call answers, and the store after it
-pub record Outcome : Type 0 where
+pub record InferOutcome : Type 0 where
   pub answer : Answer Ran
   pub store : List ℕ
 
-abbrev pub outcomeOf : Answered → List ℕ → Outcome
-outcomeOf r words = record { answer = answerOf r; store = words }
+abbrev pub inferOutcome : Answered → List ℕ → InferOutcome
+inferOutcome r words = record { answer = inferAnswer r; store = words }
 
 -- an inference that is refused leaves zeros
-abbrev pub inferredOutcome : ℕ → List ℕ → Answer Inferred → Outcome
+abbrev pub inferredOutcome : ℕ → List ℕ → Answer Inferred → InferOutcome
 inferredOutcome limit store (refused n) = record {
   answer = refused n;
   store = replicate (storeSize limit) 0 ++ drop (storeSize limit) store;
@@ -46,12 +46,12 @@ inferredOutcome limit store (given i) = record {
 }
 
 -- a store that is too short is refused before anything is inferred
-abbrev pub lawOutcome : ℕ → List ℕ → Answer Law → Outcome
+abbrev pub lawOutcome : ℕ → List ℕ → Answer Law → InferOutcome
 lawOutcome limit store (refused n) = record { answer = refused n; store = store }
-lawOutcome limit store (given law) = elim (ltb (length store) (storeSize limit)) as (λ _. Outcome) [
+lawOutcome limit store (given law) = elim (ltb (length store) (storeSize limit)) as (λ _. InferOutcome) [
   | true ↦ record { answer = refused 15; store = store }
   | false ↦ inferredOutcome limit store (infer limit law)
 ]
 
-unfoldable pub callOutcome : ℕ → List ℕ → List ℕ → Outcome
+unfoldable pub callOutcome : ℕ → List ℕ → List ℕ → InferOutcome
 callOutcome limit bytes store = lawOutcome limit store (lawOf bytes)

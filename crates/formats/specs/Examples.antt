@@ -15,7 +15,7 @@ use Rattle.file.specs.Forest.{decode, forestOf}
 use Rattle.file.specs.Head.{termAt, termFrom}
 use Rattle.law.specs.Tree as tree
 use Rattle.law.specs.Tree.{Name, Mark, Run, noSentence, sentence, noCondition, Law, keep, skip}
-use Rattle.law.specs.Places.{firstSentence, blockFirst, firstCondition, patternAt, askedAt, resultAt, patternPart, resultPart, askedPart, wantedPart}
+use Rattle.law.specs.Places.{firstSentence, blockFirst, firstCondition, patternAt, conditionResultAt, resultAt, patternPart, resultPart, conditionResultPart, conditionPatternPart}
 use Rattle.law.specs.Runs.{endOf, fits, usedUp, runsAllowed, blocksAllowed}
 use Rattle.law.specs.Reading.{forestRun, conditionsFrom, sentencesFrom, functionsFrom, treeOf}
 use Rattle.law.specs.Depth.{deepest, depthOf}
@@ -24,7 +24,7 @@ use Rattle.law.specs.Law.{lawOf}
 use Rattle.law.specs.Examples.{bytesOf, unusedTerm, listed}
 use Rattle.shapes.specs.Leaf.{character, number, anySymbol}
 use Rattle.shapes.specs.Format.{item, of, size, isOpen}
-use Rattle.shapes.specs.Join.{joinShapes}
+use Rattle.shapes.specs.Join.{joinRows}
 use Rattle.shapes.specs.Same.{sameShapes}
 use Rattle.shapes.specs.Words.{shapeWords}
 use Rattle.shapes.specs.Examples.{closed, opened}
@@ -70,7 +70,7 @@ Inferences =
 
 inferences : Inferences
 unfolding
-    joinShapes size patternShapes chain resultShapes sameShapes insertName namesOf find renew allAt joinResults joinPatterns round roundsFrom arguments
+    joinRows size patternShapes chain resultShapes sameShapes insertName namesOf find renew allAt joinResults joinPatterns round roundsFrom arguments
     inferWithin infer sameBytes orderBytes
 inferences = (refl, refl)
 
@@ -105,7 +105,7 @@ Rounds =
 
 rounds : Rounds
 unfolding
-    joinShapes size patternShapes chain resultShapes sameShapes insertName namesOf find renew allAt joinResults joinPatterns round roundsFrom arguments
+    joinRows size patternShapes chain resultShapes sameShapes insertName namesOf find renew allAt joinResults joinPatterns round roundsFrom arguments
     inferWithin infer sameBytes orderBytes
 rounds = (refl, refl, refl, refl, refl, refl, refl, refl)
 
@@ -135,8 +135,8 @@ calls : Calls
 unfolding
     bytesOf flatMap lawOf sectionsOf section wordAt every total fieldsAllowed termAllowed spelled everyByte
     runsAllowed usedUp fits blocksAllowed patternsAllowed distinct occurs sameBytes variablesFrom
-    firstSentence blockFirst firstCondition patternAt askedAt resultAt patternPart resultPart askedPart wantedPart
+    firstSentence blockFirst firstCondition patternAt conditionResultAt resultAt patternPart resultPart conditionResultPart conditionPatternPart
     decode forestOf endOf termAt termFrom treeOf functionsFrom sentencesFrom conditionsFrom forestRun keep skip deepest depthOf
-    orderBytes joinShapes size isOpen shapeWords patternShapes chain resultShapes sameShapes insertName namesOf find renew allAt joinResults joinPatterns
+    orderBytes joinRows size isOpen shapeWords patternShapes chain resultShapes sameShapes insertName namesOf find renew allAt joinResults joinPatterns
     round roundsFrom arguments inferWithin infer entryWords storeOf callOutcome
 calls = (refl, refl, refl, refl, refl)

@@ -12,7 +12,7 @@ use Rattle.names.specs.declared.Order.the-variants.{Less, Equal, Greater}
 use Rattle.file.specs.Answer.{Answer, given, refuseIf}
 use Rattle.law.specs.Tree.{Sentences, noSentence, sentence, Law}
 use Rattle.shapes.specs.Format.{Format, never, of, size}
-use Rattle.shapes.specs.Join.{join}
+use Rattle.shapes.specs.Join.{joinFormats}
 use Rattle.formats.specs.FormatOf.{patternShapes, Results, resultShapes}
 use Rattle.shapes.specs.Same.{sameFormat}
 
@@ -60,14 +60,14 @@ unfoldable pub joinResults : ℕ → Results → Format → Sentences → Answer
 joinResults limit t f noSentence = given f
 joinResults limit t f (sentence m p cs r ss) = do
   refuseIf 10 (ltb limit (size (resultShapes t r)))
-  joinResults limit t (join f (of (resultShapes t r))) ss
+  joinResults limit t (joinFormats f (of (resultShapes t r))) ss
 
 -- "over 64 shapes in the format of a sentence's pattern"
 unfoldable pub joinPatterns : ℕ → Format → Sentences → Answer Format
 joinPatterns limit f noSentence = given f
 joinPatterns limit f (sentence m p cs r ss) = do
   refuseIf 10 (ltb limit (size (patternShapes p)))
-  joinPatterns limit (join f (of (patternShapes p))) ss
+  joinPatterns limit (joinFormats f (of (patternShapes p))) ss
 
 -- one round over the functions, and whether a format changed in it
 unfoldable pub round : ℕ → Law → List Entry → Bool → Answer (List Entry × Bool)
@@ -76,7 +76,7 @@ round limit (f ∷ fs) es changed = do
   g ← joinResults limit (find es) never (f .sentences)
   let n : List ℕ = folded (f .name .spelled)
   let old : Format = orNever (find es n)
-  round limit fs (renew n (join old g) es) (changed || not (sameFormat (join old g) old))
+  round limit fs (renew n (joinFormats old g) es) (changed || not (sameFormat (joinFormats old g) old))
 
 -- what inference by rounds leaves
 pub record Rounds : Type 0 where
@@ -104,7 +104,7 @@ arguments limit [] es = given es
 arguments limit (f ∷ fs) es = do
   g ← joinPatterns limit never (f .sentences)
   let n : List ℕ = folded (f .name .spelled)
-  arguments limit fs (renew n (join (orNever (find es n)) g) es)
+  arguments limit fs (renew n (joinFormats (orNever (find es n)) g) es)
 
 -- the formats of a law: by sorted folded name, arguments and results
 pub record Inferred : Type 0 where

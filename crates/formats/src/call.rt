@@ -17,7 +17,7 @@ ghost use Rattle.shapes.specs.Format.{Format};
 ghost use Rattle.formats.specs.Infer.{allAt, infer};
 ghost use Rattle.formats.specs.Store.{StoreHolds, storeSize, startOf};
 ghost use Rattle.formats.specs.Code.Slots.{fileNames, SlotsOf};
-ghost use Rattle.formats.specs.Code.Turns.{Asked, StartedIs, InferIs};
+ghost use Rattle.formats.specs.Code.Turns.{RoundAsked, StartedIs, InferIs};
 
 // Sets a store's words to zero; words past it are kept.
 pub fn clear_store(store: &mut [u32], limit: usize)
@@ -50,7 +50,7 @@ fn infer_started(
     limit: usize,
     count: usize,
 ) -> Inference
-    requires { ⌜ Asked (now law) (now index) (now slots) limit count × ((tail : List ℕ) × StoreHolds limit (fileNames (fileOf (now law))) (allAt Format.never (fileNames (fileOf (now law)))) (allAt Format.never (fileNames (fileOf (now law)))) tail (now store)) ⌝ }
+    requires { ⌜ RoundAsked (now law) (now index) (now slots) limit count × ((tail : List ℕ) × StoreHolds limit (fileNames (fileOf (now law))) (allAt Format.never (fileNames (fileOf (now law)))) (allAt Format.never (fileNames (fileOf (now law)))) tail (now store)) ⌝ }
     ensures { λ r. ⌜ ((tail : List ℕ) → StoreHolds limit (fileNames (fileOf (now (law .entry)))) (allAt Format.never (fileNames (fileOf (now (law .entry))))) (allAt Format.never (fileNames (fileOf (now (law .entry))))) tail (now (store .entry))
         → StartedIs limit (fileNames (fileOf (now (law .entry)))) (infer limit (treeOf (fileOf (now (law .entry))))) tail (now (store .exit)) r) ⌝ }
 {

@@ -27,7 +27,7 @@ ghost use Rattle.law.specs.Places.{sentencesOf, firstSentence};
 ghost use Rattle.law.specs.Reading.{sentencesAt, treeOf};
 ghost use Rattle.law.specs.Tree.{keep};
 ghost use Rattle.shapes.specs.Format.{Format};
-ghost use Rattle.shapes.specs.Join.{join};
+ghost use Rattle.shapes.specs.Join.{joinFormats};
 ghost use Rattle.shapes.specs.Same.{sameFormat};
 ghost use Rattle.shapes.specs.Words.{formatWords, readFormat, FormatIn};
 ghost use Rattle.buffers.specs.Written.{written};
@@ -36,7 +36,7 @@ ghost use Rattle.formats.specs.Infer.{Entry, find, arguments, round, rou
 ghost use Rattle.formats.specs.Store.{StoreHolds};
 ghost use Rattle.formats.specs.Code.Slots.{fileNames, functionFolded, position};
 ghost use Rattle.formats.specs.Code.Rows.{formatAt, Knows, partShapes, RowAsked};
-ghost use Rattle.formats.specs.Code.Turns.{Asked, Holding, resultsIn, FormatMade, rowOf, rowsJoined, JoinedIs, formatNumber, TurnIs, ArgumentsIs, RoundIs, RoundsIs};
+ghost use Rattle.formats.specs.Code.Turns.{RoundAsked, Holding, resultsIn, FormatMade, sentenceShapes, rowsJoined, JoinedIs, formatNumber, TurnIs, ArgumentsIs, RoundIs, RoundsIs};
 
 // A function's turn: a row passes the limit on shapes, its name's format changed, or it is as it was.
 pub enum Turn {
@@ -79,7 +79,7 @@ pub fn row_format(
 // Joins a format into another.
 fn join_into(limit: usize, format: &mut [u32], other: &[u32])
     requires { ⌜ (limit ≤ 64) × FormatIn limit (now format) × FormatIn limit (now other) ⌝ }
-    ensures { λ _. ⌜ now (format .exit) ≡ formatWords limit (join (readFormat (now (format .entry))) (readFormat (now (other .entry)))) ⌝ }
+    ensures { λ _. ⌜ now (format .exit) ≡ formatWords limit (joinFormats (readFormat (now (format .entry))) (readFormat (now (other .entry)))) ⌝ }
 {
     let mut joined = [0u32; 65];
     let end = limit + 1;
@@ -99,8 +99,8 @@ fn sentence_format(
     count: usize,
     out: &mut [u32],
 ) -> bool
-    requires { ⌜ Asked (now law) (now index) (now slots) limit count × Holding limit (fileNames (fileOf (now law))) (now store) × (s < fileOf (now law) .sentences .count) × (length (now out) ≡ limit + 1) ⌝ }
-    ensures { λ r. ⌜ FormatMade limit (rowOf (fileOf (now (law .entry))) patterns (find (resultsIn limit (fileNames (fileOf (now (law .entry)))) (now (store .entry)))) s) r (now (out .exit)) ⌝ }
+    requires { ⌜ RoundAsked (now law) (now index) (now slots) limit count × Holding limit (fileNames (fileOf (now law))) (now store) × (s < fileOf (now law) .sentences .count) × (length (now out) ≡ limit + 1) ⌝ }
+    ensures { λ r. ⌜ FormatMade limit (sentenceShapes (fileOf (now (law .entry))) patterns (find (resultsIn limit (fileNames (fileOf (now (law .entry)))) (now (store .entry)))) s) r (now (out .exit)) ⌝ }
 {
     if patterns {
         let at = pattern_at(law, index, s);
@@ -132,7 +132,7 @@ fn join_sentences(
     count: usize,
     joined: &mut [u32],
 ) -> bool
-    requires { ⌜ Asked (now law) (now index) (now slots) limit count × Holding limit (fileNames (fileOf (now law))) (now store) × (first + number ≤ fileOf (now law) .sentences .count) × FormatIn limit (now joined) ⌝ }
+    requires { ⌜ RoundAsked (now law) (now index) (now slots) limit count × Holding limit (fileNames (fileOf (now law))) (now store) × (first + number ≤ fileOf (now law) .sentences .count) × FormatIn limit (now joined) ⌝ }
     ensures { λ r. ⌜ JoinedIs limit (rowsJoined limit patterns (find (resultsIn limit (fileNames (fileOf (now (law .entry)))) (now (store .entry)))) (readFormat (now (joined .entry)))
         (keep number (sentencesAt (fileOf (now (law .entry))) first))) r (now (joined .exit)) ⌝ }
 {
@@ -173,7 +173,7 @@ fn sentences_format(
     count: usize,
     out: &mut [u32],
 ) -> bool
-    requires { ⌜ Asked (now law) (now index) (now slots) limit count × Holding limit (fileNames (fileOf (now law))) (now store) × (from + number ≤ fileOf (now law) .sentences .count) × (length (now out) ≡ limit + 1) ⌝ }
+    requires { ⌜ RoundAsked (now law) (now index) (now slots) limit count × Holding limit (fileNames (fileOf (now law))) (now store) × (from + number ≤ fileOf (now law) .sentences .count) × (length (now out) ≡ limit + 1) ⌝ }
     ensures { λ r. ⌜ JoinedIs limit (rowsJoined limit patterns (find (resultsIn limit (fileNames (fileOf (now (law .entry)))) (now (store .entry)))) Format.never
         (keep number (sentencesAt (fileOf (now (law .entry))) from))) r (now (out .exit)) ⌝ }
 {
@@ -205,8 +205,8 @@ fn sentences_format(
 // Joins a format into the format number k of a store, and answers whether that one changed.
 fn renew_joined(store: &mut [u32], k: usize, limit: usize, other: &[u32]) -> bool
     requires { ⌜ (limit ≤ 64) × (k < 128) × (k * (limit + 1) + (limit + 1) ≤ length (now store)) × FormatIn limit (formatAt limit (now store) k) × FormatIn limit (now other) ⌝ }
-    ensures { λ r. ⌜ (now (store .exit) ≡ written (now (store .entry)) (k * (limit + 1)) (formatWords limit (join (readFormat (formatAt limit (now (store .entry)) k)) (readFormat (now (other .entry))))))
-        × (r ≡ not (sameFormat (join (readFormat (formatAt limit (now (store .entry)) k)) (readFormat (now (other .entry)))) (readFormat (formatAt limit (now (store .entry)) k)))) ⌝ }
+    ensures { λ r. ⌜ (now (store .exit) ≡ written (now (store .entry)) (k * (limit + 1)) (formatWords limit (joinFormats (readFormat (formatAt limit (now (store .entry)) k)) (readFormat (now (other .entry))))))
+        × (r ≡ not (sameFormat (joinFormats (readFormat (formatAt limit (now (store .entry)) k)) (readFormat (now (other .entry)))) (readFormat (formatAt limit (now (store .entry)) k)))) ⌝ }
 {
     let mut joined = [0u32; 65];
     let end = limit + 1;
@@ -221,8 +221,8 @@ fn renew_joined(store: &mut [u32], k: usize, limit: usize, other: &[u32]) -> boo
 // The same, where a look comes first: at the start the format is never, and in a last round it is already there.
 fn renew_format(store: &mut [u32], k: usize, limit: usize, other: &[u32]) -> bool
     requires { ⌜ (limit ≤ 64) × (k < 128) × (k * (limit + 1) + (limit + 1) ≤ length (now store)) × FormatIn limit (formatAt limit (now store) k) × FormatIn limit (now other) ⌝ }
-    ensures { λ r. ⌜ (now (store .exit) ≡ written (now (store .entry)) (k * (limit + 1)) (formatWords limit (join (readFormat (formatAt limit (now (store .entry)) k)) (readFormat (now (other .entry))))))
-        × (r ≡ not (sameFormat (join (readFormat (formatAt limit (now (store .entry)) k)) (readFormat (now (other .entry)))) (readFormat (formatAt limit (now (store .entry)) k)))) ⌝ }
+    ensures { λ r. ⌜ (now (store .exit) ≡ written (now (store .entry)) (k * (limit + 1)) (formatWords limit (joinFormats (readFormat (formatAt limit (now (store .entry)) k)) (readFormat (now (other .entry))))))
+        × (r ≡ not (sameFormat (joinFormats (readFormat (formatAt limit (now (store .entry)) k)) (readFormat (now (other .entry)))) (readFormat (formatAt limit (now (store .entry)) k)))) ⌝ }
 {
     let end = limit + 1;
     let a = k * end;
@@ -249,7 +249,7 @@ fn function_turn(
     count: usize,
     joined: &mut [u32],
 ) -> Turn
-    requires { ⌜ Asked (now law) (now index) (now slots) limit count × Holding limit (fileNames (fileOf (now law))) (now store) × (f < fileOf (now law) .functions .count) × (length (now joined) ≡ limit + 1) ⌝ }
+    requires { ⌜ RoundAsked (now law) (now index) (now slots) limit count × Holding limit (fileNames (fileOf (now law))) (now store) × (f < fileOf (now law) .functions .count) × (length (now joined) ≡ limit + 1) ⌝ }
     ensures { λ r. ⌜ TurnIs limit (rowsJoined limit patterns (find (resultsIn limit (fileNames (fileOf (now (law .entry)))) (now (store .entry)))) Format.never
         (keep (sentencesOf (fileOf (now (law .entry))) f) (sentencesAt (fileOf (now (law .entry))) (firstSentence (fileOf (now (law .entry))) f))))
         (formatNumber patterns (position (fileNames (fileOf (now (law .entry)))) (functionFolded (fileOf (now (law .entry))) f))) (now (store .entry)) (now (store .exit)) r ⌝ }
@@ -296,7 +296,7 @@ pub fn infer_arguments(
     count: usize,
     joined: &mut [u32],
 ) -> bool
-    requires { ⌜ Asked (now law) (now index) (now slots) limit count × Holding limit (fileNames (fileOf (now law))) (now store) × (length (now joined) ≡ limit + 1) ⌝ }
+    requires { ⌜ RoundAsked (now law) (now index) (now slots) limit count × Holding limit (fileNames (fileOf (now law))) (now store) × (length (now joined) ≡ limit + 1) ⌝ }
     ensures { λ r. ⌜ ((found results : List Entry) (tail : List ℕ) → StoreHolds limit (fileNames (fileOf (now (law .entry)))) found results tail (now (store .entry))
         → ArgumentsIs limit (fileNames (fileOf (now (law .entry)))) (arguments limit (treeOf (fileOf (now (law .entry)))) found) results tail (now (store .exit)) r) ⌝ }
 {
@@ -321,7 +321,7 @@ fn infer_round(
     count: usize,
     joined: &mut [u32],
 ) -> Turn
-    requires { ⌜ Asked (now law) (now index) (now slots) limit count × Holding limit (fileNames (fileOf (now law))) (now store) × (length (now joined) ≡ limit + 1) ⌝ }
+    requires { ⌜ RoundAsked (now law) (now index) (now slots) limit count × Holding limit (fileNames (fileOf (now law))) (now store) × (length (now joined) ≡ limit + 1) ⌝ }
     ensures { λ r. ⌜ ((found results : List Entry) (tail : List ℕ) → StoreHolds limit (fileNames (fileOf (now (law .entry)))) found results tail (now (store .entry))
         → RoundIs limit (fileNames (fileOf (now (law .entry)))) (round limit (treeOf (fileOf (now (law .entry)))) results false) found tail (now (store .exit)) r) ⌝ }
 {
@@ -354,7 +354,7 @@ pub fn infer_rounds(
     most: usize,
     joined: &mut [u32],
 ) -> Inference
-    requires { ⌜ Asked (now law) (now index) (now slots) limit count × Holding limit (fileNames (fileOf (now law))) (now store) × (length (now joined) ≡ limit + 1) ⌝ }
+    requires { ⌜ RoundAsked (now law) (now index) (now slots) limit count × Holding limit (fileNames (fileOf (now law))) (now store) × (length (now joined) ≡ limit + 1) ⌝ }
     ensures { λ r. ⌜ ((found results : List Entry) (tail : List ℕ) → StoreHolds limit (fileNames (fileOf (now (law .entry)))) found results tail (now (store .entry))
         → RoundsIs limit (fileNames (fileOf (now (law .entry)))) (roundsFrom limit most (treeOf (fileOf (now (law .entry)))) results 0) found tail (now (store .exit)) r) ⌝ }
 {

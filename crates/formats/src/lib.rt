@@ -11,7 +11,7 @@ ghost use Rattle.file.specs.Answer.{given};
 ghost use Rattle.file.specs.Sections.{fileOf};
 ghost use Rattle.law.specs.Code.Index.{Indexed, Readable};
 ghost use Rattle.law.specs.Reading.{treeOf};
-ghost use Rattle.formats.specs.Call.{lawOutcome, callOutcome, outcomeOf};
+ghost use Rattle.formats.specs.Call.{lawOutcome, callOutcome, inferOutcome};
 
 pub mod call;
 pub mod infer;
@@ -44,7 +44,7 @@ const STORE: usize = 8320;
 // Infers the formats of an accepted law into a store.
 fn infer_accepted(law: &[u8], index: &Index, store: &mut [u32]) -> Answered
     requires { ⌜ Indexed (now law) (now index) × Readable (fileOf (now law)) ⌝ }
-    ensures { λ r. ⌜ outcomeOf r (now (store .exit)) ≡ lawOutcome 64 (now (store .entry)) (given (treeOf (fileOf (now (law .entry))))) ⌝ }
+    ensures { λ r. ⌜ inferOutcome r (now (store .exit)) ≡ lawOutcome 64 (now (store .entry)) (given (treeOf (fileOf (now (law .entry))))) ⌝ }
 {
     if store.len() < STORE {
         return Answered::StoreShort;
@@ -58,7 +58,7 @@ fn infer_accepted(law: &[u8], index: &Index, store: &mut [u32]) -> Answered
 
 // Infers the formats of a law into a store; the answer says how many rounds ran and whether the last changed nothing.
 pub fn infer_formats(law: &[u8], store: &mut [u32]) -> Answered
-    ensures { λ r. ⌜ outcomeOf r (now (store .exit)) ≡ callOutcome 64 (now (law .entry)) (now (store .entry)) ⌝ }
+    ensures { λ r. ⌜ inferOutcome r (now (store .exit)) ≡ callOutcome 64 (now (law .entry)) (now (store .entry)) ⌝ }
 {
     let mut index: Index = [0; 972];
     match read_law(law, &mut index) {

@@ -11,7 +11,7 @@ use Rattle.file.specs.Sections.{File, fileOf}
 use Rattle.file.proofs.SectionLaws.{sections-records}
 use Rattle.file.proofs.Below.{both-first, both-second, every-at}
 use Rattle.law.specs.Code.Index.{Readable}
-use Rattle.law.specs.Places.{conditionsOf, blockSize, blockFirst, firstCondition, patternAt, patternPart, resultPart, askedPart, wantedPart}
+use Rattle.law.specs.Places.{conditionsOf, blockSize, blockFirst, firstCondition, patternAt, patternPart, resultPart, conditionResultPart, conditionPatternPart}
 use Rattle.law.specs.Runs.{runFits, conditionFits, sentenceFits, usedUp, runsAllowed, blockLater, sentenceBlocks, blocksAllowed}
 use Rattle.law.specs.Variables.{distinct, patternVariables, patternsAllowed}
 use Rattle.law.specs.Law.{Accepted}
@@ -65,11 +65,11 @@ module _ (file : File) (runs : runsAllowed file ≡ true) where
         (sentence-fits .1)
         (omega (arith, condition-next file s)))
 
-    pub asked-fits : (c : ℕ) → firstCondition file s ≤ c → c < firstCondition file (suc s) → runFits (askedPart file s c) ≡ true
-    asked-fits c low high = both-first (runFits (askedPart file s c)) (runFits (wantedPart file s c)) (condition-fits c low high)
+    pub condition-result-fits : (c : ℕ) → firstCondition file s ≤ c → c < firstCondition file (suc s) → runFits (conditionResultPart file s c) ≡ true
+    condition-result-fits c low high = both-first (runFits (conditionResultPart file s c)) (runFits (conditionPatternPart file s c)) (condition-fits c low high)
 
-    pub wanted-fits : (c : ℕ) → firstCondition file s ≤ c → c < firstCondition file (suc s) → runFits (wantedPart file s c) ≡ true
-    wanted-fits c low high = both-second (runFits (askedPart file s c)) (runFits (wantedPart file s c)) (condition-fits c low high)
+    pub wanted-fits : (c : ℕ) → firstCondition file s ≤ c → c < firstCondition file (suc s) → runFits (conditionPatternPart file s c) ≡ true
+    wanted-fits c low high = both-second (runFits (conditionResultPart file s c)) (runFits (conditionPatternPart file s c)) (condition-fits c low high)
 
 module _ (file : File) (blocks : blocksAllowed file ≡ true) (s : ℕ) (inside : s < file .sentences .count) (t : ℕ) (low : patternAt file s ≤ t) (high : t < patternAt file (suc s)) where
   -- a term record of a sentence

@@ -7,7 +7,7 @@ use native.Mathlib.Nat.{add-zero}
 use lib.ListN.{length, getD}
 use Rattle.file.specs.Sections.{File}
 use Rattle.law.specs.Tree.{Name, Symbol, Kind, Mark, Run, empty, symbol, variable, bracket, call, block, Sentences, noSentence, sentence, Conditions, noCondition, condition, Function, Law, keep, skip}
-use Rattle.law.specs.Places.{sentencesOf, conditionsOf, askedSize, firstSentence, firstCondition, patternAt, askedAt, resultAt, patternPart, resultPart, askedPart, wantedPart}
+use Rattle.law.specs.Places.{sentencesOf, conditionsOf, conditionResultSize, firstSentence, firstCondition, patternAt, conditionResultAt, resultAt, patternPart, resultPart, conditionResultPart, conditionPatternPart}
 use Rattle.law.specs.Reading.{runOf, conditionsFrom, sentenceAt, treeOf, sentencesAt, own}
 use Rattle.law.specs.Depth.{deepest, deepestSentences, deepestConditions, depthOf}
 use Rattle.law.proofs.PlaceLaws.{condition-next, function-inside}
@@ -128,8 +128,8 @@ module _ (file : File) (readable : Readable file) where
 
 -- the result and the pattern of one of so many conditions from c on
 pub conditions-parts-depth : (file : File) (own : ℕ → ℕ → Sentences) (s d bound left c i : ℕ) → i < left → deepestConditions (conditionsFrom file own s left c) d ≤ bound
-    → (deepest (runOf file own (askedAt file s (c + i)) (askedPart file s (c + i))) d ≤ bound)
-    × (deepest (runOf file own (askedAt file s (c + i) + askedSize file (c + i)) (wantedPart file s (c + i))) d ≤ bound)
+    → (deepest (runOf file own (conditionResultAt file s (c + i)) (conditionResultPart file s (c + i))) d ≤ bound)
+    × (deepest (runOf file own (conditionResultAt file s (c + i) + conditionResultSize file (c + i)) (conditionPatternPart file s (c + i))) d ≤ bound)
 unfolding conditionsFrom
 conditions-parts-depth file own s d bound zero c i l h = absurd (omega arith)
 conditions-parts-depth file own s d bound (suc left) c zero l h =
@@ -142,8 +142,8 @@ conditions-parts-depth file own s d bound (suc left) c (suc i) l h =
 
 -- of a condition c of a sentence s
 pub condition-parts-depth : (file : File) (s d bound c : ℕ) → firstCondition file s ≤ c → c < firstCondition file (suc s) → PartsDepth file s d bound
-    → (deepest (runOf file (own file) (askedAt file s c) (askedPart file s c)) d ≤ bound)
-    × (deepest (runOf file (own file) (askedAt file s c + askedSize file c) (wantedPart file s c)) d ≤ bound)
+    → (deepest (runOf file (own file) (conditionResultAt file s c) (conditionResultPart file s c)) d ≤ bound)
+    × (deepest (runOf file (own file) (conditionResultAt file s c + conditionResultSize file c) (conditionPatternPart file s c)) d ≤ bound)
 condition-parts-depth file s d bound c low high parts =
     let place : firstCondition file s + (c - firstCondition file s) ≡ c = omega arith in
     rw place at

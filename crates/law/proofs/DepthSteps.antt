@@ -17,7 +17,7 @@ use Rattle.file.specs.Sections.{File}
 use Rattle.file.specs.declared.Term.{Term}
 use Rattle.file.specs.declared.Term.the-variants.{Symbol, SVariable, TVariable, EVariable, Bracket, Call, Block}
 use Rattle.law.specs.Tree.{Mark, Run, empty, Sentences, noSentence, keep, firstTerm}
-use Rattle.law.specs.Places.{blockFirst, sentencesOf, firstSentence, conditionsOf, firstCondition, patternAt, resultAt, patternPart, resultPart, askedAt, askedSize, askedPart, wantedPart}
+use Rattle.law.specs.Places.{blockFirst, sentencesOf, firstSentence, conditionsOf, firstCondition, patternAt, resultAt, patternPart, resultPart, conditionResultAt, conditionResultSize, conditionResultPart, conditionPatternPart}
 use Rattle.law.specs.Runs.{endOf}
 use Rattle.law.specs.Reading.{markAt, termRun, runOf, own, sentencesAt, sentencesIn, conditionsFrom, treeOf}
 use Rattle.law.specs.Depth.{deepest, deepestSentences, deepestConditions, depthOf}
@@ -307,11 +307,11 @@ module _ (file : File) where
   -- one condition, and the conditions after it
   pub conditions-step : (s n c d : ℕ)
       → conditionsWithin s (suc n) c d
-      ≡ (runWithin (askedAt file s c) (askedPart file s c) d
-      && runWithin (askedAt file s c + askedSize file c) (wantedPart file s c) d
+      ≡ (runWithin (conditionResultAt file s c) (conditionResultPart file s c) d
+      && runWithin (conditionResultAt file s c + conditionResultSize file c) (conditionPatternPart file s c) d
       && conditionsWithin s n (suc c) d)
   unfolding deepest conditionsFrom
-  conditions-step s n c d = three-within (deepest (runOf file (own file) (askedAt file s c) (askedPart file s c)) d) (deepest (runOf file (own file) (askedAt file s c + askedSize file c) (wantedPart file s c)) d) _ 32
+  conditions-step s n c d = three-within (deepest (runOf file (own file) (conditionResultAt file s c) (conditionResultPart file s c)) d) (deepest (runOf file (own file) (conditionResultAt file s c + conditionResultSize file c) (conditionPatternPart file s c)) d) _ 32
 
   pub conditions-none : (s c d : ℕ) → conditionsWithin s 0 c d ≡ true
   unfolding deepest conditionsFrom
@@ -320,8 +320,8 @@ module _ (file : File) where
   -- the conditions that a loop has left, after i of them
   pub conditions-next : (s count first i d : ℕ) → i < count
       → conditionsWithin s (count - i) (first + i) d
-      ≡ (runWithin (askedAt file s (first + i)) (askedPart file s (first + i)) d
-      && runWithin (askedAt file s (first + i) + askedSize file (first + i)) (wantedPart file s (first + i)) d
+      ≡ (runWithin (conditionResultAt file s (first + i)) (conditionResultPart file s (first + i)) d
+      && runWithin (conditionResultAt file s (first + i) + conditionResultSize file (first + i)) (conditionPatternPart file s (first + i)) d
       && conditionsWithin s (count - (i + 1)) (first + (i + 1)) d)
   conditions-next s count first i d h =
       let left : count - i ≡ suc (count - (i + 1)) = omega arith in

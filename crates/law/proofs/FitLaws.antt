@@ -5,7 +5,7 @@ use mathlib.Core.Path.{_≡_}
 use Rattle.file.specs.Below.{every}
 use Rattle.file.specs.Sections.{File}
 use Rattle.file.proofs.Below.{every-fails, every-next, first-fails, second-fails, both}
-use Rattle.law.specs.Places.{conditionsOf, firstCondition, patternPart, resultPart, askedPart, wantedPart}
+use Rattle.law.specs.Places.{conditionsOf, firstCondition, patternPart, resultPart, conditionResultPart, conditionPatternPart}
 use Rattle.law.specs.Runs.{runFits, conditionFits, sentenceFits}
 
 module _ (file : File) (s : ℕ) where
@@ -14,18 +14,18 @@ module _ (file : File) (s : ℕ) where
   conditionFit i = conditionFits file s (firstCondition file s + i)
 
   -- one run of a condition that does not fit
-  pub asked-unfit : (i : ℕ) → i < conditionsOf file s → runFits (askedPart file s (firstCondition file s + i)) ≡ false
+  pub condition-result-unfit : (i : ℕ) → i < conditionsOf file s → runFits (conditionResultPart file s (firstCondition file s + i)) ≡ false
       → every (conditionsOf file s) conditionFit ≡ false
-  asked-unfit i l h = every-fails (conditionsOf file s) conditionFit i l (first-fails _ _ h)
+  condition-result-unfit i l h = every-fails (conditionsOf file s) conditionFit i l (first-fails _ _ h)
 
-  pub wanted-unfit : (i : ℕ) → i < conditionsOf file s → runFits (wantedPart file s (firstCondition file s + i)) ≡ false
+  pub condition-pattern-unfit : (i : ℕ) → i < conditionsOf file s → runFits (conditionPatternPart file s (firstCondition file s + i)) ≡ false
       → every (conditionsOf file s) conditionFit ≡ false
-  wanted-unfit i l h =
-      every-fails (conditionsOf file s) conditionFit i l (second-fails (runFits (askedPart file s (firstCondition file s + i))) _ h)
+  condition-pattern-unfit i l h =
+      every-fails (conditionsOf file s) conditionFit i l (second-fails (runFits (conditionResultPart file s (firstCondition file s + i))) _ h)
 
   -- a condition more whose runs fit
-  pub condition-fit : (i : ℕ) → every i conditionFit ≡ true → runFits (askedPart file s (firstCondition file s + i)) ≡ true
-      → runFits (wantedPart file s (firstCondition file s + i)) ≡ true → every (i + 1) conditionFit ≡ true
+  pub condition-fit : (i : ℕ) → every i conditionFit ≡ true → runFits (conditionResultPart file s (firstCondition file s + i)) ≡ true
+      → runFits (conditionPatternPart file s (firstCondition file s + i)) ≡ true → every (i + 1) conditionFit ≡ true
   condition-fit i h a w = every-next i conditionFit h (both _ _ a w)
 
   -- a pattern that does not fit, conditions that do not fit, and else the result decides

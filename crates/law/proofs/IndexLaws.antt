@@ -10,7 +10,7 @@ use Rattle.file.specs.Word.{wordAt}
 use Rattle.file.specs.Sections.{fileOf}
 use Rattle.file.proofs.Words.{word-part}
 use Rattle.file.proofs.SectionLaws.{sections-length, sections-limits, lengthBy}
-use Rattle.law.specs.Places.{sentencesOf, patternSize, conditionsOf, resultSize, askedSize, wantedSize, firstSentence, firstCondition, patternAt, askedAt, resultAt, termsAt, Owns}
+use Rattle.law.specs.Places.{sentencesOf, patternSize, conditionsOf, resultSize, conditionResultSize, conditionPatternSize, firstSentence, firstCondition, patternAt, conditionResultAt, resultAt, termsAt, Owns}
 use Rattle.law.specs.Code.Index.{Indexed, functionsStart, sentencesStart, conditionsStart, termsStart}
 use Rattle.law.proofs.PlaceLaws as places
 use Rattle.law.proofs.Parts.{part-part}
@@ -78,21 +78,21 @@ module _ (bytes index : List ℕ) (h : Indexed bytes index) where
       omega (arith, places.conditions-used (fileOf bytes) (h .used), places.condition-grows (fileOf bytes) s (fileOf bytes .sentences .count) l) in
       rw (h .words .firstConditions s l, h .words .sentenceTerms s l, h .words .conditionTerms _ c)
 
-  pub asked-is : (s c : ℕ) → s < fileOf bytes .sentences .count → c ≤ fileOf bytes .conditions .count
-      → getD index (331 + s) 0 + patternSize (fileOf bytes) s + getD index (202 + c) 0 ≡ askedAt (fileOf bytes) s c
-  unfolding askedAt
-  asked-is s c l k =
+  pub condition-result-is : (s c : ℕ) → s < fileOf bytes .sentences .count → c ≤ fileOf bytes .conditions .count
+      → getD index (331 + s) 0 + patternSize (fileOf bytes) s + getD index (202 + c) 0 ≡ conditionResultAt (fileOf bytes) s c
+  unfolding conditionResultAt
+  condition-result-is s c l k =
       let m : s ≤ fileOf bytes .sentences .count = omega arith in
       rw (h .words .sentenceTerms s m, h .words .conditionTerms c k)
 
   pub result-is : (s : ℕ) → s < fileOf bytes .sentences .count
       → getD index (331 + s) 0 + patternSize (fileOf bytes) s + getD index (202 + getD index (74 + s) 0) 0 ≡ resultAt (fileOf bytes) s
-  unfolding resultAt askedAt
+  unfolding resultAt conditionResultAt
   result-is s l =
       let e : 74 + s ≡ 73 + suc s = omega arith in
       let c : firstCondition (fileOf bytes) (suc s) ≤ fileOf bytes .conditions .count =
       omega (arith, places.conditions-used (fileOf bytes) (h .used), places.condition-grows (fileOf bytes) (suc s) (fileOf bytes .sentences .count) l) in
-      rw (e, h .words .firstConditions (suc s) l) (asked-is s (firstCondition (fileOf bytes) (suc s)) l c)
+      rw (e, h .words .firstConditions (suc s) l) (condition-result-is s (firstCondition (fileOf bytes) (suc s)) l c)
 
   -- the words that lead there are places of the index
   pub condition-place : (s : ℕ) → s ≤ fileOf bytes .sentences .count → 202 + getD index (73 + s) 0 < 972
@@ -134,8 +134,8 @@ module _ (bytes index : List ℕ) (h : Indexed bytes index) where
   owned s c o = omega (arith, places.conditions-inside (fileOf bytes) (h .used) s (o .sentence), places.condition-next (fileOf bytes) s, o .upTo)
 
   -- its runs are parts of the term records
-  pub asked-fits : (s c : ℕ) → Owns (fileOf bytes) s c → askedAt (fileOf bytes) s c + askedSize (fileOf bytes) c + wantedSize (fileOf bytes) c ≤ fileOf bytes .terms .count
-  asked-fits s c o = places.asked-inside (fileOf bytes) (h .used) s c (o .sentence) (o .upTo)
+  pub condition-result-fits : (s c : ℕ) → Owns (fileOf bytes) s c → conditionResultAt (fileOf bytes) s c + conditionResultSize (fileOf bytes) c + conditionPatternSize (fileOf bytes) c ≤ fileOf bytes .terms .count
+  condition-result-fits s c o = places.asked-inside (fileOf bytes) (h .used) s c (o .sentence) (o .upTo)
 
   pub pattern-fits : (s : ℕ) → s < fileOf bytes .sentences .count → patternAt (fileOf bytes) s + patternSize (fileOf bytes) s ≤ fileOf bytes .terms .count
   pattern-fits s l = places.pattern-inside (fileOf bytes) (h .used) s l

@@ -14,7 +14,7 @@ use Rattle.file.specs.Head.{termAt}
 use Rattle.file.specs.declared.Term.{Term}
 use Rattle.file.specs.declared.Term.the-variants.{Symbol, SVariable, TVariable, EVariable, Bracket, Call, Block}
 use Rattle.law.specs.Tree.{Mark, Run, Sentences, keep}
-use Rattle.law.specs.Places.{sentencesOf, patternSize, conditionsOf, resultSize, askedSize, wantedSize, blockSize, firstSentence, blockFirst, firstCondition, patternAt, askedAt, resultAt, termsAt, patternPart, resultPart, askedPart, wantedPart}
+use Rattle.law.specs.Places.{sentencesOf, patternSize, conditionsOf, resultSize, conditionResultSize, conditionPatternSize, blockSize, firstSentence, blockFirst, firstCondition, patternAt, conditionResultAt, resultAt, termsAt, patternPart, resultPart, conditionResultPart, conditionPatternPart}
 use Rattle.law.specs.Runs.{runFits, usedUp, runsAllowed}
 use Rattle.law.specs.Reading.{markAt, termRun, runOf, treeOf, sentencesAt, own}
 use Rattle.law.specs.Depth.{deepest, deepestSentences, depthOf}
@@ -22,7 +22,7 @@ use Rattle.law.proofs.PlaceLaws.{sentence-start, sentence-next, block-n
 use Rattle.law.proofs.RunLaws.{run-first, by-records}
 use Rattle.law.proofs.Terms.{InsideAllowed, block-size, inside-allowed}
 use Rattle.law.specs.Reading.{sentencesIn}
-use Rattle.law.proofs.Allowed.{all-used, pattern-fits, result-fits, asked-fits, wanted-fits, block-after}
+use Rattle.law.proofs.Allowed.{all-used, pattern-fits, result-fits, condition-result-fits, wanted-fits, block-after}
 use Rattle.law.specs.Code.Index.{Readable}
 use Rattle.law.proofs.DepthLaws.{sentences-grow, PartsDepth, kept-depth, function-parts-depth, condition-parts-depth}
 
@@ -155,22 +155,22 @@ module _ (file : File) (readable : Readable file) where
   -- the sentences of a block are no deeper than the sentence that it stands in
   pub sentence-block-depth : (d bound s t : ℕ) → s < file .sentences .count → patternAt file s ≤ t → t < patternAt file (suc s) → 0 < blockSize file t
       → PartsDepth file s d bound → deepestSentences (own file t (blockSize file t)) (suc d) ≤ bound
-  unfolding patternPart resultPart askedPart wantedPart
+  unfolding patternPart resultPart conditionResultPart conditionPatternPart
   sentence-block-depth d bound s t inside low high some parts =
       go (decLt t (patternAt file s + patternSize file s)) (decLt t (resultAt file s))
     where
       runs : runsAllowed file ≡ true
       runs = readable .runs
 
-      in-condition : (c : ℕ) → firstCondition file s ≤ c → c < firstCondition file (suc s) → askedAt file s c ≤ t → t < askedAt file s (suc c)
-          → Dec (t < askedAt file s c + askedSize file c) → deepestSentences (own file t (blockSize file t)) (suc d) ≤ bound
+      in-condition : (c : ℕ) → firstCondition file s ≤ c → c < firstCondition file (suc s) → conditionResultAt file s c ≤ t → t < conditionResultAt file s (suc c)
+          → Dec (t < conditionResultAt file s c + conditionResultSize file c) → deepestSentences (own file t (blockSize file t)) (suc d) ≤ bound
       in-condition c from below under over (yes l) =
-          run-block-depth d bound t (askedAt file s c) (askedSize file c) (omega (arith, asked-inside file used s c inside below))
-          (asked-fits file runs s inside c from below)
+          run-block-depth d bound t (conditionResultAt file s c) (conditionResultSize file c) (omega (arith, asked-inside file used s c inside below))
+          (condition-result-fits file runs s inside c from below)
           under l some
           (condition-parts-depth file s d bound c from below parts .0)
       in-condition c from below under over (no l) =
-          run-block-depth d bound t (askedAt file s c + askedSize file c) (wantedSize file c) (omega (arith, asked-inside file used s c inside below))
+          run-block-depth d bound t (conditionResultAt file s c + conditionResultSize file c) (conditionPatternSize file c) (omega (arith, asked-inside file used s c inside below))
           (wanted-fits file runs s inside c from below)
           (omega arith) (omega (arith, asked-next file s c)) some
           (condition-parts-depth file s d bound c from below parts .1)
@@ -181,10 +181,10 @@ module _ (file : File) (readable : Readable file) where
           low l some
           (parts .pattern)
       go (no l) (yes m) =
-          let ends : askedAt file s (firstCondition file s + conditionsOf file s) ≡ resultAt file s = rw (← condition-next file s) (asked-last file s) in
+          let ends : conditionResultAt file s (firstCondition file s + conditionsOf file s) ≡ resultAt file s = rw (← condition-next file s) (asked-last file s) in
           let (c, from, below, under, over) =
-          step-around (askedAt file s) (firstCondition file s) (conditionsOf file s) t (omega (arith, asked-first file s)) (omega arith) in
-          in-condition c from (omega (arith, condition-next file s)) under over (decLt t (askedAt file s c + askedSize file c))
+          step-around (conditionResultAt file s) (firstCondition file s) (conditionsOf file s) t (omega (arith, asked-first file s)) (omega arith) in
+          in-condition c from (omega (arith, condition-next file s)) under over (decLt t (conditionResultAt file s c + conditionResultSize file c))
       go (no l) (no m) =
           run-block-depth d bound t (resultAt file s) (resultSize file s) (result-inside file used s inside) (result-fits file runs s inside)
           (omega arith) (omega (arith, pattern-next file s)) some

@@ -9,7 +9,7 @@ use Rattle.file.specs.Word.{wordAt}
 use Rattle.file.specs.Forest.{contents, rest}
 use Rattle.file.specs.Head.{termFrom, termAt}
 use Rattle.file.specs.Sections.{File, fileOf}
-use Rattle.law.specs.Places.{blockFirst, termsAt, patternAt, patternSize, patternPart, resultAt, resultSize, resultPart, askedAt, askedSize, askedPart, wantedSize, wantedPart, Owns}
+use Rattle.law.specs.Places.{blockFirst, termsAt, patternAt, patternSize, patternPart, resultAt, resultSize, resultPart, conditionResultAt, conditionResultSize, conditionResultPart, conditionPatternSize, conditionPatternPart, Owns}
 use Rattle.law.specs.Runs.{endOf, runFits}
 use Rattle.law.specs.Reading.{sentencesIn}
 use Rattle.law.specs.Code.Index.{Indexed, Readable, PartAt}
@@ -18,7 +18,7 @@ use Rattle.law.proofs.RunLaws.{fits-first}
 use Rattle.law.proofs.Terms.{InsideAllowed, inside-allowed, block-size}
 use Rattle.law.proofs.PlaceLaws.{block-inside, pattern-inside, result-inside, asked-inside}
 use Rattle.law.proofs.IndexLaws.{terms-limit}
-use Rattle.law.proofs.Allowed.{all-used, pattern-fits, result-fits, asked-fits, wanted-fits}
+use Rattle.law.proofs.Allowed.{all-used, pattern-fits, result-fits, condition-result-fits, wanted-fits}
 
 -- nothing is inside a record of a kind below 6
 leaf-none : (kind a b n : ℕ) → kind < 6 → InsideAllowed (termFrom kind a b) n → n ≡ 0
@@ -128,19 +128,19 @@ module _ (file : File) (readable : Readable file) where
     fit = result-fits file (readable .runs) s h;
   }
 
-  pub asked-part : (s c : ℕ) → Owns file s c → PartAt file (askedAt file s c) (askedPart file s c)
-  unfolding askedPart
-  asked-part s c o = record {
-    count = askedSize file c;
+  pub condition-result-part : (s c : ℕ) → Owns file s c → PartAt file (conditionResultAt file s c) (conditionResultPart file s c)
+  unfolding conditionResultPart
+  condition-result-part s c o = record {
+    count = conditionResultSize file c;
     inside = omega (arith, asked-inside file (all-used file (readable .runs)) s c (o .sentence) (o .upTo));
     same = refl;
-    fit = asked-fits file (readable .runs) s (o .sentence) c (o .from) (o .upTo);
+    fit = condition-result-fits file (readable .runs) s (o .sentence) c (o .from) (o .upTo);
   }
 
-  pub wanted-part : (s c : ℕ) → Owns file s c → PartAt file (askedAt file s c + askedSize file c) (wantedPart file s c)
-  unfolding wantedPart
-  wanted-part s c o = record {
-    count = wantedSize file c;
+  pub condition-pattern-part : (s c : ℕ) → Owns file s c → PartAt file (conditionResultAt file s c + conditionResultSize file c) (conditionPatternPart file s c)
+  unfolding conditionPatternPart
+  condition-pattern-part s c o = record {
+    count = conditionPatternSize file c;
     inside = asked-inside file (all-used file (readable .runs)) s c (o .sentence) (o .upTo);
     same = refl;
     fit = wanted-fits file (readable .runs) s (o .sentence) c (o .from) (o .upTo);

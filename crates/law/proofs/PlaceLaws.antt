@@ -8,7 +8,7 @@ use borrow.Author.Tests.{eqb-true}
 use Rattle.file.specs.Below.{total}
 use Rattle.file.specs.Sections.{File}
 use Rattle.file.proofs.Below.{total-mono}
-use Rattle.law.specs.Places.{sentencesOf, patternSize, conditionsOf, resultSize, askedSize, wantedSize, blockSize, firstSentence, blockFirst, firstCondition, patternAt, askedAt, resultAt}
+use Rattle.law.specs.Places.{sentencesOf, patternSize, conditionsOf, resultSize, conditionResultSize, conditionPatternSize, blockSize, firstSentence, blockFirst, firstCondition, patternAt, conditionResultAt, resultAt}
 use Rattle.law.specs.Runs.{usedUp}
 use Rattle.law.proofs.Tests.{three-hold}
 
@@ -45,16 +45,16 @@ module _ (file : File) where
   unfolding patternAt firstCondition total
   pattern-start = refl
 
-  pub asked-first : (s : ℕ) → askedAt file s (firstCondition file s) ≡ patternAt file s + patternSize file s
-  unfolding patternAt askedAt
+  pub asked-first : (s : ℕ) → conditionResultAt file s (firstCondition file s) ≡ patternAt file s + patternSize file s
+  unfolding patternAt conditionResultAt
   asked-first s = omega arith
 
-  pub asked-next : (s c : ℕ) → askedAt file s (suc c) ≡ askedAt file s c + askedSize file c + wantedSize file c
-  unfolding askedAt total
+  pub asked-next : (s c : ℕ) → conditionResultAt file s (suc c) ≡ conditionResultAt file s c + conditionResultSize file c + conditionPatternSize file c
+  unfolding conditionResultAt total
   asked-next s c = omega arith
 
-  pub asked-last : (s : ℕ) → askedAt file s (firstCondition file (suc s)) ≡ resultAt file s
-  unfolding askedAt resultAt
+  pub asked-last : (s : ℕ) → conditionResultAt file s (firstCondition file (suc s)) ≡ resultAt file s
+  unfolding conditionResultAt resultAt
   asked-last s = refl
 
   pub pattern-next : (s : ℕ) → patternAt file (suc s) ≡ resultAt file s + resultSize file s
@@ -74,9 +74,9 @@ module _ (file : File) where
   unfolding firstCondition
   condition-grows s t h = total-mono s t (conditionsOf file) h
 
-  pub asked-grows : (s c d : ℕ) → c ≤ d → askedAt file s c ≤ askedAt file s d
-  unfolding askedAt
-  asked-grows s c d h = omega (arith, total-mono c d (λ i. askedSize file i + wantedSize file i) h)
+  pub asked-grows : (s c d : ℕ) → c ≤ d → conditionResultAt file s c ≤ conditionResultAt file s d
+  unfolding conditionResultAt
+  asked-grows s c d h = omega (arith, total-mono c d (λ i. conditionResultSize file i + conditionPatternSize file i) h)
 
   pub pattern-grows : (s t : ℕ) → s ≤ t → patternAt file s ≤ patternAt file t
   unfolding patternAt
@@ -84,7 +84,7 @@ module _ (file : File) where
       omega (
         arith,
         total-mono s t (λ i. patternSize file i + resultSize file i) h,
-        total-mono (firstCondition file s) (firstCondition file t) (λ i. askedSize file i + wantedSize file i) (condition-grows s t h),
+        total-mono (firstCondition file s) (firstCondition file t) (λ i. conditionResultSize file i + conditionPatternSize file i) (condition-grows s t h),
       )
 
   -- the parts of a sentence end where the next sentence begins, or before
@@ -108,10 +108,10 @@ module _ (file : File) where
       )
 
   -- of a condition of the sentence
-  pub asked-after : (s c : ℕ) → firstCondition file s ≤ c → patternAt file s ≤ askedAt file s c
+  pub asked-after : (s c : ℕ) → firstCondition file s ≤ c → patternAt file s ≤ conditionResultAt file s c
   asked-after s c h = omega (arith, asked-first s, asked-grows s (firstCondition file s) c h)
 
-  pub asked-within : (s c : ℕ) → c < firstCondition file (suc s) → askedAt file s c + askedSize file c + wantedSize file c ≤ patternAt file (suc s)
+  pub asked-within : (s c : ℕ) → c < firstCondition file (suc s) → conditionResultAt file s c + conditionResultSize file c + conditionPatternSize file c ≤ patternAt file (suc s)
   asked-within s c h = omega (arith, asked-next s c, asked-last s, pattern-next s, asked-grows s (suc c) (firstCondition file (suc s)) h)
 
   module _ (used : usedUp file ≡ true) where
@@ -173,5 +173,5 @@ module _ (file : File) where
     result-inside s h = omega (arith, terms-inside s h, pattern-next s)
 
     pub asked-inside : (s c : ℕ) → s < file .sentences .count → c < firstCondition file (suc s)
-        → askedAt file s c + askedSize file c + wantedSize file c ≤ file .terms .count
+        → conditionResultAt file s c + conditionResultSize file c + conditionPatternSize file c ≤ file .terms .count
     asked-inside s c h k = omega (arith, terms-inside s h, asked-within s c k)

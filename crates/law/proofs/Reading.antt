@@ -13,14 +13,14 @@ use Rattle.file.specs.Head.{termAt}
 use Rattle.file.specs.declared.Term.{Term}
 use Rattle.file.specs.declared.Term.the-variants.{Symbol, SVariable, TVariable, EVariable, Bracket, Call, Block}
 use Rattle.law.specs.Tree.{Mark, Run, Sentences, noSentence, keep, skip}
-use Rattle.law.specs.Places.{patternSize, conditionsOf, resultSize, askedSize, wantedSize, blockSize, blockFirst, firstCondition, patternAt, askedAt, resultAt, termsAt, patternPart, resultPart, askedPart, wantedPart}
+use Rattle.law.specs.Places.{patternSize, conditionsOf, resultSize, conditionResultSize, conditionPatternSize, blockSize, blockFirst, firstCondition, patternAt, conditionResultAt, resultAt, termsAt, patternPart, resultPart, conditionResultPart, conditionPatternPart}
 use Rattle.law.specs.Runs.{runFits}
 use Rattle.law.specs.Reading.{termRun, runOf, conditionsFrom, ownIn, sentenceAt, sentencesFrom, sentencesAt, own}
 use Rattle.law.proofs.PlaceLaws.{condition-next, pattern-next, pattern-within, result-within, asked-after, asked-within, terms-inside}
 use Rattle.law.proofs.RunLaws.{run-none, run-first, by-records}
 use Rattle.law.proofs.Terms.{block-size}
 use Rattle.law.specs.Reading.{sentencesIn}
-use Rattle.law.proofs.Allowed.{all-used, pattern-fits, result-fits, asked-fits, wanted-fits, block-after}
+use Rattle.law.proofs.Allowed.{all-used, pattern-fits, result-fits, condition-result-fits, wanted-fits, block-after}
 use Rattle.law.specs.Code.Index.{Readable}
 
 -- sentences after some of them
@@ -108,13 +108,13 @@ module _ (file : File) (readable : Readable file) (s : ℕ) (inside : s < file .
   -- the conditions of s
   conditions-read : (left c : ℕ) → firstCondition file s ≤ c → c + left ≤ firstCondition file (suc s)
       → conditionsFrom file picked s left c ≡ conditionsFrom file (own file) s left c
-  unfolding conditionsFrom askedPart wantedPart
+  unfolding conditionsFrom conditionResultPart conditionPatternPart
   conditions-read zero c low high = refl
   conditions-read (suc left) c low high =
       rw (
-        run-reads (askedAt file s c) (askedSize file c) (asked-after file s c low) (omega (arith, asked-within file s c (omega arith)))
-            (asked-fits file (readable .runs) s inside c low (omega arith)),
-        run-reads (askedAt file s c + askedSize file c) (wantedSize file c) (omega (arith, asked-after file s c low)) (asked-within file s c (omega arith))
+        run-reads (conditionResultAt file s c) (conditionResultSize file c) (asked-after file s c low) (omega (arith, asked-within file s c (omega arith)))
+            (condition-result-fits file (readable .runs) s inside c low (omega arith)),
+        run-reads (conditionResultAt file s c + conditionResultSize file c) (conditionPatternSize file c) (omega (arith, asked-after file s c low)) (asked-within file s c (omega arith))
             (wanted-fits file (readable .runs) s inside c low (omega arith)),
         conditions-read left (suc c) (omega arith) (omega arith),
       )

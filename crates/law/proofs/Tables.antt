@@ -19,7 +19,7 @@ use Rattle.file.proofs.Below.{both-first, both-second, total-next, total-mono}
 use Rattle.file.specs.Code.Counts.{Limits}
 use Rattle.file.proofs.SectionLaws.{part-slice, sections-limits}
 use Rattle.file.proofs.Parts.{cutOut, functionsPart, sentencesPart, conditionsPart, termsPart}
-use Rattle.law.specs.Places.{sentencesOf, patternSize, conditionsOf, resultSize, askedSize, wantedSize, blockSize, firstSentence, blockFirst, firstCondition, sentenceRecords, conditionRecords, patternAt}
+use Rattle.law.specs.Places.{sentencesOf, patternSize, conditionsOf, resultSize, conditionResultSize, conditionPatternSize, blockSize, firstSentence, blockFirst, firstCondition, sentenceRecords, conditionRecords, patternAt}
 use Rattle.law.specs.Runs.{usedUp}
 use Rattle.law.specs.Code.Index.{functionsStart, sentencesStart, conditionsStart, termsStart, IndexOf, Indexed}
 use Rattle.law.specs.Code.Filling.{Table, wordSum, pairSum, blockWord, blockSum, asWord, TablesOf, header}
@@ -220,7 +220,7 @@ index-made file tables limits h t =
       terms = refl;
       firstSentences = λ f l. word (8 + f) _ (omega arith) (t .firstSentences f l) (omega (arith, u .sentences, total-mono f (file .functions .count) (sentencesOf file) l));
       firstConditions = λ s l. word (73 + s) _ (omega arith) (t .firstConditions s l) (omega (arith, u .conditions, total-mono s (file .sentences .count) (conditionsOf file) l));
-      conditionTerms = λ c l. word (202 + c) _ (omega arith) (t .conditionTerms c l) (omega (arith, u .terms, total-mono c (file .conditions .count) (λ i. askedSize file i + wantedSize file i) l));
+      conditionTerms = λ c l. word (202 + c) _ (omega arith) (t .conditionTerms c l) (omega (arith, u .terms, total-mono c (file .conditions .count) (λ i. conditionResultSize file i + conditionPatternSize file i) l));
       sentenceTerms = λ s l. word (331 + s) _ (omega arith) (t .sentenceTerms s l) (omega (arith, u .terms, total-mono s (file .sentences .count) (λ i. patternSize file i + resultSize file i) l));
       blocks = λ n l. word (460 + n) _ (omega arith) (t .blocks n l) (omega (arith, u .sentences, total-mono n (file .terms .count) (blockSize file) (omega arith)));
     }

@@ -15,24 +15,24 @@ use Rattle.law.specs.Runs.{usedUp, sentenceFits, runsAllowed, blocksAllo
 use Rattle.law.specs.Reading.{treeOf}
 use Rattle.law.specs.Depth.{depthOf}
 use Rattle.law.specs.Variables.{patternsAllowed}
-use Rattle.law.specs.Law.{lawOf, verdictOf, checkAnswer, IndexAfter}
+use Rattle.law.specs.Law.{lawOf, checkOf, checkAnswer, IndexAfter}
 use Rattle.law.specs.Code.Index.{Indexed}
 use Rattle.law.specs.declared.Check.{Check}
 use Rattle.law.specs.declared.Check.the-variants.{Accepted, Refused}
 
 -- a file that the sections refuse
-pub sections-refused : (bytes : List ℕ) (n : ℕ) → sectionsOf bytes ≡ refused n → verdictOf bytes ≡ refused n
+pub sections-refused : (bytes : List ℕ) (n : ℕ) → sectionsOf bytes ≡ refused n → checkOf bytes ≡ refused n
 unfolding lawOf
 sections-refused bytes n h = rw h
 
 module _ (bytes : List ℕ) (sections : sectionsOf bytes ≡ given (fileOf bytes)) where
-  pub fields-refused : fieldsAllowed (fileOf bytes) ≡ false → verdictOf bytes ≡ refused 5
+  pub fields-refused : fieldsAllowed (fileOf bytes) ≡ false → checkOf bytes ≡ refused 5
   unfolding lawOf
   fields-refused f = rw (sections, f)
 
   module _ (fields : fieldsAllowed (fileOf bytes) ≡ true) where
     -- row 6 in two steps, as the code takes it
-    pub used-refused : usedUp (fileOf bytes) ≡ false → verdictOf bytes ≡ refused 6
+    pub used-refused : usedUp (fileOf bytes) ≡ false → checkOf bytes ≡ refused 6
     unfolding lawOf runsAllowed
     used-refused u = rw (sections, fields, u)
 
@@ -40,38 +40,38 @@ module _ (bytes : List ℕ) (sections : sectionsOf bytes ≡ given (fileOf bytes
     unfolding runsAllowed
     runs-all u r = rw (u, r)
 
-    pub runs-refused : usedUp (fileOf bytes) ≡ true → every (fileOf bytes .sentences .count) (sentenceFits (fileOf bytes)) ≡ false → verdictOf bytes ≡ refused 6
+    pub runs-refused : usedUp (fileOf bytes) ≡ true → every (fileOf bytes .sentences .count) (sentenceFits (fileOf bytes)) ≡ false → checkOf bytes ≡ refused 6
     unfolding lawOf runsAllowed
     runs-refused u r = rw (sections, fields, u, r)
 
     module _ (runs : runsAllowed (fileOf bytes) ≡ true) where
-      pub blocks-refused : blocksAllowed (fileOf bytes) ≡ false → verdictOf bytes ≡ refused 7
+      pub blocks-refused : blocksAllowed (fileOf bytes) ≡ false → checkOf bytes ≡ refused 7
       unfolding lawOf
       blocks-refused b = rw (sections, fields, runs, b)
 
       module _ (blocks : blocksAllowed (fileOf bytes) ≡ true) where
-        pub depth-refused : leb (depthOf (treeOf (fileOf bytes))) 32 ≡ false → verdictOf bytes ≡ refused 8
+        pub depth-refused : leb (depthOf (treeOf (fileOf bytes))) 32 ≡ false → checkOf bytes ≡ refused 8
         unfolding lawOf
         depth-refused d = rw (sections, fields, runs, blocks, lt-ltb 32 (depthOf (treeOf (fileOf bytes))) (leb-false _ 32 d))
 
         module _ (depth : leb (depthOf (treeOf (fileOf bytes))) 32 ≡ true) where
-          pub patterns-refused : patternsAllowed (fileOf bytes) ≡ false → verdictOf bytes ≡ refused 9
+          pub patterns-refused : patternsAllowed (fileOf bytes) ≡ false → checkOf bytes ≡ refused 9
           unfolding lawOf
           patterns-refused p = rw (sections, fields, runs, blocks, le-ltb 32 (depthOf (treeOf (fileOf bytes))) (leb-true _ 32 depth), p)
 
-          pub accepted : patternsAllowed (fileOf bytes) ≡ true → verdictOf bytes ≡ given tt
+          pub accepted : patternsAllowed (fileOf bytes) ≡ true → checkOf bytes ≡ given tt
           unfolding lawOf
           accepted p = rw (sections, fields, runs, blocks, le-ltb 32 (depthOf (treeOf (fileOf bytes))) (leb-true _ 32 depth), p)
 
 -- what the check answers, and what it leaves in the index, where it refuses and where it accepts
-pub refused-filled : (bytes : List ℕ) (why : Refusal) (index : List ℕ) → verdictOf bytes ≡ refused (numberOf why)
-    → (checkAnswer (Refused why) ≡ verdictOf bytes) × (Refused why ≡ Accepted → Indexed bytes index)
+pub refused-filled : (bytes : List ℕ) (why : Refusal) (index : List ℕ) → checkOf bytes ≡ refused (numberOf why)
+    → (checkAnswer (Refused why) ≡ checkOf bytes) × (Refused why ≡ Accepted → Indexed bytes index)
 refused-filled bytes why index v = (sym v, λ e. let z : _≡_ {A = ℕ} 0 1 = cc in absurd (omega arith))
 
-pub refused-checked : (bytes : List ℕ) (why : Refusal) (check : Check) → check ≡ Refused why → checkAnswer check ≡ verdictOf bytes
-    → checkAnswer (Refused why) ≡ verdictOf bytes
+pub refused-checked : (bytes : List ℕ) (why : Refusal) (check : Check) → check ≡ Refused why → checkAnswer check ≡ checkOf bytes
+    → checkAnswer (Refused why) ≡ checkOf bytes
 refused-checked bytes why check p v = sym (ap checkAnswer p) ∙ v
 
 pub accepted-checked : (bytes : List ℕ) (check : Check) (index : List ℕ) → check ≡ Accepted → (check ≡ Accepted → Indexed bytes index)
-    → checkAnswer check ≡ verdictOf bytes → (checkAnswer check ≡ verdictOf bytes) × IndexAfter check bytes index
+    → checkAnswer check ≡ checkOf bytes → (checkAnswer check ≡ checkOf bytes) × IndexAfter check bytes index
 accepted-checked bytes check index p q v = (v, rw p (q p))

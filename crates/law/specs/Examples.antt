@@ -14,12 +14,12 @@ use Rattle.file.specs.Head.{termAt, termFrom}
 use Rattle.names.specs.Name.{everyByte, sameBytes}
 unfoldable pub use Rattle.law.specs.Text.{bytesOf}
 use Rattle.law.specs.Tree.{Name, character, number, symbolKind, expressionKind, Mark, Run, empty, symbol, variable, bracket, call, block, noSentence, sentence, noCondition, condition, Law, keep, skip}
-use Rattle.law.specs.Places.{firstSentence, blockFirst, firstCondition, patternAt, askedAt, resultAt, patternPart, resultPart, askedPart, wantedPart}
+use Rattle.law.specs.Places.{firstSentence, blockFirst, firstCondition, patternAt, conditionResultAt, resultAt, patternPart, resultPart, conditionResultPart, conditionPatternPart}
 use Rattle.law.specs.Runs.{endOf, fits, usedUp, runsAllowed, blocksAllowed}
 use Rattle.law.specs.Reading.{forestRun, conditionsFrom, sentencesFrom, functionsFrom, treeOf}
 use Rattle.law.specs.Depth.{deepest, depthOf}
 use Rattle.law.specs.Variables.{variablesFrom, occurs, distinct, patternsAllowed}
-use Rattle.law.specs.Law.{lawOf, verdictOf}
+use Rattle.law.specs.Law.{lawOf, checkOf}
 
 -- a word, least byte first
 abbrev pub word : ℕ → List ℕ
@@ -196,12 +196,12 @@ pub meanings :
     ∷ given (nestedLaw 33 empty)
     ∷ refused 8
     ∷ [])
-    × (map verdictOf (variablesFile "ABCDEFGHIJKLMNOPQRSTUVWXYZ0123456" ∷ variablesFile "ABCDEFGHIJKLMNOPQRSTUVWXYZ012345a" ∷ []) ≡ refused 9 ∷ given tt ∷ [])
+    × (map checkOf (variablesFile "ABCDEFGHIJKLMNOPQRSTUVWXYZ0123456" ∷ variablesFile "ABCDEFGHIJKLMNOPQRSTUVWXYZ012345a" ∷ []) ≡ refused 9 ∷ given tt ∷ [])
     × (map (λ inside. depthOf (nestedLaw 33 inside)) (empty ∷ symbol (character 97) empty ∷ []) ≡ 32 ∷ 33 ∷ [])
 unfolding
     bytesOf flatMap nested nestedTerms variableTerms
     lawOf sectionsOf section wordAt every total fieldsAllowed termAllowed spelled everyByte
     runsAllowed usedUp fits blocksAllowed patternsAllowed distinct occurs sameBytes variablesFrom
-    firstSentence blockFirst firstCondition patternAt askedAt resultAt patternPart resultPart askedPart wantedPart
+    firstSentence blockFirst firstCondition patternAt conditionResultAt resultAt patternPart resultPart conditionResultPart conditionPatternPart
     decode forestOf endOf termAt termFrom treeOf functionsFrom sentencesFrom conditionsFrom forestRun keep skip deepest depthOf
 meanings = (refl, refl, refl)

@@ -2,8 +2,6 @@
 -- brackets around expressions)"; "a number record is one symbol, also above 4294967295".
 use Prim.Native.Nat.{ℕ, _+_, _*_, _-_}
 use mathlib.Core.List.{List, _∷_}
-use Rattle.names.specs.Name.{folded}
-use Rattle.law.specs.Tree as tree
 
 -- a symbol: a character, an identifier, folded, or a number, by value
 pub data Literal : Type 0 where
@@ -28,12 +26,6 @@ valueAfter n (d ∷ ds) = valueAfter (n * 10 + (d - 48)) ds
 
 abbrev pub valueOf : List ℕ → ℕ
 valueOf digits = valueAfter 0 digits
-
--- what a symbol of a law is in a run
-abbrev pub literalOf : tree.Symbol → Literal
-literalOf (tree.Symbol.character c) = character c
-literalOf (tree.Symbol.identifier i) = identifier (folded (i .spelled))
-literalOf (tree.Symbol.number n) = number (valueOf (n .spelled))
 
 -- one row after another
 module _ {A : Type 0} where

@@ -33,8 +33,8 @@ abbrev pub checkAnswer : Check → Answer (Unit {0})
 checkAnswer Allowed = given tt
 checkAnswer (Refused r) = refused (numberOf r)
 
-abbrev pub verdictOf : List ℕ → Answer (Unit {0})
-verdictOf bytes = mapAnswer (λ _. tt) (lawOf bytes)
+abbrev pub checkOf : List ℕ → Answer (Unit {0})
+checkOf bytes = mapAnswer (λ _. tt) (lawOf bytes)
 
 -- none of the refusals 1 to 9 holds of these bytes
 pub record Accepted (bytes : List ℕ) : Type 0 where

@@ -2,6 +2,7 @@ pub mod Text
 pub mod Tree
 pub mod Definition
 pub mod Expression
+pub mod Symbol
 pub mod Places
 pub mod Runs
 pub mod Reading

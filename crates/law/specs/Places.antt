@@ -25,11 +25,11 @@ module _ (file : File) where
   resultSize s = wordAt (file .sentences .records) (20 * s + 8)
 
   -- of a condition: its result's records, its pattern's records
-  abbrev pub askedSize : ℕ → ℕ
-  askedSize c = wordAt (file .conditions .records) (16 * c)
+  abbrev pub conditionResultSize : ℕ → ℕ
+  conditionResultSize c = wordAt (file .conditions .records) (16 * c)
 
-  abbrev pub wantedSize : ℕ → ℕ
-  wantedSize c = wordAt (file .conditions .records) (16 * c + 4)
+  abbrev pub conditionPatternSize : ℕ → ℕ
+  conditionPatternSize c = wordAt (file .conditions .records) (16 * c + 4)
 
   -- a term record's number of sentences, 0 where it is no block
   abbrev pub blockSize : ℕ → ℕ
@@ -51,14 +51,14 @@ module _ (file : File) where
   sentenceRecords s = total s (λ i. patternSize i + resultSize i)
 
   abbrev pub conditionRecords : ℕ → ℕ
-  conditionRecords c = total c (λ i. askedSize i + wantedSize i)
+  conditionRecords c = total c (λ i. conditionResultSize i + conditionPatternSize i)
 
   -- the first term record of a sentence's pattern, of the result of a condition c of a sentence s, and of a sentence's result
   unfoldable pub patternAt : ℕ → ℕ
   patternAt s = sentenceRecords s + conditionRecords (firstCondition s)
 
-  unfoldable pub askedAt : ℕ → ℕ → ℕ
-  askedAt s c = sentenceRecords s + patternSize s + conditionRecords c
+  unfoldable pub conditionResultAt : ℕ → ℕ → ℕ
+  conditionResultAt s c = sentenceRecords s + patternSize s + conditionRecords c
 
   unfoldable pub resultAt : ℕ → ℕ
   resultAt s = sentenceRecords s + patternSize s + conditionRecords (firstCondition (suc s))
@@ -74,11 +74,11 @@ module _ (file : File) where
   unfoldable pub resultPart : ℕ → List ℕ
   resultPart s = termsAt (resultAt s) (resultSize s)
 
-  unfoldable pub askedPart : ℕ → ℕ → List ℕ
-  askedPart s c = termsAt (askedAt s c) (askedSize c)
+  unfoldable pub conditionResultPart : ℕ → ℕ → List ℕ
+  conditionResultPart s c = termsAt (conditionResultAt s c) (conditionResultSize c)
 
-  unfoldable pub wantedPart : ℕ → ℕ → List ℕ
-  wantedPart s c = termsAt (askedAt s c + askedSize c) (wantedSize c)
+  unfoldable pub conditionPatternPart : ℕ → ℕ → List ℕ
+  conditionPatternPart s c = termsAt (conditionResultAt s c + conditionResultSize c) (conditionPatternSize c)
 
   -- the condition c is one of the sentence s
   pub record Owns (s c : ℕ) : Type 0 where

@@ -10,7 +10,7 @@ use Rattle.file.specs.Head.{termAt}
 use Rattle.file.specs.declared.Symbol as heads
 use Rattle.file.specs.declared.Term as terms
 use Rattle.law.specs.Tree.{Name, Symbol, character, identifier, number, symbolKind, termKind, expressionKind, Mark, Run, empty, symbol, variable, bracket, call, block, Sentences, noSentence, sentence, Conditions, noCondition, condition, Law, keep, skip}
-use Rattle.law.specs.Places.{sentencesOf, firstSentence, blockFirst, firstCondition, conditionsOf, askedAt, askedSize, patternAt, resultAt, patternPart, resultPart, askedPart, wantedPart}
+use Rattle.law.specs.Places.{sentencesOf, firstSentence, blockFirst, firstCondition, conditionsOf, conditionResultAt, conditionResultSize, patternAt, resultAt, patternPart, resultPart, conditionResultPart, conditionPatternPart}
 use Rattle.law.specs.Runs.{termForest}
 
 -- the part of the text where a name is spelled
@@ -61,7 +61,7 @@ module _ (file : File) where
   unfoldable pub conditionsFrom : (ℕ → ℕ → Sentences) → ℕ → ℕ → ℕ → Conditions
   conditionsFrom own s zero c = noCondition
   conditionsFrom own s (suc left) c =
-      condition (runOf own (askedAt file s c) (askedPart file s c)) (runOf own (askedAt file s c + askedSize file c) (wantedPart file s c))
+      condition (runOf own (conditionResultAt file s c) (conditionResultPart file s c)) (runOf own (conditionResultAt file s c + conditionResultSize file c) (conditionPatternPart file s c))
       (conditionsFrom own s left (suc c))
 
   -- the sentences of the blocks in a sentence s, out of those after it

@@ -9,7 +9,7 @@ use Rattle.file.specs.Word.{wordAt}
 use Rattle.file.specs.Below.{every}
 use Rattle.file.specs.Sections.{File}
 use Rattle.file.specs.Forest.{Forest, end, node, forestOf}
-use Rattle.law.specs.Places.{blockSize, blockFirst, firstCondition, conditionsOf, patternAt, patternPart, resultPart, askedPart, wantedPart}
+use Rattle.law.specs.Places.{blockSize, blockFirst, firstCondition, conditionsOf, patternAt, patternPart, resultPart, conditionResultPart, conditionPatternPart}
 
 -- where the contents of a run's first record end: the n records after it, or the run's end
 unfoldable pub endOf : List ℕ → ℕ
@@ -30,7 +30,7 @@ runFits s = fits (termForest s)
 module _ (file : File) where
   -- both runs of a condition c of a sentence s
   abbrev pub conditionFits : ℕ → ℕ → Bool
-  conditionFits s c = runFits (askedPart file s c) && runFits (wantedPart file s c)
+  conditionFits s c = runFits (conditionResultPart file s c) && runFits (conditionPatternPart file s c)
 
   -- all runs of a sentence
   abbrev pub sentenceFits : ℕ → Bool

@@ -1,8 +1,8 @@
 // How deep the terms of a law stand (refusal 8).
 use crate::Index;
-use crate::places::asked;
-use crate::places::asked_at;
-use crate::places::asked_size;
+use crate::places::condition_result;
+use crate::places::condition_result_at;
+use crate::places::condition_result_size;
 use crate::places::block_first;
 use crate::places::first_condition;
 use crate::places::first_sentence;
@@ -11,7 +11,7 @@ use crate::places::pattern;
 use crate::places::pattern_at;
 use crate::places::result;
 use crate::places::result_at;
-use crate::places::wanted;
+use crate::places::condition_pattern;
 use crate::runs::end_of;
 use file::Term;
 use file::term_at;
@@ -136,12 +136,12 @@ fn conditions_depth(law: &[u8], index: &Index, s: usize, depth: usize) -> bool
     let count = first_condition(index, s + 1) - first;
     let mut i = 0;
     while i < count {
-        let at = asked_at(law, index, s, first + i);
-        if !run_depth(law, index, asked(law, index, s, first + i), at, depth) {
+        let at = condition_result_at(law, index, s, first + i);
+        if !run_depth(law, index, condition_result(law, index, s, first + i), at, depth) {
             return false;
         }
-        let next = at + asked_size(law, index, first + i);
-        if !run_depth(law, index, wanted(law, index, s, first + i), next, depth) {
+        let next = at + condition_result_size(law, index, first + i);
+        if !run_depth(law, index, condition_pattern(law, index, s, first + i), next, depth) {
             return false;
         }
         i += 1;

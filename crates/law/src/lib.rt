@@ -16,7 +16,7 @@ ghost use Rattle.file.specs.Answer.{given};
 ghost use Rattle.file.specs.Sections.{sectionsOf, fileOf, countsOf};
 ghost use Rattle.file.specs.Fields.{fieldsAllowed};
 ghost use Rattle.law.specs.Code.Index.{Indexed};
-ghost use Rattle.law.specs.Law.{checkAnswer, verdictOf, IndexAfter};
+ghost use Rattle.law.specs.Law.{checkAnswer, checkOf, IndexAfter};
 
 mod blocks;
 pub mod depth;
@@ -37,7 +37,7 @@ pub enum Check {
 // Refusals 6 to 9 of a file whose sections are used up exactly.
 fn check_placed(law: &[u8], index: &Index) -> Check
     requires { ⌜ Indexed (now law) (now index) × (fieldsAllowed (fileOf (now law)) ≡ true) ⌝ }
-    ensures { λ r. ⌜ checkAnswer r ≡ verdictOf (now (law .entry)) ⌝ }
+    ensures { λ r. ⌜ checkAnswer r ≡ checkOf (now (law .entry)) ⌝ }
 {
     if !runs_fit(law, index) {
         return Check::Refused(Refusal::Runs);
@@ -57,7 +57,7 @@ fn check_placed(law: &[u8], index: &Index) -> Check
 // The check of a file that is cut into its sections. The index of an accepted one is filled.
 fn check_sections(law: &[u8], sections: Sections, index: &mut Index) -> Check
     requires { ⌜ (sectionsOf (now law) ≡ given (fileOf (now law))) × (countsOf (fileOf (now law)) ≡ sections) × (length (now index) ≡ 972) ⌝ }
-    ensures { λ r. ⌜ (checkAnswer r ≡ verdictOf (now (law .entry))) × (r ≡ Check.Accepted → Indexed (now (law .entry)) (now (index .exit))) ⌝ }
+    ensures { λ r. ⌜ (checkAnswer r ≡ checkOf (now (law .entry))) × (r ≡ Check.Accepted → Indexed (now (law .entry)) (now (index .exit))) ⌝ }
 {
     if !fields_allowed(law, sections) {
         return Check::Refused(Refusal::Fields);
@@ -72,7 +72,7 @@ fn check_sections(law: &[u8], sections: Sections, index: &mut Index) -> Check
 // The check of any bytes. The index of a law is filled.
 fn check_bytes(law: &[u8], index: &mut Index) -> Check
     requires { ⌜ length (now index) ≡ 972 ⌝ }
-    ensures { λ r. ⌜ (checkAnswer r ≡ verdictOf (now (law .entry))) × (r ≡ Check.Accepted → Indexed (now (law .entry)) (now (index .exit))) ⌝ }
+    ensures { λ r. ⌜ (checkAnswer r ≡ checkOf (now (law .entry))) × (r ≡ Check.Accepted → Indexed (now (law .entry)) (now (index .exit))) ⌝ }
 {
     match sections_of(law) {
         Cut::Refused(why) => Check::Refused(why),
@@ -83,7 +83,7 @@ fn check_bytes(law: &[u8], index: &mut Index) -> Check
 // Whether any bytes are a law, with the index of an accepted one.
 pub fn read_law(law: &[u8], index: &mut Index) -> Check
     requires { ⌜ length (now index) ≡ 972 ⌝ }
-    ensures { λ r. ⌜ (checkAnswer r ≡ verdictOf (now (law .entry))) × IndexAfter r (now (law .entry)) (now (index .exit)) ⌝ }
+    ensures { λ r. ⌜ (checkAnswer r ≡ checkOf (now (law .entry))) × IndexAfter r (now (law .entry)) (now (index .exit)) ⌝ }
 {
     let check = check_bytes(law, index);
     match check {
@@ -97,7 +97,7 @@ pub fn read_law(law: &[u8], index: &mut Index) -> Check
 
 // Whether any bytes are a law.
 pub fn check_law(law: &[u8]) -> Check
-    ensures { λ r. ⌜ checkAnswer r ≡ verdictOf (now (law .entry)) ⌝ }
+    ensures { λ r. ⌜ checkAnswer r ≡ checkOf (now (law .entry)) ⌝ }
 {
     let mut index: Index = [0; 972];
     read_law(law, &mut index)

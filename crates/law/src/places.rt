@@ -9,7 +9,7 @@ ghost use lib.ListN.{getD};
 ghost use Rattle.file.specs.Word.{wordAt};
 ghost use Rattle.file.specs.Sections.{fileOf};
 ghost use Rattle.file.specs.Fields.{fieldsAllowed};
-ghost use Rattle.law.specs.Places.{patternSize, askedSize, patternAt, askedAt, resultAt, termsAt, patternPart, resultPart, askedPart, wantedPart, Owns};
+ghost use Rattle.law.specs.Places.{patternSize, conditionResultSize, patternAt, conditionResultAt, resultAt, termsAt, patternPart, resultPart, conditionResultPart, conditionPatternPart, Owns};
 ghost use Rattle.law.specs.Reading.{functionName};
 ghost use Rattle.law.specs.Code.Index.{Indexed};
 
@@ -144,17 +144,17 @@ pub fn result_at(law: &[u8], index: &Index, s: usize) -> usize
 }
 
 // The first record of the result of a condition of a sentence.
-pub fn asked_at(law: &[u8], index: &Index, s: usize, c: usize) -> usize
+pub fn condition_result_at(law: &[u8], index: &Index, s: usize, c: usize) -> usize
     requires { ⌜ Indexed (now law) (now index) × (s < fileOf (now law) .sentences .count) × (c < fileOf (now law) .conditions .count) ⌝ }
-    ensures { λ r. ⌜ r ≡ askedAt (fileOf (now (law .entry))) s c ⌝ }
+    ensures { λ r. ⌜ r ≡ conditionResultAt (fileOf (now (law .entry))) s c ⌝ }
 {
     word(index, 331 + s) + pattern_size(law, index, s) + word(index, 202 + c)
 }
 
 // The number of records of a condition's result.
-pub fn asked_size(law: &[u8], index: &Index, c: usize) -> usize
+pub fn condition_result_size(law: &[u8], index: &Index, c: usize) -> usize
     requires { ⌜ Indexed (now law) (now index) × (c < fileOf (now law) .conditions .count) ⌝ }
-    ensures { λ r. ⌜ r ≡ askedSize (fileOf (now (law .entry))) c ⌝ }
+    ensures { λ r. ⌜ r ≡ conditionResultSize (fileOf (now (law .entry))) c ⌝ }
 {
     condition_word(law, index, c, 0)
 }
@@ -178,20 +178,20 @@ pub fn result<'a>(law: &'a [u8], index: &Index, s: usize) -> &'a [u8]
 }
 
 // The result of a condition c of a sentence s.
-pub fn asked<'a>(law: &'a [u8], index: &Index, s: usize, c: usize) -> &'a [u8]
+pub fn condition_result<'a>(law: &'a [u8], index: &Index, s: usize, c: usize) -> &'a [u8]
     requires { ⌜ Indexed (now law) (now index) × Owns (fileOf (now law)) s c ⌝ }
-    ensures { λ r. ⌜ now r ≡ askedPart (fileOf (now (law .entry))) s c ⌝ }
+    ensures { λ r. ⌜ now r ≡ conditionResultPart (fileOf (now (law .entry))) s c ⌝ }
 {
-    let at = asked_at(law, index, s, c);
-    records(law, index, at, asked_size(law, index, c))
+    let at = condition_result_at(law, index, s, c);
+    records(law, index, at, condition_result_size(law, index, c))
 }
 
 // The pattern of a condition c of a sentence s.
-pub fn wanted<'a>(law: &'a [u8], index: &Index, s: usize, c: usize) -> &'a [u8]
+pub fn condition_pattern<'a>(law: &'a [u8], index: &Index, s: usize, c: usize) -> &'a [u8]
     requires { ⌜ Indexed (now law) (now index) × Owns (fileOf (now law)) s c ⌝ }
-    ensures { λ r. ⌜ now r ≡ wantedPart (fileOf (now (law .entry))) s c ⌝ }
+    ensures { λ r. ⌜ now r ≡ conditionPatternPart (fileOf (now (law .entry))) s c ⌝ }
 {
-    let at = asked_at(law, index, s, c) + asked_size(law, index, c);
+    let at = condition_result_at(law, index, s, c) + condition_result_size(law, index, c);
     records(law, index, at, condition_word(law, index, c, 4))
 }
 

@@ -1,11 +1,11 @@
 // Runs of term records (refusal 6).
 use crate::Index;
-use crate::places::asked;
+use crate::places::condition_result;
 use crate::places::first_condition;
 use crate::places::pattern;
 use crate::places::result;
 use crate::places::sentences;
-use crate::places::wanted;
+use crate::places::condition_pattern;
 use file::word_at;
 ghost use mathlib.Core.Path.{_≡_};
 ghost use Prim.Native.Nat.{_+_, _≤_, _<_};
@@ -62,10 +62,10 @@ fn conditions_fit(law: &[u8], index: &Index, s: usize) -> bool
     let count = first_condition(index, s + 1) - first;
     let mut i = 0;
     while i < count {
-        if !run_fits(asked(law, index, s, first + i)) {
+        if !run_fits(condition_result(law, index, s, first + i)) {
             return false;
         }
-        if !run_fits(wanted(law, index, s, first + i)) {
+        if !run_fits(condition_pattern(law, index, s, first + i)) {
             return false;
         }
         i += 1;

@@ -7,12 +7,12 @@ use native.Mathlib.Omega.{arith}
 use native.Mathlib.Decide.{decLt}
 use Rattle.file.specs.Word.{wordAt}
 use Rattle.file.specs.Sections.{File}
-use Rattle.law.specs.Places.{patternSize, conditionsOf, resultSize, askedSize, wantedSize, firstCondition, patternAt, askedAt, resultAt, termsAt, patternPart, resultPart, askedPart, wantedPart}
+use Rattle.law.specs.Places.{patternSize, conditionsOf, resultSize, conditionResultSize, conditionPatternSize, firstCondition, patternAt, conditionResultAt, resultAt, termsAt, patternPart, resultPart, conditionResultPart, conditionPatternPart}
 use Rattle.law.specs.Runs.{runFits, usedUp}
 use Rattle.law.specs.Code.Index.{Readable, PartAt}
 use Rattle.law.proofs.PlaceLaws.{condition-next, asked-first, asked-next, asked-last, pattern-next, pattern-inside, result-inside, asked-inside}
 use Rattle.law.proofs.RunLaws.{fits-first, by-records}
-use Rattle.law.proofs.Allowed.{all-used, pattern-fits, result-fits, asked-fits, wanted-fits}
+use Rattle.law.proofs.Allowed.{all-used, pattern-fits, result-fits, condition-result-fits, wanted-fits}
 use Rattle.law.proofs.Owners.{step-around, sentence-of}
 use Rattle.sentences.specs.Entry.{argumentPart}
 use Rattle.sentences.proofs.Arguments.{record-inside}
@@ -49,17 +49,17 @@ module _ (file : File) (readable : Readable file) where
 
   -- in the pattern, a condition or the result of its sentence
   sentence-inside : (s t : ℕ) → s < file .sentences .count → patternAt file s ≤ t → t < patternAt file (suc s) → InsideFits t
-  unfolding patternPart resultPart askedPart wantedPart
+  unfolding patternPart resultPart conditionResultPart conditionPatternPart
   sentence-inside s t inside low high = go (decLt t (patternAt file s + patternSize file s)) (decLt t (resultAt file s))
     where
-      in-condition : (c : ℕ) → firstCondition file s ≤ c → c < firstCondition file (suc s) → askedAt file s c ≤ t → t < askedAt file s (suc c)
-          → Dec (t < askedAt file s c + askedSize file c) → InsideFits t
+      in-condition : (c : ℕ) → firstCondition file s ≤ c → c < firstCondition file (suc s) → conditionResultAt file s c ≤ t → t < conditionResultAt file s (suc c)
+          → Dec (t < conditionResultAt file s c + conditionResultSize file c) → InsideFits t
       in-condition c from below under over (yes l) =
-          run-inside (askedAt file s c) (askedSize file c) t (omega (arith, asked-inside file used s c inside below))
-          (asked-fits file (readable .runs) s inside c from below)
+          run-inside (conditionResultAt file s c) (conditionResultSize file c) t (omega (arith, asked-inside file used s c inside below))
+          (condition-result-fits file (readable .runs) s inside c from below)
           under l
       in-condition c from below under over (no l) =
-          run-inside (askedAt file s c + askedSize file c) (wantedSize file c) t (omega (arith, asked-inside file used s c inside below))
+          run-inside (conditionResultAt file s c + conditionResultSize file c) (conditionPatternSize file c) t (omega (arith, asked-inside file used s c inside below))
           (wanted-fits file (readable .runs) s inside c from below)
           (omega arith) (omega (arith, asked-next file s c))
 
@@ -67,10 +67,10 @@ module _ (file : File) (readable : Readable file) where
       go (yes l) e =
           run-inside (patternAt file s) (patternSize file s) t (pattern-inside file used s inside) (pattern-fits file (readable .runs) s inside) low l
       go (no l) (yes m) =
-          let ends : askedAt file s (firstCondition file s + conditionsOf file s) ≡ resultAt file s = rw (← condition-next file s) (asked-last file s) in
+          let ends : conditionResultAt file s (firstCondition file s + conditionsOf file s) ≡ resultAt file s = rw (← condition-next file s) (asked-last file s) in
           let (c, from, below, under, over) =
-          step-around (askedAt file s) (firstCondition file s) (conditionsOf file s) t (omega (arith, asked-first file s)) (omega arith) in
-          in-condition c from (omega (arith, condition-next file s)) under over (decLt t (askedAt file s c + askedSize file c))
+          step-around (conditionResultAt file s) (firstCondition file s) (conditionsOf file s) t (omega (arith, asked-first file s)) (omega arith) in
+          in-condition c from (omega (arith, condition-next file s)) under over (decLt t (conditionResultAt file s c + conditionResultSize file c))
       go (no l) (no m) =
           run-inside (resultAt file s) (resultSize file s) t (result-inside file used s inside) (result-fits file (readable .runs) s inside)
           (omega arith) (omega (arith, pattern-next file s))

@@ -7,7 +7,7 @@ use native.Mathlib.Omega.{arith}
 use Rattle.names.specs.Name.{numberAllowed}
 use Rattle.law.specs.Tree as tree
 use Rattle.law.specs.Tree.{Name, Symbol, Run, Sentences, noSentence, sentence, Conditions, noCondition, condition, Function, Law, keep, skip}
-use Rattle.matching.specs.Pattern.{symbolOf}
+use Rattle.law.specs.Symbol.{symbolOf}
 use Rattle.matching.specs.Literal.{symbolPasses}
 use Rattle.formats.proofs.RoundLaws.{EachFunction}
 

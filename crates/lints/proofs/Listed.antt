@@ -17,7 +17,7 @@ use Rattle.matching.specs.Literal.{isLiteral, literalTerms, literalMatches}
 use Rattle.matching.proofs.SameLaws.{false-not-true}
 use Rattle.matching.proofs.SearchLaws.{in-when, in-each, in-map}
 use Rattle.shapes.specs.Format.{of}
-use Rattle.shapes.specs.Disjoint.{disjoint}
+use Rattle.shapes.specs.Disjoint.{disjointFormats}
 use Rattle.formats.specs.Infer.{Inferred}
 use Rattle.lints.specs.Lint.{deadSentence, lintNumber}
 use Rattle.lints.specs.Finding.{Failure, byFormats, byLiterals, openPattern, Remark, Finding, lintOf, findingIn, findingsFrom}
@@ -124,17 +124,17 @@ dead-remark f r m = go (List·Memᴰ·append-cases (ownDead (f .sentences)) m)
 -- lint 2's remarks: what is said of a call that is compared
 pub data Judged (formats : Inferred) (c : Call) (r : Remark) : Type 0 where
   apart : r .claim ≡ byFormats (c .name) (accepted formats c) (of (passed formats c))
-      → disjoint (of (passed formats c)) (accepted formats c) ≡ true → Judged formats c r
+      → disjointFormats (of (passed formats c)) (accepted formats c) ≡ true → Judged formats c r
   literally : r .claim ≡ byLiterals (c .name) → isLiteral (c .argument) ≡ true → Judged formats c r
 
 judged-cases : (formats : Inferred) (c : Call) (r : Remark) → List·Memᴰ r (judged formats c) → (r .subject ≡ c .mark) × Judged formats c r
 unfolding judged
-judged-cases formats c r m = go (disjoint (of (passed formats c)) (accepted formats c)) refl m
+judged-cases formats c r m = go (disjointFormats (of (passed formats c)) (accepted formats c)) refl m
   where
     literal : List·Memᴰ r (remark c (byLiterals (c .name)) ∷ []) → isLiteral (c .argument) ≡ true → (r .subject ≡ c .mark) × Judged formats c r
     literal (List·Memᴰ·head e) h = (ap (λ y. y .subject) e, literally (ap (λ y. y .claim) e) h)
 
-    go : (b : Bool) → disjoint (of (passed formats c)) (accepted formats c) ≡ b
+    go : (b : Bool) → disjointFormats (of (passed formats c)) (accepted formats c) ≡ b
         → List·Memᴰ r
         (cond b
         (remark c (byFormats (c .name) (accepted formats c) (of (passed formats c))) ∷ [])

@@ -24,7 +24,7 @@ use Rattle.law.proofs.Functions.{functionAt, functionsAt, tree-functions, funct
 use Rattle.law.proofs.IndexLaws as indexed
 use Rattle.law.proofs.PlaceLaws as places
 use Rattle.shapes.specs.Format.{Shapes, of, size}
-use Rattle.shapes.specs.Disjoint.{disjoint}
+use Rattle.shapes.specs.Disjoint.{disjointFormats}
 use Rattle.shapes.specs.Words.{readFormat}
 use Rattle.shapes.proofs.WordLaws.{read-write}
 use Rattle.formats.specs.FormatOf.{Results}
@@ -37,7 +37,7 @@ use Rattle.formats.proofs.SentenceLaws.{arguments-said, holding-stored, holding
 use Rattle.formats.proofs.TurnLaws.{row-asked}
 use Rattle.formats.specs.Code.Slots.{position, functionFolded, callFolded, fileNames, SlotsOf}
 use Rattle.formats.proofs.SlotLaws.{function-placed}
-use Rattle.matching.specs.Pattern.{Symbol}
+use Rattle.law.specs.Symbol.{Symbol}
 use Rattle.matching.specs.Literal.{isLiteral, literalTerms, literalMatches}
 use Rattle.matching.specs.Code.Part.{rowOf, literalPart, symbolsOf}
 use Rattle.sentences.specs.Entry.{argumentPart, argumentIn}
@@ -278,7 +278,7 @@ module _ {bytes index slots store : List ℕ} {limit : ℕ} (p : Prepared bytes 
     accepted-length = simp (length-take, length-drop) (omega (arith, accepted-inside))
 
     module _ {words : List ℕ} (rest : List ℕ) {ok : Bool} (made : FormatMade limit (passed (formatsIn (fileOf bytes) limit store) (callAt (fileOf bytes) t)) ok words) (good : ok ≡ true)
-        {r literal : Bool} (test : r ≡ disjoint (readFormat (take (limit + 1) (words ++ rest))) (readFormat (take (2 * place * (limit + 1) + (limit + 1) - 2 * place * (limit + 1)) (drop (2 * place * (limit + 1)) store))))
+        {r literal : Bool} (test : r ≡ disjointFormats (readFormat (take (limit + 1) (words ++ rest))) (readFormat (take (2 * place * (limit + 1) + (limit + 1) - 2 * place * (limit + 1)) (drop (2 * place * (limit + 1)) store))))
         (known : literal ≡ isLiteral (argumentIn (fileOf bytes) t)) where
       compared-is : cond r ByFormats (cond literal ByLiterals Nothing) ≡ comparison limit (formatsIn (fileOf bytes) limit store) (callAt (fileOf bytes) t)
       unfolding comparison
@@ -287,7 +287,7 @@ module _ {bytes index slots store : List ℕ} {limit : ℕ} (p : Prepared bytes 
           let fits : size shapes ≤ limit = made-fits made good in
           let new : readFormat (take (limit + 1) (words ++ rest)) ≡ of shapes =
           ap readFormat (take-at words rest (limit + 1) (made .kept) ∙ made-words made good) ∙ read-write limit (of shapes) fits (omega (arith, p .asked .small)) in
-          let apart : r ≡ disjoint (of shapes) (accepted (formatsIn (fileOf bytes) limit store) (callAt (fileOf bytes) t)) =
+          let apart : r ≡ disjointFormats (of shapes) (accepted (formatsIn (fileOf bytes) limit store) (callAt (fileOf bytes) t)) =
           test ∙ rw (new, add-sub-cancel-left (2 * place * (limit + 1)) (limit + 1), accepted-is) in
           rw (apart, known, le-ltb limit (size shapes) fits)
 

@@ -18,7 +18,7 @@ use Rattle.file.specs.declared.Term.{Term}
 use Rattle.file.specs.declared.Term.the-variants.{Symbol as Symbolic, SVariable, TVariable, EVariable, Bracket, Call, Block}
 use Rattle.file.proofs.Below.{both-first, both-second}
 use Rattle.law.specs.Tree.{Name, Mark, Run, Sentences, Conditions, Law, keep}
-use Rattle.law.specs.Places.{sentencesOf, patternSize, conditionsOf, resultSize, askedSize, wantedSize, blockSize, firstSentence, blockFirst, firstCondition, patternAt, askedAt, resultAt, termsAt, patternPart, resultPart, askedPart, wantedPart}
+use Rattle.law.specs.Places.{sentencesOf, patternSize, conditionsOf, resultSize, conditionResultSize, conditionPatternSize, blockSize, firstSentence, blockFirst, firstCondition, patternAt, conditionResultAt, resultAt, termsAt, patternPart, resultPart, conditionResultPart, conditionPatternPart}
 use Rattle.law.specs.Runs.{runFits}
 use Rattle.law.specs.Reading.{nameAt, symbolOf, sentencesIn, markAt, termRun, runOf, conditionsFrom, sentenceAt, treeOf, sentencesAt, own}
 use Rattle.law.specs.Law.{lawOf}
@@ -27,7 +27,7 @@ use Rattle.law.proofs.Accepted.{law-accepted}
 use Rattle.law.proofs.Terms.{term-allowed, block-size}
 use Rattle.law.proofs.PlaceLaws.{sentence-start, sentence-next, sentence-grows, block-start, block-grows, condition-next, pattern-next, pattern-within, result-within, asked-after, asked-within, terms-inside}
 use Rattle.law.proofs.RunLaws.{run-none, run-first, fits-first, by-records}
-use Rattle.law.proofs.Allowed.{accepted-readable, all-used, pattern-fits, result-fits, asked-fits, wanted-fits, block-after}
+use Rattle.law.proofs.Allowed.{accepted-readable, all-used, pattern-fits, result-fits, condition-result-fits, wanted-fits, block-after}
 use Rattle.law.proofs.Reading.{sentences-end, sentence-reads}
 use Rattle.law.proofs.Functions.{skip-at, functionsAt, tree-functions, functions-end, function-reads}
 use Rattle.formats.proofs.RoundLaws.{EachFunction}
@@ -212,12 +212,12 @@ module _ (file : File) (readable : Readable file) (OfCall : ℕ → Name → Run
 
     conditions-every : (left c : ℕ) → firstCondition file s ≤ c → c + left ≤ firstCondition file (suc s)
         → EveryConditionAt file OfCall (conditionsFrom file (own file) s left c)
-    unfolding conditionsFrom askedPart wantedPart
+    unfolding conditionsFrom conditionResultPart conditionPatternPart
     conditions-every zero c low high = tt
     conditions-every (suc left) c low high = (
-      part-every (askedAt file s c) (askedSize file c) (asked-after file s c low) (omega (arith, asked-within file s c (omega arith)))
-          (asked-fits file (readable .runs) s within c low (omega arith)),
-      part-every (askedAt file s c + askedSize file c) (wantedSize file c) (omega (arith, asked-after file s c low)) (asked-within file s c (omega arith))
+      part-every (conditionResultAt file s c) (conditionResultSize file c) (asked-after file s c low) (omega (arith, asked-within file s c (omega arith)))
+          (condition-result-fits file (readable .runs) s within c low (omega arith)),
+      part-every (conditionResultAt file s c + conditionResultSize file c) (conditionPatternSize file c) (omega (arith, asked-after file s c low)) (asked-within file s c (omega arith))
           (wanted-fits file (readable .runs) s within c low (omega arith)),
       conditions-every left (suc c) (omega arith) (omega arith),
     )

@@ -11,8 +11,8 @@ use Rattle.law.specs.Tree.{Run, empty, bracket, call, block, Sentences, noSente
 use Rattle.law.specs.Definition.{definition}
 use Rattle.law.specs.Examples.{bytesOf, named, marked, listedLaw, withBlockLaw}
 use Rattle.shapes.specs.Format.{size}
-use Rattle.shapes.specs.Join.{joinShapes}
-use Rattle.shapes.specs.Disjoint.{disjointShapes}
+use Rattle.shapes.specs.Join.{joinRows}
+use Rattle.shapes.specs.Disjoint.{disjointRows}
 use Rattle.shapes.specs.Same.{sameShapes}
 use Rattle.shapes.specs.Display.{spaced, display}
 use Rattle.formats.specs.FormatOf.{patternShapes, chain, resultShapes}
@@ -304,7 +304,7 @@ TextLaws =
 pub examples : DocumentLaws × DeadLaws × RecognitionLaws × BuiltinLaws × OpenLaws × LevelLaws × TextLaws
 unfolding
     bytesOf characters sameBytes orderBytes everyByte definition
-    joinShapes disjointShapes size patternShapes chain resultShapes sameShapes insertName namesOf find renew allAt joinResults joinPatterns round roundsFrom
+    joinRows disjointRows size patternShapes chain resultShapes sameShapes insertName namesOf find renew allAt joinResults joinPatterns round roundsFrom
     arguments inferWithin infer patternOf valueIn splits sameTerms after choices matches isLiteral literalTerms ownValues shadowsWith spaced display
     findingWords findingsFrom calls earliest deadAfter blocks deadRemarks deadFindings
     someMatches compared judged recognitionRemarks recognitionFindings someOver argumentsOver

@@ -8,10 +8,11 @@ use Rattle.law.specs.Tree.{Run, Sentences, noSentence, sentence, Function, Law}
 use Rattle.law.specs.Expression.{Terms}
 use Rattle.law.specs.Definition.{definition}
 use Rattle.shapes.specs.Format.{Shapes, Format, of, size}
-use Rattle.shapes.specs.Disjoint.{disjoint}
+use Rattle.shapes.specs.Disjoint.{disjointFormats}
 use Rattle.formats.specs.FormatOf.{resultShapes}
 use Rattle.formats.specs.Infer.{find, orNever, Inferred}
-use Rattle.matching.specs.Pattern.{Symbol, patternOf}
+use Rattle.law.specs.Symbol.{Symbol}
+use Rattle.matching.specs.Pattern.{patternOf}
 use Rattle.matching.specs.Match.{when, each}
 use Rattle.matching.specs.Literal.{isLiteral, literalTerms, literalMatches}
 use Rattle.lints.specs.Finding.{Claim, byFormats, byLiterals, Remark, Finding, findingsFrom}
@@ -47,7 +48,7 @@ remark c claim = record { subject = c .mark; claim = claim }
 -- what is said of a call that is compared: by formats, else by literals
 unfoldable pub judged : Inferred → Call → List Remark
 judged formats c =
-    cond (disjoint (of (passed formats c)) (accepted formats c))
+    cond (disjointFormats (of (passed formats c)) (accepted formats c))
     (remark c (byFormats (c .name) (accepted formats c) (of (passed formats c))) ∷ [])
     (when (isLiteral (c .argument)) (remark c (byLiterals (c .name)) ∷ []))
 

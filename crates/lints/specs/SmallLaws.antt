@@ -10,8 +10,8 @@ use Rattle.law.specs.Tree.{Run, empty, bracket, Law}
 use Rattle.law.specs.Examples.{bytesOf}
 use Rattle.shapes.specs.Leaf.{character, number, anySymbol}
 use Rattle.shapes.specs.Format.{Format, item, group, never, of, size}
-use Rattle.shapes.specs.Join.{joinShapes, join}
-use Rattle.shapes.specs.Disjoint.{disjointShapes, disjoint}
+use Rattle.shapes.specs.Join.{joinRows, joinFormats}
+use Rattle.shapes.specs.Disjoint.{disjointRows, disjointFormats}
 use Rattle.shapes.specs.Same.{sameShapes}
 use Rattle.shapes.specs.Examples.{closed, opened}
 use Rattle.formats.specs.FormatOf.{patternShapes, chain, resultShapes}
@@ -33,8 +33,8 @@ pub data Case : Type 0 where
   inferred : Law → Inferred → Case
 
 abbrev pub Holds : Case → Type 0
-Holds (joined a b c) = join a b ≡ c
-Holds (apart a b answer) = disjoint a b ≡ answer
+Holds (joined a b c) = joinFormats a b ≡ c
+Holds (apart a b answer) = disjointFormats a b ≡ answer
 Holds (shadowed earlier later answer) = shadows (patternOf earlier) (patternOf later) ≡ answer
 Holds (inferred law formats) = infer 64 law ≡ given formats
 
@@ -83,6 +83,6 @@ table =
 pub small-laws : AllHold table
 unfolding
     bytesOf characters sameBytes orderBytes patternOf valueIn splits sameTerms after choices matches ownValues shadowsWith
-    joinShapes disjointShapes size patternShapes chain resultShapes sameShapes insertName namesOf find renew allAt joinResults joinPatterns round roundsFrom
+    joinRows disjointRows size patternShapes chain resultShapes sameShapes insertName namesOf find renew allAt joinResults joinPatterns round roundsFrom
     arguments inferWithin infer
 small-laws = (refl, (refl, (refl, (refl, (refl, (refl, (refl, (refl, (refl, (refl, (refl, (refl, tt))))))))))))

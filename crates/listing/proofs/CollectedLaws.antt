@@ -36,7 +36,7 @@ use Rattle.findings.specs.Code.All.{allEvents}
 use Rattle.listing.specs.declared.gather.Gathered.{Gathered}
 use Rattle.listing.specs.declared.gather.Gathered.the-variants as gathered
 use Rattle.listing.specs.Outcome.{storeAfter}
-use Rattle.listing.specs.Code.Gather.{Prepares, Filled, Fitted, GatherIs, shownIn, Collected}
+use Rattle.listing.specs.Code.Gather.{Prepares, StoreFilled, Fitted, GatherIs, shownIn, Collected}
 use Rattle.listing.proofs.PromiseLaws.{words-length, start-taken}
 use Rattle.listing.proofs.GatherLaws.{same-findings, same-over, Wide, Narrow, comes-to}
 
@@ -86,7 +86,7 @@ upto-same m n e = omega (arith, e)
 -- ---- findings of a law whose formats are in the store
 
 module _ {limit rounds : ℕ} {settled : Bool} (room : ℕ) (settings : Settings) {bytes index slots store : List ℕ} {tally : Tally} (out now : List ℕ)
-    (p : Prepares limit bytes index store) (s : SlotsOf (fileOf bytes) slots) (f : Filled limit (fileOf bytes) store rounds settled)
+    (p : Prepares limit bytes index store) (s : SlotsOf (fileOf bytes) slots) (f : StoreFilled limit (fileOf bytes) store rounds settled)
     (e : sinkOf tally now
     ≡ collect room (sinkOf (Upto 0) out) (allEvents (treeOf (fileOf bytes)) (formatsIn (fileOf bytes) limit store) settings room limit)) where
   abbrev law : Law
@@ -199,7 +199,7 @@ module _ {limit : ℕ} (room : ℕ) (settings : Settings) {bytes index before sl
         rw none at (read-past held 0)
 
     -- the store holds them
-    pub filled-store : Filled limit (fileOf bytes) after rounds settled
+    pub filled-store : StoreFilled limit (fileOf bytes) after rounds settled
     filled-store = record {
       formats = formed .0;
       inferred = formed .1;

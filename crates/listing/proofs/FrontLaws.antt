@@ -11,7 +11,7 @@ use Rattle.file.specs.Sections.{fileOf, numberOf}
 use Rattle.file.specs.declared.Refusal.{Refusal}
 use Rattle.file.proofs.Answers.{map-refused, map-given}
 use Rattle.law.specs.Reading.{treeOf}
-use Rattle.law.specs.Law.{lawOf, checkAnswer, verdictOf, IndexAfter, Accepted}
+use Rattle.law.specs.Law.{lawOf, checkAnswer, checkOf, IndexAfter, Accepted}
 use Rattle.law.specs.declared.Check.{Check}
 use Rattle.law.specs.declared.Check.the-variants as checks
 use Rattle.law.proofs.Accepted.{law-accepted}
@@ -32,7 +32,7 @@ module _ (settings : Settings) (bytes : List ℕ) (words : ℕ) where
   turned-settings index e q store l = rw (← e, q) refl
 
   module _ {allowed : Bool} (e : allowed ≡ settingsAllowed settings) (q : allowed ≡ true) {check : Check} (index : List ℕ)
-      (verdict : checkAnswer check ≡ verdictOf bytes) (indexed : IndexAfter check bytes index) where
+      (verdict : checkAnswer check ≡ checkOf bytes) (indexed : IndexAfter check bytes index) where
     -- 1 to 9
     pub turned-file : (why : Refusal) → check ≡ checks.Refused why → Says (Refused (turned.File why)) index
     unfolding front

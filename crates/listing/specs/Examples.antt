@@ -15,7 +15,7 @@ use Rattle.file.specs.Head.{termAt, termFrom}
 unfoldable pub use Rattle.law.specs.Text.{bytesOf}
 use Rattle.law.specs.Tree.{keep, skip}
 use Rattle.law.specs.Definition.{definition}
-use Rattle.law.specs.Places.{firstSentence, blockFirst, firstCondition, patternAt, askedAt, resultAt, patternPart, resultPart, askedPart, wantedPart}
+use Rattle.law.specs.Places.{firstSentence, blockFirst, firstCondition, patternAt, conditionResultAt, resultAt, patternPart, resultPart, conditionResultPart, conditionPatternPart}
 use Rattle.law.specs.Runs.{endOf, fits, usedUp, runsAllowed, blocksAllowed}
 use Rattle.law.specs.Reading.{forestRun, conditionsFrom, sentencesFrom, functionsFrom, treeOf}
 use Rattle.law.specs.Depth.{deepest, depthOf}
@@ -23,8 +23,8 @@ use Rattle.law.specs.Variables.{distinct, occurs, variablesFrom, patternsAllowe
 use Rattle.law.specs.Law.{lawOf}
 use Rattle.law.specs.Examples.{listed}
 use Rattle.shapes.specs.Format.{size}
-use Rattle.shapes.specs.Join.{joinShapes}
-use Rattle.shapes.specs.Disjoint.{disjointShapes}
+use Rattle.shapes.specs.Join.{joinRows}
+use Rattle.shapes.specs.Disjoint.{disjointRows}
 use Rattle.shapes.specs.Same.{sameShapes}
 use Rattle.shapes.specs.Display.{spaced, display}
 use Rattle.shapes.specs.Words.{shapeWords}
@@ -102,9 +102,9 @@ unfolding
     bytesOf flatMap sameBytes orderBytes everyByte definition
     lawOf sectionsOf section wordAt every total fieldsAllowed termAllowed spelled
     runsAllowed usedUp fits blocksAllowed patternsAllowed distinct occurs variablesFrom
-    firstSentence blockFirst firstCondition patternAt askedAt resultAt patternPart resultPart askedPart wantedPart
+    firstSentence blockFirst firstCondition patternAt conditionResultAt resultAt patternPart resultPart conditionResultPart conditionPatternPart
     decode forestOf endOf termAt termFrom treeOf functionsFrom sentencesFrom conditionsFrom forestRun keep skip deepest depthOf
-    joinShapes disjointShapes size patternShapes chain resultShapes sameShapes insertName namesOf find renew allAt joinResults joinPatterns round roundsFrom
+    joinRows disjointRows size patternShapes chain resultShapes sameShapes insertName namesOf find renew allAt joinResults joinPatterns round roundsFrom
     arguments inferWithin infer patternOf valueIn splits sameTerms after choices matches isLiteral literalTerms ownValues shadowsWith spaced display
     findingWords findingsFrom calls earliest deadAfter blocks deadRemarks deadFindings
     someMatches compared judged recognitionRemarks recognitionFindings someOver argumentsOver

@@ -11,7 +11,7 @@ use law::Index;
 ghost use Rattle.file.specs.Sections.{fileOf};
 ghost use Rattle.formats.specs.Code.Slots.{SlotsOf};
 ghost use Rattle.lints.specs.Levels.{settingsFrom};
-ghost use Rattle.listing.specs.Code.Gather.{Prepares, GatherIs, Filled};
+ghost use Rattle.listing.specs.Code.Gather.{Prepares, GatherIs, StoreFilled};
 
 // What a law comes to: a format has too many shapes, there are more findings than there is room for, or the number of findings, the rounds and whether the
 // last of them changed nothing.
@@ -35,7 +35,7 @@ fn gather_findings(
     rounds: usize,
     settled: bool,
 ) -> Gathered
-    requires { ⌜ Prepares limit (now law) (now index) (now store) × SlotsOf (fileOf (now law)) (now slots) × Filled limit (fileOf (now law)) (now store) rounds settled ⌝ }
+    requires { ⌜ Prepares limit (now law) (now index) (now store) × SlotsOf (fileOf (now law)) (now slots) × StoreFilled limit (fileOf (now law)) (now store) rounds settled ⌝ }
     ensures { λ r. ⌜ GatherIs limit (settingsFrom mode (now (overrides .entry))) room (now (law .entry)) (now (store .entry)) (now (store .exit)) (now (out .entry)) (now (out .exit)) r ⌝ }
 {
     let tally = lint_all(law, index, slots, store, mode, overrides, room, limit, out);

@@ -13,7 +13,8 @@ use Rattle.names.specs.Name.{folded, foldedIndex, sameBytes}
 use Rattle.file.specs.Word.{wordAt}
 use Rattle.file.specs.Head.{termFrom, termAt}
 use Rattle.law.specs.Tree.{Kind, symbolKind, termKind, expressionKind}
-use Rattle.matching.specs.Pattern.{character, identifier, number, Atom, literal, variable, other}
+use Rattle.law.specs.Symbol.{character, identifier, number}
+use Rattle.matching.specs.Pattern.{Atom, literal, variable, other}
 use Rattle.matching.specs.Shadow.{sameAtom}
 use Rattle.matching.specs.Code.Part.{atomOf, isBracket}
 use Rattle.matching.proofs.SameLaws.{false-not-true, atom-sound}

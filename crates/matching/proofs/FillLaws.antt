@@ -8,7 +8,8 @@ use Rattle.law.specs.Tree as tree
 use Rattle.law.specs.Tree.{Kind, symbolKind, termKind, expressionKind}
 use Rattle.law.specs.Expression.{Literal, Expression, Terms, nothing, symbol, brackets}
 use Rattle.law.specs.Variables.{Variable}
-use Rattle.matching.specs.Pattern.{Symbol, literal, variable, Pattern, literalOf, sameLiteral, patternOf}
+use Rattle.law.specs.Symbol.{Symbol, literalOf}
+use Rattle.matching.specs.Pattern.{literal, variable, Pattern, sameLiteral, patternOf}
 use Rattle.matching.specs.Match.{Values, none-bound, some-in, valueIn, matches, anyLiteral, runMatches}
 use Rattle.matching.specs.Fill.{Plain, OfKind, Kinded, KindedValues, Agrees, Fills, runFilled, RunKinded, RunKindedValues, RunFills, holdsOther, holdsCallOrBlock}
 use Rattle.matching.proofs.SameLaws.{false-not-true, literal-sound, literal-refl}

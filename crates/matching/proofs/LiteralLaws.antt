@@ -7,7 +7,8 @@ use Rattle.law.specs.Tree.{Kind, symbolKind, termKind, expressionKind}
 use Rattle.law.specs.Expression as expression
 use Rattle.law.specs.Expression.{Literal, Expression, Terms, nothing, symbol, brackets, _⊕_}
 use Rattle.law.specs.Variables.{Variable}
-use Rattle.matching.specs.Pattern.{Symbol, character, identifier, number, sameSymbol, literalOf, symbolOf, literal, variable, other, Pattern}
+use Rattle.law.specs.Symbol.{Symbol, character, identifier, number, literalOf, symbolOf}
+use Rattle.matching.specs.Pattern.{sameSymbol, literal, variable, other, Pattern}
 use Rattle.matching.specs.Match.{none-bound, some-in, anyLiteral, runMatches}
 use Rattle.matching.specs.Fill.{filled, OfKind}
 use Rattle.matching.specs.Literal.{anySymbol, literalMatches, changed, expressionOf, noNeedlessZero, symbolPasses, rowPasses, patternPasses}
@@ -127,11 +128,3 @@ literal-misses-nothing p x hp zp hx zx m =
           sym (pattern-text τ p hp zp)
           ∙ (filled-changed spelledOf literalOf (σ .value) p ∙ (ap textOf (σ .fills) ∙ row-text x hx zx));
     })
-
--- ---- the law's tree
-
--- a symbol of the tree is in a run what its symbol of a pattern is
-pub tree-symbol : (a : tree.Symbol) → literalOf (symbolOf a) ≡ expression.literalOf a
-tree-symbol (tree.Symbol.character c) = refl
-tree-symbol (tree.Symbol.identifier i) = refl
-tree-symbol (tree.Symbol.number n) = refl

@@ -11,7 +11,8 @@ use Rattle.names.proofs.Laws as bytes
 use Rattle.law.specs.Tree.{Kind, symbolKind, termKind, expressionKind}
 use Rattle.law.specs.Expression.{Literal, Terms, nothing, symbol, brackets}
 use Rattle.law.specs.Variables.{Variable, sameKind, sameVariable}
-use Rattle.matching.specs.Pattern.{Symbol, character, identifier, number, sameSymbol, sameLiteral, Atom, literal, variable}
+use Rattle.law.specs.Symbol.{Symbol, character, identifier, number}
+use Rattle.matching.specs.Pattern.{sameSymbol, sameLiteral, Atom, literal, variable}
 use Rattle.matching.specs.Match.{sameTerms}
 use Rattle.matching.specs.Shadow.{sameAtom}
 

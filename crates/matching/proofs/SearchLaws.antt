@@ -8,7 +8,8 @@ use mathlib.Core.Path.{_≡_, refl, ap, sym, _∙_}
 use Rattle.law.specs.Tree.{Kind, symbolKind, termKind, expressionKind}
 use Rattle.law.specs.Expression.{Terms, nothing, symbol, brackets, _⊕_}
 use Rattle.law.specs.Variables.{Variable, sameVariable}
-use Rattle.matching.specs.Pattern.{Symbol, literal, variable, Pattern}
+use Rattle.law.specs.Symbol.{Symbol}
+use Rattle.matching.specs.Pattern.{literal, variable, Pattern}
 use Rattle.matching.specs.Match.{Values, none-bound, bound, when, each, all-or-first, some-in, valueIn, splits, noted, sameTerms, after, choices, matches}
 use Rattle.matching.specs.Fill.{Plain, filled, OfKind, Kinded, KindedValues, Agrees}
 use Rattle.matching.proofs.SameLaws.{false-not-true, variable-sound, variable-refl, terms-sound, terms-refl}

@@ -7,8 +7,9 @@ use mathlib.Core.Path.{_≡_, refl, ap, ap₂, sym, _∙_}
 use Rattle.law.specs.Tree.{Kind, symbolKind, termKind, expressionKind}
 use Rattle.law.specs.Expression.{Literal, Expression, Terms, nothing, symbol, brackets, _⊕_}
 use Rattle.law.specs.Variables.{Variable, sameVariable, occurs}
-use Rattle.matching.specs.Pattern as pattern
-use Rattle.matching.specs.Pattern.{Symbol, literal, variable, other, Pattern}
+use Rattle.law.specs.Symbol as symbols
+use Rattle.law.specs.Symbol.{Symbol}
+use Rattle.matching.specs.Pattern.{literal, variable, other, Pattern}
 use Rattle.matching.specs.Match.{Values, none-bound, some-in, valueIn, anyLiteral, runMatches}
 use Rattle.matching.specs.Fill.{filled, OfKind, KindedValues, runFilled, RunKinded, RunKindedValues}
 use Rattle.matching.specs.Shadow.{sameAtom, kindIsSymbol, kindIsSingle, symbolLike, singleTerm, ownValues, shadowsWith, shadows}
@@ -102,7 +103,7 @@ pub shadow-sound-from : (valued : List Variable) (earlier later : Pattern) → s
 unfolding shadowsWith
 shadow-sound-from valued earlier later sh x vs k within m =
     let β =
-    fills-of-match sameAtom literal symbolLike singleTerm _ atom-sound (literal (pattern.character 0)) refl refl
+    fills-of-match sameAtom literal symbolLike singleTerm _ atom-sound (literal (symbols.character 0)) refl refl
     earlier later (ownValues valued) (own-kinded valued) sh in
     let σ = matches-iff-from later x vs k .0 m in
     run-complete earlier x vs
@@ -113,7 +114,7 @@ shadow-sound-from valued earlier later sh x vs k within m =
       agrees = λ v y e.
           ap (runFilled (σ .value)) (β .agrees v (symbol (variable v) nothing) (own-value valued v (within v y e)))
           ∙ (row-nothing (σ .value v) ∙ σ .agrees v y e);
-      fills = sym (filled-twice pattern.literalOf (σ .value) (β .value) earlier) ∙ (ap (runFilled (σ .value)) (β .fills) ∙ σ .fills);
+      fills = sym (filled-twice symbols.literalOf (σ .value) (β .value) earlier) ∙ (ap (runFilled (σ .value)) (β .fills) ∙ σ .fills);
     })
 
 -- from no values

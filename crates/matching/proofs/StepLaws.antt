@@ -22,7 +22,7 @@ use Rattle.law.specs.Runs.{endOf}
 use Rattle.law.specs.Variables.{Variable}
 use Rattle.law.proofs.RunLaws.{end-low, end-high}
 use Rattle.law.proofs.Parts.{drop-take}
-use Rattle.matching.specs.Pattern as pattern
+use Rattle.law.specs.Symbol as symbols
 use Rattle.matching.specs.Pattern.{Atom, literal, variable, other, Pattern}
 use Rattle.matching.specs.Match.{Values, bound, when, each, valueIn, after, choices, matches}
 use Rattle.matching.specs.Shadow.{sameAtom, symbolLike, singleTerm}
@@ -252,7 +252,7 @@ module _ (text pattern row : List ℕ) (vs : Values Atom) (some : 24 ≤ length 
 -- ---- variables
 
 -- no atom of another sort is a variable
-literal-no : {a : pattern.Symbol} {v : Variable} → literal a ≡ variable v → ⊥
+literal-no : {a : symbols.Symbol} {v : Variable} → literal a ≡ variable v → ⊥
 literal-no e = let z : _≡_ {A = ℕ} 0 1 = cc in omega arith
 
 other-no : {v : Variable} → other ≡ variable v → ⊥

@@ -7,7 +7,8 @@ use Rattle.law.specs.Tree as tree
 use Rattle.law.specs.Tree.{Kind, symbolKind, termKind, expressionKind}
 use Rattle.law.specs.Expression.{Literal, Expression, Terms, nothing, symbol, brackets, _⊕_}
 use Rattle.law.specs.Variables.{Variable}
-use Rattle.matching.specs.Pattern.{Symbol, literal, variable, other, Pattern, literalOf}
+use Rattle.law.specs.Symbol.{Symbol, literalOf}
+use Rattle.matching.specs.Pattern.{literal, variable, other, Pattern}
 use Rattle.matching.specs.Match.{Values, valueIn, anyLiteral}
 
 -- no call and no block, at any depth

@@ -6,7 +6,8 @@ use mathlib.Core.List.{List, _∷_}
 use lib.Dec.{eqb}
 use Rattle.law.specs.Tree as tree
 use Rattle.law.specs.Expression.{Expression, Terms, nothing, symbol, brackets}
-use Rattle.matching.specs.Pattern.{Symbol, character, identifier, number, sameSymbol, literalOf, symbolOf, literal, variable, other, Pattern}
+use Rattle.law.specs.Symbol.{Symbol, character, identifier, number, literalOf, symbolOf}
+use Rattle.matching.specs.Pattern.{sameSymbol, literal, variable, other, Pattern}
 use Rattle.matching.specs.Match.{none-bound, some-in, matches}
 
 -- has a run no variable, call or block at any depth?

@@ -8,7 +8,8 @@ use mathlib.Core.Option.{Option, none, some}
 use Rattle.law.specs.Tree.{Kind, symbolKind, termKind, expressionKind}
 use Rattle.law.specs.Expression.{Literal, Expression, Terms, nothing, symbol, brackets}
 use Rattle.law.specs.Variables.{Variable, sameVariable}
-use Rattle.matching.specs.Pattern.{Symbol, literal, variable, other, Pattern, literalOf, sameLiteral}
+use Rattle.law.specs.Symbol.{Symbol, literalOf}
+use Rattle.matching.specs.Pattern.{literal, variable, other, Pattern, sameLiteral}
 
 -- variables' values, the last bound first
 pub data Values (A : Type 0) : Type 0 where

@@ -3,16 +3,11 @@ use Prim.Native.Nat.{ℕ}
 use mathlib.Core.Bool.{Bool, false}
 use mathlib.Core.List.{List}
 use lib.Dec.{eqb}
-use Rattle.names.specs.Name.{folded, foldedIndex, sameBytes}
+use Rattle.names.specs.Name.{foldedIndex, sameBytes}
 use Rattle.law.specs.Tree as tree
-use Rattle.law.specs.Expression.{Literal, valueOf, Terms, nothing, symbol, brackets}
+use Rattle.law.specs.Expression.{Literal, Terms, nothing, symbol, brackets}
+use Rattle.law.specs.Symbol.{Symbol, character, identifier, number, symbolOf}
 use Rattle.law.specs.Variables.{Variable}
-
--- a symbol of a law: an identifier is folded, a number kept as spelled
-pub data Symbol : Type 0 where
-  character : ℕ → Symbol
-  identifier : List ℕ → Symbol
-  number : List ℕ → Symbol
 
 -- "numbers compare by text": the one place where two symbols of a law are said to be the same
 abbrev pub sameSymbol : Symbol → Symbol → Bool
@@ -25,12 +20,6 @@ sameSymbol (identifier x) (number y) = false
 sameSymbol (number x) (character b) = false
 sameSymbol (number x) (identifier y) = false
 sameSymbol (number x) (number y) = sameBytes x y
-
--- what a symbol of a law is in a run: numbers by value
-abbrev pub literalOf : Symbol → Literal
-literalOf (character c) = Literal.character c
-literalOf (identifier i) = Literal.identifier i
-literalOf (number n) = Literal.number (valueOf n)
 
 -- two symbols of a run are the same
 abbrev pub sameLiteral : Literal → Literal → Bool
@@ -52,12 +41,6 @@ pub data Atom : Type 0 where
 
 abbrev pub Pattern : Type 0
 Pattern = Terms Atom
-
--- the symbol of a tree
-abbrev pub symbolOf : tree.Symbol → Symbol
-symbolOf (tree.Symbol.character c) = character c
-symbolOf (tree.Symbol.identifier i) = identifier (folded (i .spelled))
-symbolOf (tree.Symbol.number n) = number (n .spelled)
 
 -- a run of a law as a pattern
 unfoldable pub patternOf : tree.Run → Pattern

@@ -16,9 +16,8 @@ use Rattle.matching.specs.Pattern.{patternOf}
 use Rattle.matching.specs.Match.{Values, none-bound, some-in, anyLiteral, runMatches}
 use Rattle.matching.specs.Fill.{OfKind, runFilled, RunKinded}
 use Rattle.matching.proofs.FillLaws.{matches-iff}
-use Rattle.matching.proofs.LiteralLaws.{tree-symbol}
 use Rattle.shapes.specs.Format.{Shapes, Format, of, Admits, FormatAdmits}
-use Rattle.shapes.specs.Disjoint.{disjoint}
+use Rattle.shapes.specs.Disjoint.{disjointFormats}
 use Rattle.shapes.proofs.LeafLaws.{leaf-of-held}
 use Rattle.shapes.proofs.JoinLaws.{Within}
 use Rattle.shapes.proofs.DisjointLaws.{disjoint-exact}
@@ -62,7 +61,7 @@ fits-admitted results (fits-block u f) = tt
 filled-admitted : (σ : Variable → Expression) → RunKinded σ → (p : Run) → Admits (patternShapes p) (runFilled σ (patternOf p))
 unfolding patternShapes patternOf
 filled-admitted σ kinded tree.Run.empty = tt
-filled-admitted σ kinded (tree.Run.symbol a p) = (rw (tree-symbol a) (leaf-of-held a), filled-admitted σ kinded p)
+filled-admitted σ kinded (tree.Run.symbol a p) = (leaf-of-held a, filled-admitted σ kinded p)
 filled-admitted σ kinded (tree.Run.variable k i p) =
     variable-admitted k (σ (record { kind = k; index = foldedIndex (i .spelled) })) (patternShapes p) (runFilled σ (patternOf p))
     (kinded (record { kind = k; index = foldedIndex (i .spelled) })) (filled-admitted σ kinded p)
@@ -116,14 +115,14 @@ module _ (limit : ℕ) (law : Law) (i : Inferred) (inferred : infer limit law �
 
   -- where an argument's format shares nothing with the function's argument format, no sentence matches what the argument can come to. The argument
   -- format joins all functions of the name, and the last of them is called: two functions of one name do no harm
-  pub disjoint-none-matches : (f : List ℕ) (q : Run) → disjoint (of (resultShapes (find (i .results)) q)) (orNever (find (i .arguments) f)) ≡ true
+  pub disjoint-none-matches : (f : List ℕ) (q : Run) → disjointFormats (of (resultShapes (find (i .results)) q)) (orNever (find (i .arguments) f)) ≡ true
       → (v : Expression) → Fits (ComesTo (i .results)) q v → (ss : Sentences) → definition law f ≡ some ss → NoneMatches ss v
   disjoint-none-matches f q apart v fits ss e =
       let (d, in-law, name, same) = definition-in law f ss e in
       let within : PatternsWithin (i .arguments) d = each-function-in (PatternsWithin (i .arguments)) law (holds .patterns) d in-law in
       let found : orNever (find (i .arguments) f) ≡ within .format =
       ap (λ n. orNever (find (i .arguments) n)) (sym name) ∙ ap orNever (within .is-found) in
-      let told : T (disjoint (of (resultShapes (find (i .results)) q)) (within .format)) = rw (← found, apart) tt in
+      let told : T (disjointFormats (of (resultShapes (find (i .results)) q)) (within .format)) = rw (← found, apart) tt in
       rw same at
       (outside-none-matches (d .sentences) (within .format) (patterns-admitted (i .arguments) d within) v
       (λ a. disjoint-exact (of (resultShapes (find (i .results)) q)) (within .format) .0 told v (fits-admitted (i .results) fits) a))

@@ -12,7 +12,7 @@ use Rattle.matching.specs.Pattern.{patternOf}
 use Rattle.matching.specs.Match.{none-bound, runMatches}
 use Rattle.matching.specs.Literal.{isLiteral, literalTerms, changed, expressionOf, noNeedlessZero, rowPasses, patternPasses}
 use Rattle.matching.proofs.SameLaws.{false-not-true, both-hold}
-use Rattle.matching.proofs.LiteralLaws.{literal-misses-nothing, tree-symbol}
+use Rattle.matching.proofs.LiteralLaws.{literal-misses-nothing}
 use Rattle.runs.proofs.Fits.{Fits, fits-empty, fits-symbol, fits-variable, fits-bracket, fits-call, fits-block}
 use Rattle.runs.proofs.Invariant.{NoneMatches}
 use Rattle.runs.proofs.ByFormats.{none-in}
@@ -25,7 +25,7 @@ pub literal-comes : (Res : List ℕ → Expression → Type 0) {r : Run} {v : Ex
     → v ≡ expressionOf (literalTerms r)
 unfolding isLiteral literalTerms changed
 literal-comes Res fits-empty h = refl
-literal-comes Res (fits-symbol {a = a} f) h = ap₂ symbol (sym (tree-symbol a)) (literal-comes Res f h)
+literal-comes Res (fits-symbol {a = a} f) h = ap (symbol (literalOf (symbolOf a))) (literal-comes Res f h)
 literal-comes Res (fits-variable u k f) h = absurd (false-not-true h)
 literal-comes Res (fits-bracket {q = q} {r = r} g f) h =
     let (inside, after) = both-hold (isLiteral q) (isLiteral r) h in

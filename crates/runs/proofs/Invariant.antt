@@ -10,7 +10,8 @@ use Rattle.names.specs.Name.{folded, foldedIndex}
 use Rattle.law.specs.Tree as tree
 use Rattle.law.specs.Tree.{Name, Kind, Run, Sentences, noSentence, sentence, Conditions, noCondition, condition, Function, Law}
 use Rattle.law.specs.Definition.{definition}
-use Rattle.law.specs.Expression.{literalOf, Expression, nothing, symbol, brackets, _⊕_}
+use Rattle.law.specs.Expression.{Expression, nothing, symbol, brackets, _⊕_}
+use Rattle.law.specs.Symbol.{symbolOf, literalOf}
 use Rattle.matching.specs.Pattern.{patternOf}
 use Rattle.matching.specs.Match.{none-bound, valueIn, anyLiteral, runMatches}
 use Rattle.matching.specs.Fill.{OfKind, RunKindedValues}
@@ -158,7 +159,7 @@ module _ (law : Law) (Res : List ℕ → Expression → Type 0) (Listed : ℕ �
     unfolding step
     step-holds (working tree.Run.empty env u k answers) h = give-holds u k answers (subst (Takes k) (row-nothing u) (h .2 nothing fits-empty))
     step-holds (working (tree.Run.symbol a r) env u k answers) h =
-        (h .0, h .1, λ w g. behind (Takes k) u (symbol (literalOf a) nothing) w (h .2 (symbol (literalOf a) w) (fits-symbol g)))
+        (h .0, h .1, λ w g. behind (Takes k) u (symbol (literalOf (symbolOf a)) nothing) w (h .2 (symbol (literalOf (symbolOf a)) w) (fits-symbol g)))
     step-holds (working (tree.Run.variable kind i r) env u k answers) h =
         variable-holds kind i r env u k answers h (valueIn env (record { kind = kind; index = foldedIndex (i .spelled) }))
         (λ y e. h .1 (record { kind = kind; index = foldedIndex (i .spelled) }) y e)

@@ -5,7 +5,7 @@ use mathlib.Core.List.{List}
 use mathlib.Core.Path.{_≡_}
 use Rattle.law.specs.Tree as tree
 use Rattle.law.specs.Tree.{Name, Run, Sentences, noSentence, sentence, Conditions, noCondition, condition}
-use Rattle.matching.specs.Pattern.{symbolOf}
+use Rattle.law.specs.Symbol.{symbolOf}
 use Rattle.matching.specs.Literal.{symbolPasses}
 use Rattle.matching.proofs.SameLaws.{both-hold}
 use Rattle.lints.proofs.Everywhere.{EachRecord, EveryRun, EverySentence, EveryCondition, Passes}

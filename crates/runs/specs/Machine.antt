@@ -8,7 +8,8 @@ use Rattle.names.specs.Name.{folded, foldedIndex}
 use Rattle.law.specs.Tree as tree
 use Rattle.law.specs.Tree.{Run, Sentences, noSentence, sentence, Conditions, noCondition, condition, Function, Law}
 use Rattle.law.specs.Definition.{definition}
-use Rattle.law.specs.Expression.{Literal, literalOf, Expression, nothing, symbol, brackets, _⊕_}
+use Rattle.law.specs.Expression.{Literal, Expression, nothing, symbol, brackets, _⊕_}
+use Rattle.law.specs.Symbol.{symbolOf, literalOf}
 use Rattle.matching.specs.Pattern.{patternOf}
 use Rattle.matching.specs.Match.{Values, none-bound, valueIn, runMatches}
 
@@ -62,7 +63,7 @@ answered k (a ∷ answers) = give a k answers
 unfoldable pub step : Law → State → State
 -- "A result is worked out left to right"
 step law (working tree.Run.empty env u k answers) = give u k answers
-step law (working (tree.Run.symbol a r) env u k answers) = working r env (u ⊕ symbol (literalOf a) nothing) k answers
+step law (working (tree.Run.symbol a r) env u k answers) = working r env (u ⊕ symbol (literalOf (symbolOf a)) nothing) k answers
 -- "a result variable without a value ends the run"
 step law (working (tree.Run.variable kind i r) env u k answers) =
     elim (valueIn env (record { kind = kind; index = foldedIndex (i .spelled) })) as (λ _. State) [

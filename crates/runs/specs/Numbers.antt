@@ -5,7 +5,7 @@ use mathlib.Core.Bool.{Bool, true, _&&_}
 use mathlib.Core.List.{List, _∷_}
 use Rattle.law.specs.Tree as tree
 use Rattle.law.specs.Tree.{Run, Sentences, noSentence, sentence, Conditions, noCondition, condition, Law}
-use Rattle.matching.specs.Pattern.{symbolOf}
+use Rattle.law.specs.Symbol.{symbolOf}
 use Rattle.matching.specs.Literal.{noNeedlessZero, symbolPasses}
 
 -- does every number pass a test: of a run with all that is inside it, of sentences, of conditions, of a law?

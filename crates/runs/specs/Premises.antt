@@ -19,7 +19,7 @@ use Rattle.law.specs.Tree.{character, number, symbolKind, expressionKind, Run, 
 use Rattle.law.specs.Definition.{definition}
 use Rattle.law.specs.Expression as expression
 use Rattle.law.specs.Expression.{Expression, nothing}
-use Rattle.law.specs.Places.{firstSentence, blockFirst, firstCondition, patternAt, askedAt, resultAt, patternPart, resultPart, askedPart, wantedPart}
+use Rattle.law.specs.Places.{firstSentence, blockFirst, firstCondition, patternAt, conditionResultAt, resultAt, patternPart, resultPart, conditionResultPart, conditionPatternPart}
 use Rattle.law.specs.Runs.{endOf, fits, usedUp, runsAllowed, blocksAllowed}
 use Rattle.law.specs.Reading.{forestRun, conditionsFrom, sentencesFrom, functionsFrom, treeOf}
 use Rattle.law.specs.Depth.{deepest, depthOf}
@@ -27,8 +27,8 @@ use Rattle.law.specs.Variables.{variablesFrom, occurs, distinct, patternsAllowe
 use Rattle.law.specs.Law.{lawOf}
 use Rattle.law.specs.Examples.{listed, listedLaw, withBlock, withBlockLaw, bytesOf, named, marked, fileBytes, functionWords, sentenceWords, termWords}
 use Rattle.shapes.specs.Format.{size}
-use Rattle.shapes.specs.Join.{joinShapes}
-use Rattle.shapes.specs.Disjoint.{disjointShapes}
+use Rattle.shapes.specs.Join.{joinRows}
+use Rattle.shapes.specs.Disjoint.{disjointRows}
 use Rattle.shapes.specs.Same.{sameShapes}
 use Rattle.formats.specs.FormatOf.{patternShapes, chain, resultShapes}
 use Rattle.formats.specs.Infer.{insertName, namesOf, find, renew, allAt, joinResults, joinPatterns, round, roundsFrom, arguments, inferWithin, infer}
@@ -174,9 +174,9 @@ unfolding
     bytesOf flatMap apart inRow
     lawOf sectionsOf section wordAt every total fieldsAllowed termAllowed spelled everyByte
     runsAllowed usedUp fits blocksAllowed patternsAllowed distinct occurs sameBytes variablesFrom
-    firstSentence blockFirst firstCondition patternAt askedAt resultAt patternPart resultPart askedPart wantedPart
+    firstSentence blockFirst firstCondition patternAt conditionResultAt resultAt patternPart resultPart conditionResultPart conditionPatternPart
     decode forestOf endOf termAt termFrom treeOf functionsFrom sentencesFrom conditionsFrom forestRun keep skip deepest depthOf
-    size joinShapes disjointShapes sameShapes patternShapes chain resultShapes
+    size joinRows disjointRows sameShapes patternShapes chain resultShapes
     orderBytes insertName namesOf find renew allAt joinResults joinPatterns round roundsFrom arguments inferWithin infer
     patternOf valueIn splits sameTerms after choices matches isLiteral literalTerms changed ownValues shadowsWith definition
     findingWords findingsFrom calls earliest deadAfter blocks deadRemarks deadFindings

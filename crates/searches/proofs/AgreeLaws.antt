@@ -6,7 +6,8 @@ use mathlib.Core.Path.{_≡_, refl, sym, ap, _∙_}
 use Rattle.law.specs.Tree.{Kind}
 use Rattle.law.specs.Expression.{Terms, nothing, symbol, brackets}
 use Rattle.law.specs.Variables.{Variable, sameVariable, occurs}
-use Rattle.matching.specs.Pattern.{Symbol, literal, variable, other, Pattern}
+use Rattle.law.specs.Symbol.{Symbol}
+use Rattle.matching.specs.Pattern.{literal, variable, other, Pattern}
 use Rattle.matching.specs.Match.{Values, valueIn, noted, when, each, all-or-first, some-in, choices, matches}
 use Rattle.searches.specs.Code.Capacity.{variablesIn}
 use Rattle.searches.specs.Code.Repeats.{Agree}

@@ -15,7 +15,8 @@ use Rattle.law.specs.Expression.{Terms, symbol, brackets}
 use Rattle.law.specs.Runs.{endOf, termForest}
 use Rattle.law.specs.Reading.{markAt, termRun, forestRun}
 use Rattle.law.proofs.RunLaws.{end-high, terms-none, terms-node}
-use Rattle.matching.specs.Pattern.{Symbol, Pattern}
+use Rattle.law.specs.Symbol.{Symbol}
+use Rattle.matching.specs.Pattern.{Pattern}
 use Rattle.matching.specs.Match.{none-bound}
 use Rattle.matching.specs.Literal.{isLiteral, literalTerms, literalMatches}
 use Rattle.matching.specs.Code.Part.{rowOf, literalPart, symbolsOf, from, symbolAt}

@@ -7,7 +7,8 @@ use Rattle.law.specs.Tree as tree
 use Rattle.law.specs.Tree.{Kind, symbolKind, termKind, expressionKind}
 use Rattle.law.specs.Expression.{Terms, nothing, symbol, brackets}
 use Rattle.law.specs.Variables.{Variable, sameVariable}
-use Rattle.matching.specs.Pattern.{Symbol, sameSymbol, symbolOf, Atom, literal, variable, other, Pattern, patternOf}
+use Rattle.law.specs.Symbol.{Symbol, symbolOf}
+use Rattle.matching.specs.Pattern.{sameSymbol, Atom, literal, variable, other, Pattern, patternOf}
 use Rattle.matching.specs.Match.{Values, none-bound, bound, when, each, all-or-first, some-in, valueIn, splits, noted, sameTerms, after, choices, matches}
 use Rattle.matching.specs.Shadow.{sameAtom, symbolLike, singleTerm}
 use Rattle.matching.specs.Literal.{isLiteral, literalTerms, anySymbol, literalMatches, changed}

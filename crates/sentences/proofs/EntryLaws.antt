@@ -3,7 +3,8 @@ use Prim.Native.Nat.{ℕ}
 use mathlib.Core.Bool.{Bool, true, false}
 use mathlib.Core.List.{List, _∷_}
 use mathlib.Core.Path.{_≡_, refl, sym, ap, _∙_}
-use Rattle.matching.specs.Pattern.{character, Atom, literal, Pattern}
+use Rattle.law.specs.Symbol.{character}
+use Rattle.matching.specs.Pattern.{Atom, literal, Pattern}
 use Rattle.matching.specs.Match.{Values, none-bound, valueIn, some-in}
 use Rattle.matching.specs.Shadow.{sameAtom, symbolLike, singleTerm, shadows, shadowsWith, ownValues}
 use Rattle.matching.specs.Literal.{literalMatches}

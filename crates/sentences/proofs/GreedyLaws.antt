@@ -7,7 +7,8 @@ use mathlib.Core.Option.{Option, none, some, Option·none-ne-some}
 use mathlib.Core.Path.{_≡_, refl, sym, ap, _∙_}
 use Rattle.law.specs.Tree.{Kind, symbolKind, termKind, expressionKind}
 use Rattle.law.specs.Expression.{Terms, nothing, symbol, brackets}
-use Rattle.matching.specs.Pattern.{Symbol, Atom, literal, variable, other, Pattern}
+use Rattle.law.specs.Symbol.{Symbol}
+use Rattle.matching.specs.Pattern.{Atom, literal, variable, other, Pattern}
 use Rattle.matching.proofs.SameLaws.{false-not-true, both-hold}
 use Rattle.sentences.specs.Code.Loose.{someEnd, someRest, loosely}
 use Rattle.sentences.specs.Code.Greedy.{EndOf, termsIn, openKind, openAtom, next, orElse, kindFits, atomFits, bracketFits, frontOf, leftmostOf, leftPasses, opens}

@@ -6,7 +6,8 @@ use mathlib.Core.Path.{_≡_, refl, sym, _∙_}
 use Rattle.law.specs.Tree.{Kind, symbolKind, termKind, expressionKind}
 use Rattle.law.specs.Expression.{Terms, nothing, symbol, brackets, _⊕_}
 use Rattle.law.specs.Variables.{Variable, sameVariable, occurs}
-use Rattle.matching.specs.Pattern.{Symbol, literal, variable, other, Pattern}
+use Rattle.law.specs.Symbol.{Symbol}
+use Rattle.matching.specs.Pattern.{literal, variable, other, Pattern}
 use Rattle.matching.specs.Match.{Values, none-bound, bound, valueIn, some-in, matches}
 use Rattle.matching.specs.Fill.{Plain, filled, OfKind, Kinded}
 use Rattle.matching.specs.Match.{each, all-or-first, splits, noted, choices}

@@ -16,7 +16,8 @@ use Rattle.law.specs.Expression.{Terms, nothing, symbol, brackets, _⊕_}
 use Rattle.law.specs.Variables.{Variable, sameVariable, occurs}
 use Rattle.law.specs.Runs.{endOf}
 use Rattle.law.proofs.RunLaws.{end-high}
-use Rattle.matching.specs.Pattern.{Symbol, character, Atom, literal, variable, Pattern}
+use Rattle.law.specs.Symbol.{Symbol, character}
+use Rattle.matching.specs.Pattern.{Atom, literal, variable, Pattern}
 use Rattle.matching.specs.Match.{Values, none-bound, some-in}
 use Rattle.matching.specs.Fill.{Plain, filled, OfKind, Kinded}
 use Rattle.matching.specs.Shadow.{sameAtom, symbolLike, singleTerm}

@@ -17,7 +17,7 @@ use Rattle.law.specs.Places.{patternSize, patternAt, patternPart, termsAt}
 use Rattle.law.specs.Reading.{treeOf, own}
 use Rattle.law.specs.Code.Index.{Indexed, Readable}
 use Rattle.law.specs.Variables.{distinct}
-use Rattle.law.specs.Law.{lawOf, verdictOf, checkAnswer, Accepted, IndexAfter}
+use Rattle.law.specs.Law.{lawOf, checkOf, checkAnswer, Accepted, IndexAfter}
 use Rattle.law.specs.declared.Check.{Check}
 use Rattle.law.specs.declared.Check.the-variants as check
 use Rattle.file.proofs.Answers.{map-given, map-refused}
@@ -216,15 +216,15 @@ module _ (bytes index : List ℕ) (indexed : Indexed bytes index) where
 
 -- ---- what is answered to any bytes
 
-module _ (bytes : List ℕ) (answer : Check) (verdict : checkAnswer answer ≡ verdictOf bytes) where
+module _ (bytes : List ℕ) (answer : Check) (verdict : checkAnswer answer ≡ checkOf bytes) where
   law-read : answer ≡ check.Accepted → Accepted bytes × (lawOf bytes ≡ given (treeOf (fileOf bytes)))
   law-read e =
-      let passed : given tt ≡ verdictOf bytes = rw e at verdict in
+      let passed : given tt ≡ checkOf bytes = rw e at verdict in
       map-given (λ _. tt) (lawOf bytes) tt passed (λ law is same. let all = law-accepted bytes law is .0 in (all, accepted-law bytes all))
 
   law-refused : (why : Refusal) → answer ≡ check.Refused why → lawOf bytes ≡ refused (numberOf why)
   law-refused why e =
-      let refusal : refused (numberOf why) ≡ verdictOf bytes = rw e at verdict in
+      let refusal : refused (numberOf why) ≡ checkOf bytes = rw e at verdict in
       map-refused (λ _. tt) (lawOf bytes) (numberOf why) refusal
 
   -- an accepted law can be asked

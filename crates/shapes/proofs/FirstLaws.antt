@@ -5,10 +5,10 @@ use mathlib.Core.List.{List, _++_, append-nil}
 use mathlib.Core.Path.{_≡_, refl, sym, _∙_}
 use native.Mathlib.Omega.{arith}
 use lib.ListN.{length, take, drop, getD, set}
-use Rattle.shapes.specs.Leaf.{Leaf, holdsBrackets, joinLeaf, apartLeaf, leafWord, leafAt}
+use Rattle.shapes.specs.Leaf.{Leaf, holdsBrackets, joinLeaves, leavesApart, leafWord, leafAt}
 use Rattle.shapes.specs.Format.{Shapes, end, item, group, size, isOpen}
-use Rattle.shapes.specs.Join.{joinShapes}
-use Rattle.shapes.specs.Disjoint.{disjointShapes}
+use Rattle.shapes.specs.Join.{joinRows}
+use Rattle.shapes.specs.Disjoint.{disjointRows}
 use Rattle.shapes.specs.Words.{bracketWord, shapeWords, isBracket, insideOpen, shapesEnd, shapesIn}
 use Rattle.buffers.specs.Written.{written}
 use Rattle.shapes.specs.Code.First.{firstApart, firstJoin, ShapesWritten}
@@ -31,55 +31,55 @@ shapes-some P p q o s h = go (isBracket (getD s 0 0)) refl
 
 -- two rows that are not empty: their first shapes, then the rest
 pub disjoint-split : (a b : List ℕ) (o p : Bool) (m n : ℕ) → 1 ≤ length a → 1 ≤ length b → m ≡ shapesEnd a → n ≡ shapesEnd b
-    → disjointShapes (shapesIn o a) (shapesIn p b) ≡ (firstApart a b || disjointShapes (rest o a m) (rest p b n))
-unfolding disjointShapes firstApart
+    → disjointRows (shapesIn o a) (shapesIn p b) ≡ (firstApart a b || disjointRows (rest o a m) (rest p b n))
+unfolding disjointRows firstApart
 disjoint-split a b o p m n h k u v = rw (u, v) (go (isBracket (getD a 0 0)) (isBracket (getD b 0 0)) refl refl)
   where
     go : (s t : Bool) → isBracket (getD a 0 0) ≡ s → isBracket (getD b 0 0) ≡ t
-        → disjointShapes (shapesIn o a) (shapesIn p b) ≡ (firstApart a b || disjointShapes (rest o a (shapesEnd a)) (rest p b (shapesEnd b)))
+        → disjointRows (shapesIn o a) (shapesIn p b) ≡ (firstApart a b || disjointRows (rest o a (shapesEnd a)) (rest p b (shapesEnd b)))
     go true true q r = rw (shapes-bracket o a (shapesEnd a) h q refl, shapes-bracket p b (shapesEnd b) k r refl, q, r)
     go true false q r = rw (shapes-bracket o a (shapesEnd a) h q refl, shapes-leaf p b (shapesEnd b) k r refl, q, r)
     go false true q r = rw (shapes-leaf o a (shapesEnd a) h q refl, shapes-bracket p b (shapesEnd b) k r refl, q, r)
     go false false q r = rw (shapes-leaf o a (shapesEnd a) h q refl, shapes-leaf p b (shapesEnd b) k r refl, q, r)
 
 -- rows that are both over share the empty expression
-ends-disjoint : (o p : Bool) → false ≡ disjointShapes (end o) (end p)
-unfolding disjointShapes
+ends-disjoint : (o p : Bool) → false ≡ disjointRows (end o) (end p)
+unfolding disjointRows
 ends-disjoint true p = refl
 ends-disjoint false p = refl
 
 -- a row that is over and one that goes on share something only where the first is open
-end-disjoint : (o p : Bool) (b : List ℕ) → 1 ≤ length b → not o ≡ disjointShapes (end o) (shapesIn p b)
-unfolding disjointShapes
+end-disjoint : (o p : Bool) (b : List ℕ) → 1 ≤ length b → not o ≡ disjointRows (end o) (shapesIn p b)
+unfolding disjointRows
 end-disjoint true p b h = refl
-end-disjoint false p b h = shapes-some (λ f. true ≡ disjointShapes (end false) f) (λ l f. refl) (λ g f. refl) p b h
+end-disjoint false p b h = shapes-some (λ f. true ≡ disjointRows (end false) f) (λ l f. refl) (λ g f. refl) p b h
 
 module _ (a : List ℕ) (o : Bool) (b : List ℕ) (p : Bool) where
   -- both rows are empty
-  pub disjoint-none-none : length a < 1 → length b < 1 → false ≡ disjointShapes (shapesIn o a) (shapesIn p b)
+  pub disjoint-none-none : length a < 1 → length b < 1 → false ≡ disjointRows (shapesIn o a) (shapesIn p b)
   disjoint-none-none h k = rw (shapes-none o a h, shapes-none p b k) (ends-disjoint o p)
 
   -- one row alone is empty
-  pub disjoint-none-some : length a < 1 → 1 ≤ length b → not o ≡ disjointShapes (shapesIn o a) (shapesIn p b)
+  pub disjoint-none-some : length a < 1 → 1 ≤ length b → not o ≡ disjointRows (shapesIn o a) (shapesIn p b)
   disjoint-none-some h k = rw (shapes-none o a h) (end-disjoint o p b k)
 
-  pub disjoint-some-none : 1 ≤ length a → length b < 1 → not p ≡ disjointShapes (shapesIn o a) (shapesIn p b)
-  unfolding disjointShapes
-  disjoint-some-none h k = rw (shapes-none p b k) (shapes-some (λ f. not p ≡ disjointShapes f (end p)) (λ l f. refl) (λ g f. refl) o a h)
+  pub disjoint-some-none : 1 ≤ length a → length b < 1 → not p ≡ disjointRows (shapesIn o a) (shapesIn p b)
+  unfolding disjointRows
+  disjoint-some-none h k = rw (shapes-none p b k) (shapes-some (λ f. not p ≡ disjointRows f (end p)) (λ l f. refl) (λ g f. refl) o a h)
 
   -- the first shapes are apart
-  pub disjoint-first : (d : Bool) → 1 ≤ length a → 1 ≤ length b → d ≡ firstApart a b → d ≡ true → true ≡ disjointShapes (shapesIn o a) (shapesIn p b)
+  pub disjoint-first : (d : Bool) → 1 ≤ length a → 1 ≤ length b → d ≡ firstApart a b → d ≡ true → true ≡ disjointRows (shapesIn o a) (shapesIn p b)
   disjoint-first d h k e q = rw (disjoint-split a b o p (shapesEnd a) (shapesEnd b) h k refl refl, ← e, q)
 
   -- the first shapes are not apart
   pub disjoint-rest : (d : Bool) (m n : ℕ) (r : Bool) → 1 ≤ length a → 1 ≤ length b → d ≡ firstApart a b → d ≡ false → m ≡ shapesEnd a → n ≡ shapesEnd b
-      → r ≡ disjointShapes (rest o a m) (rest p b n) → r ≡ disjointShapes (shapesIn o a) (shapesIn p b)
+      → r ≡ disjointRows (rest o a m) (rest p b n) → r ≡ disjointRows (shapesIn o a) (shapesIn p b)
   disjoint-rest d m n r h k e q u v w = rw (disjoint-split a b o p m n h k u v, ← e, q) w
 
 -- the first shapes, of which s and t say whether they are brackets: they ask about their contents, or one holds brackets, or neither is one
 module _ (a b : List ℕ) (s t : Bool) (e : s ≡ isBracket (getD a 0 0)) (f : t ≡ isBracket (getD b 0 0)) where
   pub apart-brackets : (m n : ℕ) (o p r : Bool) → s ≡ true → t ≡ true → m ≡ shapesEnd a → n ≡ shapesEnd b → o ≡ insideOpen (getD a 0 0) → p ≡ insideOpen (getD b 0 0)
-      → r ≡ disjointShapes (shapesIn o (take (m - 1) (drop 1 a))) (shapesIn p (take (n - 1) (drop 1 b))) → r ≡ firstApart a b
+      → r ≡ disjointRows (shapesIn o (take (m - 1) (drop 1 a))) (shapesIn p (take (n - 1) (drop 1 b))) → r ≡ firstApart a b
   unfolding firstApart
   apart-brackets m n o p r g h u v i j w = rw (← e, ← f, g, h, ← u, ← v, ← i, ← j) w
 
@@ -91,7 +91,7 @@ module _ (a b : List ℕ) (s t : Bool) (e : s ≡ isBracket (getD a 0 0)) (f : t
   unfolding firstApart
   apart-leaf-bracket r g h w = rw (← e, ← f, g, h, ← w)
 
-  pub apart-leaves : (r : Bool) → s ≡ false → t ≡ false → r ≡ apartLeaf (leafAt (getD a 0 0)) (leafAt (getD b 0 0)) → r ≡ firstApart a b
+  pub apart-leaves : (r : Bool) → s ≡ false → t ≡ false → r ≡ leavesApart (leafAt (getD a 0 0)) (leafAt (getD b 0 0)) → r ≡ firstApart a b
   unfolding firstApart
   apart-leaves r g h w = rw (← e, ← f, g, h) w
 
@@ -99,12 +99,12 @@ module _ (a b : List ℕ) (s t : Bool) (e : s ≡ isBracket (getD a 0 0)) (f : t
 
 -- two rows that are not empty: their first shapes, then the rest
 pub join-split : (a b : List ℕ) (o p : Bool) (m n : ℕ) → 1 ≤ length a → 1 ≤ length b → m ≡ shapesEnd a → n ≡ shapesEnd b
-    → joinShapes (shapesIn o a) (shapesIn p b) ≡ firstJoin a b (joinShapes (rest o a m) (rest p b n))
-unfolding joinShapes firstJoin
+    → joinRows (shapesIn o a) (shapesIn p b) ≡ firstJoin a b (joinRows (rest o a m) (rest p b n))
+unfolding joinRows firstJoin
 join-split a b o p m n h k u v = rw (u, v) (go (isBracket (getD a 0 0)) (isBracket (getD b 0 0)) refl refl)
   where
     go : (s t : Bool) → isBracket (getD a 0 0) ≡ s → isBracket (getD b 0 0) ≡ t
-        → joinShapes (shapesIn o a) (shapesIn p b) ≡ firstJoin a b (joinShapes (rest o a (shapesEnd a)) (rest p b (shapesEnd b)))
+        → joinRows (shapesIn o a) (shapesIn p b) ≡ firstJoin a b (joinRows (rest o a (shapesEnd a)) (rest p b (shapesEnd b)))
     go true true q r = rw (shapes-bracket o a (shapesEnd a) h q refl, shapes-bracket p b (shapesEnd b) k r refl, q, r)
     go true false q r = rw (shapes-bracket o a (shapesEnd a) h q refl, shapes-leaf p b (shapesEnd b) k r refl, q, r)
     go false true q r = rw (shapes-leaf o a (shapesEnd a) h q refl, shapes-bracket p b (shapesEnd b) k r refl, q, r)
@@ -141,29 +141,29 @@ end-joined f o old at e = rw e (record { after = omega arith; ends = refl; words
 
 module _ (a : List ℕ) (o : Bool) (b : List ℕ) (p : Bool) (old : List ℕ) (at : ℕ) where
   -- both rows are empty
-  pub join-none-none : (q : Bool) → length a < 1 → length b < 1 → q ≡ (o || p) → ShapesWritten (joinShapes (shapesIn o a) (shapesIn p b)) old at at q old
-  unfolding joinShapes
-  join-none-none q h k e = end-joined (joinShapes (shapesIn o a) (shapesIn p b)) q old at (rw (shapes-none o a h, shapes-none p b k, e))
+  pub join-none-none : (q : Bool) → length a < 1 → length b < 1 → q ≡ (o || p) → ShapesWritten (joinRows (shapesIn o a) (shapesIn p b)) old at at q old
+  unfolding joinRows
+  join-none-none q h k e = end-joined (joinRows (shapesIn o a) (shapesIn p b)) q old at (rw (shapes-none o a h, shapes-none p b k, e))
 
   -- one row alone is empty
-  pub join-none-some : length a < 1 → 1 ≤ length b → ShapesWritten (joinShapes (shapesIn o a) (shapesIn p b)) old at at true old
-  unfolding joinShapes
+  pub join-none-some : length a < 1 → 1 ≤ length b → ShapesWritten (joinRows (shapesIn o a) (shapesIn p b)) old at at true old
+  unfolding joinRows
   join-none-some h k =
-      end-joined (joinShapes (shapesIn o a) (shapesIn p b)) true old at
-      (rw (shapes-none o a h) (shapes-some (λ f. joinShapes (end o) f ≡ end true) (λ l f. refl) (λ g f. refl) p b k))
+      end-joined (joinRows (shapesIn o a) (shapesIn p b)) true old at
+      (rw (shapes-none o a h) (shapes-some (λ f. joinRows (end o) f ≡ end true) (λ l f. refl) (λ g f. refl) p b k))
 
-  pub join-some-none : 1 ≤ length a → length b < 1 → ShapesWritten (joinShapes (shapesIn o a) (shapesIn p b)) old at at true old
-  unfolding joinShapes
+  pub join-some-none : 1 ≤ length a → length b < 1 → ShapesWritten (joinRows (shapesIn o a) (shapesIn p b)) old at at true old
+  unfolding joinRows
   join-some-none h k =
-      end-joined (joinShapes (shapesIn o a) (shapesIn p b)) true old at
-      (rw (shapes-none p b k) (shapes-some (λ f. joinShapes f (end p) ≡ end true) (λ l f. refl) (λ g f. refl) o a h))
+      end-joined (joinRows (shapesIn o a) (shapesIn p b)) true old at
+      (rw (shapes-none p b k) (shapes-some (λ f. joinRows f (end p) ≡ end true) (λ l f. refl) (λ g f. refl) o a h))
 
   -- the first shapes were joined, then the rest
   pub join-some-some : (m n middle next : ℕ) (q : Bool) (new newer : List ℕ) → 1 ≤ length a → 1 ≤ length b → m ≡ shapesEnd a → n ≡ shapesEnd b
       → middle ≤ length old → middle ≡ at + size (firstJoin a b (end false)) → new ≡ written old at (shapeWords (firstJoin a b (end false)))
-      → ShapesWritten (joinShapes (rest o a m) (rest p b n)) new middle next q newer → ShapesWritten (joinShapes (shapesIn o a) (shapesIn p b)) old at next q newer
+      → ShapesWritten (joinRows (rest o a m) (rest p b n)) new middle next q newer → ShapesWritten (joinRows (shapesIn o a) (shapesIn p b)) old at next q newer
   join-some-some m n middle next q new newer h k u v l e w j =
-      let f : Shapes = joinShapes (rest o a m) (rest p b n) in
+      let f : Shapes = joinRows (rest o a m) (rest p b n) in
       let first : List ℕ = shapeWords (firstJoin a b (end false)) in
       let (i, ends, all) = first-in-front a b f in
       let long : length first ≡ size (firstJoin a b (end false)) = words-length (firstJoin a b (end false)) in
@@ -188,7 +188,7 @@ module _ (a b old : List ℕ) (at : ℕ) (s t : Bool) (e : s ≡ isBracket (getD
   join-leaf-bracket g h l = rw (← e, ← f, g, h) (refl, written-one old at 4 l)
 
   -- where neither is
-  pub join-leaves : (w : ℕ) → s ≡ false → t ≡ false → at < length old → w ≡ leafWord (joinLeaf (leafAt (getD a 0 0)) (leafAt (getD b 0 0)))
+  pub join-leaves : (w : ℕ) → s ≡ false → t ≡ false → at < length old → w ≡ leafWord (joinLeaves (leafAt (getD a 0 0)) (leafAt (getD b 0 0)))
       → FirstWritten a b old at (at + 1) (set old at w)
   unfolding firstJoin size shapeWords
   join-leaves w g h l i = rw (← e, ← f, g, h, i) (refl, written-one old at _ l)
@@ -196,11 +196,11 @@ module _ (a b old : List ℕ) (at : ℕ) (s t : Bool) (e : s ≡ isBracket (getD
   -- where both are: their contents were written after the bracket's word
   pub join-brackets : (m n next w : ℕ) (o p q : Bool) (new : List ℕ) → s ≡ true → t ≡ true → m ≡ shapesEnd a → n ≡ shapesEnd b
       → o ≡ insideOpen (getD a 0 0) → p ≡ insideOpen (getD b 0 0) → next ≤ length old
-      → ShapesWritten (joinShapes (shapesIn o (take (m - 1) (drop 1 a))) (shapesIn p (take (n - 1) (drop 1 b)))) old (at + 1) next q new
+      → ShapesWritten (joinRows (shapesIn o (take (m - 1) (drop 1 a))) (shapesIn p (take (n - 1) (drop 1 b)))) old (at + 1) next q new
       → w ≡ bracketWord (next - at - 1) q → FirstWritten a b old at next (set new at w)
   unfolding firstJoin size shapeWords
   join-brackets m n next w o p q new g h u v i k l j r =
-      let inner : Shapes = joinShapes (shapesIn o (take (m - 1) (drop 1 a))) (shapesIn p (take (n - 1) (drop 1 b))) in
+      let inner : Shapes = joinRows (shapesIn o (take (m - 1) (drop 1 a))) (shapesIn p (take (n - 1) (drop 1 b))) in
       let inside : next - at - 1 ≡ size inner = omega (arith, j .after) in
       rw (← e, ← f, g, h, ← u, ← v, ← i, ← k) (
         omega (arith, j .after),

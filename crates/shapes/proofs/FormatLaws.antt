@@ -11,8 +11,8 @@ use lib.ListN.{length, take, drop, getD, set, replicate, length-drop, length-rep
 use lib.Seq.{take-all}
 use lib.Dec.{leb}
 use Rattle.shapes.specs.Format.{Shapes, Format, never, of, size, formatSize, isOpen}
-use Rattle.shapes.specs.Join.{joinShapes, join}
-use Rattle.shapes.specs.Disjoint.{disjointShapes, disjoint}
+use Rattle.shapes.specs.Join.{joinRows, joinFormats}
+use Rattle.shapes.specs.Disjoint.{disjointRows, disjointFormats}
 use Rattle.shapes.specs.Same.{sameFormat}
 use Rattle.shapes.specs.Words.{shapeWords, filled, usedWords, formatWords, shapesIn, readFormat, rowEnd, FormatIn}
 use Rattle.buffers.specs.Written.{written}
@@ -60,47 +60,47 @@ read-row s t e o l p q r v = rw (← p, q, r, v, row-within (getD s 0 0 % 256) s
 -- ---- disjointness
 
 -- never shares nothing
-pub disjoint-never-left : (a b : List ℕ) (t : Bool) → t ≡ leb 512 (getD a 0 0) → t ≡ true → true ≡ disjoint (readFormat a) (readFormat b)
+pub disjoint-never-left : (a b : List ℕ) (t : Bool) → t ≡ leb 512 (getD a 0 0) → t ≡ true → true ≡ disjointFormats (readFormat a) (readFormat b)
 disjoint-never-left a b t e h = rw (read-never a t e h)
 
-pub disjoint-never-right : (a b : List ℕ) (t : Bool) → t ≡ leb 512 (getD b 0 0) → t ≡ true → true ≡ disjoint (readFormat a) (readFormat b)
+pub disjoint-never-right : (a b : List ℕ) (t : Bool) → t ≡ leb 512 (getD b 0 0) → t ≡ true → true ≡ disjointFormats (readFormat a) (readFormat b)
 disjoint-never-right a b t e h = rw (read-never b t e h) (go (readFormat a))
   where
-    go : (f : Format) → true ≡ disjoint f never
+    go : (f : Format) → true ≡ disjointFormats f never
     go never = refl
     go (of f) = refl
 
 -- the rows' answer is that of the formats
-pub disjoint-rows-are : (a b : List ℕ) (f g : Shapes) (r : Bool) → readFormat a ≡ of f → readFormat b ≡ of g → r ≡ disjointShapes f g → r ≡ disjoint (readFormat a) (readFormat b)
+pub disjoint-rows-are : (a b : List ℕ) (f g : Shapes) (r : Bool) → readFormat a ≡ of f → readFormat b ≡ of g → r ≡ disjointRows f g → r ≡ disjointFormats (readFormat a) (readFormat b)
 disjoint-rows-are a b f g r p q e = rw (p, q) e
 
 -- ---- join
 
 -- a join is no larger than a limit on both
-pub join-small : (n : ℕ) (f g : Format) → formatSize f ≤ n → formatSize g ≤ n → formatSize (join f g) ≤ n
+pub join-small : (n : ℕ) (f g : Format) → formatSize f ≤ n → formatSize g ≤ n → formatSize (joinFormats f g) ≤ n
 join-small n never g h k = k
 join-small n (of f) never h k = h
 join-small n (of f) (of g) h k = omega (arith, join-size-left f g)
 
 -- the words of a join are a format's
-pub join-format-in : (limit : ℕ) (a b words : List ℕ) → limit ≤ 127 → FormatIn limit a → FormatIn limit b → words ≡ formatWords limit (join (readFormat a) (readFormat b))
+pub join-format-in : (limit : ℕ) (a b words : List ℕ) → limit ≤ 127 → FormatIn limit a → FormatIn limit b → words ≡ formatWords limit (joinFormats (readFormat a) (readFormat b))
     → FormatIn limit words
 join-format-in limit a b words l x y e = record {
-  format = join (x .format) (y .format);
+  format = joinFormats (x .format) (y .format);
   small = join-small limit (x .format) (y .format) (x .small) (y .small);
   same = rw (← format-in-read limit a l x, ← format-in-read limit b l y) e;
 }
 
 -- never with a format
 pub join-never-left : (limit : ℕ) (a b words : List ℕ) (t : Bool) → limit ≤ 127 → FormatIn limit b → t ≡ leb 512 (getD a 0 0) → t ≡ true → words ≡ b
-    → words ≡ formatWords limit (join (readFormat a) (readFormat b))
+    → words ≡ formatWords limit (joinFormats (readFormat a) (readFormat b))
 join-never-left limit a b words t l y e h w = w ∙ rw (read-never a t e h) (format-in-words limit b l y)
 
 pub join-never-right : (limit : ℕ) (a b words : List ℕ) (t : Bool) → limit ≤ 127 → FormatIn limit a → t ≡ leb 512 (getD b 0 0) → t ≡ true → words ≡ a
-    → words ≡ formatWords limit (join (readFormat a) (readFormat b))
+    → words ≡ formatWords limit (joinFormats (readFormat a) (readFormat b))
 join-never-right limit a b words t l x e h w = w ∙ rw (read-never b t e h, join-with-never (readFormat a)) (format-in-words limit a l x)
   where
-    join-with-never : (f : Format) → join f never ≡ f
+    join-with-never : (f : Format) → joinFormats f never ≡ f
     join-with-never never = refl
     join-with-never (of f) = refl
 
@@ -123,10 +123,10 @@ written-filled n words = rw (zero-add, drop-replicate (length words) n)
 
 -- a header was written in front of the shapes of a join
 pub join-rows-are : (limit : ℕ) (a b old new : List ℕ) (f g : Shapes) (next header : ℕ) (o : Bool) → readFormat a ≡ of f → readFormat b ≡ of g
-    → old ≡ replicate (limit + 1) 0 → next ≤ limit + 1 → ShapesWritten (joinShapes f g) old 1 next o new → header ≡ next - 1 + cond o 256 0
-    → set new 0 header ≡ formatWords limit (join (readFormat a) (readFormat b))
+    → old ≡ replicate (limit + 1) 0 → next ≤ limit + 1 → ShapesWritten (joinRows f g) old 1 next o new → header ≡ next - 1 + cond o 256 0
+    → set new 0 header ≡ formatWords limit (joinFormats (readFormat a) (readFormat b))
 join-rows-are limit a b old new f g next header o p q z l j e =
-    let inner : Shapes = joinShapes f g in
+    let inner : Shapes = joinRows f g in
     let shapes : next - 1 ≡ size inner = omega (arith, j .after) in
     let room : length {A = ℕ} (replicate (limit + 1) 0) ≡ limit + 1 = length-replicate (limit + 1) 0 in
     rw (p, q, e, shapes, j .ends, j .words, z)

@@ -8,7 +8,7 @@ use lib.Dec.{T}
 use Rattle.law.specs.Expression.{Expression, nothing, symbol, brackets}
 use Rattle.shapes.specs.Leaf.{holdsBrackets}
 use Rattle.shapes.specs.Format.{Shapes, end, item, group, Format, never, of, Admits, FormatAdmits, size, formatSize}
-use Rattle.shapes.specs.Join.{joinShapes, join}
+use Rattle.shapes.specs.Join.{joinRows, joinFormats}
 use Rattle.shapes.proofs.LeafLaws.{someLiteral, some-literal-held, LeafWithin, leaf-within-unknown, unknown-within, leaf-within-same, join-leaf-left, join-leaf-right, join-leaf-least}
 
 -- every format but never admits something
@@ -82,8 +82,8 @@ below-same (group c f) (group d g) l m = cc (below-same c d (l .0) (m .0), below
 
 -- ---- the join of shapes is over both, and the least such
 
-below-left : (f g : Shapes) → Below f (joinShapes f g)
-unfolding joinShapes
+below-left : (f g : Shapes) → Below f (joinRows f g)
+unfolding joinRows
 below-left (end true) (end p) = tt
 below-left (end false) (end p) = tt
 below-left (end true) (item b g) = tt
@@ -97,8 +97,8 @@ below-left (group c f) (end p) = tt
 below-left (group c f) (item b g) = (tt, below-left f g)
 below-left (group c f) (group d g) = (below-left c d, below-left f g)
 
-below-right : (f g : Shapes) → Below g (joinShapes f g)
-unfolding joinShapes
+below-right : (f g : Shapes) → Below g (joinRows f g)
+unfolding joinRows
 below-right (end true) (end true) = tt
 below-right (end true) (end false) = tt
 below-right (end false) (end true) = tt
@@ -114,8 +114,8 @@ below-right (group c f) (end false) = tt
 below-right (group c f) (item b g) = (leaf-within-unknown b, below-right f g)
 below-right (group c f) (group d g) = (below-right c d, below-right f g)
 
-below-least : (f g h : Shapes) → Below f h → Below g h → Below (joinShapes f g) h
-unfolding joinShapes
+below-least : (f g h : Shapes) → Below f h → Below g h → Below (joinRows f g) h
+unfolding joinRows
 below-least (end true) (end p) (end true) l m = tt
 below-least (end false) (end p) (end o) l m = m
 below-least (end o) (item b g) (end true) l m = tt
@@ -139,22 +139,22 @@ abbrev pub Within : Format → Format → Type 0
 Within f g = (x : Expression) → FormatAdmits f x → FormatAdmits g x
 
 -- join is over both
-pub join-over-left : (f g : Format) (x : Expression) → FormatAdmits f x → FormatAdmits (join f g) x
+pub join-over-left : (f g : Format) (x : Expression) → FormatAdmits f x → FormatAdmits (joinFormats f g) x
 join-over-left (of f) never x h = h
-join-over-left (of f) (of g) x h = below-sound f (joinShapes f g) x (below-left f g) h
+join-over-left (of f) (of g) x h = below-sound f (joinRows f g) x (below-left f g) h
 
-pub join-over-right : (f g : Format) (x : Expression) → FormatAdmits g x → FormatAdmits (join f g) x
+pub join-over-right : (f g : Format) (x : Expression) → FormatAdmits g x → FormatAdmits (joinFormats f g) x
 join-over-right never (of g) x h = h
-join-over-right (of f) (of g) x h = below-sound g (joinShapes f g) x (below-right f g) h
+join-over-right (of f) (of g) x h = below-sound g (joinRows f g) x (below-right f g) h
 
 -- "Join is the least format over both"
 pub join-least : (f g h : Format) → ((x : Expression) → FormatAdmits f x → FormatAdmits h x) → ((x : Expression) → FormatAdmits g x → FormatAdmits h x)
-    → (x : Expression) → FormatAdmits (join f g) x → FormatAdmits h x
+    → (x : Expression) → FormatAdmits (joinFormats f g) x → FormatAdmits h x
 join-least never g h l m x p = m x p
 join-least (of f) never h l m x p = l x p
 join-least (of f) (of g) never l m x p = l (someOf f) (some-admitted f)
 join-least (of f) (of g) (of h) l m x p =
-    below-sound (joinShapes f g) h x (below-least f g h (below-complete f h l) (below-complete g h m)) p
+    below-sound (joinRows f g) h x (below-least f g h (below-complete f h l) (below-complete g h m)) p
 
 -- formats that admit the same are the same
 pub within-same : (f g : Format) → Within f g → Within g f → f ≡ g
@@ -164,16 +164,16 @@ within-same (of f) never l m = absurd (l (someOf f) (some-admitted f))
 within-same (of f) (of g) l m = ap of (below-same f g (below-complete f g l) (below-complete g f m))
 
 -- a format joined with what is within it stays the same, and only then
-pub within-join : (f g : Format) → Within g f → join f g ≡ f
-within-join f g l = within-same (join f g) f (join-least f g f (λ x h. h) l) (join-over-left f g)
+pub within-join : (f g : Format) → Within g f → joinFormats f g ≡ f
+within-join f g l = within-same (joinFormats f g) f (join-least f g f (λ x h. h) l) (join-over-left f g)
 
-pub join-within : (f g : Format) → join f g ≡ f → Within g f
+pub join-within : (f g : Format) → joinFormats f g ≡ f → Within g f
 join-within f g e x h = rw e at (join-over-right f g x h)
 
 -- ---- a join never has more shapes than either side that is not never
 
-pub join-size-left : (f g : Shapes) → size (joinShapes f g) ≤ size f
-unfolding joinShapes size
+pub join-size-left : (f g : Shapes) → size (joinRows f g) ≤ size f
+unfolding joinRows size
 join-size-left (end o) (end p) = omega arith
 join-size-left (end o) (item b g) = omega arith
 join-size-left (end o) (group d g) = omega arith
@@ -184,8 +184,8 @@ join-size-left (group c f) (end p) = omega arith
 join-size-left (group c f) (item b g) = omega (arith, join-size-left f g)
 join-size-left (group c f) (group d g) = omega (arith, join-size-left c d, join-size-left f g)
 
-pub join-size-right : (f g : Shapes) → size (joinShapes f g) ≤ size g
-unfolding joinShapes size
+pub join-size-right : (f g : Shapes) → size (joinRows f g) ≤ size g
+unfolding joinRows size
 join-size-right (end o) (end p) = omega arith
 join-size-right (end o) (item b g) = omega arith
 join-size-right (end o) (group d g) = omega arith
@@ -197,10 +197,10 @@ join-size-right (group c f) (item b g) = omega (arith, join-size-right f g)
 join-size-right (group c f) (group d g) = omega (arith, join-size-right c d, join-size-right f g)
 
 -- of formats
-pub join-format-size-left : (f : Shapes) (g : Format) → formatSize (join (of f) g) ≤ size f
+pub join-format-size-left : (f : Shapes) (g : Format) → formatSize (joinFormats (of f) g) ≤ size f
 join-format-size-left f never = omega arith
 join-format-size-left f (of g) = join-size-left f g
 
-pub join-format-size-right : (f : Format) (g : Shapes) → formatSize (join f (of g)) ≤ size g
+pub join-format-size-right : (f : Format) (g : Shapes) → formatSize (joinFormats f (of g)) ≤ size g
 join-format-size-right never g = omega arith
 join-format-size-right (of f) g = join-size-right f g

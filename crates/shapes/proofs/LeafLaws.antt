@@ -3,9 +3,10 @@ use mathlib.Core.Bool.{Bool, true, false, cond, not}
 use mathlib.Core.Path.{_≡_, refl, sym, ap, _∙_}
 use lib.Dec.{T}
 use Rattle.law.specs.Expression as expressions
-use Rattle.law.specs.Expression.{Literal, literalOf}
+use Rattle.law.specs.Expression.{Literal}
+use Rattle.law.specs.Symbol.{symbolOf, literalOf}
 use Rattle.law.specs.Tree as tree
-use Rattle.shapes.specs.Leaf.{Leaf, character, number, identifier, anySymbol, unknown, holdsSymbol, holdsBrackets, joinLeaf, apartLeaf, leafWord, leafOf, leafAt}
+use Rattle.shapes.specs.Leaf.{Leaf, character, number, identifier, anySymbol, unknown, holdsSymbol, holdsBrackets, joinLeaves, leavesApart, leafWord, leafOf, leafAt}
 use Rattle.shapes.specs.Words.{isBracket}
 
 -- a symbol of each kind
@@ -34,7 +35,7 @@ some-literal-held anySymbol = tt
 some-literal-held unknown = tt
 
 -- a symbol of a law is of its shape
-pub leaf-of-held : (a : tree.Symbol) → T (holdsSymbol (leafOf a) (literalOf a))
+pub leaf-of-held : (a : tree.Symbol) → T (holdsSymbol (leafOf a) (literalOf (symbolOf a)))
 leaf-of-held (tree.Symbol.character c) = tt
 leaf-of-held (tree.Symbol.identifier i) = tt
 leaf-of-held (tree.Symbol.number n) = tt
@@ -91,7 +92,7 @@ within-any identifier h = (λ x k. tt, λ k. k)
 within-any anySymbol h = (λ x k. tt, λ k. k)
 
 -- the join is over both shapes
-pub join-leaf-left : (a b : Leaf) → LeafWithin a (joinLeaf a b)
+pub join-leaf-left : (a b : Leaf) → LeafWithin a (joinLeaves a b)
 join-leaf-left character character = leaf-within-itself character
 join-leaf-left character number = within-any character tt
 join-leaf-left character identifier = within-any character tt
@@ -114,7 +115,7 @@ join-leaf-left anySymbol anySymbol = within-any anySymbol tt
 join-leaf-left anySymbol unknown = leaf-within-unknown anySymbol
 join-leaf-left unknown b = leaf-within-unknown unknown
 
-pub join-leaf-right : (a b : Leaf) → LeafWithin b (joinLeaf a b)
+pub join-leaf-right : (a b : Leaf) → LeafWithin b (joinLeaves a b)
 join-leaf-right character character = leaf-within-itself character
 join-leaf-right character number = within-any number tt
 join-leaf-right character identifier = within-any identifier tt
@@ -151,7 +152,7 @@ any-number-identifier anySymbol h k = leaf-within-itself anySymbol
 any-number-identifier unknown h k = leaf-within-unknown anySymbol
 
 -- and is the least such
-pub join-leaf-least : (a b c : Leaf) → LeafWithin a c → LeafWithin b c → LeafWithin (joinLeaf a b) c
+pub join-leaf-least : (a b c : Leaf) → LeafWithin a c → LeafWithin b c → LeafWithin (joinLeaves a b) c
 join-leaf-least character character c p q = p
 join-leaf-least character number c p q = any-character-number c (p .0 someCharacter tt) (q .0 someNumber tt)
 join-leaf-least character identifier c p q = any-character-identifier c (p .0 someCharacter tt) (q .0 someIdentifier tt)
@@ -177,7 +178,7 @@ join-leaf-least unknown b c p q = p
 -- ---- disjointness
 
 -- no symbol is of two shapes that are apart
-pub apart-symbol : (a b : Leaf) (x : Literal) → T (apartLeaf a b) → T (holdsSymbol a x) → T (holdsSymbol b x) → ⊥
+pub apart-symbol : (a b : Leaf) (x : Literal) → T (leavesApart a b) → T (holdsSymbol a x) → T (holdsSymbol b x) → ⊥
 apart-symbol character number (expressions.Literal.character v) p h k = k
 apart-symbol character identifier (expressions.Literal.character v) p h k = k
 apart-symbol number character (expressions.Literal.number v) p h k = k
@@ -186,13 +187,13 @@ apart-symbol identifier character (expressions.Literal.identifier v) p h k = k
 apart-symbol identifier number (expressions.Literal.identifier v) p h k = k
 
 -- and no bracket
-pub apart-brackets : (a b : Leaf) → T (apartLeaf a b) → T (holdsBrackets a) → ⊥
+pub apart-brackets : (a b : Leaf) → T (leavesApart a b) → T (holdsBrackets a) → ⊥
 apart-brackets character b p h = h
 apart-brackets number b p h = h
 apart-brackets identifier b p h = h
 
 -- shapes that are not apart share a symbol
-pub shared-symbol : (a b : Leaf) → T (not (apartLeaf a b)) → (x : Literal) × T (holdsSymbol a x) × T (holdsSymbol b x)
+pub shared-symbol : (a b : Leaf) → T (not (leavesApart a b)) → (x : Literal) × T (holdsSymbol a x) × T (holdsSymbol b x)
 shared-symbol character character p = (someCharacter, tt, tt)
 shared-symbol character anySymbol p = (someCharacter, tt, tt)
 shared-symbol character unknown p = (someCharacter, tt, tt)

@@ -6,7 +6,7 @@ use native.Mathlib.Omega.{arith}
 use native.Mathlib.Decide.{decLt}
 use lib.Dec.{eqb, leb}
 use borrow.Author.Tests.{le-leb, lt-leb}
-use Rattle.shapes.specs.Leaf.{Leaf, character, number, identifier, anySymbol, unknown, holdsBrackets, joinLeaf, apartLeaf, leafWord, leafAt}
+use Rattle.shapes.specs.Leaf.{Leaf, character, number, identifier, anySymbol, unknown, holdsBrackets, joinLeaves, leavesApart, leafWord, leafAt}
 
 -- what holds of the words 0 to 3 holds of every word below 4
 below-four : (P : ℕ → Type 0) → P 0 → P 1 → P 2 → P 3 → (w : ℕ) → w < 4 → P w
@@ -38,10 +38,10 @@ leaf-holds w = go (decLt w 4)
 
 -- the table of shapes that are apart, by their words
 abbrev Apart : ℕ → ℕ → Type 0
-Apart x y = cond (leb 3 x) false (cond (leb 3 y) false (not (eqb x y))) ≡ apartLeaf (leafAt x) (leafAt y)
+Apart x y = cond (leb 3 x) false (cond (leb 3 y) false (not (eqb x y))) ≡ leavesApart (leafAt x) (leafAt y)
 
 -- nothing is apart from unknown
-apart-unknown : (t : Bool) (b : Leaf) → cond t false false ≡ apartLeaf b unknown
+apart-unknown : (t : Bool) (b : Leaf) → cond t false false ≡ leavesApart b unknown
 apart-unknown true character = refl
 apart-unknown true number = refl
 apart-unknown true identifier = refl
@@ -54,7 +54,7 @@ apart-unknown false anySymbol = refl
 apart-unknown false unknown = refl
 
 -- the code's answer is that of the table
-pub leaves-apart : (x y : ℕ) → cond (leb 3 x) false (cond (leb 3 y) false (not (eqb x y))) ≡ apartLeaf (leafAt x) (leafAt y)
+pub leaves-apart : (x y : ℕ) → cond (leb 3 x) false (cond (leb 3 y) false (not (eqb x y))) ≡ leavesApart (leafAt x) (leafAt y)
 leaves-apart x y = go (decLt x 4) (decLt y 4)
   where
     go : Dec (x < 4) → Dec (y < 4) → Apart x y
@@ -71,10 +71,10 @@ leaves-apart x y = go (decLt x 4) (decLt y 4)
 
 -- the table of joins, by their words
 abbrev Joins : ℕ → ℕ → Type 0
-Joins x y = cond (leb 4 x) 4 (cond (leb 4 y) 4 (cond (eqb x y) x 3)) ≡ leafWord (joinLeaf (leafAt x) (leafAt y))
+Joins x y = cond (leb 4 x) 4 (cond (leb 4 y) 4 (cond (eqb x y) x 3)) ≡ leafWord (joinLeaves (leafAt x) (leafAt y))
 
 -- a join with unknown is unknown
-join-unknown : (t : Bool) (b : Leaf) → cond t 4 4 ≡ leafWord (joinLeaf b unknown)
+join-unknown : (t : Bool) (b : Leaf) → cond t 4 4 ≡ leafWord (joinLeaves b unknown)
 join-unknown true character = refl
 join-unknown true number = refl
 join-unknown true identifier = refl
@@ -87,7 +87,7 @@ join-unknown false anySymbol = refl
 join-unknown false unknown = refl
 
 -- the code's word is that of the table
-pub leaves-join : (x y : ℕ) → cond (leb 4 x) 4 (cond (leb 4 y) 4 (cond (eqb x y) x 3)) ≡ leafWord (joinLeaf (leafAt x) (leafAt y))
+pub leaves-join : (x y : ℕ) → cond (leb 4 x) 4 (cond (leb 4 y) 4 (cond (eqb x y) x 3)) ≡ leafWord (joinLeaves (leafAt x) (leafAt y))
 leaves-join x y = go (decLt x 4) (decLt y 4)
   where
     go : Dec (x < 4) → Dec (y < 4) → Joins x y

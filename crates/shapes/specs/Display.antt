@@ -27,20 +27,20 @@ display (of f) = 91 ∷ drop 1 (spaced f) ++ 93 ∷ []
 -- ---- a text put into a buffer
 
 -- the position after the text; or 13, "the text does not fit"
-abbrev pub answerOf : Shown → Answer ℕ
-answerOf (At next) = given next
-answerOf NoRoom = refused 13
+abbrev pub shownAnswer : Shown → Answer ℕ
+shownAnswer (At next) = given next
+shownAnswer NoRoom = refused 13
 
 -- what is answered, and the buffer after it
-pub record Outcome : Type 0 where
+pub record TextOutcome : Type 0 where
   pub answer : Answer ℕ
   pub buffer : List ℕ
 
-abbrev pub outcomeOf : Shown → List ℕ → Outcome
-outcomeOf r bytes = record { answer = answerOf r; buffer = bytes }
+abbrev pub shownOutcome : Shown → List ℕ → TextOutcome
+shownOutcome r bytes = record { answer = shownAnswer r; buffer = bytes }
 
 -- a text at a position of a buffer: all of it is written; where there is no room for all of it the buffer stays as it is
-abbrev pub textAt : List ℕ → ℕ → List ℕ → Outcome
+abbrev pub textAt : List ℕ → ℕ → List ℕ → TextOutcome
 textAt buffer at text =
     cond (leb (at + length text) (length buffer))
     (record { answer = given (at + length text); buffer = written buffer at text })

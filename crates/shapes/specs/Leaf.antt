@@ -34,48 +34,48 @@ holdsBrackets anySymbol = false
 holdsBrackets unknown = true
 
 -- the least shape over both: two kinds of symbol are any symbol, and what is unknown stays so
-abbrev pub joinLeaf : Leaf → Leaf → Leaf
-joinLeaf character character = character
-joinLeaf character number = anySymbol
-joinLeaf character identifier = anySymbol
-joinLeaf character anySymbol = anySymbol
-joinLeaf character unknown = unknown
-joinLeaf number character = anySymbol
-joinLeaf number number = number
-joinLeaf number identifier = anySymbol
-joinLeaf number anySymbol = anySymbol
-joinLeaf number unknown = unknown
-joinLeaf identifier character = anySymbol
-joinLeaf identifier number = anySymbol
-joinLeaf identifier identifier = identifier
-joinLeaf identifier anySymbol = anySymbol
-joinLeaf identifier unknown = unknown
-joinLeaf anySymbol character = anySymbol
-joinLeaf anySymbol number = anySymbol
-joinLeaf anySymbol identifier = anySymbol
-joinLeaf anySymbol anySymbol = anySymbol
-joinLeaf anySymbol unknown = unknown
-joinLeaf unknown b = unknown
+abbrev pub joinLeaves : Leaf → Leaf → Leaf
+joinLeaves character character = character
+joinLeaves character number = anySymbol
+joinLeaves character identifier = anySymbol
+joinLeaves character anySymbol = anySymbol
+joinLeaves character unknown = unknown
+joinLeaves number character = anySymbol
+joinLeaves number number = number
+joinLeaves number identifier = anySymbol
+joinLeaves number anySymbol = anySymbol
+joinLeaves number unknown = unknown
+joinLeaves identifier character = anySymbol
+joinLeaves identifier number = anySymbol
+joinLeaves identifier identifier = identifier
+joinLeaves identifier anySymbol = anySymbol
+joinLeaves identifier unknown = unknown
+joinLeaves anySymbol character = anySymbol
+joinLeaves anySymbol number = anySymbol
+joinLeaves anySymbol identifier = anySymbol
+joinLeaves anySymbol anySymbol = anySymbol
+joinLeaves anySymbol unknown = unknown
+joinLeaves unknown b = unknown
 
 -- no term is of both shapes
-abbrev pub apartLeaf : Leaf → Leaf → Bool
-apartLeaf character character = false
-apartLeaf character number = true
-apartLeaf character identifier = true
-apartLeaf character anySymbol = false
-apartLeaf character unknown = false
-apartLeaf number character = true
-apartLeaf number number = false
-apartLeaf number identifier = true
-apartLeaf number anySymbol = false
-apartLeaf number unknown = false
-apartLeaf identifier character = true
-apartLeaf identifier number = true
-apartLeaf identifier identifier = false
-apartLeaf identifier anySymbol = false
-apartLeaf identifier unknown = false
-apartLeaf anySymbol b = false
-apartLeaf unknown b = false
+abbrev pub leavesApart : Leaf → Leaf → Bool
+leavesApart character character = false
+leavesApart character number = true
+leavesApart character identifier = true
+leavesApart character anySymbol = false
+leavesApart character unknown = false
+leavesApart number character = true
+leavesApart number number = false
+leavesApart number identifier = true
+leavesApart number anySymbol = false
+leavesApart number unknown = false
+leavesApart identifier character = true
+leavesApart identifier number = true
+leavesApart identifier identifier = false
+leavesApart identifier anySymbol = false
+leavesApart identifier unknown = false
+leavesApart anySymbol b = false
+leavesApart unknown b = false
 
 -- store words: "0 character, 1 number, 2 identifier, 3 symbol, 4 unknown"
 abbrev pub leafWord : Leaf → ℕ

@@ -15,7 +15,7 @@ ghost use lib.ListN.{length};
 ghost use Rattle.shapes.specs.Leaf.{leafAt, leafByte};
 ghost use Rattle.shapes.specs.Words.{shapesEnd, shapesIn, readFormat};
 ghost use Rattle.buffers.specs.Written.{Put, largest};
-ghost use Rattle.shapes.specs.Display.{display, shown, firstShown, outcomeOf, textAt};
+ghost use Rattle.shapes.specs.Display.{display, shown, firstShown, shownOutcome, textAt};
 
 // The position after a text, or that there is no room for it.
 pub enum Shown {
@@ -101,7 +101,7 @@ pub fn show_format(format: &[u32], out: &mut [u8], at: usize) -> usize
 
 // A format as text at a position, where there is room for all of it; else the buffer stays as it is.
 pub fn display_format(format: &[u32], out: &mut [u8], at: usize) -> Shown
-    ensures { λ r. ⌜ outcomeOf r (now (out .exit)) ≡ textAt (now (out .entry)) at (display (readFormat (now (format .entry)))) ⌝ }
+    ensures { λ r. ⌜ shownOutcome r (now (out .exit)) ≡ textAt (now (out .entry)) at (display (readFormat (now (format .entry)))) ⌝ }
 {
     let room = out.len();
     if room < at {

@@ -6,10 +6,10 @@ ghost use mathlib.Core.Bool.{true, false, cond};
 ghost use Prim.Native.Nat.{_+_, _≤_, _<_};
 ghost use lib.ListN.{length};
 ghost use lib.Dec.{leb};
-ghost use Rattle.shapes.specs.Leaf.{holdsBrackets, joinLeaf, apartLeaf, leafWord, leafAt};
+ghost use Rattle.shapes.specs.Leaf.{holdsBrackets, joinLeaves, leavesApart, leafWord, leafAt};
 ghost use Rattle.shapes.specs.Format.{end, size};
-ghost use Rattle.shapes.specs.Join.{joinShapes, join};
-ghost use Rattle.shapes.specs.Disjoint.{disjointShapes, disjoint};
+ghost use Rattle.shapes.specs.Join.{joinRows, joinFormats};
+ghost use Rattle.shapes.specs.Disjoint.{disjointRows, disjointFormats};
 ghost use Rattle.shapes.specs.Words.{bracketWord, shapeWords, formatWords, isBracket, insideOpen, insideOf, shapesEnd, shapesIn, readFormat, rowEnd, FormatIn};
 ghost use Rattle.buffers.specs.Written.{written};
 ghost use Rattle.shapes.specs.Code.First.{firstApart, firstJoin, ShapesWritten};
@@ -65,7 +65,7 @@ fn holds_brackets(w: u32) -> bool
 
 // Is no term of both shapes, neither of which is a bracket of a format?
 fn leaves_apart(x: u32, y: u32) -> bool
-    ensures { λ r. ⌜ r ≡ apartLeaf (leafAt x) (leafAt y) ⌝ }
+    ensures { λ r. ⌜ r ≡ leavesApart (leafAt x) (leafAt y) ⌝ }
 {
     if 3 <= x {
         return false;
@@ -78,7 +78,7 @@ fn leaves_apart(x: u32, y: u32) -> bool
 
 // The word of the join of two shapes, neither of which is a bracket of a format.
 fn join_leaves(x: u32, y: u32) -> u32
-    ensures { λ r. ⌜ r ≡ leafWord (joinLeaf (leafAt x) (leafAt y)) ⌝ }
+    ensures { λ r. ⌜ r ≡ leafWord (joinLeaves (leafAt x) (leafAt y)) ⌝ }
 {
     if 4 <= x {
         return 4;
@@ -135,7 +135,7 @@ fn disjoint_shapes(a: &[u32], b: &[u32]) -> bool
 
 // Is no expression in both rows of shapes?
 fn disjoint_rows(a: &[u32], a_open: bool, b: &[u32], b_open: bool) -> bool
-    ensures { λ r. ⌜ r ≡ disjointShapes (shapesIn «a_open» (now (a .entry))) (shapesIn «b_open» (now (b .entry))) ⌝ }
+    ensures { λ r. ⌜ r ≡ disjointRows (shapesIn «a_open» (now (a .entry))) (shapesIn «b_open» (now (b .entry))) ⌝ }
 {
     if a.len() < 1 {
         if b.len() < 1 {
@@ -193,7 +193,7 @@ fn join_shapes(a: &[u32], b: &[u32], out: &mut [u32], at: usize) -> usize
 fn join_rows(a: &[u32], a_open: bool, b: &[u32], b_open: bool, out: &mut [u32], at: usize) -> Joined
     requires { ⌜ (at + length (now a) ≤ length (now out)) × (length (now a) ≤ 127) ⌝ }
     ensures { λ r. ⌜ (r .next ≤ at + length (now (a .entry)))
-        × ShapesWritten (joinShapes (shapesIn «a_open» (now (a .entry))) (shapesIn «b_open» (now (b .entry)))) (now (out .entry)) at (r .next) (r .«is_open») (now (out .exit)) ⌝ }
+        × ShapesWritten (joinRows (shapesIn «a_open» (now (a .entry))) (shapesIn «b_open» (now (b .entry)))) (now (out .entry)) at (r .next) (r .«is_open») (now (out .exit)) ⌝ }
 {
     if a.len() < 1 {
         if b.len() < 1 {
@@ -245,7 +245,7 @@ pub fn row_end(f: &[u32]) -> usize
 // Is no expression in both formats?
 pub fn disjoint_formats(a: &[u32], b: &[u32]) -> bool
     requires { ⌜ (1 ≤ length (now a)) × (1 ≤ length (now b)) ⌝ }
-    ensures { λ r. ⌜ r ≡ disjoint (readFormat (now (a .entry))) (readFormat (now (b .entry))) ⌝ }
+    ensures { λ r. ⌜ r ≡ disjointFormats (readFormat (now (a .entry))) (readFormat (now (b .entry))) ⌝ }
 {
     let x = a[0];
     let y = b[0];
@@ -280,7 +280,7 @@ pub fn same_words(a: &[u32], b: &[u32]) -> bool
 // The join of two formats, every word of it: the header, the shapes, and zeros.
 pub fn join_formats(limit: usize, a: &[u32], b: &[u32], out: &mut [u32])
     requires { ⌜ (limit ≤ 127) × FormatIn limit (now a) × FormatIn limit (now b) × (length (now out) ≡ limit + 1) ⌝ }
-    ensures { λ _. ⌜ now (out .exit) ≡ formatWords limit (join (readFormat (now (a .entry))) (readFormat (now (b .entry)))) ⌝ }
+    ensures { λ _. ⌜ now (out .exit) ≡ formatWords limit (joinFormats (readFormat (now (a .entry))) (readFormat (now (b .entry)))) ⌝ }
 {
     let x = a[0];
     let y = b[0];

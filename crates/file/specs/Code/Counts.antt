@@ -14,9 +14,9 @@ abbrev pub countedOf : List ℕ → Section × List ℕ → Counted
 countedOf law found = record { count = found .0 .count; end = length law - length (found .1) }
 
 -- what the code found, as an `Answer`
-abbrev pub foundAnswer : Found → Answer Counted
-foundAnswer (Refused r) = refused (numberOf r)
-foundAnswer (Part p) = given p
+abbrev pub sectionAnswer : Found → Answer Counted
+sectionAnswer (Refused r) = refused (numberOf r)
+sectionAnswer (Part p) = given p
 
 -- the limits of the counts
 abbrev pub Limits : Sections → Type 0

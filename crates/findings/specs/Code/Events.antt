@@ -9,7 +9,7 @@ use Rattle.buffers.specs.Written.{written}
 
 -- a finding, by its eight words, or an argument with too many shapes to be compared (refusal 10)
 pub data Event : Type 0 where
-  found : List ℕ → Event
+  noting : List ℕ → Event
   tooWide : Event
 
 -- how far the count of findings has come, as a number: an argument was too wide, there are more findings than there is room for, or there are so many
@@ -38,15 +38,15 @@ abbrev pub afterNote : List ℕ → ℕ → List ℕ → List ℕ
 afterNote words n finding = cond (leb (8 * n + 8) (length words)) (written words (8 * n) finding) words
 
 -- a finding after n of them is counted where there is room for its eight words
-abbrev pub noted : ℕ → ℕ → List ℕ → List ℕ → Sink
-noted room n words finding = cond (leb (8 * n + 8) room) (sinkOf (Upto (n + 1)) (afterNote words n finding)) (sinkOf Full words)
+abbrev pub withNote : ℕ → ℕ → List ℕ → List ℕ → Sink
+withNote room n words finding = cond (leb (8 * n + 8) room) (sinkOf (Upto (n + 1)) (afterNote words n finding)) (sinkOf Full words)
 
 -- what is met; an argument that is too wide ends it all, also where findings do not fit: refusal 10 comes before 11
 abbrev pub met : ℕ → Event → Tally → List ℕ → Sink
 met room e zero words = sinkOf Over words
-met room (found finding) (suc zero) words = sinkOf Full words
+met room (noting finding) (suc zero) words = sinkOf Full words
 met room tooWide (suc zero) words = sinkOf Over words
-met room (found finding) (suc (suc n)) words = noted room n words finding
+met room (noting finding) (suc (suc n)) words = withNote room n words finding
 met room tooWide (suc (suc n)) words = sinkOf Over words
 
 unfoldable pub collect : ℕ → Sink → List Event → Sink
@@ -54,5 +54,5 @@ collect room s [] = s
 collect room s (e ∷ es) = collect room (met room e (s .tally) (s .words)) es
 
 -- what is met leaves this count and this buffer, from those before it
-abbrev pub Leaves : ℕ → Tally → List ℕ → Tally → List ℕ → List Event → Type 0
-Leaves room before words after left events = sinkOf after left ≡ collect room (sinkOf before words) events
+abbrev pub Collects : ℕ → Tally → List ℕ → Tally → List ℕ → List Event → Type 0
+Collects room before words after left events = sinkOf after left ≡ collect room (sinkOf before words) events

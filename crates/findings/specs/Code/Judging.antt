@@ -12,7 +12,7 @@ use Rattle.lints.specs.declared.recognition.Verdict.{Verdict}
 use Rattle.lints.specs.declared.recognition.Verdict.the-variants.{Nothing, TooWide, ByFormats, ByLiterals}
 use Rattle.findings.specs.declared.Task.{Task}
 use Rattle.findings.specs.declared.Note.{Note}
-use Rattle.findings.specs.Code.Events.{Tally, Over, Event, found, tooWide}
+use Rattle.findings.specs.Code.Events.{Tally, Over, Event, noting, tooWide}
 use Rattle.findings.specs.Code.Tasks.{noteWords}
 
 -- ---- what is noted of the call at a term record
@@ -28,7 +28,7 @@ callNote file t a = record {
 }
 
 abbrev pub callFound : File → Task → ℕ → ℕ → Event
-callFound file task t a = found (noteWords task (callNote file t a))
+callFound file task t a = noting (noteWords task (callNote file t a))
 
 -- by what lint 2 says of it
 abbrev pub verdictEvents : File → Task → ℕ → Verdict → List Event

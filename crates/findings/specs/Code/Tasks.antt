@@ -21,7 +21,7 @@ use Rattle.lints.specs.Open.{openIn}
 use Rattle.lints.specs.Code.Records.{formatsIn, callAt}
 use Rattle.findings.specs.declared.Task.{Task}
 use Rattle.findings.specs.declared.Note.{Note}
-use Rattle.findings.specs.Code.Events.{Event, found, tooWide}
+use Rattle.findings.specs.Code.Events.{Event, noting, tooWide}
 use Rattle.findings.specs.Code.Walk.{walked, walkedTerm, walkedSentences, walkedConditions}
 
 -- the eight words of a finding
@@ -32,7 +32,7 @@ noteWords task note =
 -- a remark, as the eight words of a finding
 abbrev pub remarkEvent : Task → Remark → Event
 remarkEvent task r =
-    found (task .lint ∷ task .severity ∷ r .subject .spanStart ∷ r .subject .spanEnd ∷ wordA (r .claim) ∷ wordB (r .claim) ∷ task .position
+    noting (task .lint ∷ task .severity ∷ r .subject .spanStart ∷ r .subject .spanEnd ∷ wordA (r .claim) ∷ wordB (r .claim) ∷ task .position
     ∷ r .subject .at ∷ [])
 
 unfoldable pub remarkEvents : Task → List Remark → List Event

@@ -40,9 +40,9 @@ module _ (file : File) where
 -- ---- what the functions that fill the slots promise
 
 -- is a name among these?
-unfoldable pub listed : List (List ℕ) → List ℕ → Bool
-listed [] n = false
-listed (m ∷ ms) n = sameBytes m n || listed ms n
+unfoldable pub isAmong : List (List ℕ) → List ℕ → Bool
+isAmong [] n = false
+isAmong (m ∷ ms) n = sameBytes m n || isAmong ms n
 
 -- the sorted distinct names of so many functions from f on
 unfoldable pub namesFrom : (ℕ → List ℕ) → ℕ → ℕ → List (List ℕ)
@@ -50,8 +50,8 @@ namesFrom name zero f = []
 namesFrom name (suc left) f = insertName (name f) (namesFrom name left (suc f))
 
 -- the first n bytes are the values of a function
-abbrev pub Filled : List ℕ → ℕ → (ℕ → ℕ) → Type 0
-Filled xs n value = (i : ℕ) → i < n → getD xs i 0 ≡ value i
+abbrev pub FilledTo : List ℕ → ℕ → (ℕ → ℕ) → Type 0
+FilledTo xs n value = (i : ℕ) → i < n → getD xs i 0 ≡ value i
 
 -- 1 for less, else 0
 abbrev pub lessCount : Order → ℕ
@@ -66,21 +66,21 @@ module _ (file : File) where
 
   -- what a function adds to a count of distinct names: nothing where a later function has its name
   abbrev pub newly : ℕ → ℕ → ℕ
-  newly f n = cond (listed (namesAt (f + 1)) (functionFolded file f)) 0 n
+  newly f n = cond (isAmong (namesAt (f + 1)) (functionFolded file f)) 0 n
 
   -- r is a function that has a name, where a function from `from` on has it; else r is the number of functions
   pub record NamedFrom (from : ℕ) (name : List ℕ) (r : ℕ) : Type 0 where
     pub inside : r ≤ file .functions .count
-    pub found : r < file .functions .count → (functionFolded file r ≡ name) × (listed (namesAt from) name ≡ true)
-    pub missing : file .functions .count ≤ r → listed (namesAt from) name ≡ false
+    pub found : r < file .functions .count → (functionFolded file r ≡ name) × (isAmong (namesAt from) name ≡ true)
+    pub missing : file .functions .count ≤ r → isAmong (namesAt from) name ≡ false
 
   -- 1 for each function that is the last of its name, else 0
   abbrev pub Weights : List ℕ → Type 0
-  Weights weights = Filled weights (file .functions .count) (λ f. newly f 1)
+  Weights weights = FilledTo weights (file .functions .count) (λ f. newly f 1)
 
   -- the place of the name of each function
   abbrev pub Places : List ℕ → Type 0
-  Places slots = Filled slots (file .functions .count) (λ f. position (fileNames file) (functionFolded file f))
+  Places slots = FilledTo slots (file .functions .count) (λ f. position (fileNames file) (functionFolded file f))
 
   -- the slots with the calls of the first n term records
   pub record SlotsUpTo (slots : List ℕ) (n : ℕ) : Type 0 where

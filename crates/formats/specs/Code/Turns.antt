@@ -11,7 +11,7 @@ use Rattle.law.specs.Places.{patternAt, patternPart, resultAt, resultPart}
 use Rattle.law.specs.Reading.{runOf, own}
 use Rattle.law.specs.Code.Index.{Indexed, Readable}
 use Rattle.shapes.specs.Format.{Shapes, Format, of, size}
-use Rattle.shapes.specs.Join.{join}
+use Rattle.shapes.specs.Join.{joinFormats}
 use Rattle.shapes.specs.Same.{sameFormat}
 use Rattle.shapes.specs.Words.{formatWords, readFormat}
 use Rattle.buffers.specs.Written.{written}
@@ -26,7 +26,7 @@ use Rattle.formats.specs.declared.infer.Inference.{Inference}
 use Rattle.formats.specs.declared.infer.Inference.the-variants.{TooWide, Ran}
 
 -- a law that refusals 1 to 7 let pass, its index and the places of its names; and a limit on shapes
-pub record Asked (bytes index slots : List ℕ) (limit count : ℕ) : Type 0 where
+pub record RoundAsked (bytes index slots : List ℕ) (limit count : ℕ) : Type 0 where
   pub indexed : Indexed bytes index
   pub readable : Readable (fileOf bytes)
   pub places : SlotsOf (fileOf bytes) slots
@@ -58,9 +58,9 @@ pub record FormatMade (limit : ℕ) (f : Shapes) (ok : Bool) (words : List ℕ) 
   pub kept : length words ≡ limit + 1
 
 -- the row of a sentence's pattern or result
-abbrev pub rowOf : File → Bool → Results → ℕ → Shapes
-rowOf file true t s = patternShapes (runOf file (own file) (patternAt file s) (patternPart file s))
-rowOf file false t s = resultShapes t (runOf file (own file) (resultAt file s) (resultPart file s))
+abbrev pub sentenceShapes : File → Bool → Results → ℕ → Shapes
+sentenceShapes file true t s = patternShapes (runOf file (own file) (patternAt file s) (patternPart file s))
+sentenceShapes file false t s = resultShapes t (runOf file (own file) (resultAt file s) (resultPart file s))
 
 -- the join of sentences' patterns or results, with what was joined before
 abbrev pub rowsJoined : ℕ → Bool → Results → Format → Sentences → Answer Format
@@ -85,8 +85,8 @@ turnOf false = Changed
 -- a function's turn: what was joined goes into the format number k of the store, or nothing changes where it was refused
 abbrev pub TurnIs : ℕ → Answer Format → ℕ → List ℕ → List ℕ → Turn → Type 0
 TurnIs limit (given g) k before after r =
-    (after ≡ written before (k * (limit + 1)) (formatWords limit (join (readFormat (formatAt limit before k)) g)))
-    × (r ≡ turnOf (sameFormat (join (readFormat (formatAt limit before k)) g) (readFormat (formatAt limit before k))))
+    (after ≡ written before (k * (limit + 1)) (formatWords limit (joinFormats (readFormat (formatAt limit before k)) g)))
+    × (r ≡ turnOf (sameFormat (joinFormats (readFormat (formatAt limit before k)) g) (readFormat (formatAt limit before k))))
 TurnIs limit (refused n) k before after r = (after ≡ before) × (r ≡ Over)
 
 -- the argument formats after all functions' turns; where a pattern is over the limit, the store still holds formats and its tail is as it was

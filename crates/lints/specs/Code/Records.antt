@@ -12,7 +12,7 @@ use Rattle.law.specs.Reading.{nameAt, markAt, runOf, own, conditionsFrom}
 use Rattle.law.specs.Law.{Accepted}
 use Rattle.formats.specs.Infer.{Inferred}
 use Rattle.formats.specs.Code.Slots.{fileNames}
-use Rattle.formats.specs.Code.Turns.{Asked, Holding, argumentsIn, resultsIn}
+use Rattle.formats.specs.Code.Turns.{RoundAsked, Holding, argumentsIn, resultsIn}
 use Rattle.sentences.specs.Entry.{argumentIn}
 use Rattle.lints.specs.Calls.{Call}
 use Rattle.lints.specs.Dead.{Earlier, unconditional}
@@ -20,7 +20,7 @@ use Rattle.lints.specs.Dead.{Earlier, unconditional}
 -- an accepted law, its index, the places of its names, and a store with the formats of its names
 pub record Prepared (bytes index slots store : List ℕ) (limit : ℕ) : Type 0 where
   pub accepted : Accepted bytes
-  pub asked : Asked bytes index slots limit (length (fileNames (fileOf bytes)))
+  pub asked : RoundAsked bytes index slots limit (length (fileNames (fileOf bytes)))
   pub holding : Holding limit (fileNames (fileOf bytes)) store
 
 module _ (file : File) where

@@ -9,7 +9,7 @@ use Rattle.law.specs.Tree.{Sentences, Law, keep}
 use Rattle.law.specs.Places.{sentencesOf, firstSentence}
 use Rattle.law.specs.Reading.{sentencesAt}
 use Rattle.shapes.specs.Format.{of, size}
-use Rattle.shapes.specs.Disjoint.{disjoint}
+use Rattle.shapes.specs.Disjoint.{disjointFormats}
 use Rattle.formats.specs.Infer.{Inferred}
 use Rattle.matching.specs.Literal.{isLiteral}
 use Rattle.lints.specs.Calls.{Call}
@@ -22,7 +22,7 @@ unfoldable pub verdictOf : ℕ → Law → Inferred → Call → Verdict
 verdictOf limit law formats c =
     cond (compared law c)
     (cond (ltb limit (size (passed formats c))) TooWide
-    (cond (disjoint (of (passed formats c)) (accepted formats c)) ByFormats (cond (isLiteral (c .argument)) ByLiterals Nothing)))
+    (cond (disjointFormats (of (passed formats c)) (accepted formats c)) ByFormats (cond (isLiteral (c .argument)) ByLiterals Nothing)))
     Nothing
 
 -- ---- what the code finds on its way
@@ -40,4 +40,4 @@ functionSentences file f = keep (sentencesOf file f) (sentencesAt file (firstSen
 unfoldable pub comparison : ℕ → Inferred → Call → Verdict
 comparison limit formats c =
     cond (ltb limit (size (passed formats c))) TooWide
-    (cond (disjoint (of (passed formats c)) (accepted formats c)) ByFormats (cond (isLiteral (c .argument)) ByLiterals Nothing))
+    (cond (disjointFormats (of (passed formats c)) (accepted formats c)) ByFormats (cond (isLiteral (c .argument)) ByLiterals Nothing))

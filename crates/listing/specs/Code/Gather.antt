@@ -47,7 +47,7 @@ pub record Fitted (settings : Settings) (room : ℕ) (l : Listing) (before after
   pub over : room < 8 * length (l .findings) → r ≡ Full
 
 -- a store that inference has filled
-pub record Filled (limit : ℕ) (file : File) (store : List ℕ) (rounds : ℕ) (settled : Bool) : Type 0 where
+pub record StoreFilled (limit : ℕ) (file : File) (store : List ℕ) (rounds : ℕ) (settled : Bool) : Type 0 where
   pub formats : Inferred
   pub inferred : infer limit (treeOf file) ≡ given formats
   pub words : store ≡ storeWords limit formats ++ drop (storeSize limit) store

@@ -15,7 +15,8 @@ use Rattle.file.specs.Head.{termAt}
 use Rattle.law.specs.Runs.{endOf, termForest}
 use Rattle.law.specs.Reading as reading
 use Rattle.law.specs.Variables.{Variable}
-use Rattle.matching.specs.Pattern.{Symbol, symbolOf, Atom, literal, variable, other, Pattern, patternOf}
+use Rattle.law.specs.Symbol.{Symbol, symbolOf}
+use Rattle.matching.specs.Pattern.{Atom, literal, variable, other, Pattern, patternOf}
 use Rattle.matching.specs.Match.{sameTerms}
 use Rattle.matching.specs.Shadow.{sameAtom}
 use Rattle.matching.specs.Literal.{isLiteral, literalTerms}

@@ -6,7 +6,8 @@ use mathlib.Core.Option.{Option, none, some}
 use mathlib.Core.Path.{_≡_}
 use Rattle.law.specs.Tree.{Kind, symbolKind, termKind, expressionKind}
 use Rattle.law.specs.Expression.{Terms, nothing, symbol, brackets}
-use Rattle.matching.specs.Pattern.{Symbol, Atom, literal, variable, other, Pattern}
+use Rattle.law.specs.Symbol.{Symbol}
+use Rattle.matching.specs.Pattern.{Atom, literal, variable, other, Pattern}
 use Rattle.sentences.specs.Code.Loose.{loosely}
 
 module _ {A : Type 0} where

@@ -38,16 +38,16 @@ use Rattle.file.proofs.word_at.Reads as word-at-reads
 use Rattle.findings.proofs.calls.note_call.Reads as note-call-reads
 use Rattle.findings.proofs.walk.note_block.Reads as note-block-reads
 use Rattle.law.proofs.depth.sentences_in.Reads as sentences-in-reads
-use Rattle.law.proofs.places.asked.Reads as asked-reads
-use Rattle.law.proofs.places.asked_at.Reads as asked-at-reads
-use Rattle.law.proofs.places.asked_size.Reads as asked-size-reads
+use Rattle.law.proofs.places.condition_result.Reads as condition-result-reads
+use Rattle.law.proofs.places.condition_result_at.Reads as condition-result-at-reads
+use Rattle.law.proofs.places.condition_result_size.Reads as condition-result-size-reads
 use Rattle.law.proofs.places.block_first.Reads as block-first-reads
 use Rattle.law.proofs.places.first_condition.Reads as first-condition-reads
 use Rattle.law.proofs.places.pattern.Reads as pattern-reads
 use Rattle.law.proofs.places.pattern_at.Reads as pattern-at-reads
 use Rattle.law.proofs.places.result.Reads as result-reads
 use Rattle.law.proofs.places.result_at.Reads as result-at-reads
-use Rattle.law.proofs.places.wanted.Reads as wanted-reads
+use Rattle.law.proofs.places.condition_pattern.Reads as condition-pattern-reads
 use Rattle.law.proofs.runs.end_of.Reads as end-of-reads
 use Rattle.findings.proofs.walk.+walk_conditions+walk_pattern+walk_run+walk_sentence+walk_sentences+walk_term.{
   statement,
@@ -187,16 +187,16 @@ pub +walk-conditions+walk-pattern+walk-run+walk-sentence+walk-sentences+walk-ter
     (λ t. walk-conditions-lts.spec (
       first-condition-reads.Asked,
       first-condition-reads.Learnt,
-      asked-at-reads.Asked,
-      asked-at-reads.Learnt,
-      asked-reads.Asked,
-      asked-reads.Learnt,
+      condition-result-at-reads.Asked,
+      condition-result-at-reads.Learnt,
+      condition-result-reads.Asked,
+      condition-result-reads.Learnt,
       walk-run-below t,
       walk-run.Post,
-      asked-size-reads.Asked,
-      asked-size-reads.Learnt,
-      wanted-reads.Asked,
-      wanted-reads.Learnt,
+      condition-result-size-reads.Asked,
+      condition-result-size-reads.Learnt,
+      condition-pattern-reads.Asked,
+      condition-pattern-reads.Learnt,
       walk-pattern-below t,
       walk-pattern.Post,
     )
@@ -250,9 +250,9 @@ pub +walk-conditions+walk-pattern+walk-run+walk-sentence+walk-sentences+walk-ter
     let the-first-condition2 = c .before .before .before .before .before .first-condition2 in
     let the-loop = c .before .before .before .before .loop in
     let the-loop-test = c .before .before .before .loop-test in
-    let the-asked-at = c .before .before .asked-at in
-    let the-asked = c .before .asked in
-    (steps.asked-falls (start .pre .1 .0) (start .args .s) (start .pre .1 .1) (the-first-condition .result) (the-first-condition2 .result - the-first-condition .result) (the-loop .i) (the-loop .inv .0) (the-loop .inv .1) (the-loop-test .taken) (the-asked-at .result) t (the-asked .result .now) (the-asked-at .ensures) (the-asked .ensures) (start .pre .0), ((start .pre .1 .0), steps.asked-reads (start .pre .1 .0) (start .args .s) (start .pre .1 .1) (the-first-condition .result) (the-first-condition2 .result - the-first-condition .result) (the-loop .i) (the-loop .inv .0) (the-loop .inv .1) (the-loop-test .taken) (the-asked-at .result) (the-asked .result .now) (the-asked-at .ensures) (the-asked .ensures))))
+    let the-condition-result-at = c .before .before .condition-result-at in
+    let the-condition-result = c .before .condition-result in
+    (steps.asked-falls (start .pre .1 .0) (start .args .s) (start .pre .1 .1) (the-first-condition .result) (the-first-condition2 .result - the-first-condition .result) (the-loop .i) (the-loop .inv .0) (the-loop .inv .1) (the-loop-test .taken) (the-condition-result-at .result) t (the-condition-result .result .now) (the-condition-result-at .ensures) (the-condition-result .ensures) (start .pre .0), ((start .pre .1 .0), steps.condition-result-reads (start .pre .1 .0) (start .args .s) (start .pre .1 .1) (the-first-condition .result) (the-first-condition2 .result - the-first-condition .result) (the-loop .i) (the-loop .inv .0) (the-loop .inv .1) (the-loop-test .taken) (the-condition-result-at .result) (the-condition-result .result .now) (the-condition-result-at .ensures) (the-condition-result .ensures))))
     (λ c κs.
     let start = c .before .before .before .before .before .before .before .before .before .before .before .before .before in
     let the-first-condition = c .before .before .before .before .before .before .before .before .before .first-condition in
@@ -266,9 +266,9 @@ pub +walk-conditions+walk-pattern+walk-run+walk-sentence+walk-sentences+walk-ter
     let the-first-condition2 = c .before .before .before .before .before .before .before .before .before .first-condition2 in
     let the-loop = c .before .before .before .before .before .before .before .before .loop in
     let the-loop-test = c .before .before .before .before .before .before .before .loop-test in
-    let the-asked-at = c .before .before .before .before .before .before .asked-at in
-    let the-asked-size = c .asked-size in
-    omega (arith, steps.wanted-small (start .pre .1 .0) (start .args .s) (start .pre .1 .1) (the-first-condition .result) (the-first-condition2 .result - the-first-condition .result) (the-loop .i) (the-loop .inv .0) (the-loop .inv .1) (the-loop-test .taken) (the-asked-at .result) (the-asked-size .result) (the-asked-at .ensures) (the-asked-size .ensures)))
+    let the-condition-result-at = c .before .before .before .before .before .before .condition-result-at in
+    let the-condition-result-size = c .condition-result-size in
+    omega (arith, steps.condition-pattern-small (start .pre .1 .0) (start .args .s) (start .pre .1 .1) (the-first-condition .result) (the-first-condition2 .result - the-first-condition .result) (the-loop .i) (the-loop .inv .0) (the-loop .inv .1) (the-loop-test .taken) (the-condition-result-at .result) (the-condition-result-size .result) (the-condition-result-at .ensures) (the-condition-result-size .ensures)))
     (λ c κs.
     let start = c .before .before .before .before .before .before .before .before .before .before .before .before .before .before in
     let the-first-condition = c .before .before .before .before .before .before .before .before .before .before .first-condition in
@@ -282,10 +282,10 @@ pub +walk-conditions+walk-pattern+walk-run+walk-sentence+walk-sentences+walk-ter
     let the-first-condition2 = c .before .before .before .before .before .before .before .before .before .before .before .first-condition2 in
     let the-loop = c .before .before .before .before .before .before .before .before .before .before .loop in
     let the-loop-test = c .before .before .before .before .before .before .before .before .before .loop-test in
-    let the-asked-at = c .before .before .before .before .before .before .before .before .asked-at in
-    let the-asked-size = c .before .before .asked-size in
-    let the-wanted = c .before .wanted in
-    (steps.wanted-falls (start .pre .1 .0) (start .args .s) (start .pre .1 .1) (the-first-condition .result) (the-first-condition2 .result - the-first-condition .result) (the-loop .i) (the-loop .inv .0) (the-loop .inv .1) (the-loop-test .taken) (the-asked-at .result) (the-asked-size .result) t (the-wanted .result .now) (the-asked-at .ensures) (the-asked-size .ensures) (the-wanted .ensures) (start .pre .0), ((start .pre .1 .0), steps.wanted-reads (start .pre .1 .0) (start .args .s) (start .pre .1 .1) (the-first-condition .result) (the-first-condition2 .result - the-first-condition .result) (the-loop .i) (the-loop .inv .0) (the-loop .inv .1) (the-loop-test .taken) (the-asked-at .result) (the-asked-size .result) (the-wanted .result .now) (the-asked-at .ensures) (the-asked-size .ensures) (the-wanted .ensures))))
+    let the-condition-result-at = c .before .before .before .before .before .before .before .before .condition-result-at in
+    let the-condition-result-size = c .before .before .condition-result-size in
+    let the-condition-pattern = c .before .condition-pattern in
+    (steps.wanted-falls (start .pre .1 .0) (start .args .s) (start .pre .1 .1) (the-first-condition .result) (the-first-condition2 .result - the-first-condition .result) (the-loop .i) (the-loop .inv .0) (the-loop .inv .1) (the-loop-test .taken) (the-condition-result-at .result) (the-condition-result-size .result) t (the-condition-pattern .result .now) (the-condition-result-at .ensures) (the-condition-result-size .ensures) (the-condition-pattern .ensures) (start .pre .0), ((start .pre .1 .0), steps.condition-pattern-reads (start .pre .1 .0) (start .args .s) (start .pre .1 .1) (the-first-condition .result) (the-first-condition2 .result - the-first-condition .result) (the-loop .i) (the-loop .inv .0) (the-loop .inv .1) (the-loop-test .taken) (the-condition-result-at .result) (the-condition-result-size .result) (the-condition-pattern .result .now) (the-condition-result-at .ensures) (the-condition-result-size .ensures) (the-condition-pattern .ensures))))
     (λ c.
     let the-loop-test = c .before .before .before .before .before .before .before .before .before .before .before .before .loop-test in
     omega (arith, the-loop-test .taken))
@@ -300,11 +300,11 @@ pub +walk-conditions+walk-pattern+walk-run+walk-sentence+walk-sentences+walk-ter
     let the-walk-run = c .before .before .before .before .before .before .before .before .walk-run in
     let the-first-condition2 = c .before .before .before .before .before .before .before .before .before .before .before .before .before .before .first-condition2 in
     let the-first-condition = c .before .before .before .before .before .before .before .before .before .before .before .before .before .before .before .first-condition in
-    let the-asked-at = c .before .before .before .before .before .before .before .before .before .before .before .asked-at in
-    let the-asked-size = c .before .before .before .before .before .asked-size in
-    let the-asked = c .before .before .before .before .before .before .before .before .before .before .asked in
-    let the-wanted = c .before .before .before .before .wanted in
-    (the-loop .inv .0, the-loop .inv .1, omega (arith, the-loop-test .taken), the-walk-pattern .kept .1 .1 .1 .1 .1 .1 .1 .0 ∙ the-walk-run .kept .1 .1 .1 .1 .1 .1 .1 .0 ∙ the-loop .inv .3, steps.conditions-next (fileOf (start .args .law .now)) (formatsIn (fileOf (start .args .law .now)) (start .args .task .limit) (start .args .store .now)) (start .args .task) (start .args .s) (the-first-condition2 .result - the-first-condition .result) (the-first-condition .result) (the-loop .i) (the-asked-at .result) (the-asked-size .result) (the-asked .result .now) (the-wanted .result .now) (steps.after (fileOf (start .args .law .now)) (formatsIn (fileOf (start .args .law .now)) (start .args .task .limit) (start .args .store .now)) (start .args .task) (sinkOf (start .args .tally) (start .args .out .now)) (steps.conditionsMet (fileOf (start .args .law .now)) (formatsIn (fileOf (start .args .law .now)) (start .args .task .limit) (start .args .store .now)) (start .args .task) (start .args .s) (conditionsOf (fileOf (start .args .law .now)) (start .args .s)) (firstCondition (fileOf (start .args .law .now)) (start .args .s)))) (sinkOf (the-loop .so-far) (the-loop .out)) (sinkOf (the-walk-run .result) (the-walk-run .last .1 .1 .1 .1 .1 .1 .1 .0)) (sinkOf (the-walk-pattern .result) (the-walk-pattern .last .1 .1 .1 .1 .1 .1 .1 .0)) (the-loop-test .taken) (the-asked-at .ensures) (the-asked .ensures) (the-asked-size .ensures) (the-wanted .ensures) (the-loop .inv .4) (the-walk-run .ensures) (the-walk-pattern .ensures)))
+    let the-condition-result-at = c .before .before .before .before .before .before .before .before .before .before .before .condition-result-at in
+    let the-condition-result-size = c .before .before .before .before .before .condition-result-size in
+    let the-condition-result = c .before .before .before .before .before .before .before .before .before .before .condition-result in
+    let the-condition-pattern = c .before .before .before .before .condition-pattern in
+    (the-loop .inv .0, the-loop .inv .1, omega (arith, the-loop-test .taken), the-walk-pattern .kept .1 .1 .1 .1 .1 .1 .1 .0 ∙ the-walk-run .kept .1 .1 .1 .1 .1 .1 .1 .0 ∙ the-loop .inv .3, steps.conditions-next (fileOf (start .args .law .now)) (formatsIn (fileOf (start .args .law .now)) (start .args .task .limit) (start .args .store .now)) (start .args .task) (start .args .s) (the-first-condition2 .result - the-first-condition .result) (the-first-condition .result) (the-loop .i) (the-condition-result-at .result) (the-condition-result-size .result) (the-condition-result .result .now) (the-condition-pattern .result .now) (steps.after (fileOf (start .args .law .now)) (formatsIn (fileOf (start .args .law .now)) (start .args .task .limit) (start .args .store .now)) (start .args .task) (sinkOf (start .args .tally) (start .args .out .now)) (steps.conditionsMet (fileOf (start .args .law .now)) (formatsIn (fileOf (start .args .law .now)) (start .args .task .limit) (start .args .store .now)) (start .args .task) (start .args .s) (conditionsOf (fileOf (start .args .law .now)) (start .args .s)) (firstCondition (fileOf (start .args .law .now)) (start .args .s)))) (sinkOf (the-loop .so-far) (the-loop .out)) (sinkOf (the-walk-run .result) (the-walk-run .last .1 .1 .1 .1 .1 .1 .1 .0)) (sinkOf (the-walk-pattern .result) (the-walk-pattern .last .1 .1 .1 .1 .1 .1 .1 .0)) (the-loop-test .taken) (the-condition-result-at .ensures) (the-condition-result .ensures) (the-condition-result-size .ensures) (the-condition-pattern .ensures) (the-loop .inv .4) (the-walk-run .ensures) (the-walk-pattern .ensures)))
     (λ c.
     let the-loop = c .before .loop in
     the-loop .inv .3)

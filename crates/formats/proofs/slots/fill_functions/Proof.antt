@@ -5,14 +5,14 @@ use native.Mathlib.Omega.{arith}
 use lib.ListN.{length, length-set}
 use Rattle.file.specs.Sections.{fileOf}
 use Rattle.law.proofs.IndexLaws.{functions-limit}
-use Rattle.formats.specs.Code.Slots.{position, functionFolded, fileNames, Filled}
+use Rattle.formats.specs.Code.Slots.{position, functionFolded, fileNames, FilledTo}
 use Rattle.formats.proofs.SlotLaws.{filled-next}
 use Rattle.formats.proofs.slots.fill_functions.Statement.{statement}
 use Rattle.formats.proofs.slots.fill_functions.Tie as tie
 
 abbrev Inv-loop : tie.InvT-loop
 Inv-loop law index weights slots₀ count f₀ slots f =
-    (count ≡ fileOf law .functions .count) × (f ≤ count) × (length slots ≡ 577) × Filled slots f (λ i. position (fileNames (fileOf law)) (functionFolded (fileOf law) i))
+    (count ≡ fileOf law .functions .count) × (f ≤ count) × (length slots ≡ 577) × FilledTo slots f (λ i. position (fileNames (fileOf law)) (functionFolded (fileOf law) i))
 
 abbrev μ-loop : tie.MeasureT-loop
 μ-loop law index weights slots₀ count f₀ slots f = count - f

@@ -5,14 +5,14 @@ use native.Mathlib.Omega.{arith}
 use lib.ListN.{length, length-set}
 use Rattle.file.specs.Sections.{fileOf}
 use Rattle.law.proofs.IndexLaws.{functions-limit}
-use Rattle.formats.specs.Code.Slots.{newly, Filled}
+use Rattle.formats.specs.Code.Slots.{newly, FilledTo}
 use Rattle.formats.proofs.SlotLaws.{CountAt, count-start, count-next, count-names, filled-next}
 use Rattle.formats.proofs.slots.fill_weights.Statement.{statement}
 use Rattle.formats.proofs.slots.fill_weights.Tie as tie
 
 abbrev Inv-loop : tie.InvT-loop
 Inv-loop law index weights₀ count found₀ f₀ weights found f =
-    (count ≡ fileOf law .functions .count) × (length weights ≡ 64) × CountAt (fileOf law) (λ m. 1) found f × Filled weights f (λ i. newly (fileOf law) i 1)
+    (count ≡ fileOf law .functions .count) × (length weights ≡ 64) × CountAt (fileOf law) (λ m. 1) found f × FilledTo weights f (λ i. newly (fileOf law) i 1)
 
 abbrev μ-loop : tie.MeasureT-loop
 μ-loop law index weights₀ count found₀ f₀ weights found f = count - f

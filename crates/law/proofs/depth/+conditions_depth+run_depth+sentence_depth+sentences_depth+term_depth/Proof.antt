@@ -33,16 +33,16 @@ use Rattle.law.proofs.depth.+conditions_depth+run_depth+sentence_depth+
 use Rattle.file.proofs.term_at.Reads as term-at-reads
 use Rattle.file.proofs.word_at.Reads as word-at-reads
 use Rattle.law.proofs.depth.sentences_in.Reads as sentences-in-reads
-use Rattle.law.proofs.places.asked.Reads as asked-reads
-use Rattle.law.proofs.places.asked_at.Reads as asked-at-reads
-use Rattle.law.proofs.places.asked_size.Reads as asked-size-reads
+use Rattle.law.proofs.places.condition_result.Reads as condition-result-reads
+use Rattle.law.proofs.places.condition_result_at.Reads as condition-result-at-reads
+use Rattle.law.proofs.places.condition_result_size.Reads as condition-result-size-reads
 use Rattle.law.proofs.places.block_first.Reads as block-first-reads
 use Rattle.law.proofs.places.first_condition.Reads as first-condition-reads
 use Rattle.law.proofs.places.pattern.Reads as pattern-reads
 use Rattle.law.proofs.places.pattern_at.Reads as pattern-at-reads
 use Rattle.law.proofs.places.result.Reads as result-reads
 use Rattle.law.proofs.places.result_at.Reads as result-at-reads
-use Rattle.law.proofs.places.wanted.Reads as wanted-reads
+use Rattle.law.proofs.places.condition_pattern.Reads as condition-pattern-reads
 use Rattle.law.proofs.runs.end_of.Reads as end-of-reads
 use Rattle.law.proofs.depth.+conditions_depth+run_depth+sentence_depth+sentences_depth+term_depth.{
   statement,
@@ -166,16 +166,16 @@ pub +conditions-depth+run-depth+sentence-depth+sentences-depth+term-depth-spec :
     (λ t. conditions-depth-lts.spec (
       first-condition-reads.Asked,
       first-condition-reads.Learnt,
-      asked-at-reads.Asked,
-      asked-at-reads.Learnt,
-      asked-reads.Asked,
-      asked-reads.Learnt,
+      condition-result-at-reads.Asked,
+      condition-result-at-reads.Learnt,
+      condition-result-reads.Asked,
+      condition-result-reads.Learnt,
       run-depth-below t,
       run-depth.Post,
-      asked-size-reads.Asked,
-      asked-size-reads.Learnt,
-      wanted-reads.Asked,
-      wanted-reads.Learnt,
+      condition-result-size-reads.Asked,
+      condition-result-size-reads.Learnt,
+      condition-pattern-reads.Asked,
+      condition-pattern-reads.Learnt,
     )
     (conditions-depth-at t)
     conditions-depth.Post
@@ -216,16 +216,16 @@ pub +conditions-depth+run-depth+sentence-depth+sentences-depth+term-depth-spec :
     let start = c .before .before .before .before .before .before .before in
     let loop = c .before .before .before .loop in
     let the-first-condition = c .before .before .before .before .before .first-condition in
-    (omega (arith, start .pre .0), (start .pre .1 .0, start .pre .1 .1, rw (c .before .asked-at .ensures, c .asked .ensures) (parts.asked-part (fileOf (start .args .law .now)) (start .pre .1 .1) (start .args .s) (the-first-condition .result + loop .i) (rw (sym (loop .inv .0)) at (laws.owns (start .args .law .now) (start .args .index .now) (start .pre .1 .0) (start .args .s) (loop .i) (start .pre .1 .2) (omega (arith, loop .inv .1))))), start .pre .1 .3)))
+    (omega (arith, start .pre .0), (start .pre .1 .0, start .pre .1 .1, rw (c .before .condition-result-at .ensures, c .condition-result .ensures) (parts.condition-result-part (fileOf (start .args .law .now)) (start .pre .1 .1) (start .args .s) (the-first-condition .result + loop .i) (rw (sym (loop .inv .0)) at (laws.owns (start .args .law .now) (start .args .index .now) (start .pre .1 .0) (start .args .s) (loop .i) (start .pre .1 .2) (omega (arith, loop .inv .1))))), start .pre .1 .3)))
     (λ c.
     let start = c .before .before .before .before .before .before .before .before .before in
     let loop = c .before .before .before .before .before .loop in
-    let the-asked-at = c .before .before .before .asked-at in
-    let the-asked = c .before .before .asked in
+    let the-condition-result-at = c .before .before .before .condition-result-at in
+    let the-condition-result = c .before .before .condition-result in
     let the-first-condition2 = c .before .before .before .before .before .before .first-condition2 in
     let the-first-condition = c .before .before .before .before .before .before .before .first-condition in
     let the-loop-test = c .before .before .before .before .loop-test in
-    sym (rw (sym (rw (the-asked-at .ensures, the-asked .ensures) at (c .before .run-depth .ensures)) ∙ not-true _ (c .if1 .taken)) at (loop .inv .3 ∙ steps.conditions-next (fileOf (start .args .law .now)) (start .args .s) (the-first-condition2 .result - the-first-condition .result) (the-first-condition .result) (loop .i) (start .args .depth) (the-loop-test .taken))))
+    sym (rw (sym (rw (the-condition-result-at .ensures, the-condition-result .ensures) at (c .before .run-depth .ensures)) ∙ not-true _ (c .if1 .taken)) at (loop .inv .3 ∙ steps.conditions-next (fileOf (start .args .law .now)) (start .args .s) (the-first-condition2 .result - the-first-condition .result) (the-first-condition .result) (loop .i) (start .args .depth) (the-loop-test .taken))))
     (λ c.
     let start = c .before .before .before .before .before .before .before .before .before in
     let loop = c .before .before .before .before .before .loop in
@@ -237,8 +237,8 @@ pub +conditions-depth+run-depth+sentence-depth+sentences-depth+term-depth-spec :
     (λ c.
     let start = c .before .before .before .before .before .before .before .before .before .before in
     let loop = c .before .before .before .before .before .before .loop in
-    let the-asked-at = c .before .before .before .before .asked-at in
-    omega (arith, laws.asked-fits (start .args .law .now) (start .args .index .now) (start .pre .1 .0) _ _ (rw (sym (loop .inv .0)) at (laws.owns (start .args .law .now) (start .args .index .now) (start .pre .1 .0) (start .args .s) (loop .i) (start .pre .1 .2) (omega (arith, loop .inv .1)))), laws.terms-limit (start .args .law .now) (start .args .index .now) (start .pre .1 .0), the-asked-at .ensures, c .asked-size .ensures))
+    let the-condition-result-at = c .before .before .before .before .condition-result-at in
+    omega (arith, laws.condition-result-fits (start .args .law .now) (start .args .index .now) (start .pre .1 .0) _ _ (rw (sym (loop .inv .0)) at (laws.owns (start .args .law .now) (start .args .index .now) (start .pre .1 .0) (start .args .s) (loop .i) (start .pre .1 .2) (omega (arith, loop .inv .1)))), laws.terms-limit (start .args .law .now) (start .args .index .now) (start .pre .1 .0), the-condition-result-at .ensures, c .condition-result-size .ensures))
     (λ c.
     let start = c .before .before .before .before .before .before .before .before .before .before in
     let loop = c .before .before .before .before .before .before .loop in
@@ -250,37 +250,37 @@ pub +conditions-depth+run-depth+sentence-depth+sentences-depth+term-depth-spec :
     (λ c κs.
     let start = c .before .before .before .before .before .before .before .before .before .before .before in
     let loop = c .before .before .before .before .before .before .before .loop in
-    let the-asked-at = c .before .before .before .before .before .asked-at in
+    let the-condition-result-at = c .before .before .before .before .before .condition-result-at in
     let the-first-condition = c .before .before .before .before .before .before .before .before .before .first-condition in
-    (omega (arith, start .pre .0), (start .pre .1 .0, start .pre .1 .1, rw (the-asked-at .ensures, c .before .asked-size .ensures, c .wanted .ensures) (parts.wanted-part (fileOf (start .args .law .now)) (start .pre .1 .1) (start .args .s) (the-first-condition .result + loop .i) (rw (sym (loop .inv .0)) at (laws.owns (start .args .law .now) (start .args .index .now) (start .pre .1 .0) (start .args .s) (loop .i) (start .pre .1 .2) (omega (arith, loop .inv .1))))), start .pre .1 .3)))
+    (omega (arith, start .pre .0), (start .pre .1 .0, start .pre .1 .1, rw (the-condition-result-at .ensures, c .before .condition-result-size .ensures, c .condition-pattern .ensures) (parts.condition-pattern-part (fileOf (start .args .law .now)) (start .pre .1 .1) (start .args .s) (the-first-condition .result + loop .i) (rw (sym (loop .inv .0)) at (laws.owns (start .args .law .now) (start .args .index .now) (start .pre .1 .0) (start .args .s) (loop .i) (start .pre .1 .2) (omega (arith, loop .inv .1))))), start .pre .1 .3)))
     (λ c.
     let start = c .before .before .before .before .before .before .before .before .before .before .before .before .before in
     let loop = c .before .before .before .before .before .before .before .before .before .loop in
-    let the-asked-at = c .before .before .before .before .before .before .before .asked-at in
-    let the-asked = c .before .before .before .before .before .before .asked in
+    let the-condition-result-at = c .before .before .before .before .before .before .before .condition-result-at in
+    let the-condition-result = c .before .before .before .before .before .before .condition-result in
     let the-run-depth = c .before .before .before .before .before .run-depth in
     let the-if1 = c .before .before .before .before .if1 in
-    let the-asked-size = c .before .before .before .asked-size in
-    let the-wanted = c .before .before .wanted in
+    let the-condition-result-size = c .before .before .before .condition-result-size in
+    let the-condition-pattern = c .before .before .condition-pattern in
     let the-first-condition2 = c .before .before .before .before .before .before .before .before .before .before .first-condition2 in
     let the-first-condition = c .before .before .before .before .before .before .before .before .before .before .before .first-condition in
     let the-loop-test = c .before .before .before .before .before .before .before .before .loop-test in
-    sym (rw (sym (rw (the-asked-at .ensures, the-asked .ensures) at (the-run-depth .ensures)) ∙ not-false _ (the-if1 .left), sym (rw (the-asked-at .ensures, the-asked-size .ensures, the-wanted .ensures) at (c .before .run-depth2 .ensures)) ∙ not-true _ (c .if2 .taken)) at (loop .inv .3 ∙ steps.conditions-next (fileOf (start .args .law .now)) (start .args .s) (the-first-condition2 .result - the-first-condition .result) (the-first-condition .result) (loop .i) (start .args .depth) (the-loop-test .taken))))
+    sym (rw (sym (rw (the-condition-result-at .ensures, the-condition-result .ensures) at (the-run-depth .ensures)) ∙ not-false _ (the-if1 .left), sym (rw (the-condition-result-at .ensures, the-condition-result-size .ensures, the-condition-pattern .ensures) at (c .before .run-depth2 .ensures)) ∙ not-true _ (c .if2 .taken)) at (loop .inv .3 ∙ steps.conditions-next (fileOf (start .args .law .now)) (start .args .s) (the-first-condition2 .result - the-first-condition .result) (the-first-condition .result) (loop .i) (start .args .depth) (the-loop-test .taken))))
     (λ c. omega arith)
     (λ c. omega arith)
     (λ c.
     let start = c .before .before .before .before .before .before .before .before .before .before .before .before .before in
     let loop = c .before .before .before .before .before .before .before .before .before .loop in
-    let the-asked-at = c .before .before .before .before .before .before .before .asked-at in
-    let the-asked = c .before .before .before .before .before .before .asked in
+    let the-condition-result-at = c .before .before .before .before .before .before .before .condition-result-at in
+    let the-condition-result = c .before .before .before .before .before .before .condition-result in
     let the-run-depth = c .before .before .before .before .before .run-depth in
     let the-if1 = c .before .before .before .before .if1 in
-    let the-asked-size = c .before .before .before .asked-size in
-    let the-wanted = c .before .before .wanted in
+    let the-condition-result-size = c .before .before .before .condition-result-size in
+    let the-condition-pattern = c .before .before .condition-pattern in
     let the-first-condition2 = c .before .before .before .before .before .before .before .before .before .before .first-condition2 in
     let the-first-condition = c .before .before .before .before .before .before .before .before .before .before .before .first-condition in
     let the-loop-test = c .before .before .before .before .before .before .before .before .loop-test in
-    (loop .inv .0, loop .inv .1, omega arith, rw (sym (rw (the-asked-at .ensures, the-asked .ensures) at (the-run-depth .ensures)) ∙ not-false _ (the-if1 .left), sym (rw (the-asked-at .ensures, the-asked-size .ensures, the-wanted .ensures) at (c .before .run-depth2 .ensures)) ∙ not-false _ (c .if2 .left)) at (loop .inv .3 ∙ steps.conditions-next (fileOf (start .args .law .now)) (start .args .s) (the-first-condition2 .result - the-first-condition .result) (the-first-condition .result) (loop .i) (start .args .depth) (the-loop-test .taken))))
+    (loop .inv .0, loop .inv .1, omega arith, rw (sym (rw (the-condition-result-at .ensures, the-condition-result .ensures) at (the-run-depth .ensures)) ∙ not-false _ (the-if1 .left), sym (rw (the-condition-result-at .ensures, the-condition-result-size .ensures, the-condition-pattern .ensures) at (c .before .run-depth2 .ensures)) ∙ not-false _ (c .if2 .left)) at (loop .inv .3 ∙ steps.conditions-next (fileOf (start .args .law .now)) (start .args .s) (the-first-condition2 .result - the-first-condition .result) (the-first-condition .result) (loop .i) (start .args .depth) (the-loop-test .taken))))
     (λ c.
     let start = c .before .before .before .before .before in
     let loop = c .before .loop in

@@ -9,8 +9,8 @@ use mathlib.Core.Bool.{true}
 use Rattle.file.specs.Below.{every}
 use Rattle.file.specs.Sections.{fileOf}
 use Rattle.file.proofs.Below.{every-none}
-use Rattle.law.proofs.FitLaws.{conditionFit, asked-unfit, wanted-unfit, condition-fit}
-use Rattle.law.specs.Places.{conditionsOf, firstCondition, askedPart, wantedPart}
+use Rattle.law.proofs.FitLaws.{conditionFit, condition-result-unfit, condition-pattern-unfit, condition-fit}
+use Rattle.law.specs.Places.{conditionsOf, firstCondition, conditionResultPart, conditionPatternPart}
 use Rattle.law.specs.Runs.{runFits}
 use Rattle.law.proofs.IndexLaws as laws
 use Rattle.law.proofs.runs.conditions_fit.Statement.{statement}
@@ -59,8 +59,8 @@ conditions-fit-spec =
     (λ c.
     let start = c .before .before .before .before .before .before .before .before in
     let loop = c .before .before .before .before .loop in
-    let the-asked = c .before .before .asked in
-    sym (asked-unfit (fileOf (start .args .law .now)) (start .args .s) (loop .i) (omega (arith, loop .inv .1)) (sym (c .before .run-fits .ensures ∙ ap runFits (the-asked .ensures ∙ ap (λ first. askedPart (fileOf (start .args .law .now)) (start .args .s) (first + loop .i)) (loop .inv .0))) ∙ not-true _ (c .if1 .taken))))
+    let the-condition-result = c .before .before .condition-result in
+    sym (condition-result-unfit (fileOf (start .args .law .now)) (start .args .s) (loop .i) (omega (arith, loop .inv .1)) (sym (c .before .run-fits .ensures ∙ ap runFits (the-condition-result .ensures ∙ ap (λ first. conditionResultPart (fileOf (start .args .law .now)) (start .args .s) (first + loop .i)) (loop .inv .0))) ∙ not-true _ (c .if1 .taken))))
     (λ c.
     let start = c .before .before .before .before .before .before .before .before in
     let loop = c .before .before .before .before .loop in
@@ -73,18 +73,18 @@ conditions-fit-spec =
     (λ c.
     let start = c .before .before .before .before .before .before .before .before .before .before .before in
     let loop = c .before .before .before .before .before .before .before .loop in
-    let the-wanted = c .before .before .wanted in
-    sym (wanted-unfit (fileOf (start .args .law .now)) (start .args .s) (loop .i) (omega (arith, loop .inv .1)) (sym (c .before .run-fits2 .ensures ∙ ap runFits (the-wanted .ensures ∙ ap (λ first. wantedPart (fileOf (start .args .law .now)) (start .args .s) (first + loop .i)) (loop .inv .0))) ∙ not-true _ (c .if2 .taken))))
+    let the-condition-pattern = c .before .before .condition-pattern in
+    sym (condition-pattern-unfit (fileOf (start .args .law .now)) (start .args .s) (loop .i) (omega (arith, loop .inv .1)) (sym (c .before .run-fits2 .ensures ∙ ap runFits (the-condition-pattern .ensures ∙ ap (λ first. conditionPatternPart (fileOf (start .args .law .now)) (start .args .s) (first + loop .i)) (loop .inv .0))) ∙ not-true _ (c .if2 .taken))))
     (λ c. omega arith)
     (λ c. omega arith)
     (λ c.
     let start = c .before .before .before .before .before .before .before .before .before .before .before in
     let loop = c .before .before .before .before .before .before .before .loop in
     let the-run-fits = c .before .before .before .before .run-fits in
-    let the-asked = c .before .before .before .before .before .asked in
+    let the-condition-result = c .before .before .before .before .before .condition-result in
     let the-if1 = c .before .before .before .if1 in
-    let the-wanted = c .before .before .wanted in
-    (loop .inv .0, loop .inv .1, omega arith, condition-fit (fileOf (start .args .law .now)) (start .args .s) (loop .i) (loop .inv .3) (sym (the-run-fits .ensures ∙ ap runFits (the-asked .ensures ∙ ap (λ first. askedPart (fileOf (start .args .law .now)) (start .args .s) (first + loop .i)) (loop .inv .0))) ∙ not-false _ (the-if1 .left)) (sym (c .before .run-fits2 .ensures ∙ ap runFits (the-wanted .ensures ∙ ap (λ first. wantedPart (fileOf (start .args .law .now)) (start .args .s) (first + loop .i)) (loop .inv .0))) ∙ not-false _ (c .if2 .left))))
+    let the-condition-pattern = c .before .before .condition-pattern in
+    (loop .inv .0, loop .inv .1, omega arith, condition-fit (fileOf (start .args .law .now)) (start .args .s) (loop .i) (loop .inv .3) (sym (the-run-fits .ensures ∙ ap runFits (the-condition-result .ensures ∙ ap (λ first. conditionResultPart (fileOf (start .args .law .now)) (start .args .s) (first + loop .i)) (loop .inv .0))) ∙ not-false _ (the-if1 .left)) (sym (c .before .run-fits2 .ensures ∙ ap runFits (the-condition-pattern .ensures ∙ ap (λ first. conditionPatternPart (fileOf (start .args .law .now)) (start .args .s) (first + loop .i)) (loop .inv .0))) ∙ not-false _ (c .if2 .left))))
     (λ c.
     let start = c .before .before .before .before .before in
     let loop = c .before .loop in

@@ -2,11 +2,11 @@ use native.Mathlib.Omega.{arith}
 use Prim.Native.Nat.{_-_}
 use Rattle.law.proofs.IndexLaws as laws
 use borrow.Author.Needs.{needs}
-use Rattle.law.proofs.places.asked_at.Statement.{statement}
-use Rattle.law.proofs.places.asked_at.Tie as tie
+use Rattle.law.proofs.places.condition_result_at.Statement.{statement}
+use Rattle.law.proofs.places.condition_result_at.Tie as tie
 
-pub asked-at-spec : {M : Type 1} → statement M
-asked-at-spec =
+pub condition-result-at-spec : {M : Type 1} → statement M
+condition-result-at-spec =
     tie.close
     (tie.spec
     (λ c.
@@ -32,4 +32,4 @@ asked-at-spec =
     (λ c.
     let start = c .before .before .before .before in
     let the-word = c .before .before .word in
-    rw (the-word .ensures .0, c .word2 .ensures .0, c .before .pattern-size .ensures) (laws.asked-is (start .args .law .now) (start .args .index .now) (start .pre .0) (start .args .s) (start .args .c) (start .pre .1) (omega arith))))
+    rw (the-word .ensures .0, c .word2 .ensures .0, c .before .pattern-size .ensures) (laws.condition-result-is (start .args .law .now) (start .args .index .now) (start .pre .0) (start .args .s) (start .args .c) (start .pre .1) (omega arith))))
