@@ -1,7 +1,7 @@
 -- What the exported calls return, from what the two calls of `listing` answer.
 use Prim.Native.Nat.{ℕ}
 use mathlib.Core.Bool.{Bool, true, false, cond}
-use mathlib.Core.List.{List, _∷_}
+use mathlib.Core.List.{List, [], _∷_}
 use mathlib.Core.Path.{_≡_, refl}
 use native.Mathlib.Omega.{arith}
 use Rattle.file.specs.declared.Refusal.{Refusal}

@@ -1,7 +1,7 @@
 -- What the exported calls return, and every lent word after them. A call over C returns one number, and what it answers stands in lent words.
 use Prim.Native.Nat.{ℕ, _*_}
 use mathlib.Core.Bool.{true, cond}
-use mathlib.Core.List.{List, _∷_}
+use mathlib.Core.List.{List, [], _∷_}
 use mathlib.Core.Path.{_≡_}
 use lib.ListN.{take, getD}
 use Rattle.file.specs.Answer.{Answer, refused, given}

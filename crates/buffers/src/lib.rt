@@ -3,7 +3,7 @@
 // What puts text does so where there is room for it, and gives the position after it in any case, so that with an empty buffer
 // it measures.
 ghost use mathlib.Core.Path.{_≡_};
-ghost use mathlib.Core.List.{_∷_};
+ghost use mathlib.Core.List.{[], _∷_};
 ghost use Prim.Native.Nat.{_+_, _≤_};
 ghost use lib.ListN.{length, replicate};
 ghost use Rattle.buffers.specs.Written.{written, Put, largest};

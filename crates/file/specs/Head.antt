@@ -1,7 +1,7 @@
 -- What a term record's words say. Document 01: "Kinds: 0 character (a = Unicode scalar value), 1 identifier, 2 number, 3 s., 4 t., 5 e. variable
 -- (1 to 5: a, b = start and length in the text), 6 bracket, 7 call (a, b = name), 8 block (a = number of sentences)."
 use Prim.Native.Nat.{ℕ, _+_}
-use mathlib.Core.List.{List, _∷_}
+use mathlib.Core.List.{List, [], _∷_}
 use lib.ListN.{getD}
 use Rattle.file.specs.Word.{wordAt}
 use Rattle.file.specs.declared.Symbol.the-variants.{Character, Identifier, Number}

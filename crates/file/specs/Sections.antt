@@ -6,7 +6,7 @@ use mathlib.Core.List.{List}
 use lib.ListN.{length, take, drop}
 use lib.Dec.{ltb}
 use Rattle.file.specs.Word.{wordAt}
-use Rattle.file.specs.Answer.{Answer, refused, given, refuseIf}
+use Rattle.file.specs.Answer.{Answer, refused, given, refuseIf, _>>=_, _>>_}
 use Rattle.file.specs.declared.Sections.{Sections}
 use Rattle.file.specs.declared.Refusal.{Refusal}
 use Rattle.file.specs.declared.Refusal.the-variants.{FileOver, CutOff, LeftOver, CountOver, Fields, Runs, Blocks, Depth, Patterns}

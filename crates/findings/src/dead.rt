@@ -7,6 +7,7 @@ use crate::put_note;
 use file::word_at;
 use law::Index;
 use lints::dead::earliest_shadow;
+ghost use mathlib.Core.List.{[]};
 ghost use mathlib.Core.Path.{_≡_};
 ghost use mathlib.Core.Bool.{Bool};
 ghost use Prim.Native.Nat.{_+_, _*_, _≤_, _<_};

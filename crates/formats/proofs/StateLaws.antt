@@ -1,7 +1,7 @@
 -- Laws of the store's words (specs/Store.antt): formats are read and written by number, as the formats of entries are. A store is a row of formats of
 -- `limit + 1` words each, argument then result of each name in turn, then zeros, then words that stay as they are.
 use Prim.Native.Nat.{ℕ, zero, suc, _+_, _*_, _-_, _≤_, _<_}
-use mathlib.Core.List.{List, _∷_, _++_, append-assoc, append-nil}
+use mathlib.Core.List.{List, [], _∷_, _++_, append-assoc, append-nil}
 use mathlib.Core.Option.{none, some}
 use mathlib.Core.Path.{_≡_, refl, sym, ap, _∙_}
 use native.Mathlib.Omega.{arith}

@@ -1,7 +1,7 @@
 -- Laws of the tables of formats (specs/Infer.antt): which names they have, and what is found after a change.
 use Prim.Native.Nat.{ℕ}
 use mathlib.Core.Bool.{Bool, true, false, cond, _||_, false≢true}
-use mathlib.Core.List.{List, _∷_}
+use mathlib.Core.List.{List, [], _∷_}
 use mathlib.Core.Option.{Option, none, some}
 use mathlib.Core.Path.{_≡_, refl, sym, _∙_}
 use Rattle.names.specs.Name.{folded, sameBytes}

@@ -3,13 +3,13 @@
 -- changed nothing, else 0." The limit on shapes and the limit on rounds are parameters.
 use Prim.Native.Nat.{ℕ, zero, suc, _+_}
 use mathlib.Core.Bool.{Bool, true, false, cond, not, _||_}
-use mathlib.Core.List.{List, _∷_}
+use mathlib.Core.List.{List, [], _∷_}
 use mathlib.Core.Option.{Option, none, some}
 use lib.ListN.{length}
 use lib.Dec.{ltb}
 use Rattle.names.specs.Name.{folded, sameBytes, orderBytes}
 use Rattle.names.specs.declared.Order.the-variants.{Less, Equal, Greater}
-use Rattle.file.specs.Answer.{Answer, given, refuseIf}
+use Rattle.file.specs.Answer.{Answer, given, refuseIf, _>>=_, _>>_}
 use Rattle.law.specs.Tree.{Sentences, noSentence, sentence, Law}
 use Rattle.shapes.specs.Format.{Format, never, of, size}
 use Rattle.shapes.specs.Join.{joinFormats}

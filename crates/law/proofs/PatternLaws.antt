@@ -1,7 +1,7 @@
 -- Row 9 (specs/Variables.antt): the variable that a term record is, the variables of a pattern one record at a time, how many of them are
 -- different, and that a part of the term records has the same variables and the same allowed fields as its records have in the whole.
 use Prim.Native.Nat.{ℕ, zero, suc, _+_, _*_, _-_, _≤_, _<_}
-use mathlib.Core.List.{List, _∷_, _++_}
+use mathlib.Core.List.{List, [], _∷_, _++_}
 use mathlib.Core.Bool.{Bool, true, false, cond, _||_}
 use mathlib.Core.Path.{_≡_, refl, sym, _∙_}
 use native.Mathlib.Numerals.{add-one}

@@ -2,7 +2,7 @@
 -- last definition too. A law defines a folded name where there is one.
 use Prim.Native.Nat.{ℕ}
 use mathlib.Core.Bool.{cond}
-use mathlib.Core.List.{List, _∷_}
+use mathlib.Core.List.{List, [], _∷_}
 use mathlib.Core.Option.{Option, none, some}
 use Rattle.names.specs.Name.{folded, sameBytes}
 use Rattle.law.specs.Tree.{Sentences, Law}

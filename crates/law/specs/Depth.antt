@@ -1,6 +1,6 @@
 -- Row 8: "over 32 brackets, calls and blocks around a term; a block is around its sentences too".
 use Prim.Native.Nat.{ℕ, suc, max}
-use mathlib.Core.List.{_∷_}
+use mathlib.Core.List.{[], _∷_}
 use Rattle.law.specs.Tree.{Run, empty, symbol, variable, bracket, call, block, Sentences, noSentence, sentence, Conditions, noCondition, condition, Law}
 
 -- the most brackets, calls and blocks around a term of a run, of which d are around the run itself; 0 where there is no term

@@ -1,7 +1,7 @@
 -- Small law files, decoded or refused. The text of the first two is the law as it is written, so that names and spans are places in it.
 use Prim.Native.Nat.{ℕ, zero, suc, _/_, _%_}
 use Prim.Native.String.{String}
-use mathlib.Core.List.{List, _∷_, _++_, map, flatMap}
+use mathlib.Core.List.{List, [], _∷_, _++_, map, flatMap}
 use mathlib.Core.Path.{_≡_, refl}
 use lib.ListN.{length}
 use Rattle.file.specs.Answer.{refused, given}

@@ -1,7 +1,7 @@
 -- Expressions: what a law's functions are called on and give back. Document 01, "A run of a law": "any expression (symbols, numbers by value,
 -- brackets around expressions)"; "a number record is one symbol, also above 4294967295".
 use Prim.Native.Nat.{ℕ, _+_, _*_, _-_}
-use mathlib.Core.List.{List, _∷_}
+use mathlib.Core.List.{List, [], _∷_}
 
 -- a symbol: a character, an identifier, folded, or a number, by value
 pub data Literal : Type 0 where

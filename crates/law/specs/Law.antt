@@ -5,7 +5,7 @@ use mathlib.Core.Bool.{true, not}
 use mathlib.Core.Path.{_≡_}
 use lib.Dec.{ltb}
 use lib.ListN.{replicate}
-use Rattle.file.specs.Answer.{Answer, refused, given, refuseIf, mapAnswer}
+use Rattle.file.specs.Answer.{Answer, refused, given, refuseIf, mapAnswer, _>>=_, _>>_}
 use Rattle.file.specs.Sections.{sectionsOf, numberOf, fileOf}
 use Rattle.file.specs.Fields.{fieldsAllowed}
 use Rattle.law.specs.Tree.{Law}

@@ -1,7 +1,7 @@
 -- Row 9: "over 32 distinct variables in a sentence's pattern". Every variable record of the pattern's run counts, inside a call or a block's
 -- argument too. Two variables are the same when kind and folded index are.
 use Prim.Native.Nat.{ℕ, zero, suc, _+_, _*_}
-use mathlib.Core.List.{List, _∷_, _++_}
+use mathlib.Core.List.{List, [], _∷_, _++_}
 use mathlib.Core.Bool.{Bool, true, false, cond, _&&_, _||_}
 use lib.ListN.{take, drop}
 use lib.Dec.{leb}

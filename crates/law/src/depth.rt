@@ -1,9 +1,10 @@
 // How deep the terms of a law stand (refusal 8).
 use crate::Index;
+use crate::places::block_first;
+use crate::places::condition_pattern;
 use crate::places::condition_result;
 use crate::places::condition_result_at;
 use crate::places::condition_result_size;
-use crate::places::block_first;
 use crate::places::first_condition;
 use crate::places::first_sentence;
 use crate::places::functions;
@@ -11,7 +12,6 @@ use crate::places::pattern;
 use crate::places::pattern_at;
 use crate::places::result;
 use crate::places::result_at;
-use crate::places::condition_pattern;
 use crate::runs::end_of;
 use file::Term;
 use file::term_at;
@@ -137,11 +137,23 @@ fn conditions_depth(law: &[u8], index: &Index, s: usize, depth: usize) -> bool
     let mut i = 0;
     while i < count {
         let at = condition_result_at(law, index, s, first + i);
-        if !run_depth(law, index, condition_result(law, index, s, first + i), at, depth) {
+        if !run_depth(
+            law,
+            index,
+            condition_result(law, index, s, first + i),
+            at,
+            depth,
+        ) {
             return false;
         }
         let next = at + condition_result_size(law, index, first + i);
-        if !run_depth(law, index, condition_pattern(law, index, s, first + i), next, depth) {
+        if !run_depth(
+            law,
+            index,
+            condition_pattern(law, index, s, first + i),
+            next,
+            depth,
+        ) {
             return false;
         }
         i += 1;

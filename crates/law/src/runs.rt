@@ -1,11 +1,11 @@
 // Runs of term records (refusal 6).
 use crate::Index;
+use crate::places::condition_pattern;
 use crate::places::condition_result;
 use crate::places::first_condition;
 use crate::places::pattern;
 use crate::places::result;
 use crate::places::sentences;
-use crate::places::condition_pattern;
 use file::word_at;
 ghost use mathlib.Core.Path.{_≡_};
 ghost use Prim.Native.Nat.{_+_, _≤_, _<_};

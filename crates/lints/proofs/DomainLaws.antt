@@ -1,7 +1,7 @@
 -- What a builtin of a folded name asks of its argument, name by name.
 use Prim.Native.Nat.{ℕ}
 use mathlib.Core.Bool.{Bool, true, false}
-use mathlib.Core.List.{List, _∷_}
+use mathlib.Core.List.{List, [], _∷_}
 use mathlib.Core.Path.{_≡_, refl}
 use Rattle.names.specs.Name.{sameBytes}
 use Rattle.lints.specs.Builtin.{Domain, anything, domainIn}

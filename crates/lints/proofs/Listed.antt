@@ -1,7 +1,7 @@
 -- What the findings of a law say (crate `lints`), taken apart: from a finding back to the call or the sentence that it is about.
 use Prim.Native.Nat.{ℕ, suc}
 use mathlib.Core.Bool.{Bool, true, false, cond, not, _&&_, _||_}
-use mathlib.Core.List.{List, _∷_, _++_, map, List·Memᴰ, List·Memᴰ·head, List·Memᴰ·tail, List·Memᴰ·append-cases}
+use mathlib.Core.List.{List, [], _∷_, _++_, map, List·Memᴰ, List·Memᴰ·head, List·Memᴰ·tail, List·Memᴰ·append-cases}
 use mathlib.Core.Logic.{_⊎_, inl, inr}
 use mathlib.Core.Option.{Option, some}
 use mathlib.Core.Path.{_≡_, refl, sym, ap, _∙_}
@@ -10,7 +10,7 @@ use lib.Dec.{leb}
 use Rattle.law.specs.Tree.{Symbol, Sentences, noSentence, sentence, Function, Law}
 use Rattle.law.specs.Definition.{definition}
 use Rattle.law.specs.Expression.{Terms}
-use Rattle.matching.specs.Pattern as patterns
+use Rattle.law.specs.Symbol.{Symbol}
 use Rattle.matching.specs.Pattern.{patternOf}
 use Rattle.matching.specs.Match.{when, each}
 use Rattle.matching.specs.Literal.{isLiteral, literalTerms, literalMatches}
@@ -146,12 +146,12 @@ judged-cases formats c r m = go (disjointFormats (of (passed formats c)) (accept
         literal j isIt
 
 -- no sentence's pattern matches a literal row
-abbrev pub NoneMatchesText : Sentences → Terms patterns.Symbol → Type 0
+abbrev pub NoneMatchesText : Sentences → Terms Symbol → Type 0
 NoneMatchesText noSentence x = Unit {0}
 NoneMatchesText (sentence m p cs r ss) x = (literalMatches (patternOf p) x ≡ false) × NoneMatchesText ss x
 
 -- a call that is compared, of a literal argument: no sentence of the last definition matches it, by text
-none-matches-text : (ss : Sentences) (x : Terms patterns.Symbol) → someMatches ss x ≡ false → NoneMatchesText ss x
+none-matches-text : (ss : Sentences) (x : Terms Symbol) → someMatches ss x ≡ false → NoneMatchesText ss x
 unfolding someMatches
 none-matches-text noSentence x h = tt
 none-matches-text (sentence m p cs r ss) x h =

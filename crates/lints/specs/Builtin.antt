@@ -1,7 +1,7 @@
 -- Lint 3, `builtin_domains`: calls of builtins whose literal arguments make failure certain.
 use Prim.Native.Nat.{ℕ}
 use mathlib.Core.Bool.{Bool, true, false, cond, _&&_, _||_}
-use mathlib.Core.List.{List, _∷_}
+use mathlib.Core.List.{List, [], _∷_}
 use mathlib.Core.Option.{Option, none, some}
 use lib.Dec.{eqb, leb}
 use Rattle.names.specs.Name.{sameBytes, digitByte, everyByte}

@@ -1,7 +1,7 @@
 -- The calls that lints 2 and 3 look at, in order: those of conditions' results and of results, inside brackets, calls, blocks' arguments and blocks'
 -- sentences. A call comes before those in its argument; patterns are not looked at.
 use Prim.Native.Nat.{ℕ}
-use mathlib.Core.List.{List, _∷_, _++_}
+use mathlib.Core.List.{List, [], _∷_, _++_}
 use Rattle.names.specs.Name.{folded}
 use Rattle.law.specs.Tree.{Name, Mark, Run, empty, symbol, variable, bracket, call, block, Sentences, noSentence, sentence, Conditions, noCondition, condition}
 

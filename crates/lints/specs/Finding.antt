@@ -2,7 +2,7 @@
 -- start, span end, a, b, function position, subject (sentence record for 1 and 4, term record for 2 and 3). Positions count from 0."
 use Prim.Native.Nat.{ℕ, suc}
 use mathlib.Core.Bool.{Bool}
-use mathlib.Core.List.{List, _∷_, _++_, map}
+use mathlib.Core.List.{List, [], _∷_, _++_, map}
 use Rattle.law.specs.Tree.{Name, Mark, Function, Law}
 use Rattle.shapes.specs.Format.{Format}
 use Rattle.lints.specs.Lint.{Lint, deadSentence, recognitionImpossible, builtinDomain, openExpressions, lintNumber}

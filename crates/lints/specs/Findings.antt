@@ -2,7 +2,7 @@
 -- mode steps. Refusal 14 belongs to the settings alone and comes before any file is looked at.
 use Prim.Native.Nat.{ℕ}
 use mathlib.Core.List.{List, _++_}
-use Rattle.file.specs.Answer.{Answer, given, refuseIf}
+use Rattle.file.specs.Answer.{Answer, given, refuseIf, _>>=_, _>>_}
 use Rattle.law.specs.Tree.{Law}
 use Rattle.formats.specs.Infer.{Inferred, infer}
 use Rattle.lints.specs.Finding.{Finding}

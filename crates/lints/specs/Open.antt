@@ -1,6 +1,6 @@
 -- Lint 4, `open_expression_complexity`: patterns of functions' own sentences with two e. occurrences or more.
 use Prim.Native.Nat.{ℕ, _+_}
-use mathlib.Core.List.{List, _∷_, _++_}
+use mathlib.Core.List.{List, [], _∷_, _++_}
 use lib.Dec.{leb}
 use Rattle.law.specs.Tree.{Kind, symbolKind, termKind, expressionKind, Run, empty, symbol, variable, bracket, call, block, Sentences, noSentence, sentence, Function, Law}
 use Rattle.matching.specs.Match.{when}

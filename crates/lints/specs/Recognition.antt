@@ -1,7 +1,7 @@
 -- Lint 2, `recognition_impossible`: calls that no sentence of their function can match, by formats or by literals.
 use Prim.Native.Nat.{ℕ}
 use mathlib.Core.Bool.{Bool, false, not, cond, _&&_, _||_}
-use mathlib.Core.List.{List, _∷_}
+use mathlib.Core.List.{List, [], _∷_}
 use mathlib.Core.Option.{Option, none, some}
 use lib.Dec.{ltb}
 use Rattle.law.specs.Tree.{Run, Sentences, noSentence, sentence, Function, Law}

@@ -2,7 +2,7 @@
 -- them and no others, in its order: `table`, and the theorem `small-laws`. Those without * stand in specs/Examples.antt of `formats`, `matching` and this
 -- crate, and go through the calls in the test program of refusals.
 use mathlib.Core.Bool.{Bool, true, false}
-use mathlib.Core.List.{List, _∷_}
+use mathlib.Core.List.{List, [], _∷_}
 use mathlib.Core.Path.{_≡_, refl}
 use Rattle.names.specs.Name.{sameBytes, orderBytes}
 use Rattle.file.specs.Answer.{given}

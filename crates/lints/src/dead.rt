@@ -2,6 +2,7 @@
 use law::Index;
 use law::places::first_condition;
 use sentences::shadow_sentences;
+ghost use mathlib.Core.List.{[]};
 ghost use mathlib.Core.Path.{_≡_};
 ghost use Prim.Native.Nat.{_+_, _≤_, _<_};
 ghost use Rattle.file.specs.Sections.{fileOf};

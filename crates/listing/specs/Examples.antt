@@ -1,7 +1,7 @@
 -- The two calls on small files, by computation, every lent word included. Formats have at most one shape here, so that a store has 256 words.
 use Prim.Native.Nat.{ℕ}
 use mathlib.Core.Bool.{true}
-use mathlib.Core.List.{List, _∷_, _++_, flatMap}
+use mathlib.Core.List.{List, [], _∷_, _++_, flatMap}
 use mathlib.Core.Path.{_≡_, refl}
 use lib.ListN.{replicate}
 use Rattle.names.specs.Name.{everyByte, sameBytes, orderBytes}

@@ -2,11 +2,11 @@
 -- table's order is given."
 use Prim.Native.Nat.{ℕ, zero, suc, _+_, _*_}
 use mathlib.Core.Bool.{Bool, not, cond}
-use mathlib.Core.List.{List, _∷_, _++_}
+use mathlib.Core.List.{List, [], _∷_, _++_}
 use mathlib.Core.Option.{Option, none, some}
 use lib.ListN.{length, drop, replicate}
 use lib.Dec.{ltb, leb}
-use Rattle.file.specs.Answer.{Answer, refused, given, refuseIf}
+use Rattle.file.specs.Answer.{Answer, refused, given, refuseIf, _>>=_, _>>_}
 use Rattle.file.specs.Sections.{numberOf}
 use Rattle.law.specs.Tree.{Law}
 use Rattle.law.specs.Law.{lawOf}

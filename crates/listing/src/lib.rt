@@ -16,7 +16,7 @@ use law::Index;
 use law::places::sentences;
 use lints::levels::settings_allowed;
 use messages::put_message;
-ghost use mathlib.Core.List.{List};
+ghost use mathlib.Core.List.{List, []};
 ghost use mathlib.Core.Path.{_≡_};
 ghost use Prim.Native.Nat.{ℕ, _*_, _≤_};
 ghost use lib.ListN.{length};

@@ -1,7 +1,7 @@
 -- What the first record of a pattern leaves to do (`Leaves` of specs/Code/Step.antt), case by case.
 use Prim.Native.Nat.{ℕ, _≤_}
 use mathlib.Core.Bool.{Bool}
-use mathlib.Core.List.{List}
+use mathlib.Core.List.{List, []}
 use mathlib.Core.Path.{_≡_, ap, _∙_}
 use lib.ListN.{length, take}
 use Rattle.law.specs.Runs.{endOf}

@@ -2,12 +2,10 @@
 use mathlib.Core.Bool.{true}
 use mathlib.Core.Path.{_≡_, refl, ap, ap₂, sym, _∙_}
 use Rattle.names.specs.Name.{numberAllowed}
-use Rattle.law.specs.Tree as tree
 use Rattle.law.specs.Tree.{Kind, symbolKind, termKind, expressionKind}
-use Rattle.law.specs.Expression as expression
 use Rattle.law.specs.Expression.{Literal, Expression, Terms, nothing, symbol, brackets, _⊕_}
 use Rattle.law.specs.Variables.{Variable}
-use Rattle.law.specs.Symbol.{Symbol, character, identifier, number, literalOf, symbolOf}
+use Rattle.law.specs.Symbol.{Symbol, character, identifier, number, literalOf}
 use Rattle.matching.specs.Pattern.{sameSymbol, literal, variable, other, Pattern}
 use Rattle.matching.specs.Match.{none-bound, some-in, anyLiteral, runMatches}
 use Rattle.matching.specs.Fill.{filled, OfKind}

@@ -1,7 +1,7 @@
 -- Shadowing is sound: what the later pattern matches in a run, the earlier one matches. Both are read as fillings, and fillings compose: the earlier
 -- pattern becomes the later one by rows of its terms, and these become expressions by the values with which the later one matches.
 use mathlib.Core.Bool.{Bool, true, false, cond, _||_}
-use mathlib.Core.List.{List, _∷_}
+use mathlib.Core.List.{List, [], _∷_}
 use mathlib.Core.Option.{some, Option·none-ne-some}
 use mathlib.Core.Path.{_≡_, refl, ap, ap₂, sym, _∙_}
 use Rattle.law.specs.Tree.{Kind, symbolKind, termKind, expressionKind}

@@ -3,7 +3,7 @@
 use Prim.Native.Nat.{ℕ}
 use Prim.Native.String.{String}
 use mathlib.Core.Bool.{Bool, true, false, _&&_}
-use mathlib.Core.List.{List, _∷_, map}
+use mathlib.Core.List.{List, [], _∷_, map}
 use mathlib.Core.Path.{_≡_, refl}
 use Rattle.names.specs.Name.{sameBytes}
 use Rattle.law.specs.Tree.{character, number, symbolKind, termKind, expressionKind, noSentence, Run, empty, symbol, variable, bracket, call, block}

@@ -2,7 +2,7 @@
 -- manual does, going back into a bracket whose contents matched"; numbers compare by text.
 use Prim.Native.Nat.{ℕ}
 use mathlib.Core.Bool.{Bool, true, false, not, _&&_}
-use mathlib.Core.List.{List, _∷_}
+use mathlib.Core.List.{List, [], _∷_}
 use lib.Dec.{eqb}
 use Rattle.law.specs.Tree as tree
 use Rattle.law.specs.Expression.{Expression, Terms, nothing, symbol, brackets}

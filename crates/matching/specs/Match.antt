@@ -3,7 +3,7 @@
 -- a value matches only that. One search serves three: a run (what is matched are literals), literal matching (symbols of a law) and shadowing (the terms
 -- of another pattern); they differ in what is the same, what counts as a symbol and as a single term, and in whether a bracket is gone back into.
 use mathlib.Core.Bool.{Bool, true, false, cond, _&&_}
-use mathlib.Core.List.{List, _∷_, _++_, map}
+use mathlib.Core.List.{List, [], _∷_, _++_, map}
 use mathlib.Core.Option.{Option, none, some}
 use Rattle.law.specs.Tree.{Kind, symbolKind, termKind, expressionKind}
 use Rattle.law.specs.Expression.{Literal, Expression, Terms, nothing, symbol, brackets}

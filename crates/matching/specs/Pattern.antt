@@ -1,7 +1,5 @@
 -- Patterns as such: they may stand in a law, or in none.
-use Prim.Native.Nat.{ℕ}
 use mathlib.Core.Bool.{Bool, false}
-use mathlib.Core.List.{List}
 use lib.Dec.{eqb}
 use Rattle.names.specs.Name.{foldedIndex, sameBytes}
 use Rattle.law.specs.Tree as tree

@@ -2,7 +2,7 @@
 -- First what the loops use: an invariant for each kind of loop, over any fold `f` of bytes or any test `p` of a byte, which says that the work
 -- left from position `i` on equals the whole work. Then what the layers above use: equality and order of lists of bytes.
 use Prim.Native.Nat.{ℕ, suc, _+_, _<_, _≤_}
-use mathlib.Core.List.{List, _∷_, map}
+use mathlib.Core.List.{List, [], _∷_, map}
 use mathlib.Core.Bool.{Bool, true, false, cond, _&&_}
 use mathlib.Core.Logic.{_⊎_, inl, inr}
 use mathlib.Core.Path.{_≡_, refl, ap, sym, _∙_}

@@ -1,5 +1,5 @@
 -- Examples of the definitions in `Name`, each by computation. A text stands as the list of its bytes.
-use mathlib.Core.List.{_∷_}
+use mathlib.Core.List.{[], _∷_}
 use mathlib.Core.Bool.{true, false}
 use mathlib.Core.Path.{_≡_, refl}
 use lib.ListN.{replicate}

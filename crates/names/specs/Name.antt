@@ -2,7 +2,7 @@
 -- Document 01, "The law file": "Names, identifiers and indices: 1 to 64 ASCII letters, digits, `-`, `_`. Names and identifiers
 -- compare, and sort by bytes, when folded: upper case, `_` read as `-`. Indices fold to upper case only. Numbers: 1 to 64 decimal digits."
 use Prim.Native.Nat.{ℕ, _-_}
-use mathlib.Core.List.{List, _∷_, map}
+use mathlib.Core.List.{List, [], _∷_, map}
 use mathlib.Core.Bool.{Bool, true, false, cond, _&&_, _||_}
 use lib.ListN.{length}
 use lib.Dec.{eqb, leb}

@@ -3,11 +3,12 @@
 use Prim.Native.Nat.{ℕ}
 use mathlib.Core.Bool.{Bool, true}
 use mathlib.Core.List.{List}
-use mathlib.Core.Path.{_≡_, refl, sym, ap₂, _∙_}
+use mathlib.Core.Path.{_≡_, refl, sym, ap, ap₂, _∙_}
 use Rattle.names.specs.Name.{numberAllowed}
 use Rattle.law.specs.Tree as tree
 use Rattle.law.specs.Tree.{Name, Run, Sentences, noSentence, sentence}
 use Rattle.law.specs.Expression.{Expression, symbol, brackets}
+use Rattle.law.specs.Symbol.{symbolOf, literalOf}
 use Rattle.matching.specs.Pattern.{patternOf}
 use Rattle.matching.specs.Match.{none-bound, runMatches}
 use Rattle.matching.specs.Literal.{isLiteral, literalTerms, changed, expressionOf, noNeedlessZero, rowPasses, patternPasses}

@@ -1,7 +1,7 @@
 -- The two claims over a whole run of a law whose records are labels: a call whose argument can come to nothing that its function matches is never
 -- recognised, and a function's sentence that an earlier one shadows is never chosen.
 use Prim.Native.Nat.{ℕ, suc, _<_}
-use mathlib.Core.List.{List, _++_, List·Memᴰ}
+use mathlib.Core.List.{List, [], _++_, List·Memᴰ}
 use mathlib.Core.Option.{some, none}
 use mathlib.Core.Path.{_≡_, refl}
 use native.Mathlib.Omega.{arith}

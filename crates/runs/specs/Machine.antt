@@ -2,7 +2,7 @@
 -- "A run is fed a law, one of its functions, any expression [..] and a list of such expressions, the answers of functions not defined."
 -- "Its state: what is left to work out or try, the variables' values, the answers left."
 use Prim.Native.Nat.{ℕ, zero, suc}
-use mathlib.Core.List.{List, _∷_}
+use mathlib.Core.List.{List, [], _∷_}
 use mathlib.Core.Option.{none, some}
 use Rattle.names.specs.Name.{folded, foldedIndex}
 use Rattle.law.specs.Tree as tree

@@ -2,7 +2,7 @@
 -- by value.
 use Prim.Native.Nat.{ℕ}
 use mathlib.Core.Bool.{Bool, true, _&&_}
-use mathlib.Core.List.{List, _∷_}
+use mathlib.Core.List.{List, [], _∷_}
 use Rattle.law.specs.Tree as tree
 use Rattle.law.specs.Tree.{Run, Sentences, noSentence, sentence, Conditions, noCondition, condition, Law}
 use Rattle.law.specs.Symbol.{symbolOf}

@@ -1,6 +1,6 @@
 -- A literal row is searched in the same way as a row of symbols and as the row of a pattern: literal matching is the search of `Step.found`.
 use mathlib.Core.Bool.{Bool, true, false, cond, _&&_}
-use mathlib.Core.List.{List, _∷_, map, map-map, map-append}
+use mathlib.Core.List.{List, [], _∷_, map, map-map, map-append}
 use mathlib.Core.Option.{Option, none, some, Option·map}
 use mathlib.Core.Path.{_≡_, refl, ap, ap₂, sym}
 use Rattle.law.specs.Tree as tree

@@ -10,6 +10,7 @@ use matching::Known;
 use matching::bind;
 use matching::known_front;
 use matching::none;
+ghost use mathlib.Core.List.{[]};
 ghost use mathlib.Core.Path.{_≡_};
 ghost use mathlib.Core.Bool.{false};
 ghost use mathlib.Core.Option.{none};

@@ -1,7 +1,7 @@
 -- The loose test before the search, for both matchers: what does not pass has no match, and what passes has one where no variable is repeated.
 use Prim.Native.Nat.{ℕ}
 use mathlib.Core.Bool.{Bool, true, false}
-use mathlib.Core.List.{List, _∷_}
+use mathlib.Core.List.{List, [], _∷_}
 use mathlib.Core.Path.{_≡_, refl, sym, ap, _∙_}
 use Rattle.law.specs.Symbol.{character}
 use Rattle.matching.specs.Pattern.{Atom, literal, Pattern}

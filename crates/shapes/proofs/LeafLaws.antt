@@ -1,5 +1,6 @@
 -- Laws of the shapes of single terms (specs/Leaf.antt). The laws of formats use these and no others of a shape that is no bracket.
 use mathlib.Core.Bool.{Bool, true, false, cond, not}
+use mathlib.Core.List.{[]}
 use mathlib.Core.Path.{_≡_, refl, sym, ap, _∙_}
 use lib.Dec.{T}
 use Rattle.law.specs.Expression as expressions

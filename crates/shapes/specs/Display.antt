@@ -1,7 +1,7 @@
 -- A format as formats.rs displays it: `never`, or its items between `[` and `]`, one space between them, with `..` last where it is open.
 use Prim.Native.Nat.{ℕ, _+_}
 use mathlib.Core.Bool.{Bool, true, false, cond}
-use mathlib.Core.List.{List, _∷_, _++_}
+use mathlib.Core.List.{List, [], _∷_, _++_}
 use lib.ListN.{length, drop, getD}
 use lib.Dec.{leb}
 use Rattle.file.specs.Answer.{Answer, refused, given}

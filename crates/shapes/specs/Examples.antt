@@ -1,6 +1,6 @@
 -- Examples of the definitions, by computation. The table of document 01's small laws stands in the crate `lints`.
 use mathlib.Core.Bool.{true, false}
-use mathlib.Core.List.{_∷_}
+use mathlib.Core.List.{[], _∷_}
 use mathlib.Core.Path.{_≡_, refl}
 use lib.ListN.{replicate}
 use Rattle.file.specs.Answer.{refused, given}

@@ -2,7 +2,7 @@
 -- format, unknown." What they hold, how they join, when they share nothing, their store words and how they are displayed stand here.
 use Prim.Native.Nat.{ℕ}
 use mathlib.Core.Bool.{Bool, true, false}
-use mathlib.Core.List.{_∷_}
+use mathlib.Core.List.{[], _∷_}
 use lib.ListN.{getD}
 use Rattle.law.specs.Expression as expressions
 use Rattle.law.specs.Tree as tree

@@ -2,7 +2,7 @@
 -- bracket 5 + 8 × shapes inside, + 1,024 if its contents are open." A format has one word more than the limit on its shapes.
 use Prim.Native.Nat.{ℕ, _+_, _*_, _-_, _/_, _%_, _≤_, min}
 use mathlib.Core.Bool.{Bool, cond}
-use mathlib.Core.List.{List, _∷_, _++_}
+use mathlib.Core.List.{List, [], _∷_, _++_}
 use lib.ListN.{length, take, drop, getD, replicate}
 use mathlib.Core.Path.{_≡_}
 use lib.Dec.{eqb, leb}

@@ -2,7 +2,7 @@
 -- of the function that is gone through, the words that there is room for, and the most shapes of a format.
 use Prim.Native.Nat.{ℕ, suc, _+_, _*_}
 use mathlib.Core.Bool.{Bool, cond, _&&_}
-use mathlib.Core.List.{List, _∷_, _++_, map}
+use mathlib.Core.List.{List, [], _∷_, _++_, map}
 use lib.ListN.{getD}
 use lib.Dec.{eqb, ltb}
 use Rattle.file.specs.Word.{wordAt}

@@ -1,7 +1,7 @@
 -- The way through a law: what is met in a run, in sentences and in conditions. Document 01 leaves the order to the Rust: a call comes before its
 -- argument, a block's argument before its sentences, and these before what is inside them.
 use mathlib.Core.Bool.{Bool}
-use mathlib.Core.List.{List, _++_}
+use mathlib.Core.List.{List, [], _++_}
 use Rattle.law.specs.Tree.{Run, empty, symbol, variable, bracket, call, block, Sentences, noSentence, sentence, Conditions, noCondition, condition}
 use Rattle.matching.specs.Match.{when}
 use Rattle.lints.specs.Calls.{Call}

@@ -3,7 +3,7 @@
 --   64 + t     the place of the name of the call at term record t; the number of names where no function has it
 --   576        the number of names
 use Prim.Native.Nat.{ℕ, zero, suc, _+_, _*_, _-_, _≤_, _<_}
-use mathlib.Core.List.{List, _∷_}
+use mathlib.Core.List.{List, [], _∷_}
 use mathlib.Core.Bool.{Bool, true, false, cond, _||_}
 use mathlib.Core.Path.{_≡_}
 use lib.ListN.{length, take, drop, getD}

@@ -1,6 +1,6 @@
 -- How an index is filled: what the contracts of the functions that fill it say, table by table.
 use Prim.Native.Nat.{ℕ, _+_, _*_, _≤_, _<_, _%_}
-use mathlib.Core.List.{List, _∷_}
+use mathlib.Core.List.{List, [], _∷_}
 use mathlib.Core.Bool.{cond}
 use mathlib.Core.Path.{_≡_}
 use lib.ListN.{getD}

@@ -1,7 +1,7 @@
 -- Why 32 places are enough: refusal 9 leaves at most 32 different variables in a sentence's pattern.
 use Prim.Native.Nat.{ℕ, suc, _≤_}
 use mathlib.Core.Bool.{true}
-use mathlib.Core.List.{List, _∷_, _++_}
+use mathlib.Core.List.{List, [], _∷_, _++_}
 use mathlib.Core.Option.{none, some}
 use mathlib.Core.Path.{_≡_}
 use Rattle.law.specs.Expression.{nothing, symbol, brackets}

@@ -1,6 +1,6 @@
 -- Whether numbers of terms, and numbers of times that a variable stands, are odd.
 use mathlib.Core.Bool.{Bool, true, false, not}
-use mathlib.Core.List.{List, _∷_}
+use mathlib.Core.List.{List, [], _∷_}
 use mathlib.Core.Path.{_≡_}
 use Rattle.law.specs.Expression.{Terms, nothing, symbol, brackets}
 use Rattle.law.specs.Variables.{Variable, sameVariable}

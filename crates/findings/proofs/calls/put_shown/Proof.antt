@@ -1,5 +1,5 @@
 -- `calls::put_shown` meets its contract.
-use mathlib.Core.List.{_∷_}
+use mathlib.Core.List.{[], _∷_}
 use borrow.Author.Needs.{needs}
 use Rattle.file.specs.Sections.{fileOf}
 use Rattle.findings.specs.Code.Events.{sinkOf}

@@ -1,6 +1,6 @@
 -- The invariant: the variable occurs from the first later record on exactly if it occurs from j on.
 use Prim.Native.Nat.{_+_, _*_, _-_, _≤_}
-use mathlib.Core.List.{_∷_}
+use mathlib.Core.List.{[], _∷_}
 use mathlib.Core.Path.{_≡_, refl, sym, _∙_}
 use native.Mathlib.Omega.{arith}
 use Rattle.file.specs.Head.{termAt}
