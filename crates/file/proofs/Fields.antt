@@ -8,7 +8,7 @@ use native.Mathlib.Omega.{arith}
 use native.Mathlib.Decide.{decLt}
 use lib.ListN.{length, take, drop}
 use lib.Dec.{leb}
-use borrow.Author.Tests.{leb-true, eqb-true}
+use borrow.Author.Tests.{leb-true, le-leb, lt-leb, eqb-true}
 use Rattle.names.specs.Name.{nameAllowed, numberAllowed}
 use Rattle.file.specs.Word.{wordAt}
 use Rattle.file.specs.Sections.{File}
@@ -44,6 +44,12 @@ unfolding termAllowed
 kind-over text kind a b n h =
     let e : kind ≡ kind - 9 + 8 + 1 = omega arith in
     rw (e, add-one (kind - 9 + 8), add-eight (kind - 9))
+
+-- a character below the surrogates is allowed
+pub plain-allowed : (text : List ℕ) (kind a b n : ℕ) → (kind ≡ 0) × (a < 55296) × (b ≡ 0) × (n ≡ 0) → termAllowed text kind a b n ≡ true
+unfolding termAllowed
+plain-allowed text kind a b n h =
+    rw (h .0, h .2, h .3, le-leb a 0x10FFFF (omega (arith, h .1)), lt-leb 0xD800 a (h .1))
 
 -- the kinds of an allowed record
 pub kind-small : (text : List ℕ) (kind a b n : ℕ) → termAllowed text kind a b n ≡ true → kind ≤ 8

@@ -1,4 +1,4 @@
--- One arm for each kind; past the last kind nothing is allowed.
+-- A plain character, then one arm for each kind; past the last kind nothing is allowed.
 use Prim.Native.Nat.{_≤_}
 use mathlib.Core.Path.{sym}
 use native.Mathlib.Omega.{arith}
@@ -6,7 +6,7 @@ use borrow.Author.Needs.{needs}
 use borrow.Author.Tests.{eq-eqb, ne-eqb}
 use Rattle.file.specs.Fields.{termAllowed}
 use Rattle.file.proofs.Words.{above}
-use Rattle.file.proofs.Fields.{kind-over}
+use Rattle.file.proofs.Fields.{plain-allowed, kind-over}
 use Rattle.file.proofs.term_allowed.Statement.{statement}
 use Rattle.file.proofs.term_allowed.Tie as tie
 
@@ -15,6 +15,8 @@ unfolding termAllowed
 term-allowed-spec =
     tie.close
     (tie.spec
+    (λ c κs. search needs)
+    (λ c. sym (plain-allowed _ _ _ _ _ (c .before .is-plain .ensures (c .if1 .taken))))
     (λ c κs. search needs)
     (λ c κs. search needs)
     (λ c κs. search needs)
@@ -28,12 +30,12 @@ term-allowed-spec =
     (λ c. rw (c .before .match .keys4) (c .name-fields2 .ensures))
     (λ c. rw (c .before .match .keys5) (c .name-fields3 .ensures))
     (λ c. rw (c .before .match .keys6) (c .name-fields4 .ensures))
-    (λ c. rw (c .before .match .keys7, eq-eqb _ _ (c .if1 .taken)))
-    (λ c. rw (c .before .match .keys7, ne-eqb _ _ (c .if1 .left)))
+    (λ c. rw (c .before .match .keys7, eq-eqb _ _ (c .if2 .taken)))
+    (λ c. rw (c .before .match .keys7, ne-eqb _ _ (c .if2 .left)))
     (λ c. rw (c .before .match .keys8) (c .spelled-name .ensures))
     (λ c. rw (c .match .keys9))
     (λ c.
-    let s = c .before .before .args in
+    let s = c .before .before .before .before .args in
     let k = s .kind in
     let r = c .match .rest in
     let four : 4 ≤ k = above 3 k (above 2 k (above 1 k (above 0 k (omega arith) (r .0 .0 .0 .0 .0 .0 .0 .0 .1)) (r .0 .0 .0 .0 .0 .0 .0 .1)) (r .0 .0 .0 .0 .0 .0 .1)) (r .0 .0 .0 .0 .0 .1) in
