@@ -24,8 +24,8 @@ use Rattle.law.specs.Depth.{deepest, deepestSentences, deepestConditions
 use Rattle.law.specs.Code.Index.{Readable, PartAt}
 use Rattle.law.proofs.RunLaws.{run-empty, run-node}
 use Rattle.law.proofs.Terms.{InsideAllowed}
-use Rattle.law.proofs.Functions.{functionsAt, tree-functions, function-reads, functions-end, kept-reads}
-use Rattle.law.proofs.Parts.{from, from-all, from-length, from-from}
+use Rattle.law.proofs.Functions.{functionsAt, functionAt, tree-functions, function-reads, functions-end, kept-reads}
+use Rattle.law.proofs.Parts.{from, from-all, from-length, from-from, part-word}
 use Rattle.law.proofs.PartLaws.{part-length, part-inside, part-end, part-within, rest-part, part-leaf}
 
 -- two numbers are within a bound exactly when the larger is
@@ -254,6 +254,9 @@ module _ (file : File) where
         pub left-some : 24 ≤ length (from (24 * k) p)
         left-some = omega (arith, from-length (24 * k) p, part-length file readable (at + k) (from (24 * k) p) (so-far .part))
 
+        pub left-room : 24 * k + 24 ≤ length p
+        left-room = omega (arith, from-length (24 * k) p, so-far .within, left-some)
+
         -- its contents end inside the part
         pub left-end : {n : ℕ} → n ≡ wordAt (from (24 * k) p) 12 → 24 * (k + (1 + n)) ≤ length p
         left-end told = omega (arith, told, from-length (24 * k) p, part-within file readable (at + k) (from (24 * k) p) (so-far .part) left-some)
@@ -278,8 +281,11 @@ module _ (file : File) where
             }
 
         -- it is a symbol or a variable
-        pub left-leaf : d ≤ 32 → wordAt (from (24 * k) p) 0 < 6 → LeftWithin at d p (k + 1)
-        left-leaf l h =
+        pub left-leaf : {kind : ℕ} → d ≤ 32 → kind ≡ wordAt p (24 * k) → kind < 6 → LeftWithin at d p (k + 1)
+        left-leaf l told small =
+            let word : wordAt (from (24 * k) p) 0 ≡ wordAt p (24 * k) =
+            part-word (24 * k) (length p - 24 * k) 0 p (omega (arith, left-room)) ∙ ap (wordAt p) (add-zero (24 * k)) in
+            let h : wordAt (from (24 * k) p) 0 < 6 = omega (arith, word, told) in
             let none : wordAt (from (24 * k) p) 12 ≡ 0 = part-leaf file readable (at + k) (from (24 * k) p) (so-far .part) left-some h in
             left-after {n = 0} (sym none) (leaf-within (at + k) d (from (24 * k) p) left-some l h)
 

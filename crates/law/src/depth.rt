@@ -43,7 +43,8 @@ pub fn sentences_in(term: Term) -> usize
 }
 
 // Whether no term of a part of the term records has over 32 brackets, calls and blocks around it, of which `depth` are around the part.
-// The part's first record is number `at`. Symbols and variables hold no term, so that only records of kind 6 to 8 are entered.
+// The part's first record is number `at`. Symbols and variables hold no term, so that only records of kind 6 to 8 are entered. What
+// is left of the part is cut off for these alone, since a slice made for each record is kept in memory.
 fn run_depth(law: &[u8], index: &Index, part: &[u8], at: usize, depth: usize) -> bool
     requires { ⌜ Indexed (now law) (now index) × Readable (fileOf (now law)) × PartAt (fileOf (now law)) at (now part) × (depth ≤ 33) ⌝ }
     ensures { λ r. ⌜ r ≡ leb (deepest (runOf (fileOf (now (law .entry))) (own (fileOf (now (law .entry)))) at (now (part .entry))) depth) 32 ⌝ }
@@ -56,10 +57,10 @@ fn run_depth(law: &[u8], index: &Index, part: &[u8], at: usize, depth: usize) ->
     }
     let mut k = 0;
     while 24 * k < part.len() {
-        let rest = &part[24 * k..];
-        if word_at(rest, 0) < 6 {
+        if word_at(part, 24 * k) < 6 {
             k += 1;
         } else {
+            let rest = &part[24 * k..];
             if !term_depth(law, index, rest, at + k, depth) {
                 return false;
             }

@@ -307,17 +307,18 @@ pub +conditions-depth+run-depth+sentence-depth+sentences-depth+term-depth-spec :
     steps.left-whole (fileOf (start .args .law .now)) (start .args .at) (start .args .depth) (start .args .part .now) (start .pre .1 .2))
     (λ c. omega (arith, c .loop .inv .within))
     (λ c. omega (arith, c .before .loop .inv .within))
-    (λ c. c .before .loop .inv .within)
-    (λ c. omega (arith, c .before .loop .inv .within))
-    (λ c. search needs)
     (λ c κs.
-    let start = c .before .before .before .before .before .before .before in
-    omega (arith, steps.left-some (fileOf (start .args .law .now)) (start .pre .1 .1) (c .before .before .loop .inv) (c .before .loop-test .taken)))
-    (λ c. omega (arith, c .before .before .before .before .loop .inv .within))
-    (λ c. omega (arith, c .before .before .before .loop-test .taken))
+    let start = c .before .before .before .before .before .before in
+    omega (arith, steps.left-room (fileOf (start .args .law .now)) (start .pre .1 .1) (c .before .loop .inv) (c .loop-test .taken)))
+    (λ c. omega (arith, c .before .before .before .loop .inv .within))
+    (λ c. omega (arith, c .before .before .loop-test .taken))
     (λ c.
-    let start = c .before .before .before .before .before .before .before .before .before in
-    steps.left-leaf (fileOf (start .args .law .now)) (start .pre .1 .1) (c .before .before .before .before .loop .inv) (c .before .before .before .loop-test .taken) (omega (arith, c .before .before .before .before .before .if2 .left)) (omega (arith, c .before .word-at .ensures, c .if3 .taken)))
+    let start = c .before .before .before .before .before .before .before .before in
+    steps.left-leaf (fileOf (start .args .law .now)) (start .pre .1 .1) (c .before .before .before .loop .inv) (c .before .before .loop-test .taken) (omega (arith, c .before .before .before .before .if2 .left)) (c .before .word-at .ensures) (c .if3 .taken))
+    (λ c. omega (arith, c .before .before .before .loop .inv .within))
+    (λ c. c .before .before .before .loop .inv .within)
+    (λ c. omega (arith, c .before .before .before .loop .inv .within))
+    (λ c. search needs)
     (λ c.
     let start = c .before .before .before .before .before .before .before .before .before in
     omega (arith, c .before .before .before .before .loop .inv .part .inside, laws.terms-limit (start .args .law .now) (start .args .index .now) (start .pre .1 .0)))
