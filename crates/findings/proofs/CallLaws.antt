@@ -139,9 +139,7 @@ module _ (file : File) (t : ℕ) where
       → text ≡ file .text .records → start ≡ wordAt (file .terms .records) (24 * t + 4) → len ≡ wordAt (file .terms .records) (24 * t + 8)
       → start + len ≤ length text
   name-inside {text} {start} {len} fields inside kind e a b =
-      rw e
-      (call-name-inside file t (wordAt (file .terms .records) (24 * t + 0)) start len fields inside refl a b
-      (zero-offset (file .terms .records) (24 * t) ∙ kind))
+      rw e (call-name-inside file t start len fields inside kind a b)
 
   -- why a call fails, as it is asked
   failure-is : {name text part : List ℕ} {start len : ℕ} {o : Option Failure} → text ≡ file .text .records → start ≡ wordAt (file .terms .records) (24 * t + 4)

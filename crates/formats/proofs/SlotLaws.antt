@@ -394,10 +394,6 @@ module _ (file : File) where
 
   -- ---- slots
 
-  -- a term that is no call
-  pub slot-other : (t kind : ℕ) → kind ≡ wordAt (file .terms .records) (24 * t + 0) → (kind ≡ 7 → ⊥) → CalleeSlot file t 576
-  slot-other t kind e d = record { inside = omega arith; holds = λ q. absurd (d (e ∙ zero-offset (file .terms .records) (24 * t) ∙ q)) }
-
   -- a call of a function
   pub slot-found : (t f : ℕ) → file .functions .count ≤ 64 → NamedFrom file 0 (callFolded file t) f → f < file .functions .count → CalleeSlot file t f
   slot-found t f b n l = record {
@@ -413,13 +409,13 @@ module _ (file : File) where
   }
 
   -- the name of a call lies inside the text
-  pub call-name-inside : (t kind start len : ℕ) → fieldsAllowed file ≡ true → t < file .terms .count → kind ≡ wordAt (file .terms .records) (24 * t + 0)
-      → start ≡ wordAt (file .terms .records) (24 * t + 4) → len ≡ wordAt (file .terms .records) (24 * t + 8) → kind ≡ 7 → start + len ≤ length (file .text .records)
-  call-name-inside t kind start len h l k a b e =
+  pub call-name-inside : (t start len : ℕ) → fieldsAllowed file ≡ true → t < file .terms .count → wordAt (file .terms .records) (24 * t) ≡ 7
+      → start ≡ wordAt (file .terms .records) (24 * t + 4) → len ≡ wordAt (file .terms .records) (24 * t + 8) → start + len ≤ length (file .text .records)
+  call-name-inside t start len h l kind a b =
       rw (a, b)
       (call-inside (file .text .records) (wordAt (file .terms .records) (24 * t)) (wordAt (file .terms .records) (24 * t + 4)) (wordAt (file .terms .records) (24 * t + 8)) (wordAt (file .terms .records) (24 * t + 12))
       (term-at-allowed (file .text .records) (file .terms .records) (file .terms .count) t (fields-terms file h) l)
-      (sym (zero-offset (file .terms .records) (24 * t)) ∙ sym k ∙ e))
+      kind)
 
   -- the name of a call, as it is read
   pub call-name-read : (t start len : ℕ) (text name : List ℕ) → text ≡ file .text .records → start ≡ wordAt (file .terms .records) (24 * t + 4)
@@ -435,7 +431,27 @@ module _ (file : File) where
     calls = λ i l. absurd (omega arith);
   }
 
-  -- one more call is written, or another term's slot
+  -- the kind of a term record, as it is read
+  pub kind-read : (t kind : ℕ) → kind ≡ wordAt (file .terms .records) (24 * t + 0) → wordAt (file .terms .records) (24 * t) ≡ kind
+  kind-read t kind e = sym (e ∙ zero-offset (file .terms .records) (24 * t))
+
+  -- a term that is no call has no slot
+  pub slots-pass : (slots : List ℕ) (t kind : ℕ) → SlotsUpTo file slots t → kind ≡ wordAt (file .terms .records) (24 * t + 0) → (kind ≡ 7 → ⊥)
+      → SlotsUpTo file slots (t + 1)
+  slots-pass slots t kind s e other = record {
+    functions = s .functions;
+    count = s .count;
+    calls = λ i k call. go i k call (decLt i t);
+  }
+    where
+      go : (i : ℕ) → i < t + 1 → wordAt (file .terms .records) (24 * i) ≡ 7 → Dec (i < t)
+          → getD slots (64 + i) 0 ≡ position (fileNames file) (callFolded file i)
+      go i k call (yes m) = s .calls i m call
+      go i k call (no m) =
+          let q : i ≡ t = omega arith in
+          absurd (other (sym (kind-read t kind e) ∙ rw q at call))
+
+  -- one more call is written
   pub slots-next : (slots : List ℕ) (t r : ℕ) → file .functions .count ≤ 64 → file .terms .count ≤ 512 → length slots ≡ 577 → SlotsUpTo file slots t
       → t < file .terms .count → CalleeSlot file t r → SlotsUpTo file (set slots (64 + t) (getD slots r 0)) (t + 1)
   slots-next slots t r fb tb len s l c = record {

@@ -12,9 +12,10 @@ use names::names_equal;
 use names::names_order;
 ghost use mathlib.Core.Path.{_≡_};
 ghost use mathlib.Core.Bool.{true};
-ghost use Prim.Native.Nat.{_+_, _≤_, _<_};
+ghost use Prim.Native.Nat.{_+_, _*_, _≤_, _<_};
 ghost use lib.ListN.{length};
 ghost use Rattle.names.specs.Name.{folded, orderBytes};
+ghost use Rattle.file.specs.Word.{wordAt};
 ghost use Rattle.file.specs.Sections.{fileOf};
 ghost use Rattle.file.specs.Fields.{fieldsAllowed};
 ghost use Rattle.law.specs.Code.Index.{Indexed};
@@ -118,12 +119,10 @@ fn fill_functions(law: &[u8], index: &Index, weights: &[u8; 64], slots: &mut Slo
 // The slot that has the place of the name of the call at the term record t: that of a function with this name, or the number of
 // names where there is none.
 fn callee_slot(law: &[u8], index: &Index, t: usize) -> usize
-    requires { ⌜ Indexed (now law) (now index) × (fieldsAllowed (fileOf (now law)) ≡ true) × (t < fileOf (now law) .terms .count) ⌝ }
+    requires { ⌜ Indexed (now law) (now index) × (fieldsAllowed (fileOf (now law)) ≡ true) × (t < fileOf (now law) .terms .count)
+        × (wordAt (fileOf (now law) .terms .records) (24 * t) ≡ 7) ⌝ }
     ensures { λ r. ⌜ CalleeSlot (fileOf (now (law .entry))) t r ⌝ }
 {
-    if term_word(law, index, t, 0) != 7 {
-        return 576;
-    }
     let start = term_word(law, index, t, 4);
     let len = term_word(law, index, t, 8);
     let f = first_named(law, index, name_in(text(law, index), start, len), 0);
@@ -133,7 +132,8 @@ fn callee_slot(law: &[u8], index: &Index, t: usize) -> usize
     576
 }
 
-// Writes the place of the name of each call, where those of the functions and the number of names are written.
+// Writes the place of the name of each call, where those of the functions and the number of names are written. The slots of
+// other terms are not read.
 fn fill_calls(law: &[u8], index: &Index, slots: &mut Slots)
     requires { ⌜ Indexed (now law) (now index) × (fieldsAllowed (fileOf (now law)) ≡ true) × (length (now slots) ≡ 577) × SlotsUpTo (fileOf (now law)) (now slots) 0 ⌝ }
     ensures { λ _. ⌜ SlotsUpTo (fileOf (now (law .entry))) (now (slots .exit)) (fileOf (now (law .entry)) .terms .count) ⌝ }
@@ -141,8 +141,10 @@ fn fill_calls(law: &[u8], index: &Index, slots: &mut Slots)
     let count = terms(index);
     let mut t = 0;
     while t < count {
-        let from = callee_slot(law, index, t);
-        slots[64 + t] = slots[from];
+        if term_word(law, index, t, 0) == 7 {
+            let from = callee_slot(law, index, t);
+            slots[64 + t] = slots[from];
+        }
         t += 1;
     }
 }

@@ -2,7 +2,7 @@
 use Prim.Native.Nat.{ℕ, _+_, _*_, _≤_}
 use mathlib.Core.Bool.{true}
 use mathlib.Core.List.{List}
-use mathlib.Core.Path.{_≡_, refl, sym, ap, _∙_}
+use mathlib.Core.Path.{_≡_, sym, ap, _∙_}
 use native.Mathlib.Omega.{arith}
 use lib.ListN.{length, take, drop, getD, length-take, length-drop}
 use Rattle.file.specs.Word.{wordAt}
@@ -13,7 +13,7 @@ use Rattle.file.proofs.SectionLaws.{sections-limits, sections-records}
 use Rattle.law.specs.Places.{firstSentence}
 use Rattle.law.specs.Reading.{nameAt, functionName}
 use Rattle.law.specs.Code.Index.{Indexed}
-use Rattle.law.proofs.IndexLaws.{functions-limit, zero-offset}
+use Rattle.law.proofs.IndexLaws.{functions-limit}
 use Rattle.formats.proofs.SlotLaws.{call-name-inside}
 use Rattle.lints.specs.Code.Records.{callAt}
 use Rattle.messages.specs.Code.Spoken.{CallHere}
@@ -54,9 +54,7 @@ module _ {bytes index : List ℕ} (indexed : Indexed bytes index) where
     -- a call's name lies inside the text
     pub call-inside : fieldsAllowed (fileOf bytes) ≡ true → start + len ≤ length text
     call-inside fields =
-        rw all
-        (call-name-inside (fileOf bytes) t 7 start len fields (here .inside)
-        (sym (zero-offset (fileOf bytes .terms .records) (24 * t) ∙ here .kind)) from size refl)
+        rw all (call-name-inside (fileOf bytes) t start len fields (here .inside) (here .kind) from size)
 
     -- it is read, and is not long
     pub call-read : {name : List ℕ} → name ≡ take len (drop start text) → (callAt (fileOf bytes) t .name .spelled ≡ name) × (length name ≤ 4096)

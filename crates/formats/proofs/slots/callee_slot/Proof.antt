@@ -1,8 +1,8 @@
--- No call, a call of a function, and one of a name that no function has: `slot-other`, `slot-found`, `slot-missing`. A call's name lies inside the text.
+-- A call of a function, and one of a name that no function has: `slot-found`, `slot-missing`. A call's name lies inside the text.
 use native.Mathlib.Omega.{arith}
 use Rattle.file.specs.Sections.{fileOf}
 use Rattle.law.proofs.IndexLaws.{functions-limit}
-use Rattle.formats.proofs.SlotLaws.{slot-other, slot-found, slot-missing, call-name-inside, call-name-read}
+use Rattle.formats.proofs.SlotLaws.{slot-found, slot-missing, call-name-inside, call-name-read}
 use borrow.Author.Needs.{needs}
 use Rattle.formats.proofs.slots.callee_slot.Statement.{statement}
 use Rattle.formats.proofs.slots.callee_slot.Tie as tie
@@ -12,17 +12,15 @@ callee-slot-spec =
     tie.close
     (tie.spec
     (λ c κs. search needs)
-    (λ c. slot-other _ _ _ (c .before .term-word .ensures) (c .if1 .taken))
     (λ c κs. search needs)
     (λ c κs. search needs)
+    (λ c κs. let p = c .before .before .before .before .pre in
+    rw (c .text .ensures) (call-name-inside _ _ _ _ (p .1) (p .2) (p .3) (c .before .before .term-word .ensures) (c .before .term-word2 .ensures)))
     (λ c κs. search needs)
-    (λ c κs. let p = c .before .before .before .before .before .before .pre in
-    rw (c .text .ensures) (call-name-inside _ _ _ _ _ (p .1) (p .2) (c .before .before .before .before .term-word .ensures) (c .before .before .term-word2 .ensures) (c .before .term-word3 .ensures) (c .before .before .before .if1 .left)))
     (λ c κs. search needs)
-    (λ c κs. search needs)
-    (λ c. let start = c .before .before .before .before .before .before .before .before .before .before in
-    let name = call-name-read (fileOf (start .args .law .now)) _ _ _ _ _ (c .before .before .before .before .text .ensures) (c .before .before .before .before .before .before .term-word2 .ensures) (c .before .before .before .before .before .term-word3 .ensures) (c .before .before .before .name-in .ensures) in
+    (λ c. let start = c .before .before .before .before .before .before .before .before in
+    let name = call-name-read (fileOf (start .args .law .now)) _ _ _ _ _ (c .before .before .before .before .text .ensures) (c .before .before .before .before .before .before .term-word .ensures) (c .before .before .before .before .before .term-word2 .ensures) (c .before .before .before .name-in .ensures) in
     slot-found _ _ _ (functions-limit _ _ (start .pre .0)) (rw name at (c .before .before .first-named .ensures)) (omega (arith, c .before .functions .ensures, start .pre .0 .words .functions)))
-    (λ c. let start = c .before .before .before .before .before .before .before .before .before .before in
-    let name = call-name-read (fileOf (start .args .law .now)) _ _ _ _ _ (c .before .before .before .before .text .ensures) (c .before .before .before .before .before .before .term-word2 .ensures) (c .before .before .before .before .before .term-word3 .ensures) (c .before .before .before .name-in .ensures) in
+    (λ c. let start = c .before .before .before .before .before .before .before .before in
+    let name = call-name-read (fileOf (start .args .law .now)) _ _ _ _ _ (c .before .before .before .before .text .ensures) (c .before .before .before .before .before .before .term-word .ensures) (c .before .before .before .before .before .term-word2 .ensures) (c .before .before .before .name-in .ensures) in
     slot-missing _ _ _ (rw name at (c .before .before .first-named .ensures)) (omega (arith, c .before .functions .ensures, start .pre .0 .words .functions))))

@@ -1,12 +1,13 @@
 -- The invariant: the slots hold with the calls of the term records passed (`slots-next`).
-use Prim.Native.Nat.{_-_, _≤_}
+use Prim.Native.Nat.{_+_, _-_, _≤_}
+use mathlib.Core.Logic.{⊎-elim}
 use mathlib.Core.Path.{_≡_, _∙_}
 use native.Mathlib.Omega.{arith}
 use lib.ListN.{length, length-set}
 use Rattle.file.specs.Sections.{fileOf}
 use Rattle.law.proofs.IndexLaws.{functions-limit, terms-limit}
 use Rattle.formats.specs.Code.Slots.{SlotsUpTo}
-use Rattle.formats.proofs.SlotLaws.{slots-next}
+use Rattle.formats.proofs.SlotLaws.{kind-read, slots-pass, slots-next}
 use Rattle.formats.proofs.slots.fill_calls.Statement.{statement}
 use Rattle.formats.proofs.slots.fill_calls.Tie as tie
 
@@ -16,6 +17,19 @@ Inv-loop law index slots₀ count t₀ slots t =
 
 abbrev μ-loop : tie.MeasureT-loop
 μ-loop law index slots₀ count t₀ slots t = count - t
+
+-- the slots, where the ways meet
+passed : (c : tie.Joined1 Inv-loop μ-loop) → (let start = c .before .before .before .before .before .before in
+    (length (c .if1 .slots) ≡ 577) × SlotsUpTo (fileOf (start .args .law .now)) (c .if1 .slots) (c .before .before .before .loop .t + 1))
+passed c =
+    let start = c .before .before .before .before .before .before in
+    let the-loop = c .before .before .before .loop in
+    ⊎-elim
+    (λ w.
+    rw (w .3)
+    (length-set (the-loop .slots) _ _ ∙ the-loop .inv .2, slots-next _ (the-loop .slots) (the-loop .t) _ (functions-limit _ _ (start .pre .0)) (terms-limit _ _ (start .pre .0)) (the-loop .inv .2) (the-loop .inv .3) (omega arith) (w .1 .ensures)))
+    (λ w. rw (w .1) (the-loop .inv .2, slots-pass _ (the-loop .slots) (the-loop .t) _ (the-loop .inv .3) (c .before .term-word .ensures) (w .0 .left)))
+    (c .if1 .came)
 
 pub fill-calls-spec : {M : Type 1} → statement M
 fill-calls-spec =
@@ -27,19 +41,15 @@ fill-calls-spec =
     (λ c.
     let start = c .before .before in
     (c .terms .ensures ∙ start .pre .0 .words .terms, omega arith, start .pre .2, start .pre .3))
-    (λ c κs. let p = c .before .before .before .before .pre in (p .0, p .1, omega arith))
+    (λ c κs. let p = c .before .before .before .before .pre in (p .0, omega arith, omega arith))
+    (λ c κs. let start = c .before .before .before .before .before .before in
+    (start .pre .0, start .pre .1, omega arith, kind-read (fileOf (start .args .law .now)) _ _ (c .before .term-word .ensures) ∙ c .if1 .taken))
     (λ c. omega (arith, c .callee-slot .ensures .inside))
-    (λ c. omega (arith, terms-limit _ _ (c .before .before .before .before .before .before .pre .0)))
-    (λ c. omega (arith, terms-limit _ _ (c .before .before .before .before .before .before .pre .0)))
+    (λ c. omega (arith, terms-limit _ _ (c .before .before .before .before .before .before .before .before .pre .0)))
+    (λ c. omega (arith, terms-limit _ _ (c .before .before .before .before .before .before .before .before .pre .0)))
     (λ c. omega arith)
     (λ c. omega arith)
-    (λ c. let l = c .before .before .before .loop in
-    let p = c .before .before .before .before .before .before .pre in (
-      l .inv .0,
-      omega arith,
-      length-set (l .slots) _ _ ∙ l .inv .2,
-      slots-next _ (l .slots) (l .t) _ (functions-limit _ _ (p .0)) (terms-limit _ _ (p .0)) (l .inv .2) (l .inv .3) (omega arith) (c .before .callee-slot .ensures),
-    ))
+    (λ c. (c .before .before .before .loop .inv .0, omega arith, passed c .0, passed c .1))
     (λ c. let i = c .before .loop .inv in
     let e : c .before .loop .t ≡ fileOf (c .before .before .before .before .args .law .now) .terms .count = omega arith in
     rw e at (i .3)))
