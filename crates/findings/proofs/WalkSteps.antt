@@ -5,7 +5,7 @@ use mathlib.Core.Bool.{Bool}
 use mathlib.Core.List.{List, [], _++_, append-nil}
 use mathlib.Core.Path.{_≡_, refl, sym, ap, _∙_}
 use native.Mathlib.Omega.{arith}
-use native.Mathlib.Nat.{add-assoc, le-of-lt}
+use native.Mathlib.Nat.{add-assoc, add-zero, le-of-lt}
 use native.Mathlib.Numerals.{add-one}
 use lib.ListN.{length, take, drop, getD, length-take}
 use lib.Dec.{eqb}
@@ -19,7 +19,7 @@ use Rattle.law.specs.Places.{blockFirst, sentencesOf, firstSentence, conditions
 use Rattle.law.specs.Runs.{endOf}
 use Rattle.law.specs.Reading.{markAt, runOf, own, sentencesAt, sentencesIn, conditionsFrom, treeOf}
 use Rattle.law.specs.Code.Index.{Indexed, Readable, PartAt}
-use Rattle.law.proofs.Parts.{terms-word, terms-contents}
+use Rattle.law.proofs.Parts.{part-word, terms-word, terms-end, terms-contents}
 use Rattle.law.proofs.RunLaws.{end-high, run-empty, run-node, fits-first}
 use Rattle.law.proofs.Functions.{functionsAt, tree-functions, function-reads, functions-end as functions-over, kept-reads}
 use Rattle.law.proofs.PartLaws.{part-length, part-at, part-inside, part-leaf, part-end, part-sentences, contents-part, rest-part, part-small, pattern-part, result-part, condition-result-part, condition-pattern-part}
@@ -502,9 +502,10 @@ module _ {file : File} {formats : Inferred} {task : Task} {at i : ℕ} {p : List
         }
 
     -- the records after a symbol or a variable
-    pub leaf-next : Readable file → PartAt file at p → (kind : ℕ) → kind ≡ wordAt (from i p) 0 → kind < 6 → Left file formats task at p start now (i + 24)
+    pub leaf-next : Readable file → PartAt file at p → (kind : ℕ) → kind ≡ wordAt p i → kind < 6 → Left file formats task at p start now (i + 24)
     leaf-next readable whole kind k h =
-        let leaf : wordAt (from i p) 0 < 6 = omega (arith, k) in
+        let word : wordAt (from i p) 0 ≡ wordAt p i = part-word i (length p - i) 0 p (omega arith) ∙ ap (wordAt p) (add-zero i) in
+        let leaf : wordAt (from i p) 0 < 6 = omega (arith, k, word) in
         left-next readable whole 24 now (leaf-end file readable (at + i / 24) (from i p) (left .part) left-some leaf)
         (rw (leaf-none file formats task (at + i / 24) (from i p) left-some leaf) (collect-none (task .room) now))
 

@@ -87,7 +87,8 @@ fn walk_term(
 }
 
 // Goes through a part of the term records, the first of which is number `at`. Kinds below 6 are symbols and variables, in
-// which nothing is met. Their n is 0 (refusal 5), so that the step is constant and the next record does not wait for n.
+// which nothing is met. Their n is 0 (refusal 5), so that the step is constant and the next record does not wait for n. What
+// is left of the part is cut off for the others alone, since a slice made for each record is kept in memory.
 fn walk_run(
     law: &[u8],
     index: &Index,
@@ -106,10 +107,10 @@ fn walk_run(
     let mut so_far = tally;
     let mut i = 0;
     while i + 24 <= part.len() {
-        let left = &part[i..];
-        if word_at(left, 0) < 6 {
+        if word_at(part, i) < 6 {
             i += 24;
         } else {
+            let left = &part[i..];
             let t = at + i / 24;
             so_far = walk_term(law, index, slots, store, task, left, t, out, so_far);
             i += end_of(left);

@@ -354,18 +354,17 @@ pub +walk-conditions+walk-pattern+walk-run+walk-sentence+walk-sentences+walk-ter
     (λ c.
     let start = c .before .before .before .before .before in
     omega (arith, c .loop .inv .1 .within, steps.run-small (start .pre .1 .0) (start .args .at) (start .args .part .now) (start .pre .1 .1)))
-    (λ c. c .before .loop .inv .1 .within)
-    (λ c. c .before .loop .inv .1 .within)
-    (λ c. search needs)
-    (λ c κs.
-    omega (arith, steps.left-some (c .before .before .loop .inv .1) (c .before .loop-test .taken)))
-    (λ c. omega (arith, c .before .before .before .loop-test .taken, c .before .before .before .before .loop .inv .1 .within))
-    (λ c. omega (arith, c .before .before .before .loop-test .taken))
+    (λ c κs. omega (arith, c .loop-test .taken))
+    (λ c. omega (arith, c .before .before .loop-test .taken, c .before .before .before .loop .inv .1 .within))
+    (λ c. omega (arith, c .before .before .loop-test .taken))
     (λ c.
-    let start = c .before .before .before .before .before .before .before .before .before in
-    let the-loop = c .before .before .before .before .loop in
+    let start = c .before .before .before .before .before .before .before .before in
+    let the-loop = c .before .before .before .loop in
     let the-word-at = c .before .word-at in
-    (the-loop .inv .0, steps.leaf-next (the-loop .inv .1) (c .before .before .before .loop-test .taken) (start .pre .1 .0 .asked .readable) (start .pre .1 .1) (the-word-at .result) (the-word-at .ensures) (c .if1 .taken)))
+    (the-loop .inv .0, steps.leaf-next (the-loop .inv .1) (c .before .before .loop-test .taken) (start .pre .1 .0 .asked .readable) (start .pre .1 .1) (the-word-at .result) (the-word-at .ensures) (c .if1 .taken)))
+    (λ c. c .before .before .before .loop .inv .1 .within)
+    (λ c. c .before .before .before .loop .inv .1 .within)
+    (λ c. search needs)
     (λ c.
     let start = c .before .before .before .before .before .before .before .before .before in
     let the-left = c .before .before .before .before .loop .inv .1 in
