@@ -466,13 +466,17 @@ module _ (file : File) (formats : Inferred) (task : Task) where
 
 module _ {file : File} {formats : Inferred} {task : Task} {at i : ℕ} {p : List ℕ} {start now : Sink} (left : Left file formats task at p start now i) where
   -- no record is left
-  pub left-end : length p < i + 24 → now ≡ after file formats task start (runMet file formats task at p)
+  pub left-end : length p ≤ i → now ≡ after file formats task start (runMet file formats task at p)
   left-end h =
       collect-none (task .room) now
       ∙ sym (rw (run-none file formats task (at + i / 24) (from i p) (omega (arith, from-length i p))) at (left .met))
 
   pub next-within : {e : ℕ} → e ≤ length (from i p) → i + e ≤ length p
   next-within h = omega (arith, from-length i p, left .within)
+
+  -- a byte that is left is one of a whole record
+  pub left-more : Readable file → i < length p → i + 24 ≤ length p
+  left-more readable h = omega (arith, from-length i p, part-length file readable (at + i / 24) (from i p) (left .part))
 
   module _ (more : i + 24 ≤ length p) where
     pub left-some : 24 ≤ length (from i p)

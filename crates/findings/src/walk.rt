@@ -106,7 +106,7 @@ fn walk_run(
 {
     let mut so_far = tally;
     let mut i = 0;
-    while i + 24 <= part.len() {
+    while i < part.len() {
         if word_at(part, i) < 6 {
             i += 24;
         } else {

@@ -351,30 +351,36 @@ pub +walk-conditions+walk-pattern+walk-run+walk-sentence+walk-sentences+walk-ter
     let file = fileOf (start .args .law .now) in
     let formats = formatsIn file (start .args .task .limit) (start .args .store .now) in
     (refl, steps.left-start file formats (start .args .task) (start .args .at) (start .args .part .now) (sinkOf (start .args .tally) (start .args .out .now)) (start .pre .1 .1)))
+    (λ c κs.
+    let start = c .before .before .before .before .before .before in
+    omega (arith, steps.left-more (c .before .loop .inv .1) (start .pre .1 .0 .asked .readable) (c .loop-test .taken)))
     (λ c.
-    let start = c .before .before .before .before .before in
-    omega (arith, c .loop .inv .1 .within, steps.run-small (start .pre .1 .0) (start .args .at) (start .args .part .now) (start .pre .1 .1)))
-    (λ c κs. omega (arith, c .loop-test .taken))
-    (λ c. omega (arith, c .before .before .loop-test .taken, c .before .before .before .loop .inv .1 .within))
+    let start = c .before .before .before .before .before .before .before .before in
+    omega (arith, steps.left-more (c .before .before .before .loop .inv .1) (start .pre .1 .0 .asked .readable) (c .before .before .loop-test .taken)))
     (λ c. omega (arith, c .before .before .loop-test .taken))
     (λ c.
     let start = c .before .before .before .before .before .before .before .before in
     let the-loop = c .before .before .before .loop in
+    let readable = start .pre .1 .0 .asked .readable in
     let the-word-at = c .before .word-at in
-    (the-loop .inv .0, steps.leaf-next (the-loop .inv .1) (c .before .before .loop-test .taken) (start .pre .1 .0 .asked .readable) (start .pre .1 .1) (the-word-at .result) (the-word-at .ensures) (c .if1 .taken)))
+    (the-loop .inv .0, steps.leaf-next (the-loop .inv .1) (steps.left-more (the-loop .inv .1) readable (c .before .before .loop-test .taken)) readable (start .pre .1 .1) (the-word-at .result) (the-word-at .ensures) (c .if1 .taken)))
     (λ c. c .before .before .before .loop .inv .1 .within)
     (λ c. c .before .before .before .loop .inv .1 .within)
     (λ c. search needs)
     (λ c.
     let start = c .before .before .before .before .before .before .before .before .before in
     let the-left = c .before .before .before .before .loop .inv .1 in
-    omega (arith, steps.at-small (start .pre .1 .0) (start .args .at + c .before .before .before .before .loop .i / 24) (from (c .before .before .before .before .loop .i) (start .args .part .now)) (the-left .part) (steps.left-some the-left (c .before .before .before .loop-test .taken))))
+    let more = steps.left-more the-left (start .pre .1 .0 .asked .readable) (c .before .before .before .loop-test .taken) in
+    omega (arith, steps.at-small (start .pre .1 .0) (start .args .at + c .before .before .before .before .loop .i / 24) (from (c .before .before .before .before .loop .i) (start .args .part .now)) (the-left .part) (steps.left-some the-left more)))
     (λ c κs.
     let start = c .before .before .before .before .before .before .before .before .before .before in
     let the-left = c .before .before .before .before .before .loop .inv .1 in
-    let more = c .before .before .before .before .loop-test .taken in
+    let more = steps.left-more the-left (start .pre .1 .0 .asked .readable) (c .before .before .before .before .loop-test .taken) in
     (steps.first-less the-left more t (start .pre .0), (start .pre .1 .0, the-left .part, steps.left-some the-left more)))
-    (λ c κs. steps.left-some (c .before .before .before .before .before .before .before .before .loop .inv .1) (c .before .before .before .before .before .before .before .loop-test .taken))
+    (λ c κs.
+    let start = c .before .before .before .before .before .before .before .before .before .before .before .before .before in
+    let the-left = c .before .before .before .before .before .before .before .before .loop .inv .1 in
+    steps.left-some the-left (steps.left-more the-left (start .pre .1 .0 .asked .readable) (c .before .before .before .before .before .before .before .loop-test .taken)))
     (λ c.
     let start = c .before .before .before .before .before .before .before .before .before .before .before .before .before .before in
     let the-left = c .before .before .before .before .before .before .before .before .before .loop .inv .1 in
@@ -383,9 +389,11 @@ pub +walk-conditions+walk-pattern+walk-run+walk-sentence+walk-sentences+walk-ter
     (λ c.
     let start = c .before .before .before .before .before .before .before .before .before .before .before .before .before .before in
     let the-loop = c .before .before .before .before .before .before .before .before .before .loop in
+    let readable = start .pre .1 .0 .asked .readable in
+    let more = steps.left-more (the-loop .inv .1) readable (c .before .before .before .before .before .before .before .before .loop-test .taken) in
     let the-walk-term = c .before .before .before .walk-term in (
       the-walk-term .kept .1 .1 .1 .1 .1 .1 .1 .0 ∙ the-loop .inv .0,
-      steps.left-next (the-loop .inv .1) (c .before .before .before .before .before .before .before .before .loop-test .taken) (start .pre .1 .0 .asked .readable) (start .pre .1 .1) (c .end-of .result) (sinkOf (the-walk-term .result) (the-walk-term .last .1 .1 .1 .1 .1 .1 .1 .0)) (c .end-of .ensures .0) (the-walk-term .ensures),
+      steps.left-next (the-loop .inv .1) more readable (start .pre .1 .1) (c .end-of .result) (sinkOf (the-walk-term .result) (the-walk-term .last .1 .1 .1 .1 .1 .1 .1 .0)) (c .end-of .ensures .0) (the-walk-term .ensures),
     ))
     (λ c. c .before .loop .inv .0)
     (λ c. steps.left-end (c .before .loop .inv .1) (c .loop-test .left)))
