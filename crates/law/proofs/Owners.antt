@@ -22,7 +22,7 @@ use Rattle.law.proofs.PlaceLaws.{sentence-start, sentence-next, block-n
 use Rattle.law.proofs.RunLaws.{run-first, by-records}
 use Rattle.law.proofs.Terms.{InsideAllowed, block-size, inside-allowed}
 use Rattle.law.specs.Reading.{sentencesIn}
-use Rattle.law.proofs.Allowed.{all-used, pattern-fits, result-fits, condition-result-fits, wanted-fits, block-after}
+use Rattle.law.proofs.Allowed.{all-used, pattern-fits, result-fits, condition-result-fits, condition-pattern-fits, block-after}
 use Rattle.law.specs.Code.Index.{Readable}
 use Rattle.law.proofs.DepthLaws.{sentences-grow, PartsDepth, kept-depth, function-parts-depth, condition-parts-depth}
 
@@ -171,7 +171,7 @@ module _ (file : File) (readable : Readable file) where
           (condition-parts-depth file s d bound c from below parts .0)
       in-condition c from below under over (no l) =
           run-block-depth d bound t (conditionResultAt file s c + conditionResultSize file c) (conditionPatternSize file c) (omega (arith, asked-inside file used s c inside below))
-          (wanted-fits file runs s inside c from below)
+          (condition-pattern-fits file runs s inside c from below)
           (omega arith) (omega (arith, asked-next file s c)) some
           (condition-parts-depth file s d bound c from below parts .1)
 

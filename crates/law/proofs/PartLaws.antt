@@ -18,7 +18,7 @@ use Rattle.law.proofs.RunLaws.{fits-first}
 use Rattle.law.proofs.Terms.{InsideAllowed, inside-allowed, block-size}
 use Rattle.law.proofs.PlaceLaws.{block-inside, pattern-inside, result-inside, asked-inside}
 use Rattle.law.proofs.IndexLaws.{terms-limit}
-use Rattle.law.proofs.Allowed.{all-used, pattern-fits, result-fits, condition-result-fits, wanted-fits}
+use Rattle.law.proofs.Allowed.{all-used, pattern-fits, result-fits, condition-result-fits, condition-pattern-fits}
 
 -- nothing is inside a record of a kind below 6
 leaf-none : (kind a b n : ℕ) → kind < 6 → InsideAllowed (termFrom kind a b) n → n ≡ 0
@@ -143,7 +143,7 @@ module _ (file : File) (readable : Readable file) where
     count = conditionPatternSize file c;
     inside = asked-inside file (all-used file (readable .runs)) s c (o .sentence) (o .upTo);
     same = refl;
-    fit = wanted-fits file (readable .runs) s (o .sentence) c (o .from) (o .upTo);
+    fit = condition-pattern-fits file (readable .runs) s (o .sentence) c (o .from) (o .upTo);
   }
 
 -- a part is at most all term records

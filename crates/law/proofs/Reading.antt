@@ -20,7 +20,7 @@ use Rattle.law.proofs.PlaceLaws.{condition-next, pattern-next, pattern-
 use Rattle.law.proofs.RunLaws.{run-none, run-first, by-records}
 use Rattle.law.proofs.Terms.{block-size}
 use Rattle.law.specs.Reading.{sentencesIn}
-use Rattle.law.proofs.Allowed.{all-used, pattern-fits, result-fits, condition-result-fits, wanted-fits, block-after}
+use Rattle.law.proofs.Allowed.{all-used, pattern-fits, result-fits, condition-result-fits, condition-pattern-fits, block-after}
 use Rattle.law.specs.Code.Index.{Readable}
 
 -- sentences after some of them
@@ -115,7 +115,7 @@ module _ (file : File) (readable : Readable file) (s : ℕ) (inside : s < file .
         run-reads (conditionResultAt file s c) (conditionResultSize file c) (asked-after file s c low) (omega (arith, asked-within file s c (omega arith)))
             (condition-result-fits file (readable .runs) s inside c low (omega arith)),
         run-reads (conditionResultAt file s c + conditionResultSize file c) (conditionPatternSize file c) (omega (arith, asked-after file s c low)) (asked-within file s c (omega arith))
-            (wanted-fits file (readable .runs) s inside c low (omega arith)),
+            (condition-pattern-fits file (readable .runs) s inside c low (omega arith)),
         conditions-read left (suc c) (omega arith) (omega arith),
       )
 

@@ -12,7 +12,7 @@ use Rattle.law.specs.Runs.{runFits, usedUp}
 use Rattle.law.specs.Code.Index.{Readable, PartAt}
 use Rattle.law.proofs.PlaceLaws.{condition-next, asked-first, asked-next, asked-last, pattern-next, pattern-inside, result-inside, asked-inside}
 use Rattle.law.proofs.RunLaws.{fits-first, by-records}
-use Rattle.law.proofs.Allowed.{all-used, pattern-fits, result-fits, condition-result-fits, wanted-fits}
+use Rattle.law.proofs.Allowed.{all-used, pattern-fits, result-fits, condition-result-fits, condition-pattern-fits}
 use Rattle.law.proofs.Owners.{step-around, sentence-of}
 use Rattle.sentences.specs.Entry.{argumentPart}
 use Rattle.sentences.proofs.Arguments.{record-inside}
@@ -60,7 +60,7 @@ module _ (file : File) (readable : Readable file) where
           under l
       in-condition c from below under over (no l) =
           run-inside (conditionResultAt file s c + conditionResultSize file c) (conditionPatternSize file c) t (omega (arith, asked-inside file used s c inside below))
-          (wanted-fits file (readable .runs) s inside c from below)
+          (condition-pattern-fits file (readable .runs) s inside c from below)
           (omega arith) (omega (arith, asked-next file s c))
 
       go : Dec (t < patternAt file s + patternSize file s) → Dec (t < resultAt file s) → InsideFits t

@@ -27,7 +27,7 @@ use Rattle.law.proofs.Accepted.{law-accepted}
 use Rattle.law.proofs.Terms.{term-allowed, block-size}
 use Rattle.law.proofs.PlaceLaws.{sentence-start, sentence-next, sentence-grows, block-start, block-grows, condition-next, pattern-next, pattern-within, result-within, asked-after, asked-within, terms-inside}
 use Rattle.law.proofs.RunLaws.{run-none, run-first, fits-first, by-records}
-use Rattle.law.proofs.Allowed.{accepted-readable, all-used, pattern-fits, result-fits, condition-result-fits, wanted-fits, block-after}
+use Rattle.law.proofs.Allowed.{accepted-readable, all-used, pattern-fits, result-fits, condition-result-fits, condition-pattern-fits, block-after}
 use Rattle.law.proofs.Reading.{sentences-end, sentence-reads}
 use Rattle.law.proofs.Functions.{skip-at, functionsAt, tree-functions, functions-end, function-reads}
 use Rattle.formats.proofs.RoundLaws.{EachFunction}
@@ -218,7 +218,7 @@ module _ (file : File) (readable : Readable file) (OfCall : ℕ → Name → Run
       part-every (conditionResultAt file s c) (conditionResultSize file c) (asked-after file s c low) (omega (arith, asked-within file s c (omega arith)))
           (condition-result-fits file (readable .runs) s within c low (omega arith)),
       part-every (conditionResultAt file s c + conditionResultSize file c) (conditionPatternSize file c) (omega (arith, asked-after file s c low)) (asked-within file s c (omega arith))
-          (wanted-fits file (readable .runs) s within c low (omega arith)),
+          (condition-pattern-fits file (readable .runs) s within c low (omega arith)),
       conditions-every left (suc c) (omega arith) (omega arith),
     )
 

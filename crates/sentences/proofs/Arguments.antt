@@ -11,7 +11,7 @@ use Rattle.law.specs.Runs.{runFits, usedUp}
 use Rattle.law.specs.Code.Index.{Readable}
 use Rattle.law.proofs.PlaceLaws.{condition-next, asked-first, asked-next, asked-last, pattern-next, pattern-inside, result-inside, asked-inside}
 use Rattle.law.proofs.RunLaws.{by-records}
-use Rattle.law.proofs.Allowed.{all-used, pattern-fits, result-fits, asked-fits, wanted-fits}
+use Rattle.law.proofs.Allowed.{all-used, pattern-fits, result-fits, condition-result-fits, condition-pattern-fits}
 use Rattle.law.proofs.Owners.{step-around, sentence-of}
 
 module _ (file : File) (readable : Readable file) where
@@ -51,11 +51,11 @@ module _ (file : File) (readable : Readable file) where
           → Dec (t < conditionResultAt file s c + conditionResultSize file c) → endAt t ≤ file .terms .count
       in-condition c from below under over (yes l) =
           run-inside (conditionResultAt file s c) (conditionResultSize file c) t (omega (arith, asked-inside file used s c inside below))
-          (asked-fits file (readable .runs) s inside c from below)
+          (condition-result-fits file (readable .runs) s inside c from below)
           under l
       in-condition c from below under over (no l) =
           run-inside (conditionResultAt file s c + conditionResultSize file c) (conditionPatternSize file c) t (omega (arith, asked-inside file used s c inside below))
-          (wanted-fits file (readable .runs) s inside c from below)
+          (condition-pattern-fits file (readable .runs) s inside c from below)
           (omega arith) (omega (arith, asked-next file s c))
 
       go : Dec (t < patternAt file s + patternSize file s) → Dec (t < resultAt file s) → endAt t ≤ file .terms .count
