@@ -12,7 +12,7 @@
  *   reads or writes it before the call returns; nothing writes the overrides and the law before then;
  * - where the number of elements is 0 the pointer is not used: it may be null or point anywhere;
  * - `answer` is never null;
- * - a call needs up to 1 MiB of stack. With less, the system ends the process at the guard page.
+ * - a call has BILZARKO_STACK_BYTES of stack. With less, the system may end the process at the guard page.
  *
  * A call returns, but it can take for ever: matching with repeated variables is NP-complete. The smallest law known to do so
  * has a sentence `(e.1 .. e.k s.A) s.A` and a call of its function with ('b' .. 'b') 'a', k times 'b'; it takes some 2 seconds
@@ -29,87 +29,142 @@
 extern "C" {
 #endif
 
-/* Limits. */
+/* The version of this header and of the Rust crate over the same calls. */
+#define BILZARKO_VERSION_MAJOR 0
+#define BILZARKO_VERSION_MINOR 1
+#define BILZARKO_VERSION_PATCH 0
+
+/* Limits and sizes. */
 #define BILZARKO_LAW_BYTES 16384     /* bytes of a law file, at most */
-#define BILZARKO_STORE_WORDS 8320    /* words of a store, at least: 128 formats of 65 words */
+#define BILZARKO_OVERRIDES 8         /* overrides, at most */
+#define BILZARKO_STORE_WORDS 8320    /* words of a store, at least: BILZARKO_FORMATS x BILZARKO_FORMAT_WORDS */
 #define BILZARKO_FINDING_WORDS 8     /* words of a finding */
 #define BILZARKO_TEXT_FINDINGS 256   /* findings that the text call has places for; more is refusal 11 there */
-#define BILZARKO_OVERRIDES 8         /* overrides, at most */
+#define BILZARKO_TEXT_BYTES 1087     /* bytes of the longest text; bindings/tests/longest_text.rs computes and reaches it */
+#define BILZARKO_STACK_BYTES 1048576 /* stack to give to a call: the laws known to need most take 0.75 MiB */
 
 /* Modes. Classic hides findings of severity allow, strict does not. */
-#define BILZARKO_CLASSIC UINT32_C(0)
-#define BILZARKO_STRICT UINT32_C(1)
+#define BILZARKO_MODE_CLASSIC UINT32_C(0)
+#define BILZARKO_MODE_STRICT UINT32_C(1)
 
 /* Lints: the first word of a finding. */
-#define BILZARKO_DEAD_SENTENCE UINT32_C(1)
-#define BILZARKO_RECOGNITION_IMPOSSIBLE UINT32_C(2)
-#define BILZARKO_BUILTIN_DOMAIN UINT32_C(3)
-#define BILZARKO_OPEN_EXPRESSIONS UINT32_C(4)
+#define BILZARKO_LINT_DEAD_SENTENCE UINT32_C(1)          /* a sentence that an earlier one without conditions shadows */
+#define BILZARKO_LINT_RECOGNITION_IMPOSSIBLE UINT32_C(2) /* a call that no sentence of its function matches */
+#define BILZARKO_LINT_BUILTIN_DOMAIN UINT32_C(3)         /* a call of a builtin function that always fails */
+#define BILZARKO_LINT_OPEN_EXPRESSIONS UINT32_C(4)       /* a pattern with several e. variables */
 
 /* Severities: the second word of a finding. By itself a lint has deny, open expressions allow. */
-#define BILZARKO_ERROR UINT32_C(0)
-#define BILZARKO_DENY UINT32_C(1)
-#define BILZARKO_WARN UINT32_C(2)
-#define BILZARKO_ALLOW UINT32_C(3)
+#define BILZARKO_SEVERITY_ERROR UINT32_C(0)
+#define BILZARKO_SEVERITY_DENY UINT32_C(1)
+#define BILZARKO_SEVERITY_WARN UINT32_C(2)
+#define BILZARKO_SEVERITY_ALLOW UINT32_C(3)
 
-/* An override: the severity of a lint's findings. One of BILZARKO_ALLOW hides them. The first override of a lint wins. */
+/* An override: the severity of a lint's findings. One of BILZARKO_SEVERITY_ALLOW hides them in both modes. The first
+ * override of a lint wins. */
 #define BILZARKO_OVERRIDE(lint, severity) (UINT32_C(256) * (lint) + (severity))
 
 /* The words of a finding, by their place among its eight.
  *
  * Spans are those of the law file. Functions, sentence records and term records count from 0. A and B by the lint:
- * - dead sentence: the sentence's number, and that of the earliest sentence that shadows it, both from 1;
+ * - dead sentence: the sentence's number, and that of the earliest sentence that shadows it, both from 1 within the
+ *   function, or within the block that they stand in;
  * - recognition impossible: 1 by formats, 2 by literals; 0;
  * - builtin domain: 1 two integers wanted, 2 division by zero, 3 digits wanted; 0;
- * - open expressions: the number of e. variables in the pattern; 0.
- * The subject is a sentence record for dead sentence and open expressions, else a term record. */
-enum bilzarko_word {
-    BILZARKO_LINT = 0,
-    BILZARKO_SEVERITY = 1,
-    BILZARKO_SPAN_START = 2,
-    BILZARKO_SPAN_END = 3,
-    BILZARKO_A = 4,
-    BILZARKO_B = 5,
-    BILZARKO_FUNCTION = 6,
-    BILZARKO_SUBJECT = 7
-};
+ * - open expressions: the number of e. variables in the pattern; 0. */
+#define BILZARKO_FINDING_LINT 0
+#define BILZARKO_FINDING_SEVERITY 1
+#define BILZARKO_FINDING_SPAN_START 2
+#define BILZARKO_FINDING_SPAN_END 3
+#define BILZARKO_FINDING_A 4
+#define BILZARKO_FINDING_B 5
+#define BILZARKO_FINDING_FUNCTION 6 /* the function in whose sentence the subject stands */
+#define BILZARKO_FINDING_SUBJECT 7  /* a sentence record for dead sentence and open expressions, else a term record */
 
-/* Why a call is refused. The first that holds is returned, in this order: 14, 1 to 9 (2 and 4 by sections), 15, 10 to 13.
+/* The words of the findings call's answer, by their place. */
+#define BILZARKO_ANSWER_FINDINGS 0 /* the number of findings */
+#define BILZARKO_ANSWER_ROUNDS 1   /* the number of rounds in which formats were inferred */
+#define BILZARKO_ANSWER_SETTLED 2  /* 1 if the last round changed nothing, else 0 */
+#define BILZARKO_ANSWER_WORDS 3
+
+/* The store: BILZARKO_FORMATS formats of BILZARKO_FORMAT_WORDS words each, two for each name of a function.
+ *
+ * Names count from 0, each once, sorted by the bytes of their folded form: letters in upper case, `_` read as `-`. Name
+ * number n has the format of its function's arguments first, then that of its results; functions of one name share them.
+ * There are at most 64 names, and the words of formats past the last name are 0.
+ *
+ * A format's first word is its header: the number of its shapes at all depths, BILZARKO_FORMAT_OPEN more where it is open
+ * (more terms may follow), or BILZARKO_FORMAT_NEVER alone where it admits nothing. A word for each shape follows, depth
+ * first: a bracket's word stands before those of the shapes inside it. Words past the last shape are 0. */
+#define BILZARKO_FORMATS 128
+#define BILZARKO_FORMAT_WORDS 65  /* the header, and BILZARKO_FORMAT_SHAPES words */
+#define BILZARKO_FORMAT_SHAPES 64 /* shapes of a format, at most */
+
+/* Where in the store the formats of name number n begin. */
+#define BILZARKO_FORMAT_ARGUMENT(n) (BILZARKO_FORMAT_WORDS * (2 * (size_t)(n)))
+#define BILZARKO_FORMAT_RESULT(n) (BILZARKO_FORMAT_WORDS * (2 * (size_t)(n) + 1))
+
+/* The parts of a header. The number of shapes is header % 256. */
+#define BILZARKO_FORMAT_OPEN UINT32_C(256)
+#define BILZARKO_FORMAT_NEVER UINT32_C(512)
+
+/* The word of a shape: one of the first five; or, where word % 8 is BILZARKO_SHAPE_BRACKET, a bracket with
+ * word / 8 % 128 shapes inside, whose contents are open where the word is at least BILZARKO_SHAPE_BRACKET_OPEN. */
+#define BILZARKO_SHAPE_CHARACTER UINT32_C(0)
+#define BILZARKO_SHAPE_NUMBER UINT32_C(1)
+#define BILZARKO_SHAPE_IDENTIFIER UINT32_C(2)
+#define BILZARKO_SHAPE_SYMBOL UINT32_C(3) /* a character, a number or an identifier */
+#define BILZARKO_SHAPE_UNKNOWN UINT32_C(4)
+#define BILZARKO_SHAPE_BRACKET UINT32_C(5)
+#define BILZARKO_SHAPE_BRACKET_OPEN UINT32_C(1024)
+
+/* Refusals: what a call returns where it does not return 0. Where several hold, the first in this order is returned.
+ *
+ *   both calls          14, then 1;
+ *                       then of the sections text, functions, sentences, conditions and terms, one after the other: 2 where
+ *                       the count is cut off, 4 where it is over its limit, 2 where the records are cut off;
+ *                       then 3, 5, 6, 7, 8, 9, 15, 10
+ *   the findings call   then 11, where eight words for each finding are more than words_length
+ *   the text call       then 11, where there are over BILZARKO_TEXT_FINDINGS findings; then 12, then 13
+ *
+ * Each of 5 to 10 is looked for in the whole law before the next. Of the settings, 10 does not depend on which lints are
+ * hidden; 11 and 12 count the findings that are shown.
  *
  * After a refusal `answer`, `words` and `text` hold what they held before. So does the store after 1 to 9, 14 and 15.
  * After 10 its first 8,320 words are 0; after 11, 12 and 13 they hold the formats of the law, as after a call that is
  * not refused. Store words past 8,320 always keep their values. */
-enum bilzarko_refusal {
-    BILZARKO_FILE_OVER = 1,   /* the law has over 16,384 bytes */
-    BILZARKO_CUT_OFF = 2,     /* a section's count or records are cut off */
-    BILZARKO_LEFT_OVER = 3,   /* bytes are left over after the sections */
-    BILZARKO_COUNT_OVER = 4,  /* a section's count is over its limit */
-    BILZARKO_FIELDS = 5,      /* a field's value is not allowed, or outside the text */
-    BILZARKO_RUNS = 6,        /* a record holds more records than its run has, or a section is not used up exactly */
-    BILZARKO_BLOCKS = 7,      /* a block's first sentence is not later than the one that the block stands in */
-    BILZARKO_DEPTH = 8,       /* over 32 brackets, calls and blocks around a term */
-    BILZARKO_PATTERNS = 9,    /* over 32 distinct variables in a sentence's pattern */
-    BILZARKO_SHAPES = 10,     /* over 64 shapes in a format */
-    BILZARKO_FINDINGS = 11,   /* the findings do not fit */
-    BILZARKO_NO_FINDING = 12, /* text call: there is no finding at this position */
-    BILZARKO_TEXT = 13,       /* text call: the text does not fit */
-    BILZARKO_SETTINGS = 14,   /* mode not 0 or 1, over 8 overrides, lint not 1 to 4, severity not 0 to 3 */
-    BILZARKO_STORE = 15       /* the store has under 8,320 words */
-};
+#define BILZARKO_REFUSAL_FILE_OVER UINT32_C(1)   /* the law has over 16,384 bytes */
+#define BILZARKO_REFUSAL_CUT_OFF UINT32_C(2)     /* a section's count or records are cut off */
+#define BILZARKO_REFUSAL_LEFT_OVER UINT32_C(3)   /* bytes are left over after the sections */
+#define BILZARKO_REFUSAL_COUNT_OVER UINT32_C(4)  /* a section's count is over its limit: 4,096 bytes of text, 64 functions,
+                                                    128 sentences, 128 conditions, 512 terms */
+#define BILZARKO_REFUSAL_FIELDS UINT32_C(5)      /* a field's value is not allowed, or outside the text */
+#define BILZARKO_REFUSAL_RUNS UINT32_C(6)        /* a record holds more records than its run has, or the sentences, the
+                                                    conditions or the terms are not used up exactly */
+#define BILZARKO_REFUSAL_BLOCKS UINT32_C(7)      /* a block's first sentence is not later than the one that the block
+                                                    stands in */
+#define BILZARKO_REFUSAL_DEPTH UINT32_C(8)       /* over 32 brackets, calls and blocks are around a term */
+#define BILZARKO_REFUSAL_PATTERNS UINT32_C(9)    /* a sentence's pattern has over 32 distinct variables */
+#define BILZARKO_REFUSAL_SHAPES UINT32_C(10)     /* over 64 shapes are in the format of a sentence's pattern, of its result
+                                                    in a round, or of an argument compared by formats */
+#define BILZARKO_REFUSAL_FINDINGS UINT32_C(11)   /* the findings do not fit */
+#define BILZARKO_REFUSAL_NO_FINDING UINT32_C(12) /* text call: there is no finding at this position */
+#define BILZARKO_REFUSAL_TEXT UINT32_C(13)       /* text call: the text does not fit */
+#define BILZARKO_REFUSAL_SETTINGS UINT32_C(14)   /* the mode is not 0 or 1, there are over 8 overrides, or one has a lint
+                                                    other than 1 to 4 or a severity other than 0 to 3 */
+#define BILZARKO_REFUSAL_STORE UINT32_C(15)      /* the store has under 8,320 words */
 
 /* Lists the findings of a law.
  *
- *   mode            BILZARKO_CLASSIC or BILZARKO_STRICT
+ *   mode            BILZARKO_MODE_CLASSIC or BILZARKO_MODE_STRICT
  *   overrides       words made by BILZARKO_OVERRIDE; read only
  *   law             the bytes of a law file; read only
  *   store           gets the inferred formats in its first 8,320 words
  *   words           gets the findings, eight words each; they fit where 8 x their number is at most words_length
- *   answer          gets the number of findings, the number of rounds in which formats were inferred, and 1 if the last
- *                   round changed nothing (settled), else 0
+ *   answer          gets its three words, BILZARKO_ANSWER_FINDINGS and the others
  *
  * Returns 0, or the number of a refusal. Words past the last finding keep their values.
  *
- * Where 0 is returned, the third word of the answer is 1 and no number in the law has a needless leading zero, this is
+ * Where 0 is returned, answer[BILZARKO_ANSWER_SETTLED] is 1 and no number in the law has a needless leading zero, this is
  * proved of the listing: there is no run of the law in which a call listed under recognition impossible finds a sentence
  * of its function whose left side matches, or in which a function's sentence listed as dead is chosen. */
 uint32_t bilzarko_findings(uint32_t mode,
@@ -117,14 +172,13 @@ uint32_t bilzarko_findings(uint32_t mode,
                            const uint8_t *law, size_t law_length,
                            uint32_t *store, size_t store_length,
                            uint32_t *words, size_t words_length,
-                           uint64_t answer[3]);
+                           uint64_t answer[BILZARKO_ANSWER_WORDS]);
 
 /* Writes the text of one finding. Mode, overrides, law and store are as for the findings call; with the same of them,
  * positions are those of its findings, from 0. The text call lists the findings anew, into 256 places of its own.
  *
  *   position        the finding
- *   text            gets the text, which is ASCII, with no zero byte after it. 2,048 bytes hold any text: the longest
- *                   have two names of 64 bytes and two formats of 64 shapes (counted by hand: at most 1,089 bytes)
+ *   text            gets the text, which is ASCII, with no zero byte after it; BILZARKO_TEXT_BYTES hold any text
  *   answer          gets the number of bytes written
  *
  * Returns 0, or the number of a refusal. Bytes past the text keep their values. */
