@@ -7,40 +7,38 @@
 
 #include "bilzarko.h"
 
-/* Room for any text: two names of 64 bytes, two formats of 64 shapes, and what stands between them. */
-#define TEXT_BYTES 2048
-
 static const char *const severities[] = {"error", "deny", "warn", "allow"};
 
 static uint8_t law[BILZARKO_LAW_BYTES + 1]; /* one byte more, so that a file over the limit is refused */
 static uint32_t store[BILZARKO_STORE_WORDS];
 static uint32_t words[BILZARKO_FINDING_WORDS * BILZARKO_TEXT_FINDINGS];
-static uint8_t texts[BILZARKO_TEXT_FINDINGS][TEXT_BYTES];
+static uint8_t texts[BILZARKO_TEXT_FINDINGS][BILZARKO_TEXT_BYTES];
 static uint64_t lengths[BILZARKO_TEXT_FINDINGS];
 
 /* Fills words and texts, and returns 0 or the number of a refusal. */
-static uint32_t list(size_t bytes, uint64_t answer[3])
+static uint32_t list(size_t bytes, uint64_t answer[BILZARKO_ANSWER_WORDS])
 {
-    uint32_t refused = bilzarko_findings(BILZARKO_STRICT, NULL, 0, law, bytes, store, BILZARKO_STORE_WORDS, words,
+    uint32_t refused = bilzarko_findings(BILZARKO_MODE_STRICT, NULL, 0, law, bytes, store, BILZARKO_STORE_WORDS, words,
                                          sizeof words / sizeof words[0], answer);
     if (refused != 0)
         return refused;
-    for (size_t i = 0; i < answer[0]; i++) {
-        refused = bilzarko_text(BILZARKO_STRICT, NULL, 0, law, bytes, store, BILZARKO_STORE_WORDS, i, texts[i],
-                                TEXT_BYTES, &lengths[i]);
+    for (size_t i = 0; i < answer[BILZARKO_ANSWER_FINDINGS]; i++) {
+        refused = bilzarko_text(BILZARKO_MODE_STRICT, NULL, 0, law, bytes, store, BILZARKO_STORE_WORDS, i, texts[i],
+                                BILZARKO_TEXT_BYTES, &lengths[i]);
         if (refused != 0)
             return refused;
     }
     return 0;
 }
 
-static void print(const uint64_t answer[3])
+static void print(const uint64_t answer[BILZARKO_ANSWER_WORDS])
 {
-    printf("%" PRIu64 " %" PRIu64 " %" PRIu64 "\n", answer[0], answer[1], answer[2]);
-    for (size_t i = 0; i < answer[0]; i++) {
+    printf("%" PRIu64 " %" PRIu64 " %" PRIu64 "\n", answer[BILZARKO_ANSWER_FINDINGS],
+           answer[BILZARKO_ANSWER_ROUNDS], answer[BILZARKO_ANSWER_SETTLED]);
+    for (size_t i = 0; i < answer[BILZARKO_ANSWER_FINDINGS]; i++) {
         const uint32_t *finding = &words[BILZARKO_FINDING_WORDS * i];
-        printf("%" PRIu32 "-%" PRIu32 " %s: ", finding[BILZARKO_SPAN_START], finding[BILZARKO_SPAN_END],
-               severities[finding[BILZARKO_SEVERITY]]);
+        printf("%" PRIu32 "-%" PRIu32 " %s: ", finding[BILZARKO_FINDING_SPAN_START],
+               finding[BILZARKO_FINDING_SPAN_END], severities[finding[BILZARKO_FINDING_SEVERITY]]);
         fwrite(texts[i], 1, lengths[i], stdout);
         putchar('\n');
     }
@@ -64,7 +62,7 @@ int main(int count, char **arguments)
         fprintf(stderr, "%s: cannot be read\n", arguments[1]);
         return 2;
     }
-    uint64_t answer[3] = {0, 0, 0};
+    uint64_t answer[BILZARKO_ANSWER_WORDS] = {0, 0, 0};
     uint32_t refused = list(bytes, answer);
     if (refused != 0)
         printf("refused %" PRIu32 "\n", refused);

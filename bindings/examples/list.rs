@@ -7,41 +7,23 @@ use std::fs;
 use std::io::{self, Write};
 use std::process::ExitCode;
 
-use bilzarko::{
-    findings, read, text, Mode, Refusal, Settings, FINDING_WORDS, STORE_WORDS, TEXT_FINDINGS,
-};
+use bilzarko::{list, Listing, Mode, Settings};
 
-/// Room for any text: two names of 64 bytes, two formats of 64 shapes, and what stands between them.
-const TEXT_BYTES: usize = 2048;
-
-fn list(law: &[u8], out: &mut Vec<u8>) -> Result<(), Refusal> {
-    let settings = Settings::new(Mode::Strict);
-    let mut store = vec![0; STORE_WORDS];
-    let mut words = vec![0; FINDING_WORDS * TEXT_FINDINGS];
-    let mut line = vec![0; TEXT_BYTES];
-    let count = findings(&settings, law, &mut store, &mut words)?;
-    out.extend(
-        format!(
-            "{} {} {}\n",
-            count.findings,
-            count.rounds,
-            u32::from(count.settled)
-        )
-        .bytes(),
+fn lines(listing: &Listing) -> String {
+    let mut out = format!(
+        "{} {} {}\n",
+        listing.findings.len(),
+        listing.rounds,
+        u32::from(listing.settled)
     );
-    for (position, finding) in read(&words[..FINDING_WORDS * count.findings]).enumerate() {
-        let bytes = text(&settings, law, &mut store, position, &mut line)?;
-        out.extend(
-            format!(
-                "{}-{} {}: ",
-                finding.span_start, finding.span_end, finding.severity
-            )
-            .bytes(),
+    for listed in &listing.findings {
+        let finding = listed.finding;
+        out += &format!(
+            "{}-{} {}: {}\n",
+            finding.span_start, finding.span_end, finding.severity, listed.text
         );
-        out.extend(&line[..bytes]);
-        out.push(b'\n');
     }
-    Ok(())
+    out
 }
 
 fn main() -> ExitCode {
@@ -56,12 +38,12 @@ fn main() -> ExitCode {
             return ExitCode::from(2);
         }
     };
-    let mut out = Vec::new();
-    let listed = list(&law, &mut out);
-    if let Err(refusal) = listed {
-        out = format!("{refusal}\n").into_bytes();
-    }
-    if io::stdout().write_all(&out).is_err() {
+    let listed = list(&Settings::new(Mode::Strict), &law);
+    let out = match &listed {
+        Ok(listing) => lines(listing),
+        Err(refusal) => format!("refused {}\n", refusal.number()),
+    };
+    if io::stdout().write_all(out.as_bytes()).is_err() {
         return ExitCode::from(2);
     }
     ExitCode::from(u8::from(listed.is_err()))

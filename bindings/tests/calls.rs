@@ -1,6 +1,9 @@
 //! Calls of the linked library: document 01's example, and a refusal of each part of its table.
+use std::error::Error;
+
 use bilzarko::{
-    findings, read, text, Count, Lint, Mode, Override, Refusal, Settings, Severity, STORE_WORDS,
+    findings, list, read, text, Count, Finding, Lint, Listed, Listing, Mode, Override, Refusal,
+    Settings, Severity, STORE_WORDS, TEXT_FINDINGS,
 };
 
 /// What a buffer holds before a call.
@@ -64,14 +67,15 @@ fn example_is_listed() {
     assert_eq!(lints, [Lint::DeadSentence, Lint::RecognitionImpossible]);
 }
 
+const TEXTS: [&str; 2] = [
+    "sentence 2 of `F` is unreachable: sentence 1 has no conditions and already matches every argument this one matches",
+    "`<H ...>` always fails: `H` accepts [C], but this call passes [N]",
+];
+
 #[test]
 fn texts_are_written() {
     let mut store = [OLD; STORE_WORDS];
-    let wanted = [
-        "sentence 2 of `F` is unreachable: sentence 1 has no conditions and already matches every argument this one matches",
-        "`<H ...>` always fails: `H` accepts [C], but this call passes [N]",
-    ];
-    for (position, wanted) in wanted.iter().enumerate() {
+    for (position, wanted) in TEXTS.iter().enumerate() {
         let mut bytes = vec![b'?'; wanted.len() + 1];
         assert_eq!(
             text(&STRICT, &example(), &mut store, position, &mut bytes),
@@ -156,6 +160,80 @@ fn buffers_may_be_short_or_empty() {
     );
 }
 
+/// `F { 'a' .. 'a' = ; }` with so many characters.
+fn wide(characters: usize) -> Vec<u8> {
+    let mut law = 1u32.to_le_bytes().to_vec();
+    law.push(b'F');
+    section(&mut law, &[[0, 1, 1, 0, 0]]);
+    section(&mut law, &[[characters as u32, 0, 0, 0, 0]]);
+    section::<4>(&mut law, &[]);
+    section(&mut law, &vec![[0, 'a' as u32, 0, 0, 0, 0]; characters]);
+    law
+}
+
+/// Where several refusals hold, the first in the order of [`Refusal`]'s documentation is answered. That settings come before
+/// all others is tried in header.c, since no [`Settings`] are refused.
+#[test]
+fn first_refusal_is_answered() {
+    let mut left_over_and_fields = example();
+    let last = left_over_and_fields.len() - 24;
+    left_over_and_fields[last] = 9;
+    let fields = left_over_and_fields.clone();
+    left_over_and_fields.push(0);
+    let mut over_and_cut_off = vec![0; 4];
+    over_and_cut_off.extend(65u32.to_le_bytes());
+    let with_no_buffers: [(&[u8], Refusal); 7] = [
+        (&[0xff; 16_385], Refusal::FileOver),
+        (&[1, 0, 0, 0], Refusal::CutOff),
+        (&over_and_cut_off, Refusal::CountOver),
+        (&left_over_and_fields, Refusal::LeftOver),
+        (&fields, Refusal::Fields),
+        (&wide(65), Refusal::Store),
+        (&example(), Refusal::Store),
+    ];
+    for (law, wanted) in with_no_buffers {
+        assert_eq!(findings(&STRICT, law, &mut [], &mut []), Err(wanted));
+        assert_eq!(text(&STRICT, law, &mut [], 9, &mut []), Err(wanted));
+    }
+
+    // A law with too many shapes and with findings that do not fit.
+    let mut store = [OLD; STORE_WORDS];
+    let wide_and_open = {
+        let mut law = 2u32.to_le_bytes().to_vec();
+        law.extend(b"FX");
+        section(&mut law, &[[0, 1, 2, 0, 0]]);
+        section(&mut law, &[[2, 0, 0, 0, 0], [65, 0, 0, 0, 0]]);
+        section::<4>(&mut law, &[]);
+        let mut terms = vec![[5, 1, 1, 0, 0, 0]; 2];
+        terms.resize(67, [0, 'a' as u32, 0, 0, 0, 0]);
+        section(&mut law, &terms);
+        law
+    };
+    assert_eq!(
+        findings(&STRICT, &wide_and_open, &mut store, &mut []),
+        Err(Refusal::Shapes)
+    );
+    assert!(store.iter().all(|word| *word == 0));
+    assert_eq!(
+        text(&STRICT, &wide_and_open, &mut store, 9, &mut []),
+        Err(Refusal::Shapes)
+    );
+    assert_eq!(
+        findings(&STRICT, &wide(64), &mut store, &mut []).map(|count| count.findings),
+        Ok(0)
+    );
+
+    let more = many(TEXT_FINDINGS + 1);
+    assert_eq!(
+        text(&STRICT, &more, &mut store, usize::MAX, &mut []),
+        Err(Refusal::Findings)
+    );
+    assert_eq!(
+        text(&STRICT, &example(), &mut store, 2, &mut []),
+        Err(Refusal::NoFinding)
+    );
+}
+
 #[test]
 fn overrides_count() {
     let mut store = [0; STORE_WORDS];
@@ -188,13 +266,123 @@ fn overrides_count() {
 }
 
 #[test]
-fn numbers_go_back_and_forth() {
-    for number in 1..=15 {
-        assert_eq!(
-            Refusal::of_number(number).map(Refusal::number),
-            Some(number)
-        );
+fn findings_are_listed_with_their_texts() {
+    let dead = Finding {
+        lint: Lint::DeadSentence,
+        severity: Severity::Deny,
+        span_start: 15,
+        span_end: 26,
+        a: 2,
+        b: 1,
+        function: 0,
+        subject: 1,
+    };
+    let never_matches = Finding {
+        lint: Lint::RecognitionImpossible,
+        severity: Severity::Deny,
+        span_start: 40,
+        span_end: 45,
+        a: 1,
+        b: 0,
+        function: 1,
+        subject: 6,
+    };
+    let listed = |finding, text: &str| Listed {
+        finding,
+        text: text.into(),
+    };
+    assert_eq!(
+        list(&STRICT, &example()),
+        Ok(Listing {
+            findings: vec![listed(dead, TEXTS[0]), listed(never_matches, TEXTS[1])],
+            rounds: 2,
+            settled: true
+        })
+    );
+    assert_eq!(list(&STRICT, &[0; 16_385]), Err(Refusal::FileOver));
+}
+
+/// `F { 'a' = ; } G { = <F> .. <F>; }` with so many calls, each of which is a finding.
+fn many(calls: usize) -> Vec<u8> {
+    let mut law = 2u32.to_le_bytes().to_vec();
+    law.extend(b"FG");
+    section(&mut law, &[[0, 1, 1, 0, 0], [1, 1, 1, 0, 0]]);
+    section(&mut law, &[[1, 0, 0, 0, 0], [0, 0, calls as u32, 0, 0]]);
+    section::<4>(&mut law, &[]);
+    let mut terms = vec![[0, 'a' as u32, 0, 0, 0, 0]];
+    terms.resize(1 + calls, [7, 0, 1, 0, 0, 0]);
+    section(&mut law, &terms);
+    law
+}
+
+#[test]
+fn list_has_places_for_256_findings() {
+    let listing = list(&STRICT, &many(TEXT_FINDINGS)).unwrap();
+    assert_eq!(listing.findings.len(), TEXT_FINDINGS);
+    let more = many(TEXT_FINDINGS + 1);
+    assert_eq!(list(&STRICT, &more), Err(Refusal::Findings));
+    let mut words = [OLD; 8 * (TEXT_FINDINGS + 1)];
+    let counted = findings(&STRICT, &more, &mut [OLD; STORE_WORDS], &mut words);
+    assert_eq!(counted.map(|count| count.findings), Ok(TEXT_FINDINGS + 1));
+}
+
+#[test]
+fn unknown_numbers_are_kept() {
+    let words = [9, 7, 0, 0, 0, 0, 0, 0, 1, 1, 0, 0, 2, 1, 0, 1, OLD];
+    let found: Vec<Finding> = read(&words).collect();
+    let kinds: Vec<(Lint, Severity)> = found.iter().map(|one| (one.lint, one.severity)).collect();
+    assert_eq!(
+        kinds,
+        [
+            (Lint::Other(9), Severity::Other(7)),
+            (Lint::DeadSentence, Severity::Deny)
+        ]
+    );
+    assert_eq!(kinds[0].0.to_string(), "lint 9");
+    assert_eq!(kinds[0].1.to_string(), "severity 7");
+
+    // None of these numbers may reach the library, or overflow on the way to a word.
+    for number in [0, 5, 256, 1 << 24, u32::MAX] {
+        let (lint, severity) = (Lint::of_number(number), Severity::of_number(number));
+        let of_lint = Override {
+            lint,
+            severity: Severity::Warn,
+        };
+        assert_eq!(STRICT.with(of_lint), Err(Refusal::Settings), "{lint}");
+        let of_severity = Override {
+            lint: Lint::DeadSentence,
+            severity,
+        };
+        let allowed = number == 0;
+        assert_eq!(STRICT.with(of_severity).is_ok(), allowed, "{severity}");
     }
+}
+
+#[test]
+fn numbers_go_back_and_forth() {
     assert_eq!(Refusal::of_number(0), None);
-    assert_eq!(Refusal::of_number(16), None);
+    for number in (1..=40).chain([u32::MAX]) {
+        let refusal = Refusal::of_number(number).unwrap();
+        assert_eq!(refusal.number(), number);
+        let unknown = matches!(refusal, Refusal::Other(_));
+        assert_eq!(unknown, number > 15);
+    }
+    for number in (0..=40).chain([u32::MAX]) {
+        assert_eq!(Lint::of_number(number).number(), number);
+        assert_eq!(Severity::of_number(number).number(), number);
+    }
+}
+
+#[test]
+fn refusals_say_their_meaning() {
+    let said: Vec<String> = (1..=16)
+        .filter_map(Refusal::of_number)
+        .map(|refusal| (Box::new(refusal) as Box<dyn Error>).to_string())
+        .collect();
+    for (position, one) in said.iter().enumerate() {
+        assert!(one.starts_with(&format!("refusal {}: ", position + 1)));
+        assert!(!said[..position].contains(one));
+    }
+    assert_eq!(said[12], "refusal 13: the text does not fit");
+    assert_eq!(said[15], "refusal 16: its meaning is not known");
 }

@@ -1,12 +1,11 @@
 //! The two calls, with buffers that are filled beforehand.
-use bilzarko::{Count, FINDING_WORDS, Refusal, STORE_WORDS, Settings};
+use bilzarko::{Count, FINDING_WORDS, Refusal, STORE_WORDS, Settings, TEXT_BYTES};
 
 /// More findings than a law within the limits has: two for each of 512 calls, one for each of 128 sentences twice.
 const MOST_FINDINGS: usize = 1_280;
 /// Words and bytes that no call writes by chance all over a buffer.
 pub const WORD: u32 = 0xa5a5_5a5a;
 pub const BYTE: u8 = 0xa5;
-const TEXT_BYTES: usize = 2_048;
 /// Store words that no call may touch.
 const PAST_STORE: usize = 5;
 

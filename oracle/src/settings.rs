@@ -87,10 +87,10 @@ impl Settings {
         let mut settings = bilzarko::Settings::new(mode);
         for (lint, severity) in &self.overrides {
             let wanted = bilzarko::Override {
-                lint: bilzarko::Lint::of_number(*lint).expect("a lint"),
-                severity: bilzarko::Severity::of_number(*severity).expect("a severity"),
+                lint: bilzarko::Lint::of_number(*lint),
+                severity: bilzarko::Severity::of_number(*severity),
             };
-            settings = settings.with(wanted).expect("at most eight overrides");
+            settings = settings.with(wanted).expect("at most eight overrides, of known numbers");
         }
         settings
     }

@@ -1,0 +1,173 @@
+//! The two calls. They are declared once, and each is called in one place.
+use crate::{Refusal, Settings};
+
+/// As `include/bilzarko.h` declares them: a slice crosses as a pointer and a number of elements, an array as a pointer to
+/// its first.
+mod library {
+    extern "C" {
+        pub fn bilzarko_findings(
+            mode: u32,
+            overrides: *const u32,
+            overrides_length: usize,
+            law: *const u8,
+            law_length: usize,
+            store: *mut u32,
+            store_length: usize,
+            words: *mut u32,
+            words_length: usize,
+            answer: *mut [u64; 3],
+        ) -> u32;
+
+        pub fn bilzarko_text(
+            mode: u32,
+            overrides: *const u32,
+            overrides_length: usize,
+            law: *const u8,
+            law_length: usize,
+            store: *mut u32,
+            store_length: usize,
+            position: usize,
+            text: *mut u8,
+            text_length: usize,
+            answer: *mut u64,
+        ) -> u32;
+    }
+}
+
+/// What [`findings`] answers.
+#[derive(Clone, Copy, Debug, PartialEq, Eq, Hash)]
+pub struct Count {
+    /// The number of findings.
+    pub findings: usize,
+    /// The number of rounds in which formats were inferred.
+    pub rounds: usize,
+    /// Whether the last of them changed nothing.
+    pub settled: bool,
+}
+
+/// What a call answers by the number that it returned.
+fn answered<T>(number: u32, answer: T) -> Result<T, Refusal> {
+    match Refusal::of_number(number) {
+        None => Ok(answer),
+        Some(refusal) => Err(refusal),
+    }
+}
+
+/// Lists the findings of a law: eight words each in `words`, which [`read`](crate::read) reads, and the inferred formats in
+/// the first 8,320 words of the store. Words past the last finding keep their values.
+///
+/// Where the count is settled and no number in the law has a needless leading zero, this is proved of the listing: there
+/// is no run of the law in which a call listed under
+/// [`Lint::RecognitionImpossible`](crate::Lint::RecognitionImpossible) finds a sentence of its function whose left side
+/// matches, or in which a function's sentence listed as [`Lint::DeadSentence`](crate::Lint::DeadSentence) is chosen.
+///
+/// ```
+/// use bilzarko::{findings, read, Mode, Settings, FINDING_WORDS, STORE_WORDS};
+///
+/// let law = std::fs::read("../samples/bearing.law")?;
+/// let mut store = vec![0; STORE_WORDS];
+/// let mut words = vec![0; FINDING_WORDS * 100];
+/// let count = findings(&Settings::new(Mode::Strict), &law, &mut store, &mut words)?;
+/// assert_eq!((count.findings, count.rounds, count.settled), (6, 3, true));
+/// let first = read(&words).next().expect("there are six");
+/// assert_eq!((first.span_start, first.span_end), (615, 622));
+/// # Ok::<(), Box<dyn std::error::Error>>(())
+/// ```
+pub fn findings(
+    settings: &Settings,
+    law: &[u8],
+    store: &mut [u32],
+    words: &mut [u32],
+) -> Result<Count, Refusal> {
+    let overrides = settings.overrides();
+    let mut answer = [0; 3];
+    // SAFETY: each pointer and number are those of one slice, so that all elements are there, aligned and with values, and
+    // where there are none the pointer is not used. `answer` is a local array. `store`, `words` and `answer` are borrowed
+    // for writing until the call returns, so that they overlap nothing else that is lent and no other thread reads them;
+    // `overrides` and `law` are borrowed, so that nothing writes them. The function is proved to touch nothing beyond
+    // these, whatever their values, and every value that it leaves is one of its type: all are plain numbers.
+    #[allow(unsafe_code)]
+    let number = unsafe {
+        library::bilzarko_findings(
+            settings.mode().number(),
+            overrides.as_ptr(),
+            overrides.len(),
+            law.as_ptr(),
+            law.len(),
+            store.as_mut_ptr(),
+            store.len(),
+            words.as_mut_ptr(),
+            words.len(),
+            &mut answer,
+        )
+    };
+    let [count, rounds, settled] = answer;
+    answered(
+        number,
+        Count {
+            findings: count as usize,
+            rounds: rounds as usize,
+            settled: settled == 1,
+        },
+    )
+}
+
+/// Writes the text of the finding at a position among those that [`findings`] lists under the same settings, and answers
+/// the number of bytes written. The text is ASCII, and [`TEXT_BYTES`](crate::TEXT_BYTES) hold any text. Bytes past it keep
+/// their values. The store is filled as by [`findings`].
+///
+/// ```
+/// use bilzarko::{text, Mode, Settings, STORE_WORDS, TEXT_BYTES};
+///
+/// let law = std::fs::read("../samples/bearing.law")?;
+/// let mut store = vec![0; STORE_WORDS];
+/// let mut line = vec![0; TEXT_BYTES];
+/// let bytes = text(&Settings::new(Mode::Strict), &law, &mut store, 3, &mut line)?;
+/// let wanted = "`<Layers ...>` always fails: no sentence of `Layers` matches this argument";
+/// assert_eq!(&line[..bytes], wanted.as_bytes());
+/// # Ok::<(), Box<dyn std::error::Error>>(())
+/// ```
+pub fn text(
+    settings: &Settings,
+    law: &[u8],
+    store: &mut [u32],
+    position: usize,
+    text: &mut [u8],
+) -> Result<usize, Refusal> {
+    let overrides = settings.overrides();
+    let mut answer = 0;
+    // SAFETY: as in `findings`, with `text` borrowed for writing in place of `words`, and `answer` a local number. Any
+    // position may be passed: one without a finding is refused.
+    #[allow(unsafe_code)]
+    let number = unsafe {
+        library::bilzarko_text(
+            settings.mode().number(),
+            overrides.as_ptr(),
+            overrides.len(),
+            law.as_ptr(),
+            law.len(),
+            store.as_mut_ptr(),
+            store.len(),
+            position,
+            text.as_mut_ptr(),
+            text.len(),
+            &mut answer,
+        )
+    };
+    answered(number, answer as usize)
+}
+
+#[cfg(test)]
+mod tests {
+    use super::answered;
+    use crate::Refusal;
+
+    #[test]
+    fn unknown_numbers_are_refusals() {
+        assert_eq!(answered(0, 7), Ok(7));
+        assert_eq!(answered(13, 7), Err(Refusal::Text));
+        for number in [16, 255, u32::MAX] {
+            assert_eq!(answered(number, 7), Err(Refusal::Other(number)));
+        }
+    }
+}
