@@ -126,8 +126,8 @@ extern "C" {
  *   the findings call   then 11, where eight words for each finding are more than words_length
  *   the text call       then 11, where there are over BILZARKO_TEXT_FINDINGS findings; then 12, then 13
  *
- * Each of 5 to 10 is looked for in the whole law before the next. Of the settings, 10 does not depend on which lints are
- * hidden; 11 and 12 count the findings that are shown.
+ * Each of 5 to 10 is looked for in the whole law before what comes after it in this order. 10 does not depend on the
+ * settings; 11 and 12 count the findings that the settings show.
  *
  * After a refusal `answer`, `words` and `text` hold what they held before. So does the store after 1 to 9, 14 and 15.
  * After 10 its first 8,320 words are 0; after 11, 12 and 13 they hold the formats of the law, as after a call that is

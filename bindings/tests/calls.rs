@@ -1,20 +1,17 @@
 //! Calls of the linked library: document 01's example, and a refusal of each part of its table.
+mod laws;
+
 use std::error::Error;
 
 use bilzarko::{
     findings, list, read, text, Count, Finding, Lint, Listed, Listing, Mode, Override, Refusal,
     Settings, Severity, STORE_WORDS, TEXT_FINDINGS,
 };
+use laws::section;
 
 /// What a buffer holds before a call.
 const OLD: u32 = 0x5a5a_5a5a;
 const STRICT: Settings = Settings::new(Mode::Strict);
-
-/// A section: its count, and its records of words.
-fn section<const N: usize>(law: &mut Vec<u8>, records: &[[u32; N]]) {
-    law.extend((records.len() as u32).to_le_bytes());
-    law.extend(records.iter().flatten().flat_map(|word| word.to_le_bytes()));
-}
 
 /// `F { e.X = 'a'; s.A = <F 1>; } H { 'q' = <H 2>; }`, with two of its spans.
 fn example() -> Vec<u8> {
