@@ -6,7 +6,7 @@ use mathlib.Core.Path.{_≡_, refl}
 use Rattle.file.specs.Sections.{File}
 use Rattle.law.specs.Tree.{Law}
 use Rattle.law.specs.Reading.{treeOf}
-use Rattle.formats.specs.Infer.{Inferred}
+use Rattle.formats.specs.Infer.{Formats}
 use Rattle.lints.specs.Lint.{Lint, deadSentence, recognitionImpossible, builtinDomain, openExpressions, lintNumber}
 use Rattle.lints.specs.Levels.{Settings, settingsFrom, severityOf, isShown}
 use Rattle.lints.specs.Code.Records.{Prepared, formatsIn}
@@ -17,12 +17,12 @@ use Rattle.findings.specs.Code.All.{taskFor, isDue, taskEvents, allEvent
 use Rattle.findings.proofs.CollectLaws.{collect-none, collect-then}
 
 -- a task that has nothing to meet, or something
-pub not-due : (law : Law) (formats : Inferred) (task : Task) {due : Bool} (room : ℕ) (s : Sink) → due ≡ isDue task → due ≡ false
+pub not-due : (law : Law) (formats : Formats) (task : Task) {due : Bool} (room : ℕ) (s : Sink) → due ≡ isDue task → due ≡ false
     → s ≡ collect room s (taskEvents law formats task)
 unfolding taskEvents
 not-due law formats task room s e q = rw (← e, q) (collect-none room s)
 
-pub is-due : (law : Law) (formats : Inferred) (task : Task) {due : Bool} (room : ℕ) (s : Sink) {t : Sink} → due ≡ isDue task → due ≡ true
+pub is-due : (law : Law) (formats : Formats) (task : Task) {due : Bool} (room : ℕ) (s : Sink) {t : Sink} → due ≡ isDue task → due ≡ true
     → t ≡ collect room s (lintEvents law formats task) → t ≡ collect room s (taskEvents law formats task)
 unfolding taskEvents
 is-due law formats task room s e q h = rw (← e, q) h

@@ -19,7 +19,7 @@ use Rattle.law.proofs.IndexLaws.{zero-offset}
 use Rattle.law.proofs.Parts.{terms-length, terms-word}
 use Rattle.shapes.specs.Format.{of, size}
 use Rattle.shapes.specs.Disjoint.{disjointFormats}
-use Rattle.formats.specs.Infer.{Inferred}
+use Rattle.formats.specs.Infer.{Formats}
 use Rattle.formats.specs.Code.Slots.{callFolded}
 use Rattle.formats.proofs.SlotLaws.{call-name-inside, call-name-read}
 use Rattle.matching.specs.Match.{when, each}
@@ -39,7 +39,7 @@ use Rattle.lints.specs.declared.recognition.Verdict.the-variants.{Nothing, TooW
 use Rattle.findings.specs.Code.Events.{Tally, Over, Event, noting, tooWide, Sink, sinkOf, met, collect}
 use Rattle.findings.specs.Code.Tasks.{noteWords, remarkEvents, recognitionEvents, callEvents, callsAt}
 use Rattle.findings.specs.Code.Judging.{callNote, callFound, verdictEvents, failureEvents, isOver}
-use Rattle.lints.specs.Code.Verdicts.{verdictOf}
+use Rattle.lints.specs.Code.Verdicts.{verdictOf, comparison}
 use Rattle.findings.proofs.CollectLaws.{collect-none, collect-one}
 
 -- ---- collecting
@@ -103,9 +103,9 @@ when-none true = refl
 when-none false = refl
 
 -- what is met by the verdict on a call
-verdict-events : (file : File) (task : Task) (formats : Inferred) (law : Law) (t : ℕ)
+verdict-events : (file : File) (task : Task) (formats : Formats) (law : Law) (t : ℕ)
     → verdictEvents file task t (verdictOf (task .limit) law formats (callAt file t)) ≡ recognitionEvents law formats task (callAt file t)
-unfolding verdictOf recognitionEvents judged remarkEvents
+unfolding verdictOf comparison recognitionEvents judged remarkEvents
 verdict-events file task formats law t =
     go (compared law (callAt file t)) (ltb (task .limit) (size (passed formats (callAt file t))))
     (disjointFormats (of (passed formats (callAt file t))) (accepted formats (callAt file t))) (isLiteral (argumentIn file t))
@@ -121,7 +121,7 @@ verdict-events file task formats law t =
     go true false false true = refl
     go true false false false = when-none (task .shown)
 
-pub recognition-met : (file : File) (task : Task) (formats : Inferred) (law : Law) (t : ℕ) (room : ℕ) (s : Sink) {verdict : Verdict} {r : Sink}
+pub recognition-met : (file : File) (task : Task) (formats : Formats) (law : Law) (t : ℕ) (room : ℕ) (s : Sink) {verdict : Verdict} {r : Sink}
     → verdict ≡ verdictOf (task .limit) law formats (callAt file t) → r ≡ collect room s (verdictEvents file task t verdict)
     → r ≡ collect room s (recognitionEvents law formats task (callAt file t))
 recognition-met file task formats law t room s e is = is ∙ ap (collect room s) (ap (verdictEvents file task t) e ∙ verdict-events file task formats law t)
@@ -178,7 +178,7 @@ module _ (file : File) (t : ℕ) {kind : ℕ} (read : kind ≡ wordAt (file .ter
   pub met-none : (room : ℕ) (s : Sink) (f : Call → List Event) → (kind ≡ 7 → ⊥) → s ≡ collect room s (each f (callsAt file t))
   met-none room s f d = rw (ne-eqb (wordAt (file .terms .records) (24 * t)) 7 (λ e. d (kind-is ∙ e))) (collect-none room s)
 
-  module _ (law : Law) (formats : Inferred) (task : Task) (e : kind ≡ 7) where
+  module _ (law : Law) (formats : Formats) (task : Task) (e : kind ≡ 7) where
     call-events : each (callEvents law formats task) (callsAt file t) ≡ callEvents law formats task (callAt file t)
     call-events = rw (eq-eqb (wordAt (file .terms .records) (24 * t)) 7 (kind-call e)) (append-nil (callEvents law formats task (callAt file t)))
 

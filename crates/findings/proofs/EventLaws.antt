@@ -9,7 +9,7 @@ use Rattle.law.specs.Tree.{Name, Mark, Sentences, noSentence, sentence, Functio
 use Rattle.law.specs.Variables.{Variable}
 use Rattle.shapes.specs.Format.{of, size}
 use Rattle.shapes.specs.Disjoint.{disjointFormats}
-use Rattle.formats.specs.Infer.{Inferred}
+use Rattle.formats.specs.Infer.{Formats}
 use Rattle.matching.specs.Pattern.{patternOf}
 use Rattle.matching.specs.Match.{when, each}
 use Rattle.matching.specs.Literal.{isLiteral}
@@ -85,7 +85,7 @@ dead-of f =
     of-append deadSentence (ownDead (f .sentences)) _ (dead-after false [] [] 1 (f .sentences))
     (of-each deadSentence blockDead (λ ss. dead-after true [] [] 1 ss) (sentenceBlocks (f .sentences)))
 
-judged-of : (formats : Inferred) (c : Call) → Of recognitionImpossible (judged formats c)
+judged-of : (formats : Formats) (c : Call) → Of recognitionImpossible (judged formats c)
 unfolding judged
 judged-of formats c = go (disjointFormats (of (passed formats c)) (accepted formats c)) (isLiteral (c .argument))
   where
@@ -96,7 +96,7 @@ judged-of formats c = go (disjointFormats (of (passed formats c)) (accepted form
     go false true = (refl, tt)
     go false false = tt
 
-recognition-of : (law : Law) (formats : Inferred) (f : Function) → Of recognitionImpossible (recognitionRemarks law formats f)
+recognition-of : (law : Law) (formats : Formats) (f : Function) → Of recognitionImpossible (recognitionRemarks law formats f)
 unfolding recognitionRemarks
 recognition-of law formats f =
     of-each recognitionImpossible (λ (c : Call). when (compared law c) (judged formats c))
@@ -174,7 +174,7 @@ module _ (settings : Settings) where
     remarks-found l p owner [] h = refl
     remarks-found l p owner (r ∷ rs) (e, h) = cc (remark-found l p owner r e, remarks-found l p owner rs h)
 
-    module _ (law : Law) (formats : Inferred) where
+    module _ (law : Law) (formats : Formats) where
       -- function by function
       functions-found : (l : Lint) (remarks : Function → List Remark) → ((f : Function) → Of l (remarks f))
           → ((p : ℕ) (f : Function) → functionEvents law formats (taskAt l p) (f .sentences) ≡ remarkEvents (taskAt l p) (remarks f))

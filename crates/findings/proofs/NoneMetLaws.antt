@@ -14,6 +14,7 @@ use Rattle.file.specs.Sections.{File, fileOf}
 use Rattle.file.proofs.Below.{both-first, both-second}
 use Rattle.file.specs.declared.Term.{Term}
 use Rattle.file.specs.declared.Term.the-variants.{Symbol as Symbolic, SVariable, TVariable, EVariable, Bracket, Call, Block}
+use Rattle.lints.specs.Calls.{Call as CallOf}
 use Rattle.law.specs.Tree.{Mark, Run, Sentences, noSentence, keep}
 use Rattle.law.specs.Places.{firstSentence, blockFirst, conditionResultAt, conditionResultSize, conditionResultPart, conditionPatternPart, conditionsOf, firstCondition, patternAt, patternPart, resultAt, resultPart}
 use Rattle.law.specs.Runs.{termForest}
@@ -21,7 +22,7 @@ use Rattle.law.specs.Reading.{markAt, termRun, forestRun, runOf, conditionsFrom
 use Rattle.law.specs.Code.Index.{Indexed, Readable}
 use Rattle.law.proofs.PlaceLaws.{block-start, block-grows}
 use Rattle.law.proofs.Functions.{keep-none, kept-reads}
-use Rattle.formats.specs.Infer.{Inferred}
+use Rattle.formats.specs.Infer.{Formats}
 use Rattle.law.specs.Tree.{Law}
 use Rattle.findings.specs.declared.Task.{Task}
 use Rattle.findings.specs.Code.Events.{Event, Sink, collect}
@@ -81,11 +82,11 @@ module _ (onCall : CallOf → List Event) (onBlock : Sentences → List Event) (
         )
 
 -- lint 1 meets nothing at a call
-dead-calls : (law : Law) (formats : Inferred) (task : Task) → task .lint ≡ 1 → (c : CallOf) → callEvents law formats task c ≡ []
+dead-calls : (law : Law) (formats : Formats) (task : Task) → task .lint ≡ 1 → (c : CallOf) → callEvents law formats task c ≡ []
 unfolding callEvents
 dead-calls law formats task e c = rw e
 
-pub nothing-inside : (bytes index : List ℕ) (law : Law) (formats : Inferred) (task : Task) → Indexed bytes index → Readable (fileOf bytes) → ownAlone index (task .lint) ≡ true
+pub nothing-inside : (bytes index : List ℕ) (law : Law) (formats : Formats) (task : Task) → Indexed bytes index → Readable (fileOf bytes) → ownAlone index (task .lint) ≡ true
     → (n s : ℕ) → s + n ≤ fileOf bytes .sentences .count → (noted : Sink)
     → noted ≡ collect (task .room) noted (insideEvents law formats task (keep n (sentencesAt (fileOf bytes) s)))
 nothing-inside bytes index law formats task indexed readable alone n s h noted =

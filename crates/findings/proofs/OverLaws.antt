@@ -6,7 +6,7 @@ use mathlib.Core.Path.{_≡_, refl, ap}
 use lib.Dec.{ltb}
 use Rattle.law.specs.Tree.{Function, Law}
 use Rattle.shapes.specs.Format.{size}
-use Rattle.formats.specs.Infer.{Inferred}
+use Rattle.formats.specs.Infer.{Formats}
 use Rattle.matching.specs.Match.{when, each}
 use Rattle.lints.specs.Lint.{deadSentence, recognitionImpossible, builtinDomain, openExpressions}
 use Rattle.lints.specs.Calls.{Call, sentenceCalls}
@@ -53,7 +53,7 @@ either : (a b : Bool) {P : Type 0} → (a || b) ≡ true → (a ≡ true → P) 
 either true b h f g = f refl
 either false b h f g = g h
 
-module _ (law : Law) (formats : Inferred) where
+module _ (law : Law) (formats : Formats) where
   call-ends : (task : Task) (c : Call) → (compared law c && ltb (task .limit) (size (passed formats c))) ≡ true → Ends (task .room) (recognitionEvents law formats task c)
   unfolding recognitionEvents
   call-ends task c h = go (compared law c) (ltb (task .limit) (size (passed formats c))) h

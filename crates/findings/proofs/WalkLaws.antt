@@ -11,6 +11,7 @@ use borrow.Author.Tests.{eq-eqb, ne-eqb}
 use Rattle.file.specs.Head.{termFrom}
 use Rattle.file.specs.declared.Term.{Term}
 use Rattle.file.specs.declared.Term.the-variants.{Symbol as Symbolic, SVariable, TVariable, EVariable, Bracket, Call, Block}
+use Rattle.lints.specs.Calls.{Call as CallOf}
 use Rattle.law.specs.Tree.{Mark, Run, empty, symbol, variable, bracket, call, block, Sentences, noSentence, sentence, Conditions, noCondition, condition}
 use Rattle.law.specs.Variables.{Variable}
 use Rattle.law.specs.Reading.{nameAt, sentencesIn, termRun}

@@ -25,7 +25,7 @@ use Rattle.law.proofs.Functions.{functionsAt, tree-functions, function-reads, f
 use Rattle.law.proofs.PartLaws.{part-length, part-at, part-inside, part-leaf, part-end, part-sentences, contents-part, rest-part, part-small, pattern-part, result-part, condition-result-part, condition-pattern-part}
 use Rattle.law.proofs.PlaceLaws.{function-inside}
 use Rattle.law.proofs.IndexLaws.{functions-limit, sentences-limit, conditions-limit, terms-limit, sentences-before, conditions-before, owns, owned, condition-result-fits}
-use Rattle.formats.specs.Infer.{Inferred}
+use Rattle.formats.specs.Infer.{Formats}
 use Rattle.matching.specs.Match.{when, each}
 use Rattle.sentences.specs.Entry.{argumentPart, argumentIn}
 use Rattle.matching.specs.Code.Part.{from}
@@ -77,7 +77,7 @@ module _ (file : File) where
 
 -- ---- what is met
 
-module _ (file : File) (formats : Inferred) (task : Task) where
+module _ (file : File) (formats : Formats) (task : Task) where
   -- in a part of the term records whose first record is number `at`, as a run, in its first term, and as a pattern
   abbrev pub runMet : ℕ → List ℕ → List Event
   runMet at p = runEvents (treeOf file) formats task (runOf file (own file) at p)
@@ -189,7 +189,7 @@ module _ (file : File) (formats : Inferred) (task : Task) where
 
 -- ---- what is collected
 
-module _ (file : File) (formats : Inferred) (task : Task) where
+module _ (file : File) (formats : Formats) (task : Task) where
   -- what is collected from a sink on
   abbrev pub after : Sink → List Event → Sink
   after s es = collect (task .room) s es
@@ -446,7 +446,7 @@ module _ (file : File) where
 
 -- ---- a loop over the records of a part
 
-module _ (file : File) (formats : Inferred) (task : Task) where
+module _ (file : File) (formats : Formats) (task : Task) where
   -- what it has left from the byte i on is a part too, and no larger; what is met there, collected from now on, is what is met in the whole part
   pub record Left (at : ℕ) (p : List ℕ) (start now : Sink) (i : ℕ) : Type 0 where
     pub within : i ≤ length p
@@ -464,7 +464,7 @@ module _ (file : File) (formats : Inferred) (task : Task) where
         met = rw (place, from-all p);
       }
 
-module _ {file : File} {formats : Inferred} {task : Task} {at i : ℕ} {p : List ℕ} {start now : Sink} (left : Left file formats task at p start now i) where
+module _ {file : File} {formats : Formats} {task : Task} {at i : ℕ} {p : List ℕ} {start now : Sink} (left : Left file formats task at p start now i) where
   -- no record is left
   pub left-end : length p ≤ i → now ≡ after file formats task start (runMet file formats task at p)
   left-end h =

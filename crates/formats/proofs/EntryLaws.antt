@@ -331,7 +331,7 @@ module _ (limit : ℕ) (law : Law) where
   -- the whole: the arguments, then the rounds
   pub infer-given : (found : List Entry) (r : Rounds) → arguments limit law (allAt never (namesOf law)) ≡ given found
       → roundsFrom limit (roundLimit law) law (allAt never (namesOf law)) 0 ≡ given r
-      → infer limit law ≡ given (record { arguments = found; results = r .results; rounds = r .rounds; settled = r .settled })
+      → infer limit law ≡ given (record { formats = record { arguments = found; results = r .results }; rounds = r .rounds; settled = r .settled })
   unfolding infer inferWithin
   infer-given found r a b = rw (a, b)
 

@@ -373,29 +373,29 @@ rounds-fill limit left law es done r n h =
 
 pub record Holds (limit : ℕ) (law : Law) (i : Inferred) : Type 0 where
   -- both tables have the law's names, sorted
-  pub argument-names : entryNames (i .arguments) ≡ namesOf law
-  pub result-names : entryNames (i .results) ≡ namesOf law
+  pub argument-names : entryNames (i .formats .arguments) ≡ namesOf law
+  pub result-names : entryNames (i .formats .results) ≡ namesOf law
   -- each pattern is within its function's argument format
-  pub patterns : EachFunction (PatternsWithin (i .arguments)) law
+  pub patterns : EachFunction (PatternsWithin (i .formats .arguments)) law
   -- settled results are at rest, and closed
-  pub rests : i .settled ≡ true → round limit law (i .results) false ≡ given (i .results, false)
-  pub results : i .settled ≡ true → EachFunction (ResultsWithin (i .results)) law
+  pub rests : i .settled ≡ true → round limit law (i .formats .results) false ≡ given (i .formats .results, false)
+  pub results : i .settled ≡ true → EachFunction (ResultsWithin (i .formats .results)) law
   -- only functions without sentences are at never
-  pub filled : EachFunction (Filled (i .results)) law
+  pub filled : EachFunction (Filled (i .formats .results)) law
 
 -- inference that is given, taken apart into the arguments and the rounds
 pub inferred-parts : {R : Type 0} (limit most : ℕ) (law : Law) (i : Inferred) → inferWithin limit most law ≡ given i
     → ((found : List Entry) → arguments limit law (allAt never (namesOf law)) ≡ given found
     → (r : Rounds) → roundsFrom limit most law (allAt never (namesOf law)) 0 ≡ given r
-    → record { arguments = found; results = r .results; rounds = r .rounds; settled = r .settled } ≡ i → R) → R
+    → record { formats = record { arguments = found; results = r .results }; rounds = r .rounds; settled = r .settled } ≡ i → R) → R
 unfolding inferWithin
 inferred-parts limit most law i h use-of =
     bind-given (arguments limit law (allAt never (namesOf law)))
     (λ found. roundsFrom limit most law (allAt never (namesOf law)) 0
-    >>= (λ r. given (record { arguments = found; results = r .results; rounds = r .rounds; settled = r .settled }))) i h
+    >>= (λ r. given (record { formats = record { arguments = found; results = r .results }; rounds = r .rounds; settled = r .settled }))) i h
     (λ found e k.
     bind-given (roundsFrom limit most law (allAt never (namesOf law)) 0)
-    (λ r. given (record { arguments = found; results = r .results; rounds = r .rounds; settled = r .settled })) i k
+    (λ r. given (record { formats = record { arguments = found; results = r .results }; rounds = r .rounds; settled = r .settled })) i k
     (λ r f l. use-of found e r f (cc))
     )
 
@@ -410,7 +410,7 @@ infer-within-holds limit most law i h = inferred-parts limit (suc most) law i h 
     start-names = names-all-at never (namesOf law)
 
     all : (found : List Entry) → arguments limit law start ≡ given found → (r : Rounds) → roundsFrom limit (suc most) law start 0 ≡ given r
-        → Holds limit law (record { arguments = found; results = r .results; rounds = r .rounds; settled = r .settled })
+        → Holds limit law (record { formats = record { arguments = found; results = r .results }; rounds = r .rounds; settled = r .settled })
     all found e r f =
         let names : entryNames (r .results) ≡ namesOf law =
         rounds-hold limit law (λ t. entryNames t ≡ namesOf law) (λ t u n g. round-grows limit law t false u g .1 ∙ n) (suc most) start 0 r start-names f in
@@ -435,13 +435,13 @@ infer-holds limit law i h =
 module _ (limit : ℕ) (law : Law) (i : Inferred) (h : infer limit law ≡ given i) (k : ℕ) (f : Function) (at-k : getElem? law k ≡ some f)
     (j : ℕ) (m : Mark) (p : Run) (cs : Conditions) (r : Run) (after : Sentences) (at-j : skip j (f .sentences) ≡ sentence m p cs r after) where
   -- its pattern's format adds nothing to the function's argument format
-  pub pattern-closed : (format : Format) × (find (i .arguments) (nameOf f) ≡ some format) × (joinFormats format (of (patternShapes p)) ≡ format)
+  pub pattern-closed : (format : Format) × (find (i .formats .arguments) (nameOf f) ≡ some format) × (joinFormats format (of (patternShapes p)) ≡ format)
   pattern-closed =
-      let w : PatternsWithin (i .arguments) f = each-function-at (PatternsWithin (i .arguments)) k law f at-k (infer-holds limit law i h .patterns) in
+      let w : PatternsWithin (i .formats .arguments) f = each-function-at (PatternsWithin (i .formats .arguments)) k law f at-k (infer-holds limit law i h .patterns) in
       (w .format, w .is-found, each-sentence-at _ j (f .sentences) m p cs r after at-j (w .each))
 
   -- its result's format by a settled table adds nothing to the function's format there
-  pub result-closed : i .settled ≡ true → (format : Format) × (find (i .results) (nameOf f) ≡ some format) × (joinFormats format (of (resultShapes (find (i .results)) r)) ≡ format)
+  pub result-closed : i .settled ≡ true → (format : Format) × (find (i .formats .results) (nameOf f) ≡ some format) × (joinFormats format (of (resultShapes (find (i .formats .results)) r)) ≡ format)
   result-closed settled =
-      let w : ResultsWithin (i .results) f = each-function-at (ResultsWithin (i .results)) k law f at-k (infer-holds limit law i h .results settled) in
+      let w : ResultsWithin (i .formats .results) f = each-function-at (ResultsWithin (i .formats .results)) k law f at-k (infer-holds limit law i h .results settled) in
       (w .format, w .is-found, each-sentence-at _ j (f .sentences) m p cs r after at-j (w .each))

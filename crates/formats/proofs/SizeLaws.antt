@@ -15,7 +15,7 @@ use Rattle.formats.proofs.RoundLaws.{inferred-parts, infer-holds}
 
 -- every inferred format
 pub infer-small : (limit most : ℕ) (law : Law) (i : Inferred) → inferWithin limit most law ≡ given i
-    → EachEntry (Small limit) (i .arguments) × EachEntry (Small limit) (i .results)
+    → EachEntry (Small limit) (i .formats .arguments) × EachEntry (Small limit) (i .formats .results)
 infer-small limit most law i h =
     inferred-parts limit most law i h (λ found e r f same.
     let start : List Entry = allAt never (namesOf law) in
@@ -27,7 +27,7 @@ infer-small limit most law i h =
 
 -- a store holds what is inferred of at most 64 functions
 pub infer-storable : (limit : ℕ) (law : Law) (i : Inferred) → length law ≤ 64 → infer limit law ≡ given i
-    → Storable limit (namesOf law) (i .arguments) (i .results)
+    → Storable limit (namesOf law) (i .formats .arguments) (i .formats .results)
 unfolding infer
 infer-storable limit law i few h =
     let (arguments, results) = infer-small limit (roundLimit law) law i h in

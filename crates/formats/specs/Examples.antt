@@ -60,13 +60,15 @@ Inferences =
     -- "`F { = 'a' <F> 1 1 1; }`: 5 rounds, settled, open [character, three symbols]."
     (infer 64 (growing 3)
     ≡ given (record {
-      arguments = record { name = 70 ∷ []; format = of closed } ∷ [];
-      results = record { name = 70 ∷ []; format = of (item character (item anySymbol (item anySymbol (item anySymbol opened)))) } ∷ [];
+      formats = record {
+        arguments = record { name = 70 ∷ []; format = of closed } ∷ [];
+        results = record { name = 70 ∷ []; format = of (item character (item anySymbol (item anySymbol (item anySymbol opened)))) } ∷ [];
+      };
       rounds = 5;
       settled = true;
     }))
     -- "No functions: no findings, 1 round, settled."
-    × (infer 64 [] ≡ given (record { arguments = []; results = []; rounds = 1; settled = true }))
+    × (infer 64 [] ≡ given (record { formats = record { arguments = []; results = [] }; rounds = 1; settled = true }))
 
 inferences : Inferences
 unfolding

@@ -107,9 +107,13 @@ arguments limit (f ∷ fs) es = do
   arguments limit fs (renew n (joinFormats (orNever (find es n)) g) es)
 
 -- the formats of a law: by sorted folded name, arguments and results
-pub record Inferred : Type 0 where
+pub record Formats : Type 0 where
   pub arguments : List Entry
   pub results : List Entry
+
+-- what inference gives: formats, how many rounds ran, and whether the last changed nothing
+pub record Inferred : Type 0 where
+  pub formats : Formats
   pub rounds : ℕ
   pub settled : Bool
 
@@ -117,7 +121,7 @@ unfoldable pub inferWithin : ℕ → ℕ → Law → Answer Inferred
 inferWithin limit most law = do
   found ← arguments limit law (allAt never (namesOf law))
   r ← roundsFrom limit most law (allAt never (namesOf law)) 0
-  given (record { arguments = found; results = r .results; rounds = r .rounds; settled = r .settled })
+  given (record { formats = record { arguments = found; results = r .results }; rounds = r .rounds; settled = r .settled })
 
 -- what the inference of a law gives, with at most so many shapes in a format; document 01 asks for 64
 unfoldable pub infer : ℕ → Law → Answer Inferred

@@ -23,7 +23,7 @@ unfoldable pub storeOf : ℕ → List Entry → List Entry → List ℕ
 storeOf limit arguments results = filled (storeSize limit) (entryWords limit arguments results)
 
 abbrev pub storeWords : ℕ → Inferred → List ℕ
-storeWords limit i = storeOf limit (i .arguments) (i .results)
+storeWords limit i = storeOf limit (i .formats .arguments) (i .formats .results)
 
 -- ---- entries by number, as the code reaches them
 

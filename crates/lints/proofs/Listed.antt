@@ -10,7 +10,7 @@ use lib.Dec.{leb}
 use Rattle.law.specs.Tree.{Symbol, Sentences, noSentence, sentence, Function, Law}
 use Rattle.law.specs.Definition.{definition}
 use Rattle.law.specs.Expression.{Terms}
-use Rattle.law.specs.Symbol.{Symbol}
+use Rattle.law.specs.Symbol as symbols
 use Rattle.matching.specs.Pattern.{patternOf}
 use Rattle.matching.specs.Match.{when, each}
 use Rattle.matching.specs.Literal.{isLiteral, literalTerms, literalMatches}
@@ -18,7 +18,7 @@ use Rattle.matching.proofs.SameLaws.{false-not-true}
 use Rattle.matching.proofs.SearchLaws.{in-when, in-each, in-map}
 use Rattle.shapes.specs.Format.{of}
 use Rattle.shapes.specs.Disjoint.{disjointFormats}
-use Rattle.formats.specs.Infer.{Inferred}
+use Rattle.formats.specs.Infer.{Formats}
 use Rattle.lints.specs.Lint.{deadSentence, lintNumber}
 use Rattle.lints.specs.Finding.{Failure, byFormats, byLiterals, openPattern, Remark, Finding, lintOf, findingIn, findingsFrom}
 use Rattle.lints.specs.Calls.{Call, callee, sentenceCalls}
@@ -122,12 +122,12 @@ dead-remark f r m = go (List·Memᴰ·append-cases (ownDead (f .sentences)) m)
     go (inr i) = inr (in-each blockDead (sentenceBlocks (f .sentences)) i)
 
 -- lint 2's remarks: what is said of a call that is compared
-pub data Judged (formats : Inferred) (c : Call) (r : Remark) : Type 0 where
+pub data Judged (formats : Formats) (c : Call) (r : Remark) : Type 0 where
   apart : r .claim ≡ byFormats (c .name) (accepted formats c) (of (passed formats c))
       → disjointFormats (of (passed formats c)) (accepted formats c) ≡ true → Judged formats c r
   literally : r .claim ≡ byLiterals (c .name) → isLiteral (c .argument) ≡ true → Judged formats c r
 
-judged-cases : (formats : Inferred) (c : Call) (r : Remark) → List·Memᴰ r (judged formats c) → (r .subject ≡ c .mark) × Judged formats c r
+judged-cases : (formats : Formats) (c : Call) (r : Remark) → List·Memᴰ r (judged formats c) → (r .subject ≡ c .mark) × Judged formats c r
 unfolding judged
 judged-cases formats c r m = go (disjointFormats (of (passed formats c)) (accepted formats c)) refl m
   where
@@ -146,12 +146,12 @@ judged-cases formats c r m = go (disjointFormats (of (passed formats c)) (accept
         literal j isIt
 
 -- no sentence's pattern matches a literal row
-abbrev pub NoneMatchesText : Sentences → Terms Symbol → Type 0
+abbrev pub NoneMatchesText : Sentences → Terms symbols.Symbol → Type 0
 NoneMatchesText noSentence x = Unit {0}
 NoneMatchesText (sentence m p cs r ss) x = (literalMatches (patternOf p) x ≡ false) × NoneMatchesText ss x
 
 -- a call that is compared, of a literal argument: no sentence of the last definition matches it, by text
-none-matches-text : (ss : Sentences) (x : Terms Symbol) → someMatches ss x ≡ false → NoneMatchesText ss x
+none-matches-text : (ss : Sentences) (x : Terms symbols.Symbol) → someMatches ss x ≡ false → NoneMatchesText ss x
 unfolding someMatches
 none-matches-text noSentence x h = tt
 none-matches-text (sentence m p cs r ss) x h =
@@ -174,7 +174,7 @@ compared-literal law c h isIt ss e =
     not-both false b k h = absurd (false-not-true k)
 
 -- a finding of lint 2: the call that it is about
-pub record Recognition (law : Law) (formats : Inferred) (x : Finding) : Type 0 where
+pub record Recognition (law : Law) (formats : Formats) (x : Finding) : Type 0 where
   pub function : Function
   pub in-law : List·Memᴰ function law
   pub call : Call
@@ -185,7 +185,7 @@ pub record Recognition (law : Law) (formats : Inferred) (x : Finding) : Type 0 w
   pub subject : x .subject ≡ call .mark
   pub claim : x .claim ≡ said .claim
 
-pub recognition-finding : (law : Law) (formats : Inferred) (x : Finding) → List·Memᴰ x (recognitionFindings law formats) → Recognition law formats x
+pub recognition-finding : (law : Law) (formats : Formats) (x : Finding) → List·Memᴰ x (recognitionFindings law formats) → Recognition law formats x
 unfolding recognitionFindings recognitionRemarks
 recognition-finding law formats x m =
     let about = finding-remarked (recognitionRemarks law formats) 0 law x m in
@@ -207,11 +207,11 @@ recognition-finding law formats x m =
 
 -- ---- the number of a finding's lint tells the lint
 
-judged-lint : (formats : Inferred) (c : Call) (r : Remark) → Judged formats c r → lintNumber (lintOf (r .claim)) ≡ 2
+judged-lint : (formats : Formats) (c : Call) (r : Remark) → Judged formats c r → lintNumber (lintOf (r .claim)) ≡ 2
 judged-lint formats c r (apart e h) = rw e
 judged-lint formats c r (literally e h) = rw e
 
-recognition-lint : (law : Law) (formats : Inferred) (x : Finding) → List·Memᴰ x (recognitionFindings law formats) → lintNumber (lintOf (x .claim)) ≡ 2
+recognition-lint : (law : Law) (formats : Formats) (x : Finding) → List·Memᴰ x (recognitionFindings law formats) → lintNumber (lintOf (x .claim)) ≡ 2
 recognition-lint law formats x m =
     let about = recognition-finding law formats x m in
     rw (about .claim) (judged-lint formats (about .call) (about .said) (about .is-judged))
@@ -265,7 +265,7 @@ open-lint law x m =
 abbrev pub Found : List Finding → ℕ → ℕ → Type 0
 Found fs lint subject = (x : Finding) × List·Memᴰ x fs × (lintNumber (lintOf (x .claim)) ≡ lint) × (x .subject .at ≡ subject)
 
-module _ (law : Law) (formats : Inferred) (x : Finding) (m : List·Memᴰ x (findingsOf law formats)) where
+module _ (law : Law) (formats : Formats) (x : Finding) (m : List·Memᴰ x (findingsOf law formats)) where
   pub by-lint : {R : Type 0} → (List·Memᴰ x (deadFindings law) → R) → (List·Memᴰ x (recognitionFindings law formats) → R)
       → (List·Memᴰ x (builtinFindings law) → R) → (List·Memᴰ x (openFindings law) → R) → R
   unfolding findingsOf

@@ -31,7 +31,7 @@ use Rattle.lints.specs.Recognition.{someMatches, compared, judged, recog
 use Rattle.lints.specs.Builtin.{macrodigits, unsigned, allZero, firstFails, charactersOf, domainIn, builtinOn, builtinRemarks, builtinFindings}
 use Rattle.lints.specs.Open.{eOccurrences, openIn, openRemarks, openFindings}
 use Rattle.lints.specs.Levels.{Override, Settings, overridesAllowed, settingsAllowed, overrideOf, severityOf, isShown, shown, listingWords}
-use Rattle.lints.specs.Findings.{findingsOf, Listing, listing}
+use Rattle.lints.specs.Findings.{findingsOf, formatsOf, Listing, listing}
 use Rattle.buffers.specs.Decimal.{digitsWithin, decimal}
 use Rattle.lints.specs.Message.{claimText, message}
 
@@ -48,7 +48,7 @@ over lint severity = record { lint = lint; severity = severity }
 
 -- the words, the rounds, and whether the last changed nothing
 abbrev answered : Settings → Law → Answer (List ℕ × ℕ × Bool)
-answered s law = mapAnswer (λ (l : Listing). (listingWords s (l .findings), l .formats .rounds, l .formats .settled)) (listing 64 s law)
+answered s law = mapAnswer (λ (l : Listing). (listingWords s (l .findings), l .inferred .rounds, l .inferred .settled)) (listing 64 s law)
 
 -- lint, a and subject of each finding, strict
 abbrev found : Law → Answer (List (ℕ × ℕ × ℕ))
@@ -309,7 +309,7 @@ unfolding
     findingWords findingsFrom calls earliest deadAfter blocks deadRemarks deadFindings
     someMatches compared judged recognitionRemarks recognitionFindings someOver argumentsOver
     macrodigits unsigned allZero firstFails charactersOf domainIn builtinOn builtinRemarks builtinFindings
-    eOccurrences openIn openRemarks openFindings overridesAllowed settingsAllowed overrideOf severityOf isShown shown listingWords findingsOf listing
+    eOccurrences openIn openRemarks openFindings overridesAllowed settingsAllowed overrideOf severityOf isShown shown listingWords findingsOf formatsOf listing
     digitsWithin claimText message
 examples = (
   (refl, refl, refl, refl, refl, refl),

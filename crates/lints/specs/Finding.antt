@@ -67,11 +67,16 @@ wordB (byLiterals f) = 0
 wordB (fails f why) = 0
 wordB (openPattern n) = 0
 
+-- the eight words in their order: lint, severity, span, a, b, function position, subject
+abbrev pub eightWords : (lint severity spanStart spanEnd a b position subject : ℕ) → List ℕ
+eightWords lint severity spanStart spanEnd a b position subject =
+    lint ∷ severity ∷ spanStart ∷ spanEnd ∷ a ∷ b ∷ position ∷ subject ∷ []
+
 -- the words of a finding that has this severity
 unfoldable pub findingWords : ℕ → Finding → List ℕ
 findingWords severity f =
-    lintNumber (lintOf (f .claim)) ∷ severity ∷ f .subject .spanStart ∷ f .subject .spanEnd
-    ∷ wordA (f .claim) ∷ wordB (f .claim) ∷ f .position ∷ f .subject .at ∷ []
+    eightWords (lintNumber (lintOf (f .claim))) severity (f .subject .spanStart) (f .subject .spanEnd)
+    (wordA (f .claim)) (wordB (f .claim)) (f .position) (f .subject .at)
 
 -- ---- the remarks on each function, as findings
 

@@ -4,7 +4,7 @@ use Prim.Native.Nat.{ℕ}
 use mathlib.Core.List.{List, _++_}
 use Rattle.file.specs.Answer.{Answer, given, refuseIf, _>>=_, _>>_}
 use Rattle.law.specs.Tree.{Law}
-use Rattle.formats.specs.Infer.{Inferred, infer}
+use Rattle.formats.specs.Infer.{Formats, Inferred, infer}
 use Rattle.lints.specs.Finding.{Finding}
 use Rattle.lints.specs.Dead.{deadFindings}
 use Rattle.lints.specs.Recognition.{recognitionFindings, argumentsOver}
@@ -13,17 +13,23 @@ use Rattle.lints.specs.Open.{openFindings}
 use Rattle.lints.specs.Levels.{Settings, shown}
 
 -- all findings, shown or hidden
-unfoldable pub findingsOf : Law → Inferred → List Finding
+unfoldable pub findingsOf : Law → Formats → List Finding
 findingsOf law formats = deadFindings law ++ recognitionFindings law formats ++ builtinFindings law ++ openFindings law
+
+-- the formats of a law, or 10: by inference, then by the arguments that are compared
+unfoldable pub formatsOf : ℕ → Law → Answer Inferred
+formatsOf limit law = do
+  inferred ← infer limit law
+  refuseIf 10 (argumentsOver limit law (inferred .formats))
+  given inferred
 
 -- what the findings call answers by
 pub record Listing : Type 0 where
-  pub formats : Inferred
+  pub inferred : Inferred
   pub findings : List Finding
 
--- 10 by inference and then by arguments, whatever the settings
+-- whatever the settings, the formats of the law come first
 unfoldable pub listing : ℕ → Settings → Law → Answer Listing
 listing limit settings law = do
-  formats ← infer limit law
-  refuseIf 10 (argumentsOver limit law formats)
-  given (record { formats = formats; findings = shown settings (findingsOf law formats) })
+  inferred ← formatsOf limit law
+  given (record { inferred = inferred; findings = shown settings (findingsOf law (inferred .formats)) })

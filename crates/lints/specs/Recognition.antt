@@ -10,7 +10,7 @@ use Rattle.law.specs.Definition.{definition}
 use Rattle.shapes.specs.Format.{Shapes, Format, of, size}
 use Rattle.shapes.specs.Disjoint.{disjointFormats}
 use Rattle.formats.specs.FormatOf.{resultShapes}
-use Rattle.formats.specs.Infer.{find, orNever, Inferred}
+use Rattle.formats.specs.Infer.{find, orNever, Formats}
 use Rattle.law.specs.Symbol.{Symbol}
 use Rattle.matching.specs.Pattern.{patternOf}
 use Rattle.matching.specs.Match.{when, each}
@@ -34,10 +34,10 @@ unfoldable pub compared : Law → Call → Bool
 compared law c = comparedWith (definition law (callee c)) (c .argument)
 
 -- what the call passes, and what its function accepts: the patterns of all functions of the name, joined
-abbrev pub passed : Inferred → Call → Shapes
+abbrev pub passed : Formats → Call → Shapes
 passed formats c = resultShapes (find (formats .results)) (c .argument)
 
-abbrev pub accepted : Inferred → Call → Format
+abbrev pub accepted : Formats → Call → Format
 accepted formats c = orNever (find (formats .arguments) (callee c))
 
 -- ---- the lint
@@ -46,23 +46,23 @@ abbrev pub remark : Call → Claim → Remark
 remark c claim = record { subject = c .mark; claim = claim }
 
 -- what is said of a call that is compared: by formats, else by literals
-unfoldable pub judged : Inferred → Call → List Remark
+unfoldable pub judged : Formats → Call → List Remark
 judged formats c =
     cond (disjointFormats (of (passed formats c)) (accepted formats c))
     (remark c (byFormats (c .name) (accepted formats c) (of (passed formats c))) ∷ [])
     (when (isLiteral (c .argument)) (remark c (byLiterals (c .name)) ∷ []))
 
-unfoldable pub recognitionRemarks : Law → Inferred → Function → List Remark
+unfoldable pub recognitionRemarks : Law → Formats → Function → List Remark
 recognitionRemarks law formats f = each (λ (c : Call). when (compared law c) (judged formats c)) (sentenceCalls (f .sentences))
 
-unfoldable pub recognitionFindings : Law → Inferred → List Finding
+unfoldable pub recognitionFindings : Law → Formats → List Finding
 recognitionFindings law formats = findingsFrom (recognitionRemarks law formats) 0 law
 
 -- ---- refusal 10: "over 64 shapes in the format [..] of an argument compared by formats"
 
-unfoldable pub someOver : ℕ → Law → Inferred → List Call → Bool
+unfoldable pub someOver : ℕ → Law → Formats → List Call → Bool
 someOver limit law formats [] = false
 someOver limit law formats (c ∷ cs) = (compared law c && ltb limit (size (passed formats c))) || someOver limit law formats cs
 
-unfoldable pub argumentsOver : ℕ → Law → Inferred → Bool
+unfoldable pub argumentsOver : ℕ → Law → Formats → Bool
 argumentsOver limit law formats = someOver limit law formats (each (λ (f : Function). sentenceCalls (f .sentences)) law)

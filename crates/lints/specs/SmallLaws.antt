@@ -69,12 +69,14 @@ table =
     -- of `F { = 'a' <F> 1 1 1; }`: "With five 1s: 5 rounds, unsettled, open [character, four symbols, number]."
     ∷ inferred (growing 5)
     (record {
-      arguments = record { name = 70 ∷ []; format = of closed } ∷ [];
-      results =
-          record {
-            name = 70 ∷ [];
-            format = of (item character (item anySymbol (item anySymbol (item anySymbol (item anySymbol (item number opened))))));
-          } ∷ [];
+      formats = record {
+        arguments = record { name = 70 ∷ []; format = of closed } ∷ [];
+        results =
+            record {
+              name = 70 ∷ [];
+              format = of (item character (item anySymbol (item anySymbol (item anySymbol (item anySymbol (item number opened))))));
+            } ∷ [];
+      };
       rounds = 5;
       settled = false;
     })

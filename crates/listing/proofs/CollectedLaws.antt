@@ -29,16 +29,16 @@ use Rattle.formats.proofs.SentenceLaws.{arguments-said, results-said}
 use Rattle.lints.specs.Finding.{Finding}
 use Rattle.lints.specs.Recognition.{argumentsOver}
 use Rattle.lints.specs.Levels.{Settings, shown, listingWords}
-use Rattle.lints.specs.Findings.{findingsOf, Listing, listing}
+use Rattle.lints.specs.Findings.{findingsOf, formatsOf, Listing, listing}
 use Rattle.lints.specs.Code.Records.{Prepared, formatsIn}
 use Rattle.findings.specs.Code.Events.{Tally, Over, Full, Upto, sinkOf, collect}
 use Rattle.findings.specs.Code.All.{allEvents}
 use Rattle.listing.specs.declared.gather.Gathered.{Gathered}
 use Rattle.listing.specs.declared.gather.Gathered.the-variants as gathered
 use Rattle.listing.specs.Outcome.{storeAfter}
-use Rattle.listing.specs.Code.Gather.{Prepares, StoreFilled, Fitted, GatherIs, shownIn, Collected}
+use Rattle.listing.specs.Code.Gather.{Prepares, StoreFilled, Fitted, GatheredIs, GatherIs, shownIn, Collected}
 use Rattle.listing.proofs.PromiseLaws.{words-length, start-taken}
-use Rattle.listing.proofs.GatherLaws.{same-findings, same-over, Wide, Narrow, comes-to}
+use Rattle.listing.proofs.GatherLaws.{Wide, Narrow, comes-to}
 
 module _ {limit : ℕ} {bytes index store : List ℕ} (p : Prepares limit bytes index store) {slots : List ℕ} (s : SlotsOf (fileOf bytes) slots) where
   few : length (treeOf (fileOf bytes)) ≤ 64
@@ -46,7 +46,7 @@ module _ {limit : ℕ} {bytes index store : List ℕ} (p : Prepares limit bytes 
 
   -- a store with what was inferred
   holds : (i : Inferred) (tail after : List ℕ) → infer limit (treeOf (fileOf bytes)) ≡ given i → after ≡ storeWords limit i ++ tail
-      → StoreHolds limit (fileNames (fileOf bytes)) (i .arguments) (i .results) tail after
+      → StoreHolds limit (fileNames (fileOf bytes)) (i .formats .arguments) (i .formats .results) tail after
   holds i tail after inferred words = record { entries = infer-storable limit (treeOf (fileOf bytes)) i few inferred; words = words }
 
   pub ready : (i : Inferred) (tail after : List ℕ) → infer limit (treeOf (fileOf bytes)) ≡ given i → after ≡ storeWords limit i ++ tail
@@ -60,12 +60,12 @@ module _ {limit : ℕ} {bytes index store : List ℕ} (p : Prepares limit bytes 
       names = refl;
       small = p .small;
     };
-    holding = record { arguments = i .arguments; results = i .results; tail = tail; holds = holds i tail after inferred words };
+    holding = record { arguments = i .formats .arguments; results = i .formats .results; tail = tail; holds = holds i tail after inferred words };
   }
 
-  -- what the store says is what was inferred, but for the rounds
+  -- what the store says is what was inferred
   pub said : (i : Inferred) (tail after : List ℕ) → infer limit (treeOf (fileOf bytes)) ≡ given i → after ≡ storeWords limit i ++ tail
-      → formatsIn (fileOf bytes) limit after ≡ record { arguments = i .arguments; results = i .results; rounds = 0; settled = false }
+      → formatsIn (fileOf bytes) limit after ≡ i .formats
   said i tail after inferred words =
       rw (arguments-said (holds i tail after inferred words) (omega (arith, p .small)), results-said (holds i tail after inferred words) (omega (arith, p .small)))
 
@@ -93,22 +93,22 @@ module _ {limit rounds : ℕ} {settled : Bool} (room : ℕ) (settings : Settings
   law = treeOf (fileOf bytes)
 
   abbrev fs : List Finding
-  fs = shown settings (findingsOf law (f .formats))
+  fs = shown settings (findingsOf law (f .made .formats))
 
-  came : Wide limit settings law (sinkOf tally now) ⊎ Narrow limit settings room law (f .formats) out (sinkOf tally now)
+  came : Wide limit settings law (sinkOf tally now) ⊎ Narrow limit settings room law (f .made) out (sinkOf tally now)
   came =
-      comes-to limit settings room law (f .formats) out (sinkOf tally now) (f .inferred)
-      (rw (said p s (f .formats) (drop (storeSize limit) store) store (f .inferred) (f .words)) at e)
+      comes-to limit settings room law (f .made) out (sinkOf tally now) (f .inferred)
+      (rw (said p s (f .made) (drop (storeSize limit) store) store (f .inferred) (f .words)) at e)
 
   -- the store is as it was
-  kept : Narrow limit settings room law (f .formats) out (sinkOf tally now) → store ≡ storeAfter limit store (listing limit settings law)
+  kept : Narrow limit settings room law (f .made) out (sinkOf tally now) → store ≡ storeAfter limit store (listing limit settings law)
   kept n = rw (n .says) (f .words)
 
   pub gather-wide : (after : List ℕ) → tally ≡ Over → after ≡ replicate (storeSize limit) 0 ++ drop (storeSize limit) store
       → GatherIs limit settings room bytes store after out now gathered.TooWide
   gather-wide after is words = go came
     where
-      go : Wide limit settings law (sinkOf tally now) ⊎ Narrow limit settings room law (f .formats) out (sinkOf tally now)
+      go : Wide limit settings law (sinkOf tally now) ⊎ Narrow limit settings room law (f .made) out (sinkOf tally now)
           → GatherIs limit settings room bytes store after out now gathered.TooWide
       go (inl w) = record { store = rw (w .says) words; gathered = rw (w .says) (refl, refl) }
       go (inr n) = absurd (fits (decLe (8 * length fs) room))
@@ -120,7 +120,7 @@ module _ {limit rounds : ℕ} {settled : Bool} (room : ℕ) (settings : Settings
   pub gather-full : tally ≡ Full → GatherIs limit settings room bytes store store out now gathered.Full
   gather-full is = go came
     where
-      go : Wide limit settings law (sinkOf tally now) ⊎ Narrow limit settings room law (f .formats) out (sinkOf tally now)
+      go : Wide limit settings law (sinkOf tally now) ⊎ Narrow limit settings room law (f .made) out (sinkOf tally now)
           → GatherIs limit settings room bytes store store out now gathered.Full
       go (inl w) = absurd (over-full (sym (w .tally) ∙ is))
       go (inr n) = record {
@@ -135,7 +135,7 @@ module _ {limit rounds : ℕ} {settled : Bool} (room : ℕ) (settings : Settings
   pub gather-upto : (count : ℕ) → tally ≡ Upto count → GatherIs limit settings room bytes store store out now (gathered.Upto count rounds settled)
   gather-upto count is = go came
     where
-      go : Wide limit settings law (sinkOf tally now) ⊎ Narrow limit settings room law (f .formats) out (sinkOf tally now)
+      go : Wide limit settings law (sinkOf tally now) ⊎ Narrow limit settings room law (f .made) out (sinkOf tally now)
           → GatherIs limit settings room bytes store store out now (gathered.Upto count rounds settled)
       go (inl w) = absurd (over-upto count (sym (w .tally) ∙ is))
       go (inr n) = record {
@@ -150,7 +150,7 @@ module _ {limit rounds : ℕ} {settled : Bool} (room : ℕ) (settings : Settings
 -- ---- formats first
 
 listing-over : (limit : ℕ) (settings : Settings) (law : Law) (n : ℕ) → infer limit law ≡ refused n → listing limit settings law ≡ refused n
-unfolding listing
+unfolding listing formatsOf
 listing-over limit settings law n e = rw e
 
 ran-wide : (rounds : ℕ) (settled : Bool) → Ran rounds settled ≡ TooWide → ⊥
@@ -175,7 +175,7 @@ module _ {limit : ℕ} (room : ℕ) (settings : Settings) {bytes index before sl
       go : (a : Answer Inferred) → infer limit tree ≡ a → InferIs limit a before after r → GatherIs limit settings room bytes before after out out gathered.TooWide
       go (given i) e k = absurd (ran-wide (i .rounds) (i .settled) (sym (k .1) ∙ is))
       go (refused n) e k = record {
-        store = rw (listing-over limit settings tree n e) (k .0);
+        store = rw (listing-over limit settings tree n e, ten n e) (k .0);
         gathered = rw (listing-over limit settings tree n e) (ten n e, refl);
       }
 
@@ -190,7 +190,7 @@ module _ {limit : ℕ} (room : ℕ) (settings : Settings) {bytes index before sl
         go (given i) e k = (i, e, k .0, sym is ∙ k .1)
         go (refused n) e k = absurd (ran-wide rounds settled (sym is ∙ k .1))
 
-    held : StoreHolds limit (fileNames (fileOf bytes)) (formed .0 .arguments) (formed .0 .results) (drop (storeSize limit) before) after
+    held : StoreHolds limit (fileNames (fileOf bytes)) (formed .0 .formats .arguments) (formed .0 .formats .results) (drop (storeSize limit) before) after
     held = holds p s (formed .0) (drop (storeSize limit) before) after (formed .1) (formed .2)
 
     past : drop (storeSize limit) after ≡ drop (storeSize limit) before
@@ -201,7 +201,7 @@ module _ {limit : ℕ} (room : ℕ) (settings : Settings) {bytes index before sl
     -- the store holds them
     pub filled-store : StoreFilled limit (fileOf bytes) after rounds settled
     filled-store = record {
-      formats = formed .0;
+      made = formed .0;
       inferred = formed .1;
       words = formed .2 ∙ ap (λ tail. storeWords limit (formed .0) ++ tail) (sym past);
       ran = (ran-rounds (formed .3), ran-settled (formed .3));
@@ -224,42 +224,39 @@ module _ {limit : ℕ} (room : ℕ) (settings : Settings) {bytes index before sl
     -- and then its findings are gathered
     pub gather-both : (end start now : List ℕ) (g : Gathered) → GatherIs limit settings room bytes after end start now g
         → GatherIs limit settings room bytes before end start now g
-    gather-both end start now g k = record { store = k .store ∙ same-past (listing limit settings tree); gathered = k .gathered }
+    gather-both end start now g k = record { store = k .store ∙ same-past (listing limit settings tree) (k .gathered); gathered = k .gathered }
       where
-        same-past : (a : Answer Listing) → storeAfter limit after a ≡ storeAfter limit before a
-        same-past (refused n) = rw past
-        same-past (given l) = rw past
+        same-past : (a : Answer Listing) → GatheredIs settings room a start now g → storeAfter limit after a ≡ storeAfter limit before a
+        same-past (refused n) q = rw (q .0, past)
+        same-past (given l) q = rw past
 
 -- ---- findings to be handed over
 
 listing-parts : (limit : ℕ) (settings : Settings) (law : Law) (l : Listing) → listing limit settings law ≡ given l
-    → (infer limit law ≡ given (l .formats)) × (argumentsOver limit law (l .formats) ≡ false) × (l .findings ≡ shown settings (findingsOf law (l .formats)))
-unfolding listing
+    → (infer limit law ≡ given (l .inferred)) × (argumentsOver limit law (l .inferred .formats) ≡ false)
+    × (l .findings ≡ shown settings (findingsOf law (l .inferred .formats)))
+unfolding listing formatsOf
 listing-parts limit settings law l h =
-    let (formats, inferred, rest) = taken (infer limit law) _ l h in
-    let (few, same) = passed 10 (argumentsOver limit law formats) _ l rest in
-    let it : record { formats = formats; findings = shown settings (findingsOf law formats) } ≡ l = cc in
-    rw (← it) (inferred, few, refl)
+    let (formed, formats, rest) = taken (formatsOf limit law) _ l h in
+    let (inferred, is-inferred, few) = taken (infer limit law) _ formed formats in
+    let (narrow, same) = passed 10 (argumentsOver limit law (inferred .formats)) _ formed few in
+    let it : record { inferred = inferred; findings = shown settings (findingsOf law (inferred .formats)) } ≡ l = cc in
+    rw (← it) (is-inferred, narrow, refl)
 
 module _ {limit : ℕ} (settings : Settings) {bytes index before after slots : List ℕ} (p : Prepares limit bytes index before) (s : SlotsOf (fileOf bytes) slots)
-    (l : Listing) (is : listing limit settings (treeOf (fileOf bytes)) ≡ given l) (words : after ≡ storeWords limit (l .formats) ++ drop (storeSize limit) before) where
-  abbrev read : Inferred
-  read = record { arguments = l .formats .arguments; results = l .formats .results; rounds = 0; settled = false }
-
-  says : formatsIn (fileOf bytes) limit after ≡ read
-  says = said p s (l .formats) (drop (storeSize limit) before) after (listing-parts limit settings (treeOf (fileOf bytes)) l is .0) words
+    (l : Listing) (is : listing limit settings (treeOf (fileOf bytes)) ≡ given l) (words : after ≡ storeWords limit (l .inferred) ++ drop (storeSize limit) before) where
+  says : formatsIn (fileOf bytes) limit after ≡ l .inferred .formats
+  says = said p s (l .inferred) (drop (storeSize limit) before) after (listing-parts limit settings (treeOf (fileOf bytes)) l is .0) words
 
   -- the findings by the store are those of the listing
   pub shown-are : shownIn limit settings bytes after ≡ l .findings
   shown-are =
-      ap (λ i. shown settings (findingsOf (treeOf (fileOf bytes)) i)) says
-      ∙ ap (shown settings) (same-findings (treeOf (fileOf bytes)) (l .formats .arguments) (l .formats .results) 0 (l .formats .rounds) false (l .formats .settled))
+      ap (λ formats. shown settings (findingsOf (treeOf (fileOf bytes)) formats)) says
       ∙ sym (listing-parts limit settings (treeOf (fileOf bytes)) l is .2)
 
   pub within : argumentsOver limit (treeOf (fileOf bytes)) (formatsIn (fileOf bytes) limit after) ≡ false
   within =
       ap (argumentsOver limit (treeOf (fileOf bytes))) says
-      ∙ same-over (treeOf (fileOf bytes)) (l .formats .arguments) (l .formats .results) 0 (l .formats .rounds) false (l .formats .settled) limit
       ∙ listing-parts limit settings (treeOf (fileOf bytes)) l is .1
 
   pub collected : (room count : ℕ) (own start : List ℕ) (rounds : ℕ) (settled : Bool) → length own ≡ length start
@@ -268,7 +265,7 @@ module _ {limit : ℕ} (settings : Settings) {bytes index before after slots : L
   collected room count own start rounds settled kept f fits =
       let number : count ≡ length (l .findings) = upto-count (f .counted fits) in
       record {
-        prepared = ready p s (l .formats) (drop (storeSize limit) before) after (listing-parts limit settings (treeOf (fileOf bytes)) l is .0) words;
+        prepared = ready p s (l .inferred) (drop (storeSize limit) before) after (listing-parts limit settings (treeOf (fileOf bytes)) l is .0) words;
         within = within;
         counted = number ∙ ap length (sym shown-are);
         placed = λ few.

@@ -27,7 +27,7 @@ use Rattle.lints.specs.Recognition.{recognitionFindings, someOver, argumentsOve
 use Rattle.lints.specs.Builtin.{builtinFindings}
 use Rattle.lints.specs.Open.{openFindings}
 use Rattle.lints.specs.Levels.{Settings, settingsAllowed, shown, listingWords}
-use Rattle.lints.specs.Findings.{findingsOf, listing}
+use Rattle.lints.specs.Findings.{findingsOf, listing, formatsOf}
 use Rattle.listing.specs.declared.Turned.the-variants as turned
 use Rattle.listing.specs.declared.Found.the-variants as found
 use Rattle.listing.specs.Outcome.{front, findingsOutcome}
@@ -51,9 +51,9 @@ pub false-says : {P : Type 0} → false ≡ true → P
 false-says e = let z : _≡_ {A = ℕ} 0 1 = cc in absurd (omega arith)
 
 none-listed : (limit : ℕ) (settings : Settings)
-    → listing limit settings [] ≡ given (record { formats = record { arguments = []; results = []; rounds = 1; settled = true }; findings = [] })
+    → listing limit settings [] ≡ given (record { inferred = record { formats = record { arguments = []; results = [] }; rounds = 1; settled = true }; findings = [] })
 unfolding
-    listing infer inferWithin arguments namesOf allAt roundsFrom round argumentsOver someOver shown findingsOf deadFindings recognitionFindings builtinFindings
+    listing formatsOf infer inferWithin arguments namesOf allAt roundsFrom round argumentsOver someOver shown findingsOf deadFindings recognitionFindings builtinFindings
     openFindings findingsFrom
 none-listed limit settings = refl
 

@@ -14,33 +14,12 @@ use Rattle.buffers.specs.Written.{written}
 use Rattle.lints.specs.Finding.{Finding, findingWords}
 use Rattle.lints.specs.Recognition.{judged, recognitionRemarks, recognitionFindings, someOver, argumentsOver}
 use Rattle.lints.specs.Levels.{Settings, shown, listingWords}
-use Rattle.lints.specs.Findings.{findingsOf, listing}
+use Rattle.lints.specs.Findings.{findingsOf, formatsOf, listing}
 use Rattle.findings.specs.Code.Events.{Over, Full, Upto, Sink, sinkOf, collect}
 use Rattle.findings.specs.Code.All.{allEvents}
 use Rattle.findings.proofs.FitLaws.{collect-fits, collect-counts, collect-full}
 use Rattle.findings.proofs.EventLaws.{wordsUnder, eventOf, all-found}
 use Rattle.findings.proofs.OverLaws.{all-ends}
-
--- rounds do not matter to findings
-module _ (law : Law) (arguments results : List Entry) (rounds other : ℕ) (settled quiet : Bool) where
-  abbrev first : Inferred
-  first = record { arguments = arguments; results = results; rounds = rounds; settled = settled }
-
-  abbrev second : Inferred
-  second = record { arguments = arguments; results = results; rounds = other; settled = quiet }
-
-  pub same-findings : findingsOf law first ≡ findingsOf law second
-  unfolding findingsOf recognitionFindings recognitionRemarks judged
-  same-findings = refl
-
-  over-calls : (limit : ℕ) (cs : List _) → someOver limit law first cs ≡ someOver limit law second cs
-  unfolding someOver
-  over-calls limit [] = refl
-  over-calls limit (c ∷ cs) = rw (over-calls limit cs)
-
-  pub same-over : (limit : ℕ) → argumentsOver limit law first ≡ argumentsOver limit law second
-  unfolding argumentsOver
-  same-over limit = over-calls limit _
 
 -- a finding has eight words
 eight : (settings : Settings) (f : Finding) → length (wordsUnder settings f) ≡ 8
@@ -63,14 +42,14 @@ all-left settings room fs before s e = record {
 }
 
 -- the listing, by the formats that were inferred
-listing-wide : (limit : ℕ) (settings : Settings) (law : Law) (i : Inferred) → infer limit law ≡ given i → argumentsOver limit law i ≡ true
+listing-wide : (limit : ℕ) (settings : Settings) (law : Law) (i : Inferred) → infer limit law ≡ given i → argumentsOver limit law (i .formats) ≡ true
     → listing limit settings law ≡ refused 10
-unfolding listing
+unfolding listing formatsOf
 listing-wide limit settings law i e w = rw (e, w)
 
-listing-fits : (limit : ℕ) (settings : Settings) (law : Law) (i : Inferred) → infer limit law ≡ given i → argumentsOver limit law i ≡ false
-    → listing limit settings law ≡ given (record { formats = i; findings = shown settings (findingsOf law i) })
-unfolding listing
+listing-fits : (limit : ℕ) (settings : Settings) (law : Law) (i : Inferred) → infer limit law ≡ given i → argumentsOver limit law (i .formats) ≡ false
+    → listing limit settings law ≡ given (record { inferred = i; findings = shown settings (findingsOf law (i .formats)) })
+unfolding listing formatsOf
 listing-fits limit settings law i e w = rw (e, w)
 
 -- either an argument is too wide, or the findings are collected
@@ -79,32 +58,25 @@ pub record Wide (limit : ℕ) (settings : Settings) (law : Law) (s : Sink) : Typ
   pub tally : s .tally ≡ Over
 
 pub record Narrow (limit : ℕ) (settings : Settings) (room : ℕ) (law : Law) (i : Inferred) (before : List ℕ) (s : Sink) : Type 0 where
-  pub within : argumentsOver limit law i ≡ false
-  pub says : listing limit settings law ≡ given (record { formats = i; findings = shown settings (findingsOf law i) })
-  pub left : Left settings room (shown settings (findingsOf law i)) before s
+  pub within : argumentsOver limit law (i .formats) ≡ false
+  pub says : listing limit settings law ≡ given (record { inferred = i; findings = shown settings (findingsOf law (i .formats)) })
+  pub left : Left settings room (shown settings (findingsOf law (i .formats))) before s
 
 pub comes-to : (limit : ℕ) (settings : Settings) (room : ℕ) (law : Law) (i : Inferred) (before : List ℕ) (s : Sink) → infer limit law ≡ given i
-    → s ≡ collect room (sinkOf (Upto 0) before) (allEvents law (record { arguments = i .arguments; results = i .results; rounds = 0; settled = false }) settings room limit)
+    → s ≡ collect room (sinkOf (Upto 0) before) (allEvents law (i .formats) settings room limit)
     → Wide limit settings law s ⊎ Narrow limit settings room law i before s
-comes-to limit settings room law i before s inferred e = go (argumentsOver limit law i) refl
+comes-to limit settings room law i before s inferred e = go (argumentsOver limit law (i .formats)) refl
   where
-    read : Inferred
-    read = record { arguments = i .arguments; results = i .results; rounds = 0; settled = false }
-
-    over-same : argumentsOver limit law read ≡ argumentsOver limit law i
-    over-same = same-over law (i .arguments) (i .results) 0 (i .rounds) false (i .settled) limit
-
-    go : (b : Bool) → argumentsOver limit law i ≡ b → Wide limit settings law s ⊎ Narrow limit settings room law i before s
+    go : (b : Bool) → argumentsOver limit law (i .formats) ≡ b → Wide limit settings law s ⊎ Narrow limit settings room law i before s
     go true w = inl (record {
       says = listing-wide limit settings law i inferred w;
-      tally = rw e (all-ends law read settings room limit (over-same ∙ w) (sinkOf (Upto 0) before));
+      tally = rw e (all-ends law (i .formats) settings room limit w (sinkOf (Upto 0) before));
     })
     go false w = inr (record {
       within = w;
       says = listing-fits limit settings law i inferred w;
       left =
-          all-left settings room (shown settings (findingsOf law i)) before s
+          all-left settings room (shown settings (findingsOf law (i .formats))) before s
           (e ∙ ap (λ es. collect room (sinkOf (Upto 0) before) es)
-          (all-found settings room limit law read (over-same ∙ w)
-          ∙ ap (λ fs. map (eventOf settings) (shown settings fs)) (same-findings law (i .arguments) (i .results) 0 (i .rounds) false (i .settled))));
+          (all-found settings room limit law (i .formats) w));
     })

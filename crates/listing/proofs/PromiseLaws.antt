@@ -46,14 +46,14 @@ module _ (limit : ℕ) (settings : Settings) (bytes store words filled after : L
   -- the findings fit
   fit : (law : Law) (count : Count) (l : Listing) → lawOf bytes ≡ given law → listing limit settings law ≡ given l → (b : Bool)
       → _≡_ {A = Answer Count × List ℕ}
-      (cond b (given (record { findings = length (l .findings); rounds = l .formats .rounds; settled = l .formats .settled }), written words 0 (listingWords settings (l .findings))) (refused 11, words))
+      (cond b (given (record { findings = length (l .findings); rounds = l .inferred .rounds; settled = l .inferred .settled }), written words 0 (listingWords settings (l .findings))) (refused 11, words))
       (given count, after)
       → Claims law count
   fit law count l law-is listing-is true e is-settled zeros =
-      let same : record { findings = length (l .findings); rounds = l .formats .rounds; settled = l .formats .settled } ≡ count =
+      let same : record { findings = length (l .findings); rounds = l .inferred .rounds; settled = l .inferred .settled } ≡ count =
       given-same (ap (λ p. p .0) e) in
       let number : length (l .findings) ≡ count .findings = ap (λ c. c .findings) same in
-      let quiet : l .formats .settled ≡ count .settled = ap (λ c. c .settled) same in
+      let quiet : l .inferred .settled ≡ count .settled = ap (λ c. c .settled) same in
       let buffer : written words 0 (listingWords settings (l .findings)) ≡ after = ap (λ p. p .1) e in
       rw (← buffer, ← number, start-taken words (listingWords settings (l .findings)) (8 * length (l .findings)) (words-length settings (l .findings)))
       (runs.no-false-finding bytes law law-is limit settings l listing-is (quiet ∙ is-settled) zeros)

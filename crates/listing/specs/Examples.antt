@@ -43,7 +43,7 @@ use Rattle.lints.specs.Recognition.{someMatches, compared, judged, recognitionR
 use Rattle.lints.specs.Builtin.{macrodigits, unsigned, allZero, firstFails, charactersOf, domainIn, builtinOn, builtinRemarks, builtinFindings}
 use Rattle.lints.specs.Open.{eOccurrences, openIn, openRemarks, openFindings}
 use Rattle.lints.specs.Levels.{overridesAllowed, settingsAllowed, overrideOf, severityOf, isShown, shown, listingWords}
-use Rattle.lints.specs.Findings.{findingsOf, listing}
+use Rattle.lints.specs.Findings.{findingsOf, formatsOf, listing}
 use Rattle.buffers.specs.Decimal.{digitsWithin}
 use Rattle.lints.specs.Message.{claimText, message}
 use Rattle.lints.specs.Levels.{settingsFrom}
@@ -109,7 +109,7 @@ unfolding
     findingWords findingsFrom calls earliest deadAfter blocks deadRemarks deadFindings
     someMatches compared judged recognitionRemarks recognitionFindings someOver argumentsOver
     macrodigits unsigned allZero firstFails charactersOf domainIn builtinOn builtinRemarks builtinFindings
-    eOccurrences openIn openRemarks openFindings overridesAllowed settingsAllowed overrideOf severityOf isShown shown listingWords findingsOf listing
+    eOccurrences openIn openRemarks openFindings overridesAllowed settingsAllowed overrideOf severityOf isShown shown listingWords findingsOf formatsOf listing
     digitsWithin claimText message shapeWords written entryWords storeOf
     front findingsOutcome findingAt textOutcome
 examples = (

@@ -5,7 +5,7 @@ use mathlib.Core.Bool.{Bool, not, cond}
 use mathlib.Core.List.{List, [], _∷_, _++_}
 use mathlib.Core.Option.{Option, none, some}
 use lib.ListN.{length, drop, replicate}
-use lib.Dec.{ltb, leb}
+use lib.Dec.{eqb, ltb, leb}
 use Rattle.file.specs.Answer.{Answer, refused, given, refuseIf, _>>=_, _>>_}
 use Rattle.file.specs.Sections.{numberOf}
 use Rattle.law.specs.Tree.{Law}
@@ -61,8 +61,8 @@ front limit settings bytes store = do
 -- ---- the store: "8,320 store words zero" with 10, else "store filled"; "Store words past 8,320 always" keep their values
 
 abbrev pub storeAfter : ℕ → List ℕ → Answer Listing → List ℕ
-storeAfter limit store (refused n) = replicate (storeSize limit) 0 ++ drop (storeSize limit) store
-storeAfter limit store (given l) = storeWords limit (l .formats) ++ drop (storeSize limit) store
+storeAfter limit store (refused n) = cond (eqb n 10) (replicate (storeSize limit) 0 ++ drop (storeSize limit) store) store
+storeAfter limit store (given l) = storeWords limit (l .inferred) ++ drop (storeSize limit) store
 
 -- ---- the findings call
 
@@ -75,7 +75,7 @@ pub record FindingsOutcome : Type 0 where
 abbrev pub listed : Settings → List ℕ → Listing → Answer Count × List ℕ
 listed settings words l =
     cond (leb (8 * length (l .findings)) (length words)) (
-      given (record { findings = length (l .findings); rounds = l .formats .rounds; settled = l .formats .settled }),
+      given (record { findings = length (l .findings); rounds = l .inferred .rounds; settled = l .inferred .settled }),
       written words 0 (listingWords settings (l .findings)),
     )
     (refused 11, words)
@@ -114,11 +114,15 @@ findingAt (f ∷ fs) (suc n) = findingAt fs n
 abbrev pub ownPlaces : ℕ
 ownPlaces = 256
 
+-- bytes in a lent buffer: how many they are, and the buffer with them; or the refusal that they do not fit, which leaves it as it was
+abbrev pub fitted : ℕ → List ℕ → List ℕ → Answer ℕ × List ℕ
+fitted number buffer bytes =
+    cond (leb (length bytes) (length buffer)) (given (length bytes), written buffer 0 bytes) (refused number, buffer)
+
 -- 12, "no such finding", and 13, "the text does not fit"
 abbrev pub textOf : List ℕ → Option Finding → Answer ℕ × List ℕ
 textOf text none = (refused 12, text)
-textOf text (some f) =
-    cond (leb (length (message f)) (length text)) (given (length (message f)), written text 0 (message f)) (refused 13, text)
+textOf text (some f) = fitted 13 text (message f)
 
 abbrev pub textBy : List ℕ → ℕ → Answer Listing → Answer ℕ × List ℕ
 textBy text position (refused n) = (refused n, text)

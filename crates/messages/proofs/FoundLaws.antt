@@ -25,7 +25,7 @@ use Rattle.matching.specs.Match.{when, each}
 use Rattle.sentences.specs.Entry.{argumentPart, argumentIn}
 use Rattle.matching.proofs.SameLaws.{false-not-true}
 use Rattle.matching.proofs.SearchLaws.{in-when, in-each, each-in, in-map}
-use Rattle.formats.specs.Infer.{Inferred}
+use Rattle.formats.specs.Infer.{Formats}
 use Rattle.formats.specs.Code.Slots.{fileNames, position}
 use Rattle.formats.proofs.EntryLaws.{nameOf}
 use Rattle.formats.proofs.RoundLaws.{EachFunction}
@@ -140,7 +140,7 @@ fails-form c (some why) r (List·Memᴰ·head e) = (ap (λ y. y .subject) e, (wh
 -- ---- calls that are compared
 
 -- none of them is over the limit
-not-over : (limit : ℕ) (law : Law) (formats : Inferred) (cs : List Call) → someOver limit law formats cs ≡ false
+not-over : (limit : ℕ) (law : Law) (formats : Formats) (cs : List Call) → someOver limit law formats cs ≡ false
     → (c : Call) → List·Memᴰ c cs → compared law c ≡ true → size (passed formats c) ≤ limit
 unfolding someOver
 not-over limit law formats (d ∷ cs) h c m is =

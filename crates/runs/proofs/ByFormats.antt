@@ -98,31 +98,31 @@ module _ (limit : ℕ) (law : Law) (i : Inferred) (inferred : infer limit law �
   holds = infer-holds limit law i inferred
 
   -- what is not defined can come to anything
-  pub undefined-comes : (f : List ℕ) → definition law f ≡ none → (a : Expression) → ComesTo (i .results) f a
-  undefined-comes f e a = rw (find-undefined law (i .results) f (holds .result-names) (undefined-name law f e)) tt
+  pub undefined-comes : (f : List ℕ) → definition law f ≡ none → (a : Expression) → ComesTo (i .formats .results) f a
+  undefined-comes f e a = rw (find-undefined law (i .formats .results) f (holds .result-names) (undefined-name law f e)) tt
 
   -- in a settled table, each result of a function comes to what the function can come to
   pub result-comes : i .settled ≡ true → (f : List ℕ) (ss : Sentences) → definition law f ≡ some ss
-      → EachSentence (λ p r. (w : Expression) → Fits (ComesTo (i .results)) r w → ComesTo (i .results) f w) ss
+      → EachSentence (λ p r. (w : Expression) → Fits (ComesTo (i .formats .results)) r w → ComesTo (i .formats .results) f w) ss
   result-comes settled f ss e =
       let (d, in-law, name, same) = definition-in law f ss e in
-      let within : ResultsWithin (i .results) d = each-function-in (ResultsWithin (i .results)) law (holds .results settled) d in-law in
+      let within : ResultsWithin (i .formats .results) d = each-function-in (ResultsWithin (i .formats .results)) law (holds .results settled) d in-law in
       rw same at
-      (each-sentence-map (λ p r. Within (of (resultShapes (find (i .results)) r)) (within .format))
-      (λ p r. (w : Expression) → Fits (ComesTo (i .results)) r w → ComesTo (i .results) f w)
-      (λ p r over w fits. rw (← name, within .is-found) (over w (fits-admitted (i .results) fits)))
-      (d .sentences) (results-admitted (i .results) d within))
+      (each-sentence-map (λ p r. Within (of (resultShapes (find (i .formats .results)) r)) (within .format))
+      (λ p r. (w : Expression) → Fits (ComesTo (i .formats .results)) r w → ComesTo (i .formats .results) f w)
+      (λ p r over w fits. rw (← name, within .is-found) (over w (fits-admitted (i .formats .results) fits)))
+      (d .sentences) (results-admitted (i .formats .results) d within))
 
   -- where an argument's format shares nothing with the function's argument format, no sentence matches what the argument can come to. The argument
   -- format joins all functions of the name, and the last of them is called: two functions of one name do no harm
-  pub disjoint-none-matches : (f : List ℕ) (q : Run) → disjointFormats (of (resultShapes (find (i .results)) q)) (orNever (find (i .arguments) f)) ≡ true
-      → (v : Expression) → Fits (ComesTo (i .results)) q v → (ss : Sentences) → definition law f ≡ some ss → NoneMatches ss v
+  pub disjoint-none-matches : (f : List ℕ) (q : Run) → disjointFormats (of (resultShapes (find (i .formats .results)) q)) (orNever (find (i .formats .arguments) f)) ≡ true
+      → (v : Expression) → Fits (ComesTo (i .formats .results)) q v → (ss : Sentences) → definition law f ≡ some ss → NoneMatches ss v
   disjoint-none-matches f q apart v fits ss e =
       let (d, in-law, name, same) = definition-in law f ss e in
-      let within : PatternsWithin (i .arguments) d = each-function-in (PatternsWithin (i .arguments)) law (holds .patterns) d in-law in
-      let found : orNever (find (i .arguments) f) ≡ within .format =
-      ap (λ n. orNever (find (i .arguments) n)) (sym name) ∙ ap orNever (within .is-found) in
-      let told : T (disjointFormats (of (resultShapes (find (i .results)) q)) (within .format)) = rw (← found, apart) tt in
+      let within : PatternsWithin (i .formats .arguments) d = each-function-in (PatternsWithin (i .formats .arguments)) law (holds .patterns) d in-law in
+      let found : orNever (find (i .formats .arguments) f) ≡ within .format =
+      ap (λ n. orNever (find (i .formats .arguments) n)) (sym name) ∙ ap orNever (within .is-found) in
+      let told : T (disjointFormats (of (resultShapes (find (i .formats .results)) q)) (within .format)) = rw (← found, apart) tt in
       rw same at
-      (outside-none-matches (d .sentences) (within .format) (patterns-admitted (i .arguments) d within) v
-      (λ a. disjoint-exact (of (resultShapes (find (i .results)) q)) (within .format) .0 told v (fits-admitted (i .results) fits) a))
+      (outside-none-matches (d .sentences) (within .format) (patterns-admitted (i .formats .arguments) d within) v
+      (λ a. disjoint-exact (of (resultShapes (find (i .formats .results)) q)) (within .format) .0 told v (fits-admitted (i .formats .results) fits) a))

@@ -15,7 +15,7 @@ use Rattle.law.specs.Expression.{Expression}
 use Rattle.matching.specs.Match.{some-in}
 use Rattle.matching.specs.Literal.{isLiteral, noNeedlessZero}
 use Rattle.matching.proofs.SameLaws.{false-not-true, both-hold}
-use Rattle.formats.specs.Infer.{Inferred, infer}
+use Rattle.formats.specs.Infer.{Formats, Inferred, infer}
 use Rattle.formats.proofs.RoundLaws.{EachFunction}
 use Rattle.lints.specs.Lint.{lintNumber}
 use Rattle.lints.specs.Finding.{Finding, lintOf, wordA}
@@ -74,7 +74,7 @@ module _ (law : Law) (labels : Labelled law) where
           absurd (omega (arith, below, above, ap (λ y. y .at) (about .subject)))
 
   -- so it is never chosen
-  pub dead-holds : (formats : Inferred) → NeverChosen law (λ i. OfFunction law i × Found (findingsOf law formats) 1 i)
+  pub dead-holds : (formats : Formats) → NeverChosen law (λ i. OfFunction law i × Found (findingsOf law formats) 1 i)
   dead-holds formats i r env k left reached (of-function, (x, m, lint, subject)) =
       dead-unchosen law labels Anything (anything-closed law) i r env k left reached
       (rw subject at (listed-dead x (dead-found law formats x m lint) (rw subject of-function)))
@@ -86,7 +86,7 @@ none-recognised : (ss : Sentences) (v : Expression) → NoneMatches ss v → Rec
 none-recognised (sentence m p cs r ss) v h (inl e) = false-not-true (sym (ap some-in (h .0)) ∙ e)
 none-recognised (sentence m p cs r ss) v h (inr k) = none-recognised ss v (h .1) k
 
-module _ (law : Law) (labels : Labelled law) (formats : Inferred) (x : Finding) (about : Recognition law formats x) where
+module _ (law : Law) (labels : Labelled law) (formats : Formats) (x : Finding) (about : Recognition law formats x) where
   -- the call that is listed, and what holds in its argument
   listed-call :
       CallAt law labels (about .call .mark .at) (about .call .name) (about .call .argument) × RunIn law labels (about .call .argument)
@@ -106,28 +106,31 @@ abbrev pub FoundBy : List Finding → ℕ → ℕ → Type 0
 FoundBy fs a subject = (x : Finding) × List·Memᴰ x fs × (lintNumber (lintOf (x .claim)) ≡ 2) × (wordA (x .claim) ≡ a) × (x .subject .at ≡ subject)
 
 -- by formats: in a settled table
-module _ (limit : ℕ) (law : Law) (labels : Labelled law) (formats : Inferred) (inferred : infer limit law ≡ given formats)
-    (settled : formats .settled ≡ true) where
+module _ (limit : ℕ) (law : Law) (labels : Labelled law) (i : Inferred) (inferred : infer limit law ≡ given i)
+    (settled : i .settled ≡ true) where
+  abbrev formats : Formats
+  formats = i .formats
+
   formats-closed : Closed law (ComesTo (formats .results))
-  formats-closed = record { results = result-comes limit law formats inferred settled; undefined = undefined-comes limit law formats inferred }
+  formats-closed = record { results = result-comes limit law i inferred settled; undefined = undefined-comes limit law i inferred }
 
   pub formats-hold : NeverRecognised law (FoundBy (findingsOf law formats) 1)
-  formats-hold m f v k left reached (x, i, lint, a, subject) =
-      let about : Recognition law formats x = recognition-finding law formats x (recognition-found law formats x i lint) in
+  formats-hold m f v k left reached (x, among, lint, a, subject) =
+      let about : Recognition law formats x = recognition-finding law formats x (recognition-found law formats x among lint) in
       go about (about .is-judged)
     where
       go : (about : Recognition law formats x) → Judged formats (about .call) (about .said)
           → (ss : Sentences) → definition law f ≡ some ss → Recognises ss v → ⊥
       go about (apart claim disjoint) =
           listed-never law labels formats x about (ComesTo (formats .results)) formats-closed
-          (disjoint-none-matches limit law formats inferred (callee (about .call)) (about .call .argument) disjoint)
+          (disjoint-none-matches limit law i inferred (callee (about .call)) (about .call .argument) disjoint)
           m f v k left reached subject
       go about (literally claim literal) =
           let other : wordA (x .claim) ≡ 2 = rw (about .claim, claim) in
           absurd (omega (arith, a, other))
 
 -- by literals: where no number has a needless leading zero
-module _ (law : Law) (labels : Labelled law) (formats : Inferred) (zeros : noNeedlessZeros law ≡ true) where
+module _ (law : Law) (labels : Labelled law) (formats : Formats) (zeros : noNeedlessZeros law ≡ true) where
   passes-each : (fs : Law) → noNeedlessZeros fs ≡ true → EachFunction (λ d. SentencesPass noNeedlessZero (d .sentences)) fs
   unfolding lawPasses
   passes-each [] h = tt
@@ -155,8 +158,8 @@ module _ (law : Law) (labels : Labelled law) (formats : Inferred) (zeros : noNee
       (compared-literal law (about .call) (about .is-compared) literal ss found))
 
   pub literals-hold : NeverRecognised law (FoundBy (findingsOf law formats) 2)
-  literals-hold m f v k left reached (x, i, lint, a, subject) =
-      let about : Recognition law formats x = recognition-finding law formats x (recognition-found law formats x i lint) in
+  literals-hold m f v k left reached (x, among, lint, a, subject) =
+      let about : Recognition law formats x = recognition-finding law formats x (recognition-found law formats x among lint) in
       go about (about .is-judged)
     where
       go : (about : Recognition law formats x) → Judged formats (about .call) (about .said)
@@ -169,15 +172,15 @@ module _ (law : Law) (labels : Labelled law) (formats : Inferred) (zeros : noNee
           m f v k left reached subject
 
 -- lint 2 is by formats or by literals
-pub recognition-holds : (limit : ℕ) (law : Law) (labels : Labelled law) (formats : Inferred) → infer limit law ≡ given formats
-    → formats .settled ≡ true → noNeedlessZeros law ≡ true → NeverRecognised law (Found (findingsOf law formats) 2)
-recognition-holds limit law labels formats inferred settled zeros m f v k left reached (x, i, lint, subject) =
-    let about : Recognition law formats x = recognition-finding law formats x (recognition-found law formats x i lint) in
+pub recognition-holds : (limit : ℕ) (law : Law) (labels : Labelled law) (i : Inferred) → infer limit law ≡ given i
+    → i .settled ≡ true → noNeedlessZeros law ≡ true → NeverRecognised law (Found (findingsOf law (i .formats)) 2)
+recognition-holds limit law labels i inferred settled zeros m f v k left reached (x, among, lint, subject) =
+    let about : Recognition law (i .formats) x = recognition-finding law (i .formats) x (recognition-found law (i .formats) x among lint) in
     go about (about .is-judged)
   where
-    go : (about : Recognition law formats x) → Judged formats (about .call) (about .said)
+    go : (about : Recognition law (i .formats) x) → Judged (i .formats) (about .call) (about .said)
         → (ss : Sentences) → definition law f ≡ some ss → Recognises ss v → ⊥
     go about (apart claim disjoint) =
-        formats-hold limit law labels formats inferred settled m f v k left reached (x, i, lint, rw (about .claim, claim), subject)
+        formats-hold limit law labels i inferred settled m f v k left reached (x, among, lint, rw (about .claim, claim), subject)
     go about (literally claim literal) =
-        literals-hold law labels formats zeros m f v k left reached (x, i, lint, rw (about .claim, claim), subject)
+        literals-hold law labels (i .formats) zeros m f v k left reached (x, among, lint, rw (about .claim, claim), subject)

@@ -12,7 +12,7 @@ use Rattle.formats.specs.Infer.{infer}
 use Rattle.lints.specs.Finding.{Finding, findingWords}
 use Rattle.lints.specs.Recognition.{argumentsOver}
 use Rattle.lints.specs.Levels.{Settings, shown, listingWords}
-use Rattle.lints.specs.Findings.{findingsOf, Listing, listing}
+use Rattle.lints.specs.Findings.{findingsOf, formatsOf, Listing, listing}
 use Rattle.runs.specs.Numbers.{noNeedlessZeros}
 use Rattle.runs.specs.Claim.{NeverChosen, OfFunction, Lists, NoFalseFinding}
 use Rattle.lints.proofs.Everywhere.{Labelled}
@@ -42,35 +42,36 @@ shown-found settings fs all same lint subject (x, m, e, s) = (x, shown-in settin
 
 -- what a listing is made of
 listing-parts : (limit : ℕ) (settings : Settings) (law : Law) (l : Listing) → listing limit settings law ≡ given l
-    → (infer limit law ≡ given (l .formats)) × (l .findings ≡ shown settings (findingsOf law (l .formats)))
-unfolding listing
+    → (infer limit law ≡ given (l .inferred)) × (l .findings ≡ shown settings (findingsOf law (l .inferred .formats)))
+unfolding listing formatsOf
 listing-parts limit settings law l h =
-    let (formats, inferred, rest) = taken (infer limit law) _ l h in
-    let (few, same) = passed 10 (argumentsOver limit law formats) _ l rest in
-    let it : record { formats = formats; findings = shown settings (findingsOf law formats) } ≡ l = cc in
-    rw (← it) (inferred, refl)
+    let (formed, formats, rest) = taken (formatsOf limit law) _ l h in
+    let (inferred, is-inferred, few) = taken (infer limit law) _ formed formats in
+    let (narrow, same) = passed 10 (argumentsOver limit law (inferred .formats)) _ formed few in
+    let it : record { inferred = inferred; findings = shown settings (findingsOf law (inferred .formats)) } ≡ l = cc in
+    rw (← it) (is-inferred, refl)
 
 module _ (bytes : List ℕ) (law : Law) (accepted : lawOf bytes ≡ given law)
     (limit : ℕ) (settings : Settings) (l : Listing) (is-listed : listing limit settings law ≡ given l) where
   labels : Labelled law
   labels = law-labelled bytes law accepted
 
-  found : (lint subject : ℕ) → Lists (listingWords settings (l .findings)) lint subject → Found (findingsOf law (l .formats)) lint subject
+  found : (lint subject : ℕ) → Lists (listingWords settings (l .findings)) lint subject → Found (findingsOf law (l .inferred .formats)) lint subject
   found lint subject w =
-      shown-found settings (l .findings) (findingsOf law (l .formats)) (listing-parts limit settings law l is-listed .1) lint subject
+      shown-found settings (l .findings) (findingsOf law (l .inferred .formats)) (listing-parts limit settings law l is-listed .1) lint subject
       (listed-found settings (l .findings) lint subject w)
 
   -- a function's sentence that is listed as dead is never chosen
   pub no-false-dead : NeverChosen law (λ i. OfFunction law i × Lists (listingWords settings (l .findings)) 1 i)
   no-false-dead i r env k left reached (of-function, w) =
-      dead-holds law labels (l .formats) i r env k left reached (of-function, found 1 i w)
+      dead-holds law labels (l .inferred .formats) i r env k left reached (of-function, found 1 i w)
 
   -- there is no run in which a call listed under the recognition lint finds a sentence of its function whose left side matches, conditions aside, or
   -- in which a function's sentence listed as dead is chosen: for every accepted file, every limit on shapes and all settings for which findings are given
-  pub no-false-finding : l .formats .settled ≡ true → noNeedlessZeros law ≡ true → NoFalseFinding law (listingWords settings (l .findings))
+  pub no-false-finding : l .inferred .settled ≡ true → noNeedlessZeros law ≡ true → NoFalseFinding law (listingWords settings (l .findings))
   no-false-finding settled zeros = record {
     recognition = λ m f v k left reached w.
-        recognition-holds limit law labels (l .formats) (listing-parts limit settings law l is-listed .0) settled zeros
+        recognition-holds limit law labels (l .inferred) (listing-parts limit settings law l is-listed .0) settled zeros
         m f v k left reached (found 2 m w);
     dead = no-false-dead;
   }

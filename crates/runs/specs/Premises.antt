@@ -8,7 +8,7 @@ use mathlib.Core.Option.{Option, none, some}
 use mathlib.Core.Path.{_≡_, refl}
 use native.Mathlib.Omega.{arith}
 use Rattle.names.specs.Name.{everyByte, sameBytes, orderBytes}
-use Rattle.file.specs.Answer.{Answer, given}
+use Rattle.file.specs.Answer.{Answer, given, _>>=_}
 use Rattle.file.specs.Word.{wordAt}
 use Rattle.file.specs.Below.{every, total}
 use Rattle.file.specs.Sections.{section, sectionsOf}
@@ -44,7 +44,7 @@ use Rattle.lints.specs.Recognition.{someMatches, compared, judged, recognitionR
 use Rattle.lints.specs.Builtin.{macrodigits, unsigned, allZero, firstFails, charactersOf, domainIn, builtinOn, builtinRemarks, builtinFindings}
 use Rattle.lints.specs.Open.{eOccurrences, openIn, openRemarks, openFindings}
 use Rattle.lints.specs.Levels.{Settings, overrideOf, severityOf, isShown, shown, listingWords}
-use Rattle.lints.specs.Findings.{findingsOf, listing}
+use Rattle.lints.specs.Findings.{findingsOf, formatsOf, listing}
 use Rattle.runs.specs.Machine.{Env, Stack, over, inPlace, State, working, called, entered, trying, chosen, give, answered, step, steps, run, finished, stopped}
 use Rattle.runs.specs.Numbers.{runPasses, lawPasses, noNeedlessZeros}
 use Rattle.runs.specs.Claim.{NeverChosen, Lists, NoFalseFinding}
@@ -64,7 +64,7 @@ abbrev pub readOf : List ℕ → Answer Read
 readOf bytes = do
   law ← lawOf bytes
   l ← listing 64 strict law
-  given (record { law = law; settled = l .formats .settled; plain = noNeedlessZeros law; words = listingWords strict (l .findings) })
+  given (record { law = law; settled = l .inferred .settled; plain = noNeedlessZeros law; words = listingWords strict (l .findings) })
 
 -- ---- a needless leading zero, in a block's sentence
 
@@ -182,7 +182,7 @@ unfolding
     findingWords findingsFrom calls earliest deadAfter blocks deadRemarks deadFindings
     someMatches compared judged recognitionRemarks recognitionFindings someOver argumentsOver
     macrodigits unsigned allZero firstFails charactersOf domainIn builtinOn builtinRemarks builtinFindings
-    eOccurrences openIn openRemarks openFindings overrideOf severityOf isShown shown listingWords findingsOf listing
+    eOccurrences openIn openRemarks openFindings overrideOf severityOf isShown shown listingWords findingsOf formatsOf listing
     runPasses lawPasses
 files-read = (refl, refl, refl, refl)
 

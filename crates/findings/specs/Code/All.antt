@@ -4,7 +4,7 @@ use mathlib.Core.Bool.{Bool, _||_}
 use mathlib.Core.List.{List, _++_}
 use lib.Dec.{eqb}
 use Rattle.law.specs.Tree.{Law}
-use Rattle.formats.specs.Infer.{Inferred}
+use Rattle.formats.specs.Infer.{Formats}
 use Rattle.matching.specs.Match.{when}
 use Rattle.lints.specs.Lint.{Lint, deadSentence, recognitionImpossible, builtinDomain, openExpressions, lintNumber}
 use Rattle.lints.specs.Levels.{Settings, severityOf, isShown}
@@ -27,11 +27,11 @@ taskFor settings room limit lint = record {
 abbrev pub isDue : Task → Bool
 isDue task = task .shown || eqb (task .lint) 2
 
-unfoldable pub taskEvents : Law → Inferred → Task → List Event
+unfoldable pub taskEvents : Law → Formats → Task → List Event
 taskEvents law formats task = when (isDue task) (lintEvents law formats task)
 
 -- `dead_sentences`, `recognition_impossible`, `builtin_domains`, `open_expression_complexity`, in this order
-unfoldable pub allEvents : Law → Inferred → Settings → ℕ → ℕ → List Event
+unfoldable pub allEvents : Law → Formats → Settings → ℕ → ℕ → List Event
 allEvents law formats settings room limit =
     taskEvents law formats (taskFor settings room limit deadSentence)
     ++ taskEvents law formats (taskFor settings room limit recognitionImpossible)

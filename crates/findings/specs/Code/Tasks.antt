@@ -10,9 +10,9 @@ use Rattle.file.specs.Sections.{File, fileOf}
 use Rattle.law.specs.Tree.{Run, Sentences, Conditions, Law, keep}
 use Rattle.law.specs.Reading.{runOf, own, sentencesAt, treeOf}
 use Rattle.shapes.specs.Format.{size}
-use Rattle.formats.specs.Infer.{Inferred}
+use Rattle.formats.specs.Infer.{Formats}
 use Rattle.matching.specs.Match.{when}
-use Rattle.lints.specs.Finding.{wordA, wordB, Remark}
+use Rattle.lints.specs.Finding.{wordA, wordB, eightWords, Remark}
 use Rattle.lints.specs.Calls.{Call}
 use Rattle.lints.specs.Dead.{ownDead, blockDead}
 use Rattle.lints.specs.Recognition.{compared, passed, judged}
@@ -26,14 +26,13 @@ use Rattle.findings.specs.Code.Walk.{walked, walkedTerm, walkedSentences
 
 -- the eight words of a finding
 abbrev pub noteWords : Task → Note → List ℕ
-noteWords task note =
-    task .lint ∷ task .severity ∷ note .start ∷ note .end ∷ note .a ∷ note .b ∷ task .position ∷ note .subject ∷ []
+noteWords task note = eightWords (task .lint) (task .severity) (note .start) (note .end) (note .a) (note .b) (task .position) (note .subject)
 
 -- a remark, as the eight words of a finding
 abbrev pub remarkEvent : Task → Remark → Event
 remarkEvent task r =
-    noting (task .lint ∷ task .severity ∷ r .subject .spanStart ∷ r .subject .spanEnd ∷ wordA (r .claim) ∷ wordB (r .claim) ∷ task .position
-    ∷ r .subject .at ∷ [])
+    noting (eightWords (task .lint) (task .severity) (r .subject .spanStart) (r .subject .spanEnd) (wordA (r .claim)) (wordB (r .claim))
+    (task .position) (r .subject .at))
 
 unfoldable pub remarkEvents : Task → List Remark → List Event
 remarkEvents task rs = map (remarkEvent task) rs
@@ -41,11 +40,11 @@ remarkEvents task rs = map (remarkEvent task) rs
 -- ---- at a call, and at a block's own sentences
 
 -- lint 2: refusal 10 comes before levels, so that it is met also where findings are hidden
-unfoldable pub recognitionEvents : Law → Inferred → Task → Call → List Event
+unfoldable pub recognitionEvents : Law → Formats → Task → Call → List Event
 recognitionEvents law formats task c =
     when (compared law c) (cond (ltb (task .limit) (size (passed formats c))) (tooWide ∷ []) (when (task .shown) (remarkEvents task (judged formats c))))
 
-unfoldable pub callEvents : Law → Inferred → Task → Call → List Event
+unfoldable pub callEvents : Law → Formats → Task → Call → List Event
 callEvents law formats task c =
     cond (eqb (task .lint) 2) (recognitionEvents law formats task c)
     (when (eqb (task .lint) 3) (remarkEvents task (builtinOn law c)))
@@ -60,20 +59,20 @@ callsAt file t = when (eqb (wordAt (file .terms .records) (24 * t)) 7) (callAt f
 -- ---- in the law
 
 -- in a run, in its first term, and in sentences
-abbrev pub runEvents : Law → Inferred → Task → Run → List Event
+abbrev pub runEvents : Law → Formats → Task → Run → List Event
 runEvents law formats task r = walked (callEvents law formats task) (blockEvents task) (eqb (task .lint) 1) r
 
-abbrev pub termEvents : Law → Inferred → Task → Run → List Event
+abbrev pub termEvents : Law → Formats → Task → Run → List Event
 termEvents law formats task r = walkedTerm (callEvents law formats task) (blockEvents task) (eqb (task .lint) 1) r
 
-abbrev pub insideEvents : Law → Inferred → Task → Sentences → List Event
+abbrev pub insideEvents : Law → Formats → Task → Sentences → List Event
 insideEvents law formats task ss = walkedSentences (callEvents law formats task) (blockEvents task) (eqb (task .lint) 1) ss
 
-abbrev pub conditionEvents : Law → Inferred → Task → Conditions → List Event
+abbrev pub conditionEvents : Law → Formats → Task → Conditions → List Event
 conditionEvents law formats task cs = walkedConditions (callEvents law formats task) (blockEvents task) (eqb (task .lint) 1) cs
 
 -- of a function: lint 1 begins with its own sentences; lint 4 looks only at these
-unfoldable pub functionEvents : Law → Inferred → Task → Sentences → List Event
+unfoldable pub functionEvents : Law → Formats → Task → Sentences → List Event
 functionEvents law formats task ss =
     cond (eqb (task .lint) 4) (remarkEvents task (openIn ss))
     (when (eqb (task .lint) 1) (remarkEvents task (ownDead ss)) ++ insideEvents law formats task ss)
@@ -94,13 +93,13 @@ atPosition task position = record {
 }
 
 -- function by function, from the position of the first of them on
-unfoldable pub functionsEvents : Law → Inferred → Task → ℕ → Law → List Event
+unfoldable pub functionsEvents : Law → Formats → Task → ℕ → Law → List Event
 functionsEvents law formats task position [] = []
 functionsEvents law formats task position (f ∷ fs) =
     functionEvents law formats (atPosition task position) (f .sentences) ++ functionsEvents law formats task (suc position) fs
 
 -- one lint
-abbrev pub lintEvents : Law → Inferred → Task → List Event
+abbrev pub lintEvents : Law → Formats → Task → List Event
 lintEvents law formats task = functionsEvents law formats task 0 law
 
 -- ---- by the bytes of a law and the words of a store, as contracts say it

@@ -106,7 +106,7 @@ RoundsIs limit names (refused n) arguments tail after i = (found : List Entry) �
 
 -- the formats after the arguments and the rounds, in a store that held never
 abbrev pub StartedIs : ℕ → List (List ℕ) → Answer Inferred → List ℕ → List ℕ → Inference → Type 0
-StartedIs limit names (given i) tail after r = StoreHolds limit names (i .arguments) (i .results) tail after × (r ≡ Ran (i .rounds) (i .settled))
+StartedIs limit names (given i) tail after r = StoreHolds limit names (i .formats .arguments) (i .formats .results) tail after × (r ≡ Ran (i .rounds) (i .settled))
 StartedIs limit names (refused n) tail after r = (found results : List Entry) × StoreHolds limit names found results tail after × (r ≡ TooWide)
 
 -- the same in any store that is long enough: zeros where it was refused, and words past the store are kept

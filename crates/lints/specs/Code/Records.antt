@@ -10,7 +10,7 @@ use Rattle.law.specs.Tree.{Conditions}
 use Rattle.law.specs.Places.{patternAt, patternPart, conditionsOf, firstCondition}
 use Rattle.law.specs.Reading.{nameAt, markAt, runOf, own, conditionsFrom}
 use Rattle.law.specs.Law.{Accepted}
-use Rattle.formats.specs.Infer.{Inferred}
+use Rattle.formats.specs.Infer.{Formats}
 use Rattle.formats.specs.Code.Slots.{fileNames}
 use Rattle.formats.specs.Code.Turns.{RoundAsked, Holding, argumentsIn, resultsIn}
 use Rattle.sentences.specs.Entry.{argumentIn}
@@ -24,14 +24,9 @@ pub record Prepared (bytes index slots store : List ℕ) (limit : ℕ) : Type 0 
   pub holding : Holding limit (fileNames (fileOf bytes)) store
 
 module _ (file : File) where
-  -- the formats that a store has for the law's names; rounds are not known from it
-  abbrev pub formatsIn : ℕ → List ℕ → Inferred
-  formatsIn limit store = record {
-    arguments = argumentsIn limit (fileNames file) store;
-    results = resultsIn limit (fileNames file) store;
-    rounds = 0;
-    settled = false;
-  }
+  -- the formats that a store has for the law's names
+  abbrev pub formatsIn : ℕ → List ℕ → Formats
+  formatsIn limit store = record { arguments = argumentsIn limit (fileNames file) store; results = resultsIn limit (fileNames file) store }
 
   -- the call at the term record t
   abbrev pub callAt : ℕ → Call

@@ -10,20 +10,21 @@ use Rattle.law.specs.Places.{sentencesOf, firstSentence}
 use Rattle.law.specs.Reading.{sentencesAt}
 use Rattle.shapes.specs.Format.{of, size}
 use Rattle.shapes.specs.Disjoint.{disjointFormats}
-use Rattle.formats.specs.Infer.{Inferred}
+use Rattle.formats.specs.Infer.{Formats}
 use Rattle.matching.specs.Literal.{isLiteral}
 use Rattle.lints.specs.Calls.{Call}
 use Rattle.lints.specs.Recognition.{compared, passed, accepted}
 use Rattle.lints.specs.declared.recognition.Verdict.{Verdict}
 use Rattle.lints.specs.declared.recognition.Verdict.the-variants.{Nothing, TooWide, ByFormats, ByLiterals}
 
--- `TooWide` where its argument is compared by formats and has over `limit` shapes
-unfoldable pub verdictOf : ℕ → Law → Inferred → Call → Verdict
-verdictOf limit law formats c =
-    cond (compared law c)
-    (cond (ltb limit (size (passed formats c))) TooWide
-    (cond (disjointFormats (of (passed formats c)) (accepted formats c)) ByFormats (cond (isLiteral (c .argument)) ByLiterals Nothing)))
-    Nothing
+-- of one that is compared: `TooWide` where its argument has over `limit` shapes
+unfoldable pub comparison : ℕ → Formats → Call → Verdict
+comparison limit formats c =
+    cond (ltb limit (size (passed formats c))) TooWide
+    (cond (disjointFormats (of (passed formats c)) (accepted formats c)) ByFormats (cond (isLiteral (c .argument)) ByLiterals Nothing))
+
+unfoldable pub verdictOf : ℕ → Law → Formats → Call → Verdict
+verdictOf limit law formats c = cond (compared law c) (comparison limit formats c) Nothing
 
 -- ---- what the code finds on its way
 
@@ -35,9 +36,3 @@ lastPlaced slots place missing (suc n) = cond (eqb (getD slots n 0) place) n (la
 -- the sentences of the function f
 abbrev pub functionSentences : File → ℕ → Sentences
 functionSentences file f = keep (sentencesOf file f) (sentencesAt file (firstSentence file f))
-
--- what is said of a call that is compared
-unfoldable pub comparison : ℕ → Inferred → Call → Verdict
-comparison limit formats c =
-    cond (ltb limit (size (passed formats c))) TooWide
-    (cond (disjointFormats (of (passed formats c)) (accepted formats c)) ByFormats (cond (isLiteral (c .argument)) ByLiterals Nothing))

@@ -42,16 +42,16 @@ FrontIs limit settings bytes store Ready index =
 
 -- findings are counted where there is room for the words of all of them, and written where the buffer has place for them
 pub record Fitted (settings : Settings) (room : ℕ) (l : Listing) (before after : List ℕ) (r : Gathered) : Type 0 where
-  pub counted : 8 * length (l .findings) ≤ room → r ≡ Upto (length (l .findings)) (l .formats .rounds) (l .formats .settled)
+  pub counted : 8 * length (l .findings) ≤ room → r ≡ Upto (length (l .findings)) (l .inferred .rounds) (l .inferred .settled)
   pub placed : 8 * length (l .findings) ≤ room → 8 * length (l .findings) ≤ length before → after ≡ written before 0 (listingWords settings (l .findings))
   pub over : room < 8 * length (l .findings) → r ≡ Full
 
 -- a store that inference has filled
 pub record StoreFilled (limit : ℕ) (file : File) (store : List ℕ) (rounds : ℕ) (settled : Bool) : Type 0 where
-  pub formats : Inferred
-  pub inferred : infer limit (treeOf file) ≡ given formats
-  pub words : store ≡ storeWords limit formats ++ drop (storeSize limit) store
-  pub ran : (rounds ≡ formats .rounds) × (settled ≡ formats .settled)
+  pub made : Inferred
+  pub inferred : infer limit (treeOf file) ≡ given made
+  pub words : store ≡ storeWords limit made ++ drop (storeSize limit) store
+  pub ran : (rounds ≡ made .rounds) × (settled ≡ made .settled)
 
 -- by what the law comes to; the store is filled, or zero with refusal 10
 abbrev pub GatheredIs : Settings → ℕ → Answer Listing → List ℕ → List ℕ → Gathered → Type 0

@@ -11,7 +11,7 @@ gather-findings-spec =
     (tie.spec
     (λ c κs.
     let start = c .before .before .before .before .before .before in
-    ready (start .pre .0) (start .pre .1) (start .pre .2 .formats) _ _ (start .pre .2 .inferred) (start .pre .2 .words))
+    ready (start .pre .0) (start .pre .1) (start .pre .2 .made) _ _ (start .pre .2 .inferred) (start .pre .2 .words))
     (λ c κs. search needs)
     (λ c. search needs)
     (λ c. search needs)
