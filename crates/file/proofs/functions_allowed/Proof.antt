@@ -35,9 +35,9 @@ functions-allowed-spec =
     sym (every-fails _ _ i (c .before .before .before .before .loop-test .taken) (function-tested _ _ _ _ _ _ (c .before .before .before .word-at .ensures) (c .before .before .word-at2 .ensures) (c .before .spelled-name .ensures) ∙ not-true _ (c .if1 .taken))))
     (λ c. omega arith)
     (λ c. omega arith)
-    (λ c.
+    (λ c. let the-loop = c .before .before .before .before .before .loop in
     let i = c .before .before .before .before .before .loop .i in
-    (omega arith, every-next i _ (c .before .before .before .before .before .loop .inv .1) (function-tested _ _ _ _ _ _ (c .before .before .before .word-at .ensures) (c .before .before .word-at2 .ensures) (c .before .spelled-name .ensures) ∙ not-false _ (c .if1 .left))))
+    (omega arith, every-next i _ (the-loop .inv .1) (function-tested _ _ _ _ _ _ (c .before .before .before .word-at .ensures) (c .before .before .word-at2 .ensures) (c .before .spelled-name .ensures) ∙ not-false _ (c .if1 .left))))
     (λ c.
     let e : c .before .loop .i ≡ c .before .before .before .before .args .count = omega arith in
     sym (rw e at (c .before .loop .inv .1))))

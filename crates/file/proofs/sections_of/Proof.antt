@@ -36,19 +36,39 @@ sections-of-spec =
     (λ c. search needs)
     (λ c κs. (text c .inside, omega arith, omega arith))
     (λ c. search needs)
-    (λ c. functions-refused _ (c .before .before .before .before .before .before .before .before .if1 .left) _ _ (c .before .r2 .given .1) _ (text (c .before .before .before .before)) (c .before .before .before .section-at2 .ensures))
+    (λ c. let the-if1 = c .before .before .before .before .before .before .before .before .if1 in
+    functions-refused _ (the-if1 .left) _ _ (c .before .r2 .given .1) _ (text (c .before .before .before .before)) (c .before .before .before .section-at2 .ensures))
     (λ c. search needs)
     (λ c κs. (functions c .inside, omega arith, omega arith))
     (λ c. search needs)
-    (λ c. sentences-refused _ (c .before .before .before .before .before .before .before .before .before .before .before .before .if1 .left) _ _ (c .before .r3 .given .1) _ (text (c .before .before .before .before .before .before .before .before)) _ (functions (c .before .before .before .before)) (c .before .before .before .section-at3 .ensures))
+    (λ c. let the-if1 = c .before .before .before .before .before .before .before .before .before .before .before .before .if1 in
+    let the-before = c .before .before .before .before .before .before .before .before in
+    sentences-refused _ (the-if1 .left) _ _ (c .before .r3 .given .1) _ (text (the-before)) _ (functions (c .before .before .before .before)) (c .before .before .before .section-at3 .ensures))
     (λ c. search needs)
     (λ c κs. (sentences c .inside, omega arith, omega arith))
     (λ c. search needs)
-    (λ c. conditions-refused _ (c .before .before .before .before .before .before .before .before .before .before .before .before .before .before .before .before .if1 .left) _ _ (c .before .r4 .given .1) _ (text (c .before .before .before .before .before .before .before .before .before .before .before .before)) _ (functions (c .before .before .before .before .before .before .before .before)) _ (sentences (c .before .before .before .before)) (c .before .before .before .section-at4 .ensures))
+    (λ c. let the-if1 = c .before .before .before .before .before .before .before .before .before .before .before .before .before .before .before .before .if1 in
+    let the-before = c .before .before .before .before .before .before .before .before .before .before .before .before in
+    let the-before-2 = c .before .before .before .before .before .before .before .before in
+    conditions-refused _ (the-if1 .left) _ _ (c .before .r4 .given .1) _ (text (the-before)) _ (functions (the-before-2)) _ (sentences (c .before .before .before .before)) (c .before .before .before .section-at4 .ensures))
     (λ c. search needs)
     (λ c κs. (conditions c .inside, omega arith, omega arith))
     (λ c. search needs)
-    (λ c. terms-refused _ (c .before .before .before .before .before .before .before .before .before .before .before .before .before .before .before .before .before .before .before .before .if1 .left) _ _ (c .before .r5 .given .1) _ (text (c .before .before .before .before .before .before .before .before .before .before .before .before .before .before .before .before)) _ (functions (c .before .before .before .before .before .before .before .before .before .before .before .before)) _ (sentences (c .before .before .before .before .before .before .before .before)) _ (conditions (c .before .before .before .before)) (c .before .before .before .section-at5 .ensures))
+    (λ c. let the-if1 = c .before .before .before .before .before .before .before .before .before .before .before .before .before .before .before .before .before .before .before .before .if1 in
+    let the-before = c .before .before .before .before .before .before .before .before .before .before .before .before .before .before .before .before in
+    let the-before-2 = c .before .before .before .before .before .before .before .before .before .before .before .before in
+    let the-before-3 = c .before .before .before .before .before .before .before .before in
+    terms-refused _ (the-if1 .left) _ _ (c .before .r5 .given .1) _ (text (the-before)) _ (functions (the-before-2)) _ (sentences (the-before-3)) _ (conditions (c .before .before .before .before)) (c .before .before .before .section-at5 .ensures))
     (λ c. search needs)
-    (λ c. left-over _ (c .before .before .before .before .before .before .before .before .before .before .before .before .before .before .before .before .before .before .before .before .before .before .if1 .left) _ _ _ _ _ (text (c .before .before .before .before .before .before .before .before .before .before .before .before .before .before .before .before .before .before)) (functions (c .before .before .before .before .before .before .before .before .before .before .before .before .before .before)) (sentences (c .before .before .before .before .before .before .before .before .before .before)) (conditions (c .before .before .before .before .before .before)) (terms (c .before .before)) (c .if2 .taken))
-    (λ c. all-given _ (c .before .before .before .before .before .before .before .before .before .before .before .before .before .before .before .before .before .before .before .before .before .before .if1 .left) _ _ _ _ _ (text (c .before .before .before .before .before .before .before .before .before .before .before .before .before .before .before .before .before .before)) (functions (c .before .before .before .before .before .before .before .before .before .before .before .before .before .before)) (sentences (c .before .before .before .before .before .before .before .before .before .before)) (conditions (c .before .before .before .before .before .before)) (terms (c .before .before)) (c .if2 .left)))
+    (λ c. let the-if1 = c .before .before .before .before .before .before .before .before .before .before .before .before .before .before .before .before .before .before .before .before .before .before .if1 in
+    let the-before = c .before .before .before .before .before .before .before .before .before .before .before .before .before .before .before .before .before .before in
+    let the-before-2 = c .before .before .before .before .before .before .before .before .before .before .before .before .before .before in
+    let the-before-3 = c .before .before .before .before .before .before .before .before .before .before in
+    let the-before-4 = c .before .before .before .before .before .before in
+    left-over _ (the-if1 .left) _ _ _ _ _ (text (the-before)) (functions (the-before-2)) (sentences (the-before-3)) (conditions (the-before-4)) (terms (c .before .before)) (c .if2 .taken))
+    (λ c. let the-if1 = c .before .before .before .before .before .before .before .before .before .before .before .before .before .before .before .before .before .before .before .before .before .before .if1 in
+    let the-before = c .before .before .before .before .before .before .before .before .before .before .before .before .before .before .before .before .before .before in
+    let the-before-2 = c .before .before .before .before .before .before .before .before .before .before .before .before .before .before in
+    let the-before-3 = c .before .before .before .before .before .before .before .before .before .before in
+    let the-before-4 = c .before .before .before .before .before .before in
+    all-given _ (the-if1 .left) _ _ _ _ _ (text (the-before)) (functions (the-before-2)) (sentences (the-before-3)) (conditions (the-before-4)) (terms (c .before .before)) (c .if2 .left)))

@@ -14,12 +14,12 @@ findings-spec =
     (λ c κs. search needs)
     (λ c κs. search needs)
     (λ c. search needs)
-    (λ c.
+    (λ c. let the-is-empty = c .before .before .before .before .before .is-empty in
     let start = c .before .before .before .before .before .before .before .before .before .before in
     let settings = settingsFrom (start .args .mode) (start .args .overrides .now) in
     let the-none = c .before .before .findings-none in
     promise 64 settings (start .args .law .now) (start .args .store .now) (start .args .words .now) _ _ (the-none .result)
-    (the-none .ensures (start .args .law .now) (start .args .words .now) (c .before .before .before .before .before .is-empty .ensures (c .before .before .before .before .if1 .taken))))
+    (the-none .ensures (start .args .law .now) (start .args .words .now) (the-is-empty .ensures (c .before .before .before .before .if1 .taken))))
     (λ c κs. search needs)
     (λ c. search needs)
     (λ c. search needs)
@@ -35,9 +35,9 @@ findings-spec =
     findings-turned settings (start .args .law .now) (start .args .store .now) _ _ (front .ensures _ refl) _ _ (c .before .why .given .1))
     (λ c. search needs)
     (λ c. search needs)
-    (λ c.
+    (λ c. let the-enum-told = c .before .before .before .before .before .before .before .before .enum-told in
     let start = c .before .before .before .before .before .before .before .before .before .before .before .before .before .before .before .before .before .before in
     let settings = settingsFrom (start .args .mode) (start .args .overrides .now) in
     let front = c .before .before .before .before .before .before .before .before .before .before .check-front in
     let ready = c .before .before .before .before .findings-ready in
-    findings-goes settings (start .args .law .now) (start .args .store .now) _ _ (front .ensures _ refl) _ _ _ (ready .result) (c .before .before .before .before .before .before .before .before .enum-told .given .1) (ready .ensures)))
+    findings-goes settings (start .args .law .now) (start .args .store .now) _ _ (front .ensures _ refl) _ _ _ (ready .result) (the-enum-told .given .1) (ready .ensures)))

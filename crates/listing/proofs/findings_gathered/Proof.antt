@@ -36,8 +36,8 @@ findings-gathered-spec =
     (λ c. search needs)
     (λ c. search needs)
     (λ c. search needs)
-    (λ c.
+    (λ c. let the-count = c .before .before .before .before .before .before .before .before .count in
     let start = c .before .before .before .before .before .before .before .before .before .before .before .before .before .before .before .before .before .before .before .before .before .before .before .before in
     let the-gather = c .before .before .before .before .before .before .before .before .before .before .before .before .before .before .gather in
     let the-slots-of = c .before .before .before .before .before .before .before .before .before .before .before .before .before .before .before .before .before .before .slots-of in
-    findings-listed (settingsFrom (start .args .mode) (start .args .overrides .now)) (the-gather .ensures) (start .pre) (the-slots-of .ensures) _ _ _ (c .before .before .before .before .before .before .before .before .count .given .1) _ _ refl (c .before .before .hand-over .ensures)))
+    findings-listed (settingsFrom (start .args .mode) (start .args .overrides .now)) (the-gather .ensures) (start .pre) (the-slots-of .ensures) _ _ _ (the-count .given .1) _ _ refl (c .before .before .hand-over .ensures)))

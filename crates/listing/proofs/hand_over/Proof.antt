@@ -26,6 +26,6 @@ hand-over-spec =
     let start = c .before .before .before .before .before .before .before .before in
     sym (own-part (settingsFrom (start .args .mode) (start .args .overrides .now)) (start .pre .0) (start .args .words .now) (start .pre .1) (c .before .before .if1 .left)) ∙ words-part (settingsFrom (start .args .mode) (start .args .overrides .now)) (start .pre .0) (start .args .words .now) (start .pre .1))
     (λ c. search needs)
-    (λ c.
+    (λ c. let the-if1 = c .before .before .before .before .before .if1 in
     let start = c .before .before .before .before .before .before .before .before .before .before .before in
-    handed (settingsFrom (start .args .mode) (start .args .overrides .now)) (start .pre .0) (start .args .words .now) (start .pre .1) _ (c .before .before .before .before .before .if1 .left) (c .before .before .copy-words .ensures)))
+    handed (settingsFrom (start .args .mode) (start .args .overrides .now)) (start .pre .0) (start .args .words .now) (start .pre .1) _ (the-if1 .left) (c .before .before .copy-words .ensures)))

@@ -25,9 +25,9 @@ text-spec =
     text-turned settings (start .args .law .now) (start .args .store .now) _ _ (front .ensures _ refl) _ _ _ (c .before .why .given .1))
     (λ c. search needs)
     (λ c. search needs)
-    (λ c.
+    (λ c. let the-enum-told = c .before .before .before .before .before .before .before .before .enum-told in
     let start = c .before .before .before .before .before .before .before .before .before .before .before .before .before .before .before .before in
     let settings = settingsFrom (start .args .mode) (start .args .overrides .now) in
     let front = c .before .before .before .before .before .before .before .before .before .before .check-front in
     let ready = c .before .before .before .before .text-ready in
-    text-goes settings (start .args .law .now) (start .args .store .now) _ _ (front .ensures _ refl) _ _ _ _ (ready .result) (c .before .before .before .before .before .before .before .before .enum-told .given .1) (ready .ensures)))
+    text-goes settings (start .args .law .now) (start .args .store .now) _ _ (front .ensures _ refl) _ _ _ _ (ready .result) (the-enum-told .given .1) (ready .ensures)))

@@ -16,19 +16,23 @@ text-ready-spec =
     (λ c. search needs)
     (λ c. search needs)
     (λ c. search needs)
-    (λ c κs.
+    (λ c κs. let the-gather = c .before .before .before .before .before .before .before .before .before .before .gather in
+    let the-slots-of = c .before .before .before .before .before .before .before .before .before .before .before .before .before .before .slots-of in
+    let the-count = c .before .before .before .before .before .count in
     let start = c .before .before .before .before .before .before .before .before .before .before .before .before .before .before .before .before .before .before .before in
-    ((settingsFrom (start .args .mode) (start .args .overrides .now), findings-collected (settingsFrom (start .args .mode) (start .args .overrides .now)) (c .before .before .before .before .before .before .before .before .before .before .gather .ensures) (start .pre) (c .before .before .before .before .before .before .before .before .before .before .before .before .before .before .slots-of .ensures) _ _ _ (c .before .before .before .before .before .count .given .1) (c .before .before .before .before .before .before .before .before .before .before .gather .kept .1 .1 .1 .1 .1 .1 .1 .1 .0)), text-places (settingsFrom (start .args .mode) (start .args .overrides .now)) (c .before .before .before .before .before .before .before .before .before .before .gather .ensures) (start .pre) (c .before .before .before .before .before .before .before .before .before .before .before .before .before .before .slots-of .ensures) _ _ _ (c .before .before .before .before .before .count .given .1) (sym (c .before .before .before .before .before .before .before .before .before .before .gather .kept .1 .1 .1 .1 .1 .1 .1 .1 .0))))
+    ((settingsFrom (start .args .mode) (start .args .overrides .now), findings-collected (settingsFrom (start .args .mode) (start .args .overrides .now)) (the-gather .ensures) (start .pre) (the-slots-of .ensures) _ _ _ (the-count .given .1) (the-gather .kept .1 .1 .1 .1 .1 .1 .1 .1 .0)), text-places (settingsFrom (start .args .mode) (start .args .overrides .now)) (the-gather .ensures) (start .pre) (the-slots-of .ensures) _ _ _ (the-count .given .1) (sym (the-gather .kept .1 .1 .1 .1 .1 .1 .1 .1 .0))))
     (λ c. search needs)
-    (λ c.
+    (λ c. let the-gather = c .before .before .before .before .before .gather in
     let start = c .before .before .before .before .before .before .before .before .before .before .before .before .before .before in
-    text-wide (settingsFrom (start .args .mode) (start .args .overrides .now)) (c .before .before .before .before .before .gather .ensures) _ _ (c .enum-told .given .1))
+    text-wide (settingsFrom (start .args .mode) (start .args .overrides .now)) (the-gather .ensures) _ _ (c .enum-told .given .1))
     (λ c. search needs)
-    (λ c.
+    (λ c. let the-gather = c .before .before .before .before .before .gather in
     let start = c .before .before .before .before .before .before .before .before .before .before .before .before .before .before in
-    text-full (settingsFrom (start .args .mode) (start .args .overrides .now)) (c .before .before .before .before .before .gather .ensures) _ _ refl (c .enum-told2 .given .1))
+    text-full (settingsFrom (start .args .mode) (start .args .overrides .now)) (the-gather .ensures) _ _ refl (c .enum-told2 .given .1))
     (λ c. search needs)
     (λ c. search needs)
-    (λ c.
+    (λ c. let the-gather = c .before .before .before .before .before .before .before .before .before .before .before .before .before .gather in
+    let the-slots-of = c .before .before .before .before .before .before .before .before .before .before .before .before .before .before .before .before .before .slots-of in
+    let the-count = c .before .before .before .before .before .before .before .before .count in
     let start = c .before .before .before .before .before .before .before .before .before .before .before .before .before .before .before .before .before .before .before .before .before .before in
-    text-told (settingsFrom (start .args .mode) (start .args .overrides .now)) (c .before .before .before .before .before .before .before .before .before .before .before .before .before .gather .ensures) (start .pre) (c .before .before .before .before .before .before .before .before .before .before .before .before .before .before .before .before .before .slots-of .ensures) _ _ _ (c .before .before .before .before .before .before .before .before .count .given .1) _ _ _ (c .before .before .tell .result) refl (c .before .before .tell .ensures (settingsFrom (start .args .mode) (start .args .overrides .now)) (findings-collected (settingsFrom (start .args .mode) (start .args .overrides .now)) (c .before .before .before .before .before .before .before .before .before .before .before .before .before .gather .ensures) (start .pre) (c .before .before .before .before .before .before .before .before .before .before .before .before .before .before .before .before .before .slots-of .ensures) _ _ _ (c .before .before .before .before .before .before .before .before .count .given .1) (c .before .before .before .before .before .before .before .before .before .before .before .before .before .gather .kept .1 .1 .1 .1 .1 .1 .1 .1 .0)))))
+    text-told (settingsFrom (start .args .mode) (start .args .overrides .now)) (the-gather .ensures) (start .pre) (the-slots-of .ensures) _ _ _ (the-count .given .1) _ _ _ (c .before .before .tell .result) refl (c .before .before .tell .ensures (settingsFrom (start .args .mode) (start .args .overrides .now)) (findings-collected (settingsFrom (start .args .mode) (start .args .overrides .now)) (the-gather .ensures) (start .pre) (the-slots-of .ensures) _ _ _ (the-count .given .1) (the-gather .kept .1 .1 .1 .1 .1 .1 .1 .1 .0)))))

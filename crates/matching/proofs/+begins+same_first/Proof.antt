@@ -108,18 +108,22 @@ pub +begins+same-first-spec : {M : Type 1} → statement M
     (same-first-at t)
     same-first.Post
     (λ c κs. c .before .before .before .pre .1 .0)
-    (λ c κs. c .before .before .before .before .before .pre .1)
+    (λ c κs. let the-pre = c .before .before .before .before .before .pre in
+    the-pre .1)
     (λ c. let start = c .before .before .before .before .before .before in
     laws.first-atoms (start .args .text .now) (start .args .value .now) (start .args .row .now) (c .before .before .is-bracket .ensures)
     (not-true (c .before .before .is-bracket .result) (c .before .if1 .taken)) (c .atoms-same .ensures))
-    (λ c κs. c .before .before .before .before .before .pre .1 .1)
+    (λ c κs. let the-pre = c .before .before .before .before .before .pre in
+    the-pre .1 .1)
     (λ c. let start = c .before .before .before .before .before .before .before in
     let is-bracket = c .before .before .before .is-bracket in
     laws.first-differ (start .args .text .now) (start .args .value .now) (start .args .row .now) (is-bracket .ensures)
     (c .before .is-bracket2 .ensures) (not-false (is-bracket .result) (c .before .before .if1 .left))
     (not-true (c .before .is-bracket2 .result) (c .if2 .taken)))
-    (λ c κs. c .before .before .before .before .before .before .before .pre .1 .0)
-    (λ c κs. c .before .before .before .before .before .before .before .before .pre .1 .1)
+    (λ c κs. let the-pre = c .before .before .before .before .before .before .before .pre in
+    the-pre .1 .0)
+    (λ c κs. let the-pre = c .before .before .before .before .before .before .before .before .pre in
+    the-pre .1 .1)
     (λ c. search needs)
     (λ c. search needs)
     (λ c. search needs)

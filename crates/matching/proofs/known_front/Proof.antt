@@ -30,18 +30,27 @@ known-front-spec =
     (λ c. c .before .loop .inv .within)
     (λ c. c .before .loop .inv .within)
     (λ c. search needs)
-    (λ c κs. (c .before .before .before .before .before .before .before .before .pre, c .if1 .left))
+    (λ c κs. let the-pre = c .before .before .before .before .before .before .before .before .pre in
+    (the-pre, c .if1 .left))
     (λ c. search needs)
-    (λ c. omega (arith, laws.passed-falls (c .before .before .before .before .before .before .before .loop .inv) (c .before .before .before .first-of .ensures) _ _ (c .before .m .given .1) .1))
-    (λ c. omega (arith, laws.passed-falls (c .before .before .before .before .before .before .before .loop .inv) (c .before .before .before .first-of .ensures) _ _ (c .before .m .given .1) .2))
-    (λ c. laws.passed-falls (c .before .before .before .before .before .before .before .loop .inv) (c .before .before .before .first-of .ensures) _ _ (c .before .m .given .1) .0)
-    (λ c. laws.passed-more (c .before .before .before .before .before .before .before .loop .inv) (c .before .before .before .first-of .ensures) _ _ (c .before .m .given .1))
+    (λ c. let the-loop = c .before .before .before .before .before .before .before .loop in
+    omega (arith, laws.passed-falls (the-loop .inv) (c .before .before .before .first-of .ensures) _ _ (c .before .m .given .1) .1))
+    (λ c. let the-loop = c .before .before .before .before .before .before .before .loop in
+    omega (arith, laws.passed-falls (the-loop .inv) (c .before .before .before .first-of .ensures) _ _ (c .before .m .given .1) .2))
+    (λ c. let the-loop = c .before .before .before .before .before .before .before .loop in
+    laws.passed-falls (the-loop .inv) (c .before .before .before .first-of .ensures) _ _ (c .before .m .given .1) .0)
+    (λ c. let the-loop = c .before .before .before .before .before .before .before .loop in
+    laws.passed-more (the-loop .inv) (c .before .before .before .first-of .ensures) _ _ (c .before .m .given .1))
     (λ c. search needs)
     (λ c. search needs)
     (λ c. search needs)
     (λ c. search needs)
     (λ c. record { front = (c .before .before .before .loop .inv, c .if1 .taken) })
-    (λ c. record { front = laws.passed-fails (c .before .before .before .before .before .before .loop .inv) (c .before .before .first-of .ensures) (c .enum-told .given .1) })
-    (λ c. laws.passed-stop (c .before .before .before .before .before .before .before .loop .inv) (c .before .before .before .first-of .ensures) (c .before .before .before .before .if1 .left) _ (c .before .n .given .1) tt)
-    (λ c. laws.passed-stop (c .before .before .before .before .before .before .loop .inv) (c .before .before .first-of .ensures) (c .before .before .before .if1 .left) _ (c .enum-told2 .given .1) tt)
-    (λ c. laws.passed-stop (c .before .before .before .before .before .before .loop .inv) (c .before .before .first-of .ensures) (c .before .before .before .if1 .left) _ (c .enum-told3 .given .1) tt))
+    (λ c. let the-loop = c .before .before .before .before .before .before .loop in
+    record { front = laws.passed-fails (the-loop .inv) (c .before .before .first-of .ensures) (c .enum-told .given .1) })
+    (λ c. let the-loop = c .before .before .before .before .before .before .before .loop in
+    laws.passed-stop (the-loop .inv) (c .before .before .before .first-of .ensures) (c .before .before .before .before .if1 .left) _ (c .before .n .given .1) tt)
+    (λ c. let the-loop = c .before .before .before .before .before .before .loop in
+    laws.passed-stop (the-loop .inv) (c .before .before .first-of .ensures) (c .before .before .before .if1 .left) _ (c .enum-told2 .given .1) tt)
+    (λ c. let the-loop = c .before .before .before .before .before .before .loop in
+    laws.passed-stop (the-loop .inv) (c .before .before .first-of .ensures) (c .before .before .before .if1 .left) _ (c .enum-told3 .given .1) tt))

@@ -23,17 +23,30 @@ place-of-spec =
     μ-loop
     (λ c. (omega arith, λ starts sizes kept. laws.not-from-end))
     (λ c. omega arith)
-    (λ c. omega (arith, c .before .loop .inv .0, c .before .before .before .before .before .pre .0))
-    (λ c. omega (arith, c .before .loop .inv .0, c .before .before .before .before .before .pre .0))
+    (λ c. let the-pre = c .before .before .before .before .before .pre in
+    omega (arith, c .before .loop .inv .0, the-pre .0))
+    (λ c. let the-pre = c .before .before .before .before .before .pre in
+    omega (arith, c .before .loop .inv .0, the-pre .0))
     (λ c κs. search needs)
-    (λ c. omega (arith, laws.key-inside (c .before .before .before .before .before .before .before .args .terms .now) (c .before .before .before .before .before .before .before .args .keys .now) (c .before .before .before .before .before .before .before .pre .1) (c .before .before .before .loop .inv .0) (c .before .before .if1 .left) (c .wide .ensures .0)))
-    (λ c. omega (arith, laws.key-inside (c .before .before .before .before .before .before .before .args .terms .now) (c .before .before .before .before .before .before .before .args .keys .now) (c .before .before .before .before .before .before .before .pre .1) (c .before .before .before .loop .inv .0) (c .before .before .if1 .left) (c .wide .ensures .0)))
-    (λ c. omega (arith, laws.key-inside (c .before .before .before .before .before .before .before .args .terms .now) (c .before .before .before .before .before .before .before .args .keys .now) (c .before .before .before .before .before .before .before .pre .1) (c .before .before .before .loop .inv .0) (c .before .before .if1 .left) (c .wide .ensures .0)))
-    (λ c κs. (laws.key-record (c .before .before .before .before .before .before .before .before .args .terms .now) (c .before .before .before .before .before .before .before .before .args .keys .now) (c .before .before .before .before .before .before .before .before .pre .1) (c .before .before .before .before .loop .inv .0) (c .before .before .before .if1 .left) (c .before .wide .ensures .0), c .before .before .before .before .before .before .before .before .pre .2))
+    (λ c. let the-args = c .before .before .before .before .before .before .before .args in
+    let the-pre = c .before .before .before .before .before .before .before .pre in
+    omega (arith, laws.key-inside (the-args .terms .now) (the-args .keys .now) (the-pre .1) (c .before .before .before .loop .inv .0) (c .before .before .if1 .left) (c .wide .ensures .0)))
+    (λ c. let the-args = c .before .before .before .before .before .before .before .args in
+    let the-pre = c .before .before .before .before .before .before .before .pre in
+    omega (arith, laws.key-inside (the-args .terms .now) (the-args .keys .now) (the-pre .1) (c .before .before .before .loop .inv .0) (c .before .before .if1 .left) (c .wide .ensures .0)))
+    (λ c. let the-args = c .before .before .before .before .before .before .before .args in
+    let the-pre = c .before .before .before .before .before .before .before .pre in
+    omega (arith, laws.key-inside (the-args .terms .now) (the-args .keys .now) (the-pre .1) (c .before .before .before .loop .inv .0) (c .before .before .if1 .left) (c .wide .ensures .0)))
+    (λ c κs. let the-args = c .before .before .before .before .before .before .before .before .args in
+    let the-pre = c .before .before .before .before .before .before .before .before .pre in
+    (laws.key-record (the-args .terms .now) (the-args .keys .now) (the-pre .1) (c .before .before .before .before .loop .inv .0) (c .before .before .before .if1 .left) (c .before .wide .ensures .0), the-pre .2))
     (λ c. omega arith)
-    (λ c. let so-far = c .before .before .before .before .before .before .loop .inv in (
+    (λ c. let the-if1 = c .before .before .before .before .before .if1 in
+    let so-far = c .before .before .before .before .before .before .loop .inv in (
       omega (arith, so-far .0),
-      λ starts sizes kept. laws.place-next (so-far .1 starts sizes kept) kept (c .before .before .before .before .before .if1 .left) (c .before .before .before .wide .ensures .0) (c .before .atoms-same .ensures) (c .if2 .left),
+      λ starts sizes kept. laws.place-next (so-far .1 starts sizes kept) kept (the-if1 .left) (c .before .before .before .wide .ensures .0) (c .before .atoms-same .ensures) (c .if2 .left),
     ))
     (λ c. λ starts sizes kept. laws.place-free (c .before .loop .inv .1 starts sizes kept) (c .if1 .taken))
-    (λ c. λ starts sizes kept. laws.place-here (c .before .before .before .before .before .before .loop .inv .1 starts sizes kept) kept (c .before .before .before .before .before .if1 .left) (c .before .before .before .wide .ensures .0) (c .before .atoms-same .ensures) (c .if2 .taken)))
+    (λ c. let the-loop = c .before .before .before .before .before .before .loop in
+    let the-if1 = c .before .before .before .before .before .if1 in
+    λ starts sizes kept. laws.place-here (the-loop .inv .1 starts sizes kept) kept (the-if1 .left) (c .before .before .before .wide .ensures .0) (c .before .atoms-same .ensures) (c .if2 .taken)))

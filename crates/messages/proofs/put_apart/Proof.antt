@@ -36,12 +36,12 @@ put-apart-spec =
     (λ c. search needs)
     (λ c. let p = c .before .before .before .before .before .before .before .before .before .before .before .pre in omega (arith, accepted-inside (p .0) (p .1) (c .wide2 .ensures .0)))
     (λ c κs. search needs)
-    (λ c.
+    (λ c. let the-pre = c .before .before .before .before .before .before .before .before .before .before .before .before .before .pre in
     let made = c .before .before .before .before .before .row-format in
-    back-inside (c .before .before .before .before .before .before .before .before .before .before .before .before .before .pre .0 .asked .small) (made .last .1 .1 .1 .1 .1 .1 .1 .0) _ (made .kept .1 .1 .1 .1 .1 .1 .1 .0))
-    (λ c.
+    back-inside (the-pre .0 .asked .small) (made .last .1 .1 .1 .1 .1 .1 .1 .0) _ (made .kept .1 .1 .1 .1 .1 .1 .1 .0))
+    (λ c. let the-pre = c .before .before .before .before .before .before .before .before .before .before .before .before .before .before .pre in
     let made = c .before .before .before .before .before .before .row-format in
-    sym (back-length (c .before .before .before .before .before .before .before .before .before .before .before .before .before .before .pre .0 .asked .small) (made .last .1 .1 .1 .1 .1 .1 .1 .0) _ (made .kept .1 .1 .1 .1 .1 .1 .1 .0)))
+    sym (back-length (the-pre .0 .asked .small) (made .last .1 .1 .1 .1 .1 .1 .1 .0) _ (made .kept .1 .1 .1 .1 .1 .1 .1 .0)))
     (λ c κs. search needs)
     (λ c. search needs)
     (λ c owner.

@@ -14,10 +14,14 @@ put-message-spec =
     tie.close
     (tie.spec
     (λ c κs. omega (arith, eight-words (c .before .before .before .before .pre .1)))
-    (λ c κs. omega (arith, eight-words (c .before .before .before .before .before .pre .1)))
-    (λ c κs. omega (arith, eight-words (c .before .before .before .before .before .before .pre .1)))
-    (λ c κs. omega (arith, eight-words (c .before .before .before .before .before .before .before .pre .1)))
-    (λ c κs. omega (arith, eight-words (c .before .before .before .before .before .before .before .before .pre .1)))
+    (λ c κs. let the-pre = c .before .before .before .before .before .pre in
+    omega (arith, eight-words (the-pre .1)))
+    (λ c κs. let the-pre = c .before .before .before .before .before .before .pre in
+    omega (arith, eight-words (the-pre .1)))
+    (λ c κs. let the-pre = c .before .before .before .before .before .before .before .pre in
+    omega (arith, eight-words (the-pre .1)))
+    (λ c κs. let the-pre = c .before .before .before .before .before .before .before .before .pre in
+    omega (arith, eight-words (the-pre .1)))
     (λ c κs.
     let read = c .before .before in
     let start = read .before .before .before .before .before .before .before .before .before in

@@ -30,8 +30,10 @@ indices-equal-spec =
     (λ c κs. search needs)
     (λ c. omega arith)
     (λ c κs. search needs)
-    (λ c. same-differ (c .before .before .before .before .before .before .loop .inv) (omega arith) (search needs) (search needs) (c .if2 .taken))
+    (λ c. let the-loop = c .before .before .before .before .before .before .loop in
+    same-differ (the-loop .inv) (omega arith) (search needs) (search needs) (c .if2 .taken))
     (λ c. omega arith)
     (λ c. omega arith)
-    (λ c. same-next (c .before .before .before .before .before .before .loop .inv) (omega arith) (search needs) (search needs) (c .if2 .left))
+    (λ c. let the-loop = c .before .before .before .before .before .before .loop in
+    same-next (the-loop .inv) (omega arith) (search needs) (search needs) (c .if2 .left))
     (λ c. same-end (c .before .loop .inv) (c .loop-test .left)))

@@ -33,7 +33,8 @@ names-equal-spec =
     (λ c κs. search needs)
     (λ c. omega arith)
     (λ c κs. search needs)
-    (λ c. same-differ (c .before .before .before .before .before .before .before .before .before .loop .inv) (omega arith) (search needs) (search needs) (c .if3 .taken))
+    (λ c. let the-loop = c .before .before .before .before .before .before .before .before .before .loop in
+    same-differ (the-loop .inv) (omega arith) (search needs) (search needs) (c .if3 .taken))
     (λ c. omega arith)
     (λ c. omega arith)
     (λ c.

@@ -31,8 +31,10 @@ names-order-spec =
     (λ c κs. search needs)
     (λ c. omega arith)
     (λ c κs. search needs)
-    (λ c. order-less (c .before .before .before .before .before .before .before .before .before .before .loop .inv) (omega arith) (omega arith) (search needs) (search needs) (c .if3 .taken))
-    (λ c. order-greater (c .before .before .before .before .before .before .before .before .before .before .before .loop .inv) (omega arith) (omega arith) (search needs) (search needs) (c .if4 .taken))
+    (λ c. let the-loop = c .before .before .before .before .before .before .before .before .before .before .loop in
+    order-less (the-loop .inv) (omega arith) (omega arith) (search needs) (search needs) (c .if3 .taken))
+    (λ c. let the-loop = c .before .before .before .before .before .before .before .before .before .before .before .loop in
+    order-greater (the-loop .inv) (omega arith) (omega arith) (search needs) (search needs) (c .if4 .taken))
     (λ c. omega arith)
     (λ c. omega arith)
     (λ c.

@@ -18,11 +18,13 @@ shadow-sentences-spec =
     (λ c κs. search needs)
     (λ c κs. search needs)
     (λ c κs. search needs)
-    (λ c κs.
+    (λ c κs. let the-terms = c .before .before .before .before .before .before .terms in
+    let the-records = c .before .before .before .before .before .records in
     let p = c .before .before .before .before .before .before .before .before .pre in
-    shadow-asks _ _ (p .0 .0) (p .0 .1) _ _ (c .before .before .before .before .before .before .terms .ensures) (c .before .before .before .before .before .records .ensures) _ (c .before .before .text .ensures) _ _ _ _ _ _
+    shadow-asks _ _ (p .0 .0) (p .0 .1) _ _ (the-terms .ensures) (the-records .ensures) _ (c .before .before .text .ensures) _ _ _ _ _ _
     (p .1 .0) (p .1 .1) (c .before .before .before .before .pattern-at .ensures) (c .before .before .before .pattern-at2 .ensures) (c .before .pattern .ensures) (c .pattern2 .ensures))
-    (λ c.
+    (λ c. let the-terms = c .before .before .before .before .before .before .before .terms in
+    let the-records = c .before .before .before .before .before .before .records in
     let p = c .before .before .before .before .before .before .before .before .before .pre in
-    shadow-is _ _ (p .0 .0) (p .0 .1) _ _ (c .before .before .before .before .before .before .before .terms .ensures) (c .before .before .before .before .before .before .records .ensures) _ (c .before .before .before .text .ensures) _ _ _ _ _
+    shadow-is _ _ (p .0 .0) (p .0 .1) _ _ (the-terms .ensures) (the-records .ensures) _ (c .before .before .before .text .ensures) _ _ _ _ _
     (c .before .before .pattern .ensures) (c .before .pattern2 .ensures) (c .shadow .ensures)))

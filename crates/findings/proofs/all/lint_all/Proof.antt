@@ -28,7 +28,10 @@ lint-all-spec =
     (λ c κs.
     let start = c .before .before .before .before .before .before .before .before .before .before .before .before .before .before .before .before .before .before .before .before .before in
     task-asks (settingsFrom (start .args .mode) (start .args .overrides .now)) (start .args .room) (start .args .limit) openExpressions (start .pre) (c .before .task-of4 .ensures))
-    (λ c. omega (arith, (c .before .out4 .given), (c .before .before .before .before .before .before .out3 .given), (c .before .before .before .before .before .before .before .before .before .before .before .out2 .given), (c .before .before .before .before .before .before .before .before .before .before .before .before .before .before .before .before .out .given)))
+    (λ c. let the-out3 = c .before .before .before .before .before .before .out3 in
+    let the-out2 = c .before .before .before .before .before .before .before .before .before .before .before .out2 in
+    let the-out = c .before .before .before .before .before .before .before .before .before .before .before .before .before .before .before .before .out in
+    omega (arith, (c .before .out4 .given), (the-out3 .given), (the-out2 .given), (the-out .given)))
     (λ c.
     let fourth = c .before .before in
     let third = fourth .before .before .before .before .before in

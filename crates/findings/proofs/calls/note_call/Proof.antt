@@ -22,17 +22,20 @@ note-call-spec =
     let a = c .before .before .before .before .before .before .before .before .args in
     (p .0, p .1, kind-call (fileOf (a .law .now)) (a .t) (c .before .before .before .before .term-word .ensures) (c .before .before .before .if1 .left)))
     (λ c. search needs)
-    (λ c.
+    (λ c. let the-term-word = c .before .before .before .before .before .before .before .term-word in
+    let the-if1 = c .before .before .before .before .before .before .if1 in
     let a = c .before .before .before .before .before .before .before .before .before .before .before .args in
-    met-recognition (fileOf (a .law .now)) (a .t) (c .before .before .before .before .before .before .before .term-word .ensures) (treeOf (fileOf (a .law .now))) (formatsIn (fileOf (a .law .now)) (a .task .limit) (a .store .now)) (a .task) (c .before .before .before .before .before .before .if1 .left) (a .task .room) (sinkOf (a .tally) (a .out .now)) (c .before .before .before .before .if2 .taken) (c .before .before .note-recognition .ensures))
-    (λ c κs.
+    met-recognition (fileOf (a .law .now)) (a .t) (the-term-word .ensures) (treeOf (fileOf (a .law .now))) (formatsIn (fileOf (a .law .now)) (a .task .limit) (a .store .now)) (a .task) (the-if1 .left) (a .task .room) (sinkOf (a .tally) (a .out .now)) (c .before .before .before .before .if2 .taken) (c .before .before .note-recognition .ensures))
+    (λ c κs. let the-term-word = c .before .before .before .before .before .before .term-word in
+    let the-if1 = c .before .before .before .before .before .if1 in
     let p = c .before .before .before .before .before .before .before .before .before .before .pre in
     let a = c .before .before .before .before .before .before .before .before .before .before .args in
-    (p .0 .asked .indexed, p .0 .accepted, p .1, kind-call (fileOf (a .law .now)) (a .t) (c .before .before .before .before .before .before .term-word .ensures) (c .before .before .before .before .before .if1 .left)))
+    (p .0 .asked .indexed, p .0 .accepted, p .1, kind-call (fileOf (a .law .now)) (a .t) (the-term-word .ensures) (the-if1 .left)))
     (λ c. search needs)
-    (λ c.
+    (λ c. let the-term-word = c .before .before .before .before .before .before .before .before .before .term-word in
+    let the-if1 = c .before .before .before .before .before .before .before .before .if1 in
     let a = c .before .before .before .before .before .before .before .before .before .before .before .before .before .args in
-    met-builtin (fileOf (a .law .now)) (a .t) (c .before .before .before .before .before .before .before .before .before .term-word .ensures) (treeOf (fileOf (a .law .now))) (formatsIn (fileOf (a .law .now)) (a .task .limit) (a .store .now)) (a .task) (c .before .before .before .before .before .before .before .before .if1 .left) (a .task .room) (sinkOf (a .tally) (a .out .now)) (c .before .before .before .before .if3 .taken) (c .before .before .note-builtin .ensures))
-    (λ c.
+    met-builtin (fileOf (a .law .now)) (a .t) (the-term-word .ensures) (treeOf (fileOf (a .law .now))) (formatsIn (fileOf (a .law .now)) (a .task .limit) (a .store .now)) (a .task) (the-if1 .left) (a .task .room) (sinkOf (a .tally) (a .out .now)) (c .before .before .before .before .if3 .taken) (c .before .before .note-builtin .ensures))
+    (λ c. let the-term-word = c .before .before .before .before .before .term-word in
     let a = c .before .before .before .before .before .before .before .before .before .args in
-    met-other (fileOf (a .law .now)) (a .t) (c .before .before .before .before .before .term-word .ensures) (treeOf (fileOf (a .law .now))) (formatsIn (fileOf (a .law .now)) (a .task .limit) (a .store .now)) (a .task) (c .before .before .before .before .if1 .left) (a .task .room) (sinkOf (a .tally) (a .out .now)) (c .before .before .if2 .left) (c .if3 .left)))
+    met-other (fileOf (a .law .now)) (a .t) (the-term-word .ensures) (treeOf (fileOf (a .law .now))) (formatsIn (fileOf (a .law .now)) (a .task .limit) (a .store .now)) (a .task) (c .before .before .before .before .if1 .left) (a .task .room) (sinkOf (a .tally) (a .out .now)) (c .before .before .if2 .left) (c .if3 .left)))

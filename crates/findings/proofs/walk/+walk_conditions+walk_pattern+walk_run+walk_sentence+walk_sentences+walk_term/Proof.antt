@@ -377,20 +377,21 @@ pub +walk-conditions+walk-pattern+walk-run+walk-sentence+walk-sentences+walk-ter
     let the-left = c .before .before .before .before .before .loop .inv .1 in
     let more = steps.left-more the-left (start .pre .1 .0 .asked .readable) (c .before .before .before .before .loop-test .taken) in
     (steps.first-less the-left more t (start .pre .0), (start .pre .1 .0, the-left .part, steps.left-some the-left more)))
-    (λ c κs.
+    (λ c κs. let the-loop-test = c .before .before .before .before .before .before .before .loop-test in
     let start = c .before .before .before .before .before .before .before .before .before .before .before .before .before in
     let the-left = c .before .before .before .before .before .before .before .before .loop .inv .1 in
-    steps.left-some the-left (steps.left-more the-left (start .pre .1 .0 .asked .readable) (c .before .before .before .before .before .before .before .loop-test .taken)))
+    steps.left-some the-left (steps.left-more the-left (start .pre .1 .0 .asked .readable) (the-loop-test .taken)))
     (λ c.
     let start = c .before .before .before .before .before .before .before .before .before .before .before .before .before .before in
     let the-left = c .before .before .before .before .before .before .before .before .before .loop .inv .1 in
     omega (arith, steps.next-within the-left (c .end-of .ensures .2), steps.run-small (start .pre .1 .0) (start .args .at) (start .args .part .now) (start .pre .1 .1)))
-    (λ c. omega (arith, c .end-of .ensures .1, c .before .before .before .before .before .before .before .before .loop-test .taken))
-    (λ c.
+    (λ c. let the-loop-test = c .before .before .before .before .before .before .before .before .loop-test in
+    omega (arith, c .end-of .ensures .1, the-loop-test .taken))
+    (λ c. let the-loop-test = c .before .before .before .before .before .before .before .before .loop-test in
     let start = c .before .before .before .before .before .before .before .before .before .before .before .before .before .before in
     let the-loop = c .before .before .before .before .before .before .before .before .before .loop in
     let readable = start .pre .1 .0 .asked .readable in
-    let more = steps.left-more (the-loop .inv .1) readable (c .before .before .before .before .before .before .before .before .loop-test .taken) in
+    let more = steps.left-more (the-loop .inv .1) readable (the-loop-test .taken) in
     let the-walk-term = c .before .before .before .walk-term in (
       the-walk-term .kept .1 .1 .1 .1 .1 .1 .1 .0 ∙ the-loop .inv .0,
       steps.left-next (the-loop .inv .1) more readable (start .pre .1 .1) (c .end-of .result) (sinkOf (the-walk-term .result) (the-walk-term .last .1 .1 .1 .1 .1 .1 .1 .0)) (c .end-of .ensures .0) (the-walk-term .ensures),
@@ -516,7 +517,8 @@ pub +walk-conditions+walk-pattern+walk-run+walk-sentence+walk-sentences+walk-ter
     (λ c κs.
     let start = c .before .before .before .before .before in
     (start .pre .1 .0, steps.at-inside (start .pre .1 .0) (start .args .at) (start .args .part .now) (start .pre .1 .1) (start .pre .1 .2)))
-    (λ c κs. c .before .before .before .before .before .before .before .before .pre .1 .2)
+    (λ c κs. let the-pre = c .before .before .before .before .before .before .before .before .pre in
+    the-pre .1 .2)
     (λ c. c .end-of .ensures .1)
     (λ c. c .end-of .ensures .1)
     (λ c. c .end-of .ensures .2)
@@ -527,7 +529,8 @@ pub +walk-conditions+walk-pattern+walk-run+walk-sentence+walk-sentences+walk-ter
     let start = c .before .before .before .before .before .before .before .before .before .before .before in
     let the-end-of = c .before .before .end-of in
     (steps.inside-less (fileOf (start .args .law .now)) (start .pre .1 .0 .asked .readable) (start .args .at) (the-end-of .result) t (start .args .part .now) (start .pre .1 .1) (start .pre .1 .2) (the-end-of .ensures .0) (start .pre .0), ((start .pre .1 .0), steps.inside-part (start .pre .1 .0) (start .args .at) (start .args .part .now) (start .pre .1 .1) (start .pre .1 .2) (the-end-of .result) (the-end-of .ensures .0))))
-    (λ c κs. omega (arith, c .before .before .before .before .before .before .before .before .before .before .before .before .before .before .pre .1 .2))
+    (λ c κs. let the-pre = c .before .before .before .before .before .before .before .before .before .before .before .before .before .before .pre in
+    omega (arith, the-pre .1 .2))
     (λ c κs. search needs)
     (λ c.
     let the-walk-run = c .before .before .before .before .before .walk-run in

@@ -39,8 +39,9 @@ sentence-blocks-spec =
     (λ c. (omega arith, every-none _))
     (λ c. let p = c .before .before .before .before .before .pre in omega (arith, terms-limit _ _ (p .0), c .before .before .before .pattern-at .ensures, c .before .before .pattern-at2 .ensures))
     (λ c κs. let p = c .before .before .before .before .before .pre in (p .0, sentence-term _ _ (p .0) _ _ _ _ (p .1) (c .before .before .before .pattern-at .ensures) (c .before .before .pattern-at2 .ensures) (c .loop-test .taken)))
-    (λ c. let a = c .before .before .before .before .before .before .before .args in
-    sentence-fails (fileOf (a .law .now)) (a .s) _ _ (c .before .before .before .before .before .pattern-at .ensures) (c .before .before .before .before .pattern-at2 .ensures) _ _ (c .before .before .loop-test .taken) (c .before .block-later .ensures) (not-true _ (c .if1 .taken)))
+    (λ c. let the-pattern-at = c .before .before .before .before .before .pattern-at in
+    let a = c .before .before .before .before .before .before .before .args in
+    sentence-fails (fileOf (a .law .now)) (a .s) _ _ (the-pattern-at .ensures) (c .before .before .before .before .pattern-at2 .ensures) _ _ (c .before .before .loop-test .taken) (c .before .block-later .ensures) (not-true _ (c .if1 .taken)))
     (λ c. omega arith)
     (λ c. omega arith)
     (λ c.

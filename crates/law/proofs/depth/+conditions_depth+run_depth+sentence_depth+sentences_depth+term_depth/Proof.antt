@@ -322,25 +322,30 @@ pub +conditions-depth+run-depth+sentence-depth+sentences-depth+term-depth-spec :
     (λ c.
     let start = c .before .before .before .before .before .before .before .before .before in
     omega (arith, c .before .before .before .before .loop .inv .part .inside, laws.terms-limit (start .args .law .now) (start .args .index .now) (start .pre .1 .0)))
-    (λ c κs.
+    (λ c κs. let the-if2 = c .before .before .before .before .before .if2 in
     let start = c .before .before .before .before .before .before .before .before .before in
     let the-loop = c .before .before .before .before .loop in
-    (omega (arith, start .pre .0), (start .pre .1 .0, start .pre .1 .1, the-loop .inv .part, steps.left-some (fileOf (start .args .law .now)) (start .pre .1 .1) (the-loop .inv) (c .before .before .before .loop-test .taken), omega (arith, c .before .before .before .before .before .if2 .left))))
-    (λ c.
+    (omega (arith, start .pre .0), (start .pre .1 .0, start .pre .1 .1, the-loop .inv .part, steps.left-some (fileOf (start .args .law .now)) (start .pre .1 .1) (the-loop .inv) (c .before .before .before .loop-test .taken), omega (arith, the-if2 .left))))
+    (λ c. let the-loop = c .before .before .before .before .before .before .loop in
+    let the-loop-test = c .before .before .before .before .before .loop-test in
     let start = c .before .before .before .before .before .before .before .before .before .before .before in
-    steps.left-over (fileOf (start .args .law .now)) (start .pre .1 .1) (c .before .before .before .before .before .before .loop .inv) (c .before .before .before .before .before .loop-test .taken) (sym (c .before .term-depth .ensures) ∙ not-true _ (c .if4 .taken)))
-    (λ c κs.
+    steps.left-over (fileOf (start .args .law .now)) (start .pre .1 .1) (the-loop .inv) (the-loop-test .taken) (sym (c .before .term-depth .ensures) ∙ not-true _ (c .if4 .taken)))
+    (λ c κs. let the-loop = c .before .before .before .before .before .before .loop in
+    let the-loop-test = c .before .before .before .before .before .loop-test in
     let start = c .before .before .before .before .before .before .before .before .before .before .before in
-    omega (arith, steps.left-some (fileOf (start .args .law .now)) (start .pre .1 .1) (c .before .before .before .before .before .before .loop .inv) (c .before .before .before .before .before .loop-test .taken)))
+    omega (arith, steps.left-some (fileOf (start .args .law .now)) (start .pre .1 .1) (the-loop .inv) (the-loop-test .taken)))
     (λ c. omega arith)
     (λ c. omega arith)
-    (λ c.
+    (λ c. let the-loop = c .before .before .before .before .before .before .before .loop in
+    let the-loop-test = c .before .before .before .before .before .before .loop-test in
     let start = c .before .before .before .before .before .before .before .before .before .before .before .before in
-    omega (arith, steps.left-end (fileOf (start .args .law .now)) (start .pre .1 .1) (c .before .before .before .before .before .before .before .loop .inv) (c .before .before .before .before .before .before .loop-test .taken) (c .word-at2 .ensures)))
-    (λ c. omega (arith, c .before .before .before .before .before .before .loop-test .taken))
-    (λ c.
+    omega (arith, steps.left-end (fileOf (start .args .law .now)) (start .pre .1 .1) (the-loop .inv) (the-loop-test .taken) (c .word-at2 .ensures)))
+    (λ c. let the-loop-test = c .before .before .before .before .before .before .loop-test in
+    omega (arith, the-loop-test .taken))
+    (λ c. let the-loop = c .before .before .before .before .before .before .before .loop in
+    let the-loop-test = c .before .before .before .before .before .before .loop-test in
     let start = c .before .before .before .before .before .before .before .before .before .before .before .before in
-    steps.left-after (fileOf (start .args .law .now)) (start .pre .1 .1) (c .before .before .before .before .before .before .before .loop .inv) (c .before .before .before .before .before .before .loop-test .taken) (c .word-at2 .ensures) (sym (c .before .before .term-depth .ensures) ∙ not-false _ (c .before .if4 .left)))
+    steps.left-after (fileOf (start .args .law .now)) (start .pre .1 .1) (the-loop .inv) (the-loop-test .taken) (c .word-at2 .ensures) (sym (c .before .before .term-depth .ensures) ∙ not-false _ (c .before .if4 .left)))
     (λ c.
     let start = c .before .before .before .before .before .before in
     steps.left-none (fileOf (start .args .law .now)) (start .pre .1 .1) (c .before .loop .inv) (c .loop-test .left)))
@@ -470,11 +475,11 @@ pub +conditions-depth+run-depth+sentence-depth+sentences-depth+term-depth-spec :
     let start = c .before .before .before .before .before .before in
     omega (arith, start .pre .1 .3))
     (λ c κs. search needs)
-    (λ c.
+    (λ c. let the-end-of = c .before .before .before .before .before .before .end-of in
     let start = c .before .before .before .before .before .before .before .before .before in
     let inside = not-false _ (c .before .before .before .if1 .left) in
     let counted = c .before .sentences-in .ensures ∙ ap sentencesIn (c .before .before .term-at .ensures) in
-    steps.term-alone (fileOf (start .args .law .now)) (start .pre .1 .1) (start .pre .1 .2) (start .pre .1 .3) (start .pre .1 .4) (c .before .before .before .before .before .before .end-of .ensures .0) (c .before .before .before .before .run-depth .ensures) inside counted (c .if2 .taken))
+    steps.term-alone (fileOf (start .args .law .now)) (start .pre .1 .1) (start .pre .1 .2) (start .pre .1 .3) (start .pre .1 .4) (the-end-of .ensures .0) (c .before .before .before .before .run-depth .ensures) inside counted (c .if2 .taken))
     (λ c κs.
     let start = c .before .before .before .before .before .before .before .before .before in
     omega (arith, parts.part-at (fileOf (start .args .law .now)) (start .pre .1 .1) (start .args .at) (start .args .part .now) (start .pre .1 .2) (start .pre .1 .3), laws.terms-limit (start .args .law .now) (start .args .index .now) (start .pre .1 .0)))
@@ -487,9 +492,11 @@ pub +conditions-depth+run-depth+sentence-depth+sentences-depth+term-depth-spec :
     let counted = c .before .before .sentences-in .ensures ∙ ap sentencesIn (c .before .before .before .term-at .ensures) in
     let inside = parts.part-sentences (fileOf (start .args .law .now)) (start .pre .1 .1) (start .args .at) (start .args .part .now) (start .pre .1 .2) (start .pre .1 .3) in
     (omega (arith, start .pre .0, start .pre .1 .4), (start .pre .1 .0, start .pre .1 .1, rw (first, counted) inside, omega (arith, start .pre .1 .4))))
-    (λ c.
+    (λ c. let the-if1 = c .before .before .before .before .before .if1 in
+    let the-end-of = c .before .before .before .before .before .before .before .before .end-of in
+    let the-run-depth = c .before .before .before .before .before .before .run-depth in
     let start = c .before .before .before .before .before .before .before .before .before .before .before in
     let first = c .before .block-first .ensures ∙ start .pre .1 .0 .words .blocks (start .args .at) (parts.part-at (fileOf (start .args .law .now)) (start .pre .1 .1) (start .args .at) (start .args .part .now) (start .pre .1 .2) (start .pre .1 .3)) in
-    let inside = not-false _ (c .before .before .before .before .before .if1 .left) in
+    let inside = not-false _ (the-if1 .left) in
     let counted = c .before .before .before .sentences-in .ensures ∙ ap sentencesIn (c .before .before .before .before .term-at .ensures) in
-    steps.term-sentences (fileOf (start .args .law .now)) (start .pre .1 .1) (start .pre .1 .2) (start .pre .1 .3) (start .pre .1 .4) (c .before .before .before .before .before .before .before .before .end-of .ensures .0) (c .before .before .before .before .before .before .run-depth .ensures) inside counted first (c .sentences-depth .ensures))
+    steps.term-sentences (fileOf (start .args .law .now)) (start .pre .1 .1) (start .pre .1 .2) (start .pre .1 .3) (start .pre .1 .4) (the-end-of .ensures .0) (the-run-depth .ensures) inside counted first (c .sentences-depth .ensures))

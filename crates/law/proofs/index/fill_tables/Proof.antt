@@ -58,15 +58,18 @@ fill-tables-spec =
     (λ c κs.
     let start = c .before .before .before .before .before .before .before .before .before .before .before .before .before .before .before .before in
     (sentences-fit (start .args .law .now) (start .args .sections) (start .pre .2), omega arith, omega (arith, start .pre .1), c .before .fill-pair-sums .ensures .2))
-    (λ c κs.
+    (λ c κs. let the-fill-sums = c .before .before .before .before .before .before .before .fill-sums in
     let start = c .before .before .before .before .before .before .before .before .before .before .before .before .before .before .before .before .before .before in (
       terms-fit (start .args .law .now) (start .args .sections) (start .pre .2),
       omega (arith, start .pre .1),
-      omega (arith, start .pre .1, c .before .before .before .before .before .before .before .fill-sums .ensures .1),
+      omega (arith, start .pre .1, the-fill-sums .ensures .1),
       c .before .fill-pair-sums2 .ensures .2,
     ))
-    (λ c. omega (arith, c .before .before .before .before .before .before .before .before .before .before .before .before .before .before .before .before .before .before .before .pre .1, c .before .before .before .before .before .before .before .before .fill-sums .ensures .1, c .fill-blocks .ensures .1))
-    (λ c. omega (arith, c .before .before .before .before .before .before .before .before .before .before .before .before .before .before .before .before .before .before .before .pre .1, c .before .before .before .before .fill-pair-sums .ensures .1, c .before .before .fill-pair-sums2 .ensures .1))
+    (λ c. let the-pre = c .before .before .before .before .before .before .before .before .before .before .before .before .before .before .before .before .before .before .before .pre in
+    let the-fill-sums = c .before .before .before .before .before .before .before .before .fill-sums in
+    omega (arith, the-pre .1, the-fill-sums .ensures .1, c .fill-blocks .ensures .1))
+    (λ c. let the-pre = c .before .before .before .before .before .before .before .before .before .before .before .before .before .before .before .before .before .before .before .pre in
+    omega (arith, the-pre .1, c .before .before .before .before .fill-pair-sums .ensures .1, c .before .before .fill-pair-sums2 .ensures .1))
     (λ c κs. search needs)
     (λ c.
     let start = c .before .before .before .before .before .before .before .before .before .before .before .before .before .before .before .before .before .before .before .before in

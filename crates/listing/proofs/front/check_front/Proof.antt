@@ -18,21 +18,21 @@ check-front-spec =
     (λ c κs. search needs)
     (λ c. search needs)
     (λ c. search needs)
-    (λ c.
+    (λ c. let the-if1 = c .before .before .before .before .before .if1 in
     let start = c .before .before .before .before .before .before .before .before .before in
     let settings = settingsFrom (start .args .mode) (start .args .overrides .now) in
     let allowed = c .before .before .before .before .before .before .settings-allowed in
     let read = c .before .before .before .read-law in
-    turned-store settings (start .args .law .now) (start .args .words) (allowed .ensures) (not-false _ (c .before .before .before .before .before .if1 .left)) _ (read .ensures .0) (read .ensures .1) (c .before .enum-told .given .1) (c .if2 .taken))
-    (λ c.
+    turned-store settings (start .args .law .now) (start .args .words) (allowed .ensures) (not-false _ (the-if1 .left)) _ (read .ensures .0) (read .ensures .1) (c .before .enum-told .given .1) (c .if2 .taken))
+    (λ c. let the-if1 = c .before .before .before .before .before .if1 in
     let start = c .before .before .before .before .before .before .before .before .before in
     let settings = settingsFrom (start .args .mode) (start .args .overrides .now) in
     let allowed = c .before .before .before .before .before .before .settings-allowed in
     let read = c .before .before .before .read-law in
-    turned-file settings (start .args .law .now) (start .args .words) (allowed .ensures) (not-false _ (c .before .before .before .before .before .if1 .left)) _ (read .ensures .0) (read .ensures .1) _ (c .before .why .given .1))
-    (λ c.
+    turned-file settings (start .args .law .now) (start .args .words) (allowed .ensures) (not-false _ (the-if1 .left)) _ (read .ensures .0) (read .ensures .1) _ (c .before .why .given .1))
+    (λ c. let the-if1 = c .before .before .before .before .before .if1 in
     let start = c .before .before .before .before .before .before .before .before .before in
     let settings = settingsFrom (start .args .mode) (start .args .overrides .now) in
     let allowed = c .before .before .before .before .before .before .settings-allowed in
     let read = c .before .before .before .read-law in
-    goes-on settings (start .args .law .now) (start .args .words) (allowed .ensures) (not-false _ (c .before .before .before .before .before .if1 .left)) _ (read .ensures .0) (read .ensures .1) (c .before .enum-told .given .1) (c .if2 .left)))
+    goes-on settings (start .args .law .now) (start .args .words) (allowed .ensures) (not-false _ (the-if1 .left)) _ (read .ensures .0) (read .ensures .1) (c .before .enum-told .given .1) (c .if2 .left)))

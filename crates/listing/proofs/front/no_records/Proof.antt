@@ -8,4 +8,5 @@ no-records-spec = tie.close (tie.spec
     (λ c. false-says)
     (λ c. false-says)
     (λ c. false-says)
-    (λ c. λ yes. (c .before .before .before .before .before .if1 .left, c .before .before .before .if2 .left, c .before .if3 .left, eqb-true _ 0 yes)))
+    (λ c. let the-if1 = c .before .before .before .before .before .if1 in
+    λ yes. (the-if1 .left, c .before .before .before .if2 .left, c .before .if3 .left, eqb-true _ 0 yes)))

@@ -19,8 +19,11 @@ put-failure-spec =
     (λ c. search needs)
     (λ c κs. search needs)
     (λ c. search needs)
-    (λ c. rw (c .before .before .before .before .before .enum-told .given .1) (c .before .before .put .ensures))
+    (λ c. let the-enum-told = c .before .before .before .before .before .enum-told in
+    rw (the-enum-told .given .1) (c .before .before .put .ensures))
     (λ c. search needs)
-    (λ c. rw (c .before .before .before .before .before .enum-told2 .given .1) (c .before .before .put2 .ensures))
+    (λ c. let the-enum-told2 = c .before .before .before .before .before .enum-told2 in
+    rw (the-enum-told2 .given .1) (c .before .before .put2 .ensures))
     (λ c. search needs)
-    (λ c. rw (c .before .before .before .before .before .enum-told3 .given .1) (c .before .before .put3 .ensures)))
+    (λ c. let the-enum-told3 = c .before .before .before .before .before .enum-told3 in
+    rw (the-enum-told3 .given .1) (c .before .before .put3 .ensures)))

@@ -25,5 +25,7 @@ note-failed-spec =
     (λ c. search needs)
     (λ c. search needs)
     (λ c. search needs)
-    (λ c. rw (c .before .before .before .narrow .ensures, c .before .before .narrow2 .ensures, c .before .narrow3 .ensures, c .narrow4 .ensures)
-    (rest-noted (c .before .before .before .before .before .args .failed .now) (c .before .before .before .before .slot .ensures) (c .before .before .before .before .before .pre .4) (c .before .before .before .before .before .args .at) (c .before .before .before .before .before .args .end) (c .before .before .before .before .before .args .start) (c .before .before .before .before .before .args .row-end))))
+    (λ c. let the-args = c .before .before .before .before .before .args in
+    let the-pre = c .before .before .before .before .before .pre in
+    rw (c .before .before .before .narrow .ensures, c .before .before .narrow2 .ensures, c .before .narrow3 .ensures, c .narrow4 .ensures)
+    (rest-noted (the-args .failed .now) (c .before .before .before .before .slot .ensures) (the-pre .4) (the-args .at) (the-args .end) (the-args .start) (the-args .row-end))))

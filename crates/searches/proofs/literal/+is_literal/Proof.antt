@@ -60,22 +60,26 @@ pub +is-literal-spec : {M : Type 1} → statement M
     (λ c. c .before .before .end-of .ensures .1)
     (λ c. c .before .before .end-of .ensures .1)
     (λ c. c .before .before .end-of .ensures .2)
-    (λ c κs. let start = c .before .before .before .before .before .before .before .before .before in
-    let rest = from (c .before .before .before .before .before .before .before .loop .i) (start .args .part .now) in
+    (λ c κs. let the-loop = c .before .before .before .before .before .before .before .loop in
+    let the-if1 = c .before .before .before .before .before .if1 in
+    let start = c .before .before .before .before .before .before .before .before .before in
+    let rest = from (the-loop .i) (start .args .part .now) in
     let the-end = c .before .before .before .end-of in (
       omega (
         arith,
-        inside-falls rest (the-end .result) (length rest) (c .before .before .before .before .before .if1 .left) (the-end .ensures .0) refl,
-        from-length (c .before .before .before .before .before .before .before .loop .i) (start .args .part .now),
+        inside-falls rest (the-end .result) (length rest) (the-if1 .left) (the-end .ensures .0) refl,
+        from-length (the-loop .i) (start .args .part .now),
         start .pre .0,
       ),
       tt,
     ))
-    (λ c.
+    (λ c. let the-args = c .before .before .before .before .before .before .before .args in
     let the-loop = c .before .before .before .before .before .loop in
-    omega (arith, from-length (the-loop .i) (c .before .before .before .before .before .before .before .args .part .now), c .before .end-of .ensures .2, the-loop .inv .within))
-    (λ c. let ends = c .before .end-of .ensures in
-    omega (arith, from-length (c .before .before .before .before .before .loop .i) (c .before .before .before .before .before .before .before .args .part .now), ends .1, ends .2))
+    omega (arith, from-length (the-loop .i) (the-args .part .now), c .before .end-of .ensures .2, the-loop .inv .within))
+    (λ c. let the-loop = c .before .before .before .before .before .loop in
+    let the-args = c .before .before .before .before .before .before .before .args in
+    let ends = c .before .end-of .ensures in
+    omega (arith, from-length (the-loop .i) (the-args .part .now), ends .1, ends .2))
     (λ c. let so-far = c .before .before .before .before .before .loop .inv in
     let some = c .before .before .before .if1 .left in
     let kind = c .before .before .word-at .ensures in
@@ -85,6 +89,11 @@ pub +is-literal-spec : {M : Type 1} → statement M
     (λ w. laws.after-symbol so-far some kind ends (w .left))
     (c .if2 .came))
     (λ c. laws.literal-all (c .before .before .loop .inv) (c .if1 .taken))
-    (λ c. laws.literal-no (c .before .before .before .before .before .before .loop .inv) (c .before .before .before .before .if1 .left) (c .before .before .before .word-at .ensures) (c .before .before .end-of .ensures .0) (c .before .if2 .taken) (c .if3 .taken))
-    (λ c. laws.inside-no (c .before .before .before .before .before .before .before .before .before .loop .inv) (c .before .before .before .before .before .before .before .if1 .left) (c .before .before .before .before .before .before .word-at .ensures) (c .before .before .before .before .before .end-of .ensures .0)
+    (λ c. let the-loop = c .before .before .before .before .before .before .loop in
+    laws.literal-no (the-loop .inv) (c .before .before .before .before .if1 .left) (c .before .before .before .word-at .ensures) (c .before .before .end-of .ensures .0) (c .before .if2 .taken) (c .if3 .taken))
+    (λ c. let the-loop = c .before .before .before .before .before .before .before .before .before .loop in
+    let the-if1 = c .before .before .before .before .before .before .before .if1 in
+    let the-word-at = c .before .before .before .before .before .before .word-at in
+    let the-end-of = c .before .before .before .before .before .end-of in
+    laws.inside-no (the-loop .inv) (the-if1 .left) (the-word-at .ensures) (the-end-of .ensures .0)
     (c .before .before .before .if3 .left) (c .before .is-literal .ensures) (not-true (c .before .is-literal .result) (c .if4 .taken)))

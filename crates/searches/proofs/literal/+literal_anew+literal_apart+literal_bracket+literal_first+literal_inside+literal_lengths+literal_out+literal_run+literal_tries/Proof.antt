@@ -254,7 +254,8 @@ pub +literal-anew+literal-apart+literal-bracket+literal-first+literal-inside+lit
     (literal-apart-at t)
     literal-apart.Post
     (λ c κs. c .before .before .before .before .pre .1 .0 .1)
-    (λ c κs. c .before .before .before .before .before .pre .1 .0 .2 .some)
+    (λ c κs. let the-pre = c .before .before .before .before .before .pre in
+    the-pre .1 .0 .2 .some)
     (λ c. c .before .end-of .ensures .1)
     (λ c. search needs)
     (λ c. search needs)
@@ -263,35 +264,47 @@ pub +literal-anew+literal-apart+literal-bracket+literal-first+literal-inside+lit
     (λ c. search needs)
     (λ c. let start = c .before .before .before .before .before .before .before .before .pre .1 .0 in omega (arith, start .0 .asked .pattern-stands .inside, start .0 .asked .small, start .1))
     (λ c. let start = c .before .before .before .before .before .before .before .before .pre .1 .0 in omega (arith, start .0 .asked .row-stands .inside, start .0 .asked .small, start .2 .some))
-    (λ c κs. let start = c .before .before .before .before .before .before .before .before .before .pre .1 .0 in (
-      omega (arith, c .before .before .before .before .before .before .before .before .before .pre .0, start .0 .asked .pattern-stands .inside, start .1),
+    (λ c κs. let the-pre = c .before .before .before .before .before .before .before .before .before .pre in
+    let start = c .before .before .before .before .before .before .before .before .before .pre .1 .0 in (
+      omega (arith, the-pre .0, start .0 .asked .pattern-stands .inside, start .1),
       (
-        alone.contents-alone (start .0) (c .before .before .before .before .before .before .before .before .before .pre .1 .1 .0) (start .1) (start .2) _ _ (c .before .before .before .before .end-of .ensures .0) (c .before .before .before .end-of2 .ensures .0),
+        alone.contents-alone (start .0) (the-pre .1 .1 .0) (start .1) (start .2) _ _ (c .before .before .before .before .end-of .ensures .0) (c .before .before .before .end-of2 .ensures .0),
         sure.settled-inside (start .3) _ (c .before .before .before .before .end-of .ensures .0) (calls.contents-within (start .0 .asked) (start .1) (start .2)),
         start .4,
       ),
     ))
-    (λ c. (
-      alone.bracket-none _ _ _ (c .before .before .before .before .before .before .before .before .before .before .before .pre .1 .1 .0) _ _ _ _ _ (c .before .before .before .before .before .before .end-of .ensures .0) (c .before .before .before .before .before .end-of2 .ensures .0) _ _ _ _ (c .before .literal-run .ensures .0) (not-true _ (c .if1 .taken)),
+    (λ c. let the-pre = c .before .before .before .before .before .before .before .before .before .before .before .pre in
+    let the-end-of = c .before .before .before .before .before .before .end-of in
+    let the-end-of2 = c .before .before .before .before .before .end-of2 in (
+      alone.bracket-none _ _ _ (the-pre .1 .1 .0) _ _ _ _ _ (the-end-of .ensures .0) (the-end-of2 .ensures .0) _ _ _ _ (c .before .literal-run .ensures .0) (not-true _ (c .if1 .taken)),
       c .before .literal-run .ensures .1,
     ))
-    (λ c. c .before .before .before .before .before .before .end-of .ensures .2)
+    (λ c. let the-end-of = c .before .before .before .before .before .before .end-of in
+    the-end-of .ensures .2)
     (λ c. search needs)
     (λ c. search needs)
-    (λ c. c .before .before .before .before .before .before .end-of2 .ensures .2)
+    (λ c. let the-end-of2 = c .before .before .before .before .before .before .end-of2 in
+    the-end-of2 .ensures .2)
     (λ c. search needs)
     (λ c. search needs)
-    (λ c. let asked = c .before .before .before .before .before .before .before .before .before .before .before .before .before .pre .1 .0 .0 .asked in omega (arith, asked .pattern-stands .inside, asked .small, c .before .before .before .before .before .before .before .before .end-of .ensures .2))
-    (λ c. let asked = c .before .before .before .before .before .before .before .before .before .before .before .before .before .pre .1 .0 .0 .asked in omega (arith, asked .row-stands .inside, asked .small, c .before .before .before .before .before .before .before .end-of2 .ensures .2))
-    (λ c κs. let start = c .before .before .before .before .before .before .before .before .before .before .before .before .before .before .pre .1 .0 in
+    (λ c. let the-end-of = c .before .before .before .before .before .before .before .before .end-of in
+    let asked = c .before .before .before .before .before .before .before .before .before .before .before .before .before .pre .1 .0 .0 .asked in omega (arith, asked .pattern-stands .inside, asked .small, the-end-of .ensures .2))
+    (λ c. let the-end-of2 = c .before .before .before .before .before .before .before .end-of2 in
+    let asked = c .before .before .before .before .before .before .before .before .before .before .before .before .before .pre .1 .0 .0 .asked in omega (arith, asked .row-stands .inside, asked .small, the-end-of2 .ensures .2))
+    (λ c κs. let the-pre = c .before .before .before .before .before .before .before .before .before .before .before .before .before .before .pre in
+    let the-end-of2 = c .before .before .before .before .before .before .before .before .end-of2 in
+    let start = c .before .before .before .before .before .before .before .before .before .before .before .before .before .before .pre .1 .0 in
     let ends = c .before .before .before .before .before .before .before .before .before .end-of .ensures in
     let begins = sure.begin-second (start .1) (ends .0) in (
-      omega (arith, c .before .before .before .before .before .before .before .before .before .before .before .before .before .before .pre .0, start .0 .asked .pattern-stands .inside, ends .1, ends .2),
-      (level.literal-later (start .0) _ _ begins (c .before .before .before .before .before .before .before .before .end-of2 .ensures .2), sure.settled-later (start .3) begins, c .before .before .before .before .literal-run .ensures .1),
+      omega (arith, the-pre .0, start .0 .asked .pattern-stands .inside, ends .1, ends .2),
+      (level.literal-later (start .0) _ _ begins (the-end-of2 .ensures .2), sure.settled-later (start .3) begins, c .before .before .before .before .literal-run .ensures .1),
     ))
-    (λ c. (
-      alone.bracket-some _ _ _ (c .before .before .before .before .before .before .before .before .before .before .before .before .before .before .before .pre .1 .1 .0) _ _ _ _ _ (c .before .before .before .before .before .before .before .before .before .before .end-of .ensures .0) (c .before .before .before .before .before .before .before .before .before .end-of2 .ensures .0) (c .before .before .before .before .before .before .before .before .before .before .before .before .before .before .before .pre .1 .1 .1)
-          _ _ _ _ _ _ (c .before .before .before .before .before .literal-run .ensures .0) (not-false _ (c .before .before .before .before .if1 .left)) (c .literal-run2 .ensures .0),
+    (λ c. let the-pre = c .before .before .before .before .before .before .before .before .before .before .before .before .before .before .before .pre in
+    let the-end-of = c .before .before .before .before .before .before .before .before .before .before .end-of in
+    let the-end-of2 = c .before .before .before .before .before .before .before .before .before .end-of2 in
+    let the-literal-run = c .before .before .before .before .before .literal-run in (
+      alone.bracket-some _ _ _ (the-pre .1 .1 .0) _ _ _ _ _ (the-end-of .ensures .0) (the-end-of2 .ensures .0) (the-pre .1 .1 .1)
+          _ _ _ _ _ _ (the-literal-run .ensures .0) (not-false _ (c .before .before .before .before .if1 .left)) (c .literal-run2 .ensures .0),
       c .literal-run2 .ensures .1,
     )))
     (λ t. literal-bracket-lts.spec (
@@ -314,9 +327,10 @@ pub +literal-anew+literal-apart+literal-bracket+literal-first+literal-inside+lit
     (λ c. c .before .end-of .ensures .2)
     (λ c. search needs)
     (λ c κs. tt)
-    (λ c κs. let start = c .before .before .before .before .before .before .before .before .before .before .pre in
+    (λ c κs. let the-end-of = c .before .before .before .before .before .end-of in
+    let start = c .before .before .before .before .before .before .before .before .before .before .pre in
     let apart = c .before .before .stands-apart .ensures (c .before .if1 .taken) in
-    (omega (arith, start .0), (start .1, (apart .0, rw (c .before .before .before .before .before .end-of .ensures .0) at (apart .1)))))
+    (omega (arith, start .0), (start .1, (apart .0, rw (the-end-of .ensures .0) at (apart .1)))))
     (λ c. c .literal-apart .ensures)
     (λ c κs. let start = c .before .before .before .before .before .before .before .before .before .before .pre in (omega (arith, start .0), start .1))
     (λ c. c .literal-inside .ensures))
@@ -337,12 +351,15 @@ pub +literal-anew+literal-apart+literal-bracket+literal-first+literal-inside+lit
     (λ c. search needs)
     (λ c. search needs)
     (λ c. search needs)
-    (λ c κs. c .before .before .before .before .before .before .before .pre .1 .1 .some)
+    (λ c κs. let the-pre = c .before .before .before .before .before .before .before .pre in
+    the-pre .1 .1 .some)
     (λ c. c .end-of .ensures .2)
     (λ c. search needs)
     (λ c. search needs)
-    (λ c. first-record.binds-within (c .before .before .before .before .before .before .before .before .before .pre .1 .1 .leaves) true _ (c .before .before .before .first .given .1) .0)
-    (λ c. first-record.binds-within (c .before .before .before .before .before .before .before .before .before .pre .1 .1 .leaves) true _ (c .before .before .before .first .given .1) .0)
+    (λ c. let the-pre = c .before .before .before .before .before .before .before .before .before .pre in
+    first-record.binds-within (the-pre .1 .1 .leaves) true _ (c .before .before .before .first .given .1) .0)
+    (λ c. let the-pre = c .before .before .before .before .before .before .before .before .before .pre in
+    first-record.binds-within (the-pre .1 .1 .leaves) true _ (c .before .before .before .first .given .1) .0)
     (λ c. search needs)
     (λ c. let asked = c .before .before .before .before .before .before .before .before .before .before .pre .1 .0 .0 .asked in
     omega (arith, asked .pattern-stands .inside, asked .small, c .before .before .end-of .ensures .2))
@@ -357,16 +374,18 @@ pub +literal-anew+literal-apart+literal-bracket+literal-first+literal-inside+lit
       ),
       (asked .kept .keys, asked .kept .starts, asked .kept .sizes),
     ))
-    (λ c. let start = c .before .before .before .before .before .before .before .before .before .before .before .pre in
+    (λ c. let the-first = c .before .before .before .before .before .first in
+    let start = c .before .before .before .before .before .before .before .before .before .before .before .pre in
     let asked = start .1 .0 .0 .asked in
-    omega (arith, asked .row-stands .inside, asked .small, first-record.binds-within (start .1 .1 .leaves) true _ (c .before .before .before .before .before .first .given .1) .0))
-    (λ c κs. let start = c .before .before .before .before .before .before .before .before .before .before .before .before .pre in
+    omega (arith, asked .row-stands .inside, asked .small, first-record.binds-within (start .1 .1 .leaves) true _ (the-first .given .1) .0))
+    (λ c κs. let the-first = c .before .before .before .before .before .before .first in
+    let start = c .before .before .before .before .before .before .before .before .before .before .before .before .pre in
     let stopped = start .1 .1 in
     let ends = c .before .before .before .before .end-of in
-    let binds = first-record.binds-within (start .1 .1 .leaves) true _ (c .before .before .before .before .before .before .first .given .1) in (
+    let binds = first-record.binds-within (start .1 .1 .leaves) true _ (the-first .given .1) in (
       omega (arith, start .0, ends .ensures .1, ends .ensures .2, start .1 .0 .0 .asked .pattern-stands .inside),
       (
-        level.literal-more (start .1 .0 .0) (stopped .some) (binds .1) (binds .0) (c .before .bind .ensures) (ends .result) (c .before .before .before .before .before .before .first .given .0 .0) (ends .ensures .0) (binds .0),
+        level.literal-more (start .1 .0 .0) (stopped .some) (binds .1) (binds .0) (c .before .bind .ensures) (ends .result) (the-first .given .0 .0) (ends .ensures .0) (binds .0),
         sure.settled-later (sure.settled-more (start .1 .0 .1) (c .before .bind .ensures)) (sure.begin-second (stopped .some) (ends .ensures .0)),
         sure.remembers-fixed (sure.fixed-bound (c .before .bind .ensures) _ (sure.settled-low (start .1 .0 .1))) (start .1 .0 .2),
       ),
@@ -380,19 +399,24 @@ pub +literal-anew+literal-apart+literal-bracket+literal-first+literal-inside+lit
     (λ c κs. let start = c .before .before .before .before .before .before .before .pre in
     let stopped = start .1 .1 in
     (omega (arith, start .0), (start .1 .0 .0, stopped .some, first-record.inside-facing (stopped .leaves) true (c .before .enum-told4 .given .1), start .1 .0 .1, start .1 .0 .2)))
-    (λ c. absurd (known.stops-fails (c .before .before .before .before .before .before .pre .1 .1) (c .enum-told .given .1)))
-    (λ c. absurd (known.stops-not (c .before .before .before .before .before .before .pre .1 .1) _ _ (c .enum-told2 .given .1)))
-    (λ c. let start = c .before .before .before .before .before .before .before .before .before .before .before .before .before .pre in
+    (λ c. let the-pre = c .before .before .before .before .before .before .pre in
+    absurd (known.stops-fails (the-pre .1 .1) (c .enum-told .given .1)))
+    (λ c. let the-pre = c .before .before .before .before .before .before .pre in
+    absurd (known.stops-not (the-pre .1 .1) _ _ (c .enum-told2 .given .1)))
+    (λ c. let the-first = c .before .before .before .before .before .before .before .first in
+    let start = c .before .before .before .before .before .before .before .before .before .before .before .before .before .pre in
     let stopped = start .1 .1 in
     let ends = c .before .before .before .before .before .end-of in
-    let binds = first-record.binds-within (start .1 .1 .leaves) true _ (c .before .before .before .before .before .before .before .first .given .1) in
+    let binds = first-record.binds-within (start .1 .1 .leaves) true _ (the-first .given .1) in
     let values = calls.values-more (start .1 .0 .0 .asked) (stopped .some) (binds .1) (binds .0) (c .before .before .bind .ensures) in (
-      level.run-rest (start .1 .0 .0) (c .literal-run .result) (ends .result) (c .before .before .before .before .before .before .before .first .given .0 .0) (c .before .before .bind .result) (ends .ensures .2) (binds .0)
-          (first-record.step-binds (stopped .leaves) true _ _ _ (c .before .before .before .before .before .before .before .first .given .1) (ends .ensures .0) values) (c .literal-run .ensures .0),
+      level.run-rest (start .1 .0 .0) (c .literal-run .result) (ends .result) (the-first .given .0 .0) (c .before .before .bind .result) (ends .ensures .2) (binds .0)
+          (first-record.step-binds (stopped .leaves) true _ _ _ (the-first .given .1) (ends .ensures .0) values) (c .literal-run .ensures .0),
       sure.remembers-back (sure.fixed-bound (c .before .before .bind .ensures) _ (sure.settled-low (start .1 .0 .1))) (c .literal-run .ensures .1),
     ))
-    (λ c. (level.run-same (c .before .before .before .before .before .before .before .before .pre .1 .0 .0) (c .literal-tries .result) _ (c .literal-tries .ensures .0) (first-record.step-tries (c .before .before .before .before .before .before .before .before .pre .1 .1 .leaves) true (c .before .before .enum-told3 .given .1)), c .literal-tries .ensures .1))
-    (λ c. (level.run-same (c .before .before .before .before .before .before .before .before .pre .1 .0 .0) (c .literal-bracket .result) _ (c .literal-bracket .ensures .0) (first-record.step-inside (c .before .before .before .before .before .before .before .before .pre .1 .1 .leaves) true (c .before .before .enum-told4 .given .1)), c .literal-bracket .ensures .1)))
+    (λ c. let the-pre = c .before .before .before .before .before .before .before .before .pre in
+    (level.run-same (the-pre .1 .0 .0) (c .literal-tries .result) _ (c .literal-tries .ensures .0) (first-record.step-tries (the-pre .1 .1 .leaves) true (c .before .before .enum-told3 .given .1)), c .literal-tries .ensures .1))
+    (λ c. let the-pre = c .before .before .before .before .before .before .before .before .pre in
+    (level.run-same (the-pre .1 .0 .0) (c .literal-bracket .result) _ (c .literal-bracket .ensures .0) (first-record.step-inside (the-pre .1 .1 .leaves) true (c .before .before .enum-told4 .given .1)), c .literal-bracket .ensures .1)))
     (λ t. literal-inside-lts.spec (
       end-of-reads.Asked,
       end-of-reads.Learnt,
@@ -404,7 +428,8 @@ pub +literal-anew+literal-apart+literal-bracket+literal-first+literal-inside+lit
     (literal-inside-at t)
     literal-inside.Post
     (λ c κs. c .before .before .before .before .pre .1 .1)
-    (λ c κs. c .before .before .before .before .before .pre .1 .2 .some)
+    (λ c κs. let the-pre = c .before .before .before .before .before .pre in
+    the-pre .1 .2 .some)
     (λ c. let asked = c .before .before .before .before .before .before .pre .1 .0 .asked in
     omega (arith, asked .pattern-stands .inside, asked .small))
     (λ c. let asked = c .before .before .before .before .before .before .pre .1 .0 .asked in
@@ -427,14 +452,17 @@ pub +literal-anew+literal-apart+literal-bracket+literal-first+literal-inside+lit
     omega (arith, start .1 .0 .asked .pattern-stands .inside, start .1 .0 .asked .small, start .1 .1))
     (λ c. let start = c .before .before .before .before .before .before .before .before .before .pre in
     omega (arith, start .1 .0 .asked .row-stands .inside, start .1 .0 .asked .small, start .1 .2 .some))
-    (λ c κs. let start = c .before .before .before .before .before .before .before .before .before .before .pre in
+    (λ c κs. let the-end-of = c .before .before .before .before .before .end-of in
+    let start = c .before .before .before .before .before .before .before .before .before .before .pre in
     let more = c .before .before .before .push .ensures in (
       omega (arith, start .0, more .0, start .1 .0 .asked .pattern-stands .inside, start .1 .1),
-      (level.literal-inside (start .1 .0) (start .1 .1) (start .1 .2) _ _ (c .before .before .before .before .before .end-of .ensures .0) (c .before .before .before .before .end-of2 .ensures .0) (c .before .before .before .push .result) (more .0) (more .1) (more .2), sure.settled-inside (start .1 .3) _ (c .before .before .before .before .before .end-of .ensures .0) (calls.contents-within (start .1 .0 .asked) (start .1 .1) (start .1 .2)), start .1 .4),
+      (level.literal-inside (start .1 .0) (start .1 .1) (start .1 .2) _ _ (the-end-of .ensures .0) (c .before .before .before .before .end-of2 .ensures .0) (c .before .before .before .push .result) (more .0) (more .1) (more .2), sure.settled-inside (start .1 .3) _ (the-end-of .ensures .0) (calls.contents-within (start .1 .0 .asked) (start .1 .1) (start .1 .2)), start .1 .4),
     ))
-    (λ c. let start = c .before .before .before .before .before .before .before .before .before .before .before .pre in
+    (λ c. let the-end-of = c .before .before .before .before .before .before .end-of in
+    let the-end-of2 = c .before .before .before .before .before .end-of2 in
+    let start = c .before .before .before .before .before .before .before .before .before .before .before .pre in
     let more = c .before .before .before .before .push .ensures in (
-      level.inside-answer (start .1 .0) (start .1 .1) (start .1 .2) _ _ (c .before .before .before .before .before .before .end-of .ensures .0) (c .before .before .before .before .before .end-of2 .ensures .0) (c .before .before .before .before .push .result) (more .0) (more .1) (more .2)
+      level.inside-answer (start .1 .0) (start .1 .1) (start .1 .2) _ _ (the-end-of .ensures .0) (the-end-of2 .ensures .0) (c .before .before .before .before .push .result) (more .0) (more .1) (more .2)
           (c .literal-run .result) (c .literal-run .ensures .0),
       c .literal-run .ensures .1,
     )))
@@ -480,25 +508,34 @@ pub +literal-anew+literal-apart+literal-bracket+literal-first+literal-inside+lit
       (level.literal-more (start .1 .0 .0) (start .1 .0 .1) (start .1 .1) inside (c .before .bind .ensures) (ends .result) (c .before .before .before .loop .n) (ends .ensures .0) inside, sure.settled-later (sure.settled-more (start .1 .0 .2) (c .before .bind .ensures)) (sure.begin-second (start .1 .0 .1) (ends .ensures .0)), sure.remembers-fixed (sure.fixed-bound (c .before .bind .ensures) _ (sure.settled-low (start .1 .0 .2))) (c .before .before .before .loop .inv .2)),
     ))
     (λ c κs. c .if2 .left)
-    (λ c. let asked = c .before .before .before .before .before .before .before .before .before .before .before .before .before .before .pre .1 .0 .0 .asked in
-    omega (arith, asked .row-stands .inside, asked .small, c .end-of2 .ensures .2, from-length (c .before .before .before .before .before .before .before .loop .n) (c .before .before .before .before .before .before .before .before .before .before .before .before .before .before .args .row .now), begin-inside (c .before .before .before .before .before .before .before .loop .inv .0)))
-    (λ c.
+    (λ c. let the-loop = c .before .before .before .before .before .before .before .loop in
+    let the-args = c .before .before .before .before .before .before .before .before .before .before .before .before .before .before .args in
+    let asked = c .before .before .before .before .before .before .before .before .before .before .before .before .before .before .pre .1 .0 .0 .asked in
+    omega (arith, asked .row-stands .inside, asked .small, c .end-of2 .ensures .2, from-length (the-loop .n) (the-args .row .now), begin-inside (the-loop .inv .0)))
+    (λ c. let the-args = c .before .before .before .before .before .before .before .before .before .before .before .before .before .before .args in
     let the-loop = c .before .before .before .before .before .before .before .loop in
-    omega (arith, c .end-of2 .ensures .1, c .end-of2 .ensures .2, from-length (the-loop .n) (c .before .before .before .before .before .before .before .before .before .before .before .before .before .before .args .row .now), begin-inside (the-loop .inv .0)))
-    (λ c. let start = c .before .before .before .before .before .before .before .before .before .before .before .before .before .before .pre in (
-      rw (c .end-of2 .ensures .0) (one-on (c .before .if2 .left) (c .before .before .before .before .before .before .before .loop .inv .0)),
-      rw (c .end-of2 .ensures .0) (level.length-next (start .1 .0 .0) (start .1 .0 .1) (start .1 .1) (c .before .before .before .before .before .before .before .before .before .end-of .ensures .0) (c .before .before .before .before .before .before .before .loop .inv .0) (c .before .before .before .before .before .bind .ensures)
-          (c .before .before .before .literal-run .result) (c .before .before .before .literal-run .ensures .0) (c .before .before .before .before .before .before .before .loop .inv .1) (c .before .before .if1 .left) (c .before .if2 .left)),
-      sure.remembers-back (sure.fixed-bound (c .before .before .before .before .before .bind .ensures) _ (sure.settled-low (start .1 .0 .2))) (c .before .before .before .literal-run .ensures .1),
+    omega (arith, c .end-of2 .ensures .1, c .end-of2 .ensures .2, from-length (the-loop .n) (the-args .row .now), begin-inside (the-loop .inv .0)))
+    (λ c. let the-loop = c .before .before .before .before .before .before .before .loop in
+    let the-end-of = c .before .before .before .before .before .before .before .before .before .end-of in
+    let the-bind = c .before .before .before .before .before .bind in
+    let start = c .before .before .before .before .before .before .before .before .before .before .before .before .before .before .pre in (
+      rw (c .end-of2 .ensures .0) (one-on (c .before .if2 .left) (the-loop .inv .0)),
+      rw (c .end-of2 .ensures .0) (level.length-next (start .1 .0 .0) (start .1 .0 .1) (start .1 .1) (the-end-of .ensures .0) (the-loop .inv .0) (the-bind .ensures)
+          (c .before .before .before .literal-run .result) (c .before .before .before .literal-run .ensures .0) (the-loop .inv .1) (c .before .before .if1 .left) (c .before .if2 .left)),
+      sure.remembers-back (sure.fixed-bound (the-bind .ensures) _ (sure.settled-low (start .1 .0 .2))) (c .before .before .before .literal-run .ensures .1),
     ))
-    (λ c. let start = c .before .before .before .before .before .before .before .before .before .before .before .before .pre in (
-      level.length-found (start .1 .0 .0) (start .1 .0 .1) (start .1 .1) (c .before .before .before .before .before .before .before .end-of .ensures .0) (c .before .before .before .before .before .loop .inv .0) (c .before .before .before .bind .ensures) (c .before .literal-run .result)
-          (c .before .literal-run .ensures .0) (c .before .before .before .before .before .loop .inv .1) (c .if1 .taken),
+    (λ c. let the-end-of = c .before .before .before .before .before .before .before .end-of in
+    let the-loop = c .before .before .before .before .before .loop in
+    let start = c .before .before .before .before .before .before .before .before .before .before .before .before .pre in (
+      level.length-found (start .1 .0 .0) (start .1 .0 .1) (start .1 .1) (the-end-of .ensures .0) (the-loop .inv .0) (c .before .before .before .bind .ensures) (c .before .literal-run .result)
+          (c .before .literal-run .ensures .0) (the-loop .inv .1) (c .if1 .taken),
       sure.remembers-back (sure.fixed-bound (c .before .before .before .bind .ensures) _ (sure.settled-low (start .1 .0 .2))) (c .before .literal-run .ensures .1),
     ))
-    (λ c. let start = c .before .before .before .before .before .before .before .before .before .before .before .before .before .pre in (
-      level.length-none (start .1 .0 .0) (start .1 .0 .1) (start .1 .1) (c .before .before .before .before .before .before .before .before .end-of .ensures .0) (c .before .before .before .before .before .before .loop .inv .0) (c .before .before .before .before .bind .ensures) (c .before .before .literal-run .result)
-          (c .before .before .literal-run .ensures .0) (c .before .before .before .before .before .before .loop .inv .1) (c .before .if1 .left) (c .if2 .taken),
+    (λ c. let the-end-of = c .before .before .before .before .before .before .before .before .end-of in
+    let the-loop = c .before .before .before .before .before .before .loop in
+    let start = c .before .before .before .before .before .before .before .before .before .before .before .before .before .pre in (
+      level.length-none (start .1 .0 .0) (start .1 .0 .1) (start .1 .1) (the-end-of .ensures .0) (the-loop .inv .0) (c .before .before .before .before .bind .ensures) (c .before .before .literal-run .result)
+          (c .before .before .literal-run .ensures .0) (the-loop .inv .1) (c .before .if1 .left) (c .if2 .taken),
       sure.remembers-back (sure.fixed-bound (c .before .before .before .before .bind .ensures) _ (sure.settled-low (start .1 .0 .2))) (c .before .before .literal-run .ensures .1),
     )))
     (λ t. literal-out-lts.spec (
@@ -514,8 +551,10 @@ pub +literal-anew+literal-apart+literal-bracket+literal-first+literal-inside+lit
     (λ c. omega (arith, c .before .before .before .pre .1 .0 .1 .few))
     (λ c. omega (arith, c .before .before .before .pre .1 .0 .1 .few, c .if1 .left))
     (λ c κs. tt)
-    (λ c. omega (arith, c .before .before .before .before .before .pre .1 .0 .1 .few))
-    (λ c. omega (arith, c .before .before .before .before .before .pre .1 .0 .1 .few, c .before .before .if1 .left))
+    (λ c. let the-pre = c .before .before .before .before .before .pre in
+    omega (arith, the-pre .1 .0 .1 .few))
+    (λ c. let the-pre = c .before .before .before .before .before .pre in
+    omega (arith, the-pre .1 .0 .1 .few, c .before .before .if1 .left))
     (λ c κs. tt)
     (λ c. let start = c .before .before .before .before .before .before .before .pre in
     level.out-pattern (start .1 .0 .0) (start .1 .0 .1) (start .1 .0 .2) (start .1 .1) (omega (arith, c .before .before .before .before .if1 .left)) (c .before .before .wide .ensures .0) (c .wide2 .ensures .0) .0)
@@ -523,18 +562,25 @@ pub +literal-anew+literal-apart+literal-bracket+literal-first+literal-inside+lit
     level.out-pattern (start .1 .0 .0) (start .1 .0 .1) (start .1 .0 .2) (start .1 .1) (omega (arith, c .before .before .before .before .if1 .left)) (c .before .before .wide .ensures .0) (c .wide2 .ensures .0) .0)
     (λ c. let start = c .before .before .before .before .before .before .before .pre in
     level.out-pattern (start .1 .0 .0) (start .1 .0 .1) (start .1 .0 .2) (start .1 .1) (omega (arith, c .before .before .before .before .if1 .left)) (c .before .before .wide .ensures .0) (c .wide2 .ensures .0) .1)
-    (λ c. let start = c .before .before .before .before .before .before .before .before .pre in
-    level.out-row (start .1 .0 .0) (start .1 .0 .1) (start .1 .0 .2) (start .1 .1) (omega (arith, c .before .before .before .before .before .if1 .left)) (c .before .before .before .wide .ensures .0) (c .before .wide2 .ensures .0) .0)
-    (λ c. let start = c .before .before .before .before .before .before .before .before .pre in
-    level.out-row (start .1 .0 .0) (start .1 .0 .1) (start .1 .0 .2) (start .1 .1) (omega (arith, c .before .before .before .before .before .if1 .left)) (c .before .before .before .wide .ensures .0) (c .before .wide2 .ensures .0) .0)
-    (λ c. let start = c .before .before .before .before .before .before .before .before .pre in
-    level.out-row (start .1 .0 .0) (start .1 .0 .1) (start .1 .0 .2) (start .1 .1) (omega (arith, c .before .before .before .before .before .if1 .left)) (c .before .before .before .wide .ensures .0) (c .before .wide2 .ensures .0) .1)
-    (λ c κs. let start = c .before .before .before .before .before .before .before .before .before .before .pre in (
-      omega (arith, start .0, c .before .before .before .before .before .before .before .if1 .left),
-      (level.literal-out (start .1 .0 .0) (start .1 .0 .1) (start .1 .0 .2) (start .1 .1) (omega (arith, c .before .before .before .before .before .before .before .if1 .left)) (c .before .before .before .before .before .wide .ensures .0) (c .before .before .before .wide2 .ensures .0), sure.settled-fixed _ _ _ (start .1 .0 .3), start .1 .0 .4),
+    (λ c. let the-if1 = c .before .before .before .before .before .if1 in
+    let start = c .before .before .before .before .before .before .before .before .pre in
+    level.out-row (start .1 .0 .0) (start .1 .0 .1) (start .1 .0 .2) (start .1 .1) (omega (arith, the-if1 .left)) (c .before .before .before .wide .ensures .0) (c .before .wide2 .ensures .0) .0)
+    (λ c. let the-if1 = c .before .before .before .before .before .if1 in
+    let start = c .before .before .before .before .before .before .before .before .pre in
+    level.out-row (start .1 .0 .0) (start .1 .0 .1) (start .1 .0 .2) (start .1 .1) (omega (arith, the-if1 .left)) (c .before .before .before .wide .ensures .0) (c .before .wide2 .ensures .0) .0)
+    (λ c. let the-if1 = c .before .before .before .before .before .if1 in
+    let start = c .before .before .before .before .before .before .before .before .pre in
+    level.out-row (start .1 .0 .0) (start .1 .0 .1) (start .1 .0 .2) (start .1 .1) (omega (arith, the-if1 .left)) (c .before .before .before .wide .ensures .0) (c .before .wide2 .ensures .0) .1)
+    (λ c κs. let the-if1 = c .before .before .before .before .before .before .before .if1 in
+    let the-wide = c .before .before .before .before .before .wide in
+    let start = c .before .before .before .before .before .before .before .before .before .before .pre in (
+      omega (arith, start .0, the-if1 .left),
+      (level.literal-out (start .1 .0 .0) (start .1 .0 .1) (start .1 .0 .2) (start .1 .1) (omega (arith, the-if1 .left)) (the-wide .ensures .0) (c .before .before .before .wide2 .ensures .0), sure.settled-fixed _ _ _ (start .1 .0 .3), start .1 .0 .4),
     ))
-    (λ c. let start = c .before .before .before .before .before .before .before .before .before .before .before .pre in (
-      level.out-answer (start .1 .0 .0) (start .1 .0 .1) (start .1 .0 .2) (start .1 .1) (omega (arith, c .before .before .before .before .before .before .before .before .if1 .left)) (c .before .before .before .before .before .before .wide .ensures .0) (c .before .before .before .before .wide2 .ensures .0)
+    (λ c. let the-if1 = c .before .before .before .before .before .before .before .before .if1 in
+    let the-wide = c .before .before .before .before .before .before .wide in
+    let start = c .before .before .before .before .before .before .before .before .before .before .before .pre in (
+      level.out-answer (start .1 .0 .0) (start .1 .0 .1) (start .1 .0 .2) (start .1 .1) (omega (arith, the-if1 .left)) (the-wide .ensures .0) (c .before .before .before .before .wide2 .ensures .0)
           (c .literal-run .result) (c .literal-run .ensures .0),
       c .literal-run .ensures .1,
     )))
@@ -548,7 +594,8 @@ pub +literal-anew+literal-apart+literal-bracket+literal-first+literal-inside+lit
     )
     (literal-run-at t)
     literal-run.Post
-    (λ c κs. c .before .before .before .before .before .before .before .before .pre .1 .0 .asked .kept)
+    (λ c κs. let the-pre = c .before .before .before .before .before .before .before .before .pre in
+    the-pre .1 .0 .asked .kept)
     (λ c. search needs)
     (λ c. search needs)
     (λ c. known.known-end (c .before .before .before .known-front .ensures) _ _ (c .before .n .given .1) .0 .within)
@@ -561,8 +608,11 @@ pub +literal-anew+literal-apart+literal-bracket+literal-first+literal-inside+lit
       omega (arith, start .0),
       ((asked .asked .small, asked .around, asked .asked .kept, sure.settled-low (start .1 .1), start .1 .2), level.out-capacity asked),
     ))
-    (λ c. let (passed, short) = known.known-end (c .before .before .before .before .before .before .before .known-front .ensures) _ _ (c .before .before .before .before .before .n .given .1) in
-    (level.run-one (c .before .before .before .before .before .before .before .before .before .before .before .before .before .before .before .before .pre .1 .0) (c .literal-out .result) (passed .search true ∙ step.end-both _ _ _ true _ short (c .before .before .if1 .taken)) (c .literal-out .ensures .0), c .literal-out .ensures .1))
+    (λ c. let the-known-front = c .before .before .before .before .before .before .before .known-front in
+    let the-n = c .before .before .before .before .before .n in
+    let the-pre = c .before .before .before .before .before .before .before .before .before .before .before .before .before .before .before .before .pre in
+    let (passed, short) = known.known-end (the-known-front .ensures) _ _ (the-n .given .1) in
+    (level.run-one (the-pre .1 .0) (c .literal-out .result) (passed .search true ∙ step.end-both _ _ _ true _ short (c .before .before .if1 .taken)) (c .literal-out .ensures .0), c .literal-out .ensures .1))
     (λ c. search needs)
     (λ c. begin-inside (known.known-stop (c .before .before .before .known-front .ensures) _ _ _ (c .before .m .given .1) .0 .begins))
     (λ c. begin-inside (known.known-stop (c .before .before .before .known-front .ensures) _ _ _ (c .before .m .given .1) .0 .begins))
@@ -570,20 +620,29 @@ pub +literal-anew+literal-apart+literal-bracket+literal-first+literal-inside+lit
     (λ c. known.known-stop (c .before .before .before .before .known-front .ensures) _ _ _ (c .before .before .m .given .1) .0 .within)
     (λ c. known.known-stop (c .before .before .before .before .known-front .ensures) _ _ _ (c .before .before .m .given .1) .0 .within)
     (λ c. search needs)
-    (λ c. let asked = c .before .before .before .before .before .before .before .before .before .before .before .before .before .before .pre .1 .0 .asked in
-    omega (arith, asked .pattern-stands .inside, asked .small, begin-inside (known.known-stop (c .before .before .before .before .before .known-front .ensures) _ _ _ (c .before .before .before .m .given .1) .0 .begins)))
-    (λ c. let asked = c .before .before .before .before .before .before .before .before .before .before .before .before .before .before .pre .1 .0 .asked in
-    omega (arith, asked .row-stands .inside, asked .small, known.known-stop (c .before .before .before .before .before .known-front .ensures) _ _ _ (c .before .before .before .m .given .1) .0 .within))
-    (λ c κs. let start = c .before .before .before .before .before .before .before .before .before .before .before .before .before .before .before .pre in
-    let (passed, stopped) = known.known-stop (c .before .before .before .before .before .before .known-front .ensures) _ _ _ (c .before .before .before .before .m .given .1) in (
+    (λ c. let the-known-front = c .before .before .before .before .before .known-front in
+    let asked = c .before .before .before .before .before .before .before .before .before .before .before .before .before .before .pre .1 .0 .asked in
+    omega (arith, asked .pattern-stands .inside, asked .small, begin-inside (known.known-stop (the-known-front .ensures) _ _ _ (c .before .before .before .m .given .1) .0 .begins)))
+    (λ c. let the-known-front = c .before .before .before .before .before .known-front in
+    let asked = c .before .before .before .before .before .before .before .before .before .before .before .before .before .before .pre .1 .0 .asked in
+    omega (arith, asked .row-stands .inside, asked .small, known.known-stop (the-known-front .ensures) _ _ _ (c .before .before .before .m .given .1) .0 .within))
+    (λ c κs. let the-known-front = c .before .before .before .before .before .before .known-front in
+    let start = c .before .before .before .before .before .before .before .before .before .before .before .before .before .before .before .pre in
+    let (passed, stopped) = known.known-stop (the-known-front .ensures) _ _ _ (c .before .before .before .before .m .given .1) in (
       omega (arith, start .0, begin-inside (passed .begins), start .1 .0 .asked .pattern-stands .inside),
       ((level.literal-later (start .1 .0) _ _ (passed .begins) (passed .within), sure.settled-later (start .1 .1) (passed .begins), start .1 .2), stopped),
     ))
-    (λ c. (level.run-none (c .before .before .before .before .before .before .before .before .before .before .before .pre .1 .0) (known.known-fails (c .before .before .known-front .ensures) (c .enum-told .given .1) true), c .before .before .before .before .before .before .before .before .before .before .before .pre .1 .2))
-    (λ c. let (passed, short) = known.known-end (c .before .before .before .before .before .known-front .ensures) _ _ (c .before .before .before .n .given .1) in
-    (level.run-none (c .before .before .before .before .before .before .before .before .before .before .before .before .before .before .pre .1 .0) (passed .search true ∙ step.end-one _ _ _ true _ short (c .if1 .left)), c .before .before .before .before .before .before .before .before .before .before .before .before .before .before .pre .1 .2))
-    (λ c. let passed = known.known-stop (c .before .before .before .before .before .before .before .known-front .ensures) _ _ _ (c .before .before .before .before .before .m .given .1) .0 in
-    (level.run-rest (c .before .before .before .before .before .before .before .before .before .before .before .before .before .before .before .before .pre .1 .0) (c .literal-first .result) _ _ _ (begin-inside (passed .begins)) (passed .within) (passed .search true) (c .literal-first .ensures .0), c .literal-first .ensures .1)))
+    (λ c. let the-pre = c .before .before .before .before .before .before .before .before .before .before .before .pre in
+    (level.run-none (the-pre .1 .0) (known.known-fails (c .before .before .known-front .ensures) (c .enum-told .given .1) true), the-pre .1 .2))
+    (λ c. let the-known-front = c .before .before .before .before .before .known-front in
+    let the-pre = c .before .before .before .before .before .before .before .before .before .before .before .before .before .before .pre in
+    let (passed, short) = known.known-end (the-known-front .ensures) _ _ (c .before .before .before .n .given .1) in
+    (level.run-none (the-pre .1 .0) (passed .search true ∙ step.end-one _ _ _ true _ short (c .if1 .left)), the-pre .1 .2))
+    (λ c. let the-known-front = c .before .before .before .before .before .before .before .known-front in
+    let the-m = c .before .before .before .before .before .m in
+    let the-pre = c .before .before .before .before .before .before .before .before .before .before .before .before .before .before .before .before .pre in
+    let passed = known.known-stop (the-known-front .ensures) _ _ _ (the-m .given .1) .0 in
+    (level.run-rest (the-pre .1 .0) (c .literal-first .result) _ _ _ (begin-inside (passed .begins)) (passed .within) (passed .search true) (c .literal-first .ensures .0), c .literal-first .ensures .1)))
     λ t. literal-tries-lts.spec (
       literal-lengths-below t,
       literal-lengths.Post,
@@ -602,7 +661,8 @@ pub +literal-anew+literal-apart+literal-bracket+literal-first+literal-inside+lit
     (λ c. c .literal-lengths .ensures)
     (λ c κs. let start = c .before .before .before .before .before .before .before .before .pre .1 .0 in (start .2 .few, start .0 .asked .kept .few, start .0 .asked .kept .keyed))
     (λ c κs. let start = c .before .before .before .before .before .before .before .before .before .before .pre in (omega (arith, start .0), ((start .1 .0 .0, start .1 .0 .1), start .1 .1 .0)))
-    (λ c. (c .literal-anew .ensures, c .before .before .before .before .before .before .before .before .before .before .before .pre .1 .0 .3))
+    (λ c. let the-pre = c .before .before .before .before .before .before .before .before .before .before .before .pre in
+    (c .literal-anew .ensures, the-pre .1 .0 .3))
     (λ c. let asked = c .before .before .before .before .before .before .before .before .before .before .pre .1 .0 .0 .asked in omega (arith, asked .pattern-stands .inside, asked .small))
     (λ c. let asked = c .before .before .before .before .before .before .before .before .before .before .pre .1 .0 .0 .asked in omega (arith, asked .row-stands .inside, asked .small))
     (λ c κs. tt)
@@ -612,10 +672,12 @@ pub +literal-anew+literal-apart+literal-bracket+literal-first+literal-inside+lit
       alone.nothing-holds _ _ (failed.lengths-known asked _ free (start .1 .1) true (start .0 .1) (start .0 .3) (c .before .failed-before .ensures (c .if3 .taken))),
       start .0 .3,
     ))
-    (λ c κs. let start = c .before .before .before .before .before .before .before .before .before .before .before .before .before .before .pre .1 in
+    (λ c κs. let the-closed = c .before .before .before .before .before .closed in
+    let the-pre = c .before .before .before .before .before .before .before .before .before .before .before .before .before .before .pre in
+    let start = c .before .before .before .before .before .before .before .before .before .before .before .before .before .before .pre .1 in
     let asked = start .0 .0 .asked in
-    let free = c .before .before .before .before .before .closed .ensures (not-false _ (c .before .before .before .before .if2 .left)) _ _ _ (asked .kept) (start .0 .2 .same) in
-    (omega (arith, c .before .before .before .before .before .before .before .before .before .before .before .before .before .before .pre .0), ((start .0 .0, start .0 .1, sure.settled-all (start .0 .2) free, start .0 .3), start .1 .0)))
+    let free = the-closed .ensures (not-false _ (c .before .before .before .before .if2 .left)) _ _ _ (asked .kept) (start .0 .2 .same) in
+    (omega (arith, the-pre .0), ((start .0 .0, start .0 .1, sure.settled-all (start .0 .2) free, start .0 .3), start .1 .0)))
     (λ c κs. let start = c .before .before .before .before .before .before .before .before .before .before .before .before .before .before .before .before .before .pre .1 .0 in
     let asked = start .0 .asked in (
       omega (arith, asked .pattern-stands .inside, asked .small, start .1),
@@ -624,11 +686,14 @@ pub +literal-anew+literal-apart+literal-bracket+literal-first+literal-inside+lit
       omega (arith, asked .row-stands .inside, asked .small),
       c .before .before .literal-lengths2 .ensures .1 .long,
     ))
-    (λ c. let start = c .before .before .before .before .before .before .before .before .before .before .before .before .before .before .before .before .before .before .pre .1 in
+    (λ c. let the-closed = c .before .before .before .before .before .before .before .before .before .closed in
+    let the-if2 = c .before .before .before .before .before .before .before .before .if2 in
+    let the-if1 = c .before .before .before .before .before .before .before .before .before .before .before .before .if1 in
+    let start = c .before .before .before .before .before .before .before .before .before .before .before .before .before .before .before .before .before .before .pre .1 in
     let asked = start .0 .0 .asked in
-    let free = c .before .before .before .before .before .before .before .before .before .closed .ensures (not-false _ (c .before .before .before .before .before .before .before .before .if2 .left)) _ _ _ (asked .kept) (start .0 .2 .same) in
+    let free = the-closed .ensures (not-false _ (the-if2 .left)) _ _ _ (asked .kept) (start .0 .2 .same) in
     let lengths = c .before .before .before .literal-lengths2 in (
       lengths .ensures .0,
-      failed.lengths-noted asked _ free (start .1 .1) true (alone.none-holds _ _ _ (c .before .before .before .before .before .before .before .before .before .before .before .before .if1 .left) _ _ _ (lengths .ensures .0) (not-true _ (c .before .before .if4 .taken))) (lengths .ensures .1) (c .note-failed .ensures),
+      failed.lengths-noted asked _ free (start .1 .1) true (alone.none-holds _ _ _ (the-if1 .left) _ _ _ (lengths .ensures .0) (not-true _ (c .before .before .if4 .taken))) (lengths .ensures .1) (c .note-failed .ensures),
     ))
     (λ c. c .before .literal-lengths2 .ensures)

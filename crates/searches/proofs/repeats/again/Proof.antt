@@ -28,11 +28,14 @@ again-spec =
     (λ c. c .loop .inv .within)
     (λ c. c .loop .inv .within)
     (λ c. search needs)
-    (λ c κs. (c .before .before .before .before .before .before .pre, c .if1 .left))
-    (λ c. let at-loop = c .before .before .before .before .loop in
-    omega (arith, from-length (at-loop .i) (c .before .before .before .before .before .before .before .before .args .part .now), c .before .before .if1 .left, at-loop .inv .within))
-    (λ c. let at-loop = c .before .before .before .before .loop in
-    omega (arith, from-length (at-loop .i) (c .before .before .before .before .before .before .before .before .args .part .now), c .before .before .if1 .left))
+    (λ c κs. let the-pre = c .before .before .before .before .before .before .pre in
+    (the-pre, c .if1 .left))
+    (λ c. let the-args = c .before .before .before .before .before .before .before .before .args in
+    let at-loop = c .before .before .before .before .loop in
+    omega (arith, from-length (at-loop .i) (the-args .part .now), c .before .before .if1 .left, at-loop .inv .within))
+    (λ c. let the-args = c .before .before .before .before .before .before .before .before .args in
+    let at-loop = c .before .before .before .before .loop in
+    omega (arith, from-length (at-loop .i) (the-args .part .now), c .before .before .if1 .left))
     (λ c. laws.past-next (c .before .before .before .before .loop .inv) (c .before .before .if1 .left) (c .before .atoms-same .ensures) (c .if2 .left))
     (λ c. λ e. laws.past-all (c .before .before .loop .inv) (c .if1 .taken))
     (λ c. λ e. absurd (false-not-true (sym e))))

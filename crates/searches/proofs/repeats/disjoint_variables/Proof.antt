@@ -28,10 +28,12 @@ disjoint-variables-spec =
     (λ c. search needs)
     (λ c κs. omega (arith, c .if1 .left))
     (λ c κs. c .before .before .if1 .left)
-    (λ c. let at-loop = c .before .before .before .before .loop in
-    omega (arith, from-length (at-loop .i) (c .before .before .before .before .before .before .before .before .args .part .now), c .before .before .if1 .left, at-loop .inv .within))
-    (λ c. let at-loop = c .before .before .before .before .loop in
-    omega (arith, from-length (at-loop .i) (c .before .before .before .before .before .before .before .before .args .part .now), c .before .before .if1 .left))
+    (λ c. let the-args = c .before .before .before .before .before .before .before .before .args in
+    let at-loop = c .before .before .before .before .loop in
+    omega (arith, from-length (at-loop .i) (the-args .part .now), c .before .before .if1 .left, at-loop .inv .within))
+    (λ c. let the-args = c .before .before .before .before .before .before .before .before .args in
+    let at-loop = c .before .before .before .before .loop in
+    omega (arith, from-length (at-loop .i) (the-args .part .now), c .before .before .if1 .left))
     (λ c. let so-far = c .before .before .before .before .loop .inv in
     let long = c .before .before .if1 .left in
     ⊎-elim

@@ -184,12 +184,15 @@ pub +shadow-anew+shadow-first+shadow-inside+shadow-lengths+shadow-run+shadow-tri
     (λ c. search needs)
     (λ c. search needs)
     (λ c. search needs)
-    (λ c κs. c .before .before .before .before .before .before .before .pre .1 .1 .some)
+    (λ c κs. let the-pre = c .before .before .before .before .before .before .before .pre in
+    the-pre .1 .1 .some)
     (λ c. c .end-of .ensures .2)
     (λ c. search needs)
     (λ c. search needs)
-    (λ c. first-record.binds-within (c .before .before .before .before .before .before .before .before .before .pre .1 .1 .leaves) false _ (c .before .before .before .first .given .1) .0)
-    (λ c. first-record.binds-within (c .before .before .before .before .before .before .before .before .before .pre .1 .1 .leaves) false _ (c .before .before .before .first .given .1) .0)
+    (λ c. let the-pre = c .before .before .before .before .before .before .before .before .before .pre in
+    first-record.binds-within (the-pre .1 .1 .leaves) false _ (c .before .before .before .first .given .1) .0)
+    (λ c. let the-pre = c .before .before .before .before .before .before .before .before .before .pre in
+    first-record.binds-within (the-pre .1 .1 .leaves) false _ (c .before .before .before .first .given .1) .0)
     (λ c. search needs)
     (λ c κs. let start = c .before .before .before .before .before .before .before .before .before .before .pre in
     let asked = start .1 .0 .0 in
@@ -204,15 +207,17 @@ pub +shadow-anew+shadow-first+shadow-inside+shadow-lengths+shadow-run+shadow-tri
     ))
     (λ c. let asked = c .before .before .before .before .before .before .before .before .before .before .before .pre .1 .0 .0 in
     omega (arith, asked .pattern-stands .inside, asked .small, c .before .before .before .end-of .ensures .2))
-    (λ c. let start = c .before .before .before .before .before .before .before .before .before .before .before .pre in
-    omega (arith, start .1 .0 .0 .row-stands .inside, start .1 .0 .0 .small, first-record.binds-within (start .1 .1 .leaves) false _ (c .before .before .before .before .before .first .given .1) .0))
-    (λ c κs. let start = c .before .before .before .before .before .before .before .before .before .before .before .before in
+    (λ c. let the-first = c .before .before .before .before .before .first in
+    let start = c .before .before .before .before .before .before .before .before .before .before .before .pre in
+    omega (arith, start .1 .0 .0 .row-stands .inside, start .1 .0 .0 .small, first-record.binds-within (start .1 .1 .leaves) false _ (the-first .given .1) .0))
+    (λ c κs. let the-first = c .before .before .before .before .before .before .first in
+    let start = c .before .before .before .before .before .before .before .before .before .before .before .before in
     let stopped = start .pre .1 .1 in
     let ends = c .before .before .before .before .end-of in
-    let binds = first-record.binds-within (start .pre .1 .1 .leaves) false _ (c .before .before .before .before .before .before .first .given .1) in (
+    let binds = first-record.binds-within (start .pre .1 .1 .leaves) false _ (the-first .given .1) in (
       omega (arith, after-falls (start .args .pattern .now) (ends .result) (length (start .args .pattern .now)) (stopped .some) (ends .ensures .0) refl, start .pre .0),
       (
-        calls.asked-more (start .pre .1 .0 .0) (stopped .some) (binds .1) (binds .0) (c .before .bind .ensures) (ends .result) (c .before .before .before .before .before .before .first .given .0 .0) (ends .ensures .0) (binds .0),
+        calls.asked-more (start .pre .1 .0 .0) (stopped .some) (binds .1) (binds .0) (c .before .bind .ensures) (ends .result) (the-first .given .0 .0) (ends .ensures .0) (binds .0),
         sure.settled-later (sure.settled-more (start .pre .1 .0 .1) (c .before .bind .ensures)) (sure.begin-second (stopped .some) (ends .ensures .0)),
         sure.remembers-fixed (sure.fixed-bound (c .before .bind .ensures) _ (sure.settled-low (start .pre .1 .0 .1))) (start .pre .1 .0 .2),
       ),
@@ -226,19 +231,25 @@ pub +shadow-anew+shadow-first+shadow-inside+shadow-lengths+shadow-run+shadow-tri
     (λ c κs. let start = c .before .before .before .before .before .before .before .pre in
     let stopped = start .1 .1 in
     (omega (arith, start .0), (start .1 .0 .0, stopped .some, first-record.inside-facing (stopped .leaves) false (c .before .enum-told4 .given .1), start .1 .0 .1, start .1 .0 .2)))
-    (λ c. absurd (known.stops-fails (c .before .before .before .before .before .before .pre .1 .1) (c .enum-told .given .1)))
-    (λ c. absurd (known.stops-not (c .before .before .before .before .before .before .pre .1 .1) _ _ (c .enum-told2 .given .1)))
-    (λ c. let start = c .before .before .before .before .before .before .before .before .before .before .before .before .before .pre in
+    (λ c. let the-pre = c .before .before .before .before .before .before .pre in
+    absurd (known.stops-fails (the-pre .1 .1) (c .enum-told .given .1)))
+    (λ c. let the-pre = c .before .before .before .before .before .before .pre in
+    absurd (known.stops-not (the-pre .1 .1) _ _ (c .enum-told2 .given .1)))
+    (λ c. let the-first = c .before .before .before .before .before .before .before .first in
+    let the-end-of = c .before .before .before .before .before .end-of in
+    let start = c .before .before .before .before .before .before .before .before .before .before .before .before .before .pre in
     let stopped = start .1 .1 in
-    let binds = first-record.binds-within (start .1 .1 .leaves) false _ (c .before .before .before .before .before .before .before .first .given .1) in
+    let binds = first-record.binds-within (start .1 .1 .leaves) false _ (the-first .given .1) in
     let values = calls.values-more (start .1 .0 .0) (stopped .some) (binds .1) (binds .0) (c .before .before .bind .ensures) in (
       c .shadow-run .ensures .0,
-      c .shadow-run .ensures .1 ∙ sym (ap firstIn (first-record.step-binds (stopped .leaves) false _ _ _ (c .before .before .before .before .before .before .before .first .given .1) (c .before .before .before .before .before .end-of .ensures .0) values)),
+      c .shadow-run .ensures .1 ∙ sym (ap firstIn (first-record.step-binds (stopped .leaves) false _ _ _ (the-first .given .1) (the-end-of .ensures .0) values)),
       sure.remembers-back (sure.fixed-bound (c .before .before .bind .ensures) _ (sure.settled-low (start .1 .0 .1))) (c .shadow-run .ensures .2),
       sure.fixed-more (c .before .before .bind .ensures) (sure.settled-low (start .1 .0 .1)) (c .shadow-run .ensures .3),
     ))
-    (λ c. (c .shadow-tries .ensures .0, c .shadow-tries .ensures .1 ∙ sym (ap firstIn (first-record.step-tries (c .before .before .before .before .before .before .before .before .pre .1 .1 .leaves) false (c .before .before .enum-told3 .given .1))), c .shadow-tries .ensures .2, c .shadow-tries .ensures .3))
-    (λ c. (c .shadow-inside .ensures .0, c .shadow-inside .ensures .1 ∙ sym (ap firstIn (first-record.step-inside (c .before .before .before .before .before .before .before .before .pre .1 .1 .leaves) false (c .before .before .enum-told4 .given .1))), c .shadow-inside .ensures .2, c .shadow-inside .ensures .3)))
+    (λ c. let the-pre = c .before .before .before .before .before .before .before .before .pre in
+    (c .shadow-tries .ensures .0, c .shadow-tries .ensures .1 ∙ sym (ap firstIn (first-record.step-tries (the-pre .1 .1 .leaves) false (c .before .before .enum-told3 .given .1))), c .shadow-tries .ensures .2, c .shadow-tries .ensures .3))
+    (λ c. let the-pre = c .before .before .before .before .before .before .before .before .pre in
+    (c .shadow-inside .ensures .0, c .shadow-inside .ensures .1 ∙ sym (ap firstIn (first-record.step-inside (the-pre .1 .1 .leaves) false (c .before .before .enum-told4 .given .1))), c .shadow-inside .ensures .2, c .shadow-inside .ensures .3)))
     (λ t. shadow-inside-lts.spec (
       end-of-reads.Asked,
       end-of-reads.Learnt,
@@ -248,7 +259,8 @@ pub +shadow-anew+shadow-first+shadow-inside+shadow-lengths+shadow-run+shadow-tri
     (shadow-inside-at t)
     shadow-inside.Post
     (λ c κs. c .before .before .before .before .pre .1 .1)
-    (λ c κs. c .before .before .before .before .before .pre .1 .2 .some)
+    (λ c κs. let the-pre = c .before .before .before .before .before .pre in
+    the-pre .1 .2 .some)
     (λ c. c .before .end-of .ensures .1)
     (λ c. search needs)
     (λ c. search needs)
@@ -259,48 +271,60 @@ pub +shadow-anew+shadow-first+shadow-inside+shadow-lengths+shadow-run+shadow-tri
     omega (arith, start .1 .0 .pattern-stands .inside, start .1 .0 .small, start .1 .1))
     (λ c. let start = c .before .before .before .before .before .before .before .before .pre in
     omega (arith, start .1 .0 .row-stands .inside, start .1 .0 .small, start .1 .2 .some))
-    (λ c κs. let start = c .before .before .before .before .before .before .before .before .before .pre in
+    (λ c κs. let the-args = c .before .before .before .before .before .before .before .before .before .args in
+    let start = c .before .before .before .before .before .before .before .before .before .pre in
     let ends = c .before .before .before .before .end-of in (
-      omega (arith, inside-falls (c .before .before .before .before .before .before .before .before .before .args .pattern .now) (ends .result) (length (c .before .before .before .before .before .before .before .before .before .args .pattern .now)) (start .1 .1) (ends .ensures .0) refl, start .0),
+      omega (arith, inside-falls (the-args .pattern .now) (ends .result) (length (the-args .pattern .now)) (start .1 .1) (ends .ensures .0) refl, start .0),
       (
         calls.asked-alone (calls.asked-inside (start .1 .0) (start .1 .1) (start .1 .2) (ends .result) (c .before .before .before .end-of2 .result) (ends .ensures .0) (c .before .before .before .end-of2 .ensures .0)),
         sure.settled-inside (start .1 .3) (ends .result) (ends .ensures .0) (calls.contents-within (start .1 .0) (start .1 .1) (start .1 .2)),
         start .1 .4,
       ),
     ))
-    (λ c. let start = c .before .before .before .before .before .before .before .before .before .before .before .before .pre in
+    (λ c. let the-end-of = c .before .before .before .before .before .before .before .end-of in
+    let the-end-of2 = c .before .before .before .before .before .before .end-of2 in
+    let start = c .before .before .before .before .before .before .before .before .before .before .before .before .pre in
     let inner = c .before .before .shadow-run in (
       inner .ensures .0,
-      returns.inside-none (start .1 .0) (c .before .before .before .before .before .before .before .end-of .ensures .0) (c .before .before .before .before .before .before .end-of2 .ensures .0) (inner .result) (inner .ensures .1) (not-true _ (c .if1 .taken)),
+      returns.inside-none (start .1 .0) (the-end-of .ensures .0) (the-end-of2 .ensures .0) (inner .result) (inner .ensures .1) (not-true _ (c .if1 .taken)),
       inner .ensures .2,
       inner .ensures .3,
     ))
-    (λ c. c .before .before .before .before .before .before .before .before .end-of .ensures .2)
+    (λ c. let the-end-of = c .before .before .before .before .before .before .before .before .end-of in
+    the-end-of .ensures .2)
     (λ c. search needs)
     (λ c. search needs)
-    (λ c. c .before .before .before .before .before .before .before .before .end-of2 .ensures .2)
+    (λ c. let the-end-of2 = c .before .before .before .before .before .before .before .before .end-of2 in
+    the-end-of2 .ensures .2)
     (λ c. search needs)
     (λ c. search needs)
-    (λ c. let start = c .before .before .before .before .before .before .before .before .before .before .before .before .before .before .before .pre in
-    omega (arith, start .1 .0 .pattern-stands .inside, start .1 .0 .small, c .before .before .before .before .before .before .before .before .before .before .end-of .ensures .2))
-    (λ c. let start = c .before .before .before .before .before .before .before .before .before .before .before .before .before .before .before .pre in
-    omega (arith, start .1 .0 .row-stands .inside, start .1 .0 .small, c .before .before .before .before .before .before .before .before .before .end-of2 .ensures .2))
-    (λ c κs. let start = c .before .before .before .before .before .before .before .before .before .before .before .before .before .before .before .before .pre in
+    (λ c. let the-end-of = c .before .before .before .before .before .before .before .before .before .before .end-of in
+    let start = c .before .before .before .before .before .before .before .before .before .before .before .before .before .before .before .pre in
+    omega (arith, start .1 .0 .pattern-stands .inside, start .1 .0 .small, the-end-of .ensures .2))
+    (λ c. let the-end-of2 = c .before .before .before .before .before .before .before .before .before .end-of2 in
+    let start = c .before .before .before .before .before .before .before .before .before .before .before .before .before .before .before .pre in
+    omega (arith, start .1 .0 .row-stands .inside, start .1 .0 .small, the-end-of2 .ensures .2))
+    (λ c κs. let the-args = c .before .before .before .before .before .before .before .before .before .before .before .before .before .before .before .before .args in
+    let the-end-of2 = c .before .before .before .before .before .before .before .before .before .before .end-of2 in
+    let start = c .before .before .before .before .before .before .before .before .before .before .before .before .before .before .before .before .pre in
     let ends = c .before .before .before .before .before .before .before .before .before .before .before .end-of in
     let inner = c .before .before .before .before .before .before .shadow-run in (
-      omega (arith, after-falls (c .before .before .before .before .before .before .before .before .before .before .before .before .before .before .before .before .args .pattern .now) (ends .result) (length (c .before .before .before .before .before .before .before .before .before .before .before .before .before .before .before .before .args .pattern .now)) (start .1 .1) (ends .ensures .0) refl, start .0),
+      omega (arith, after-falls (the-args .pattern .now) (ends .result) (length (the-args .pattern .now)) (start .1 .1) (ends .ensures .0) refl, start .0),
       (
         calls.asked-after (start .1 .0) (start .1 .1) (start .1 .2) (inner .result .bindings) (inner .ensures .0)
-            (returns.inside-first (start .1 .0) (ends .ensures .0) (c .before .before .before .before .before .before .before .before .before .before .end-of2 .ensures .0) (inner .result) (inner .ensures .1) (not-false _ (c .before .before .before .before .if1 .left)))
-            (ends .result) (c .before .before .before .before .before .before .before .before .before .before .end-of2 .result) (ends .ensures .0) (c .before .before .before .before .before .before .before .before .before .before .end-of2 .ensures .2),
+            (returns.inside-first (start .1 .0) (ends .ensures .0) (the-end-of2 .ensures .0) (inner .result) (inner .ensures .1) (not-false _ (c .before .before .before .before .if1 .left)))
+            (ends .result) (the-end-of2 .result) (ends .ensures .0) (the-end-of2 .ensures .2),
         sure.settled-fixed _ _ _ (inner .ensures .3 .few),
         sure.remembers-fixed (inner .ensures .3) (inner .ensures .2),
       ),
     ))
-    (λ c. let start = c .before .before .before .before .before .before .before .before .before .before .before .before .before .before .before .before .before .pre in
+    (λ c. let the-end-of = c .before .before .before .before .before .before .before .before .before .before .before .before .end-of in
+    let the-end-of2 = c .before .before .before .before .before .before .before .before .before .before .before .end-of2 in
+    let the-if1 = c .before .before .before .before .before .if1 in
+    let start = c .before .before .before .before .before .before .before .before .before .before .before .before .before .before .before .before .before .pre in
     let inner = c .before .before .before .before .before .before .before .shadow-run in (
       c .shadow-run2 .ensures .0,
-      returns.inside-some (start .1 .0) (c .before .before .before .before .before .before .before .before .before .before .before .before .end-of .ensures .0) (c .before .before .before .before .before .before .before .before .before .before .before .end-of2 .ensures .0) (inner .result) (inner .ensures .1) _ (not-false _ (c .before .before .before .before .before .if1 .left)) (c .shadow-run2 .ensures .1),
+      returns.inside-some (start .1 .0) (the-end-of .ensures .0) (the-end-of2 .ensures .0) (inner .result) (inner .ensures .1) _ (not-false _ (the-if1 .left)) (c .shadow-run2 .ensures .1),
       sure.remembers-back (inner .ensures .3) (c .shadow-run2 .ensures .2),
       sure.fixed-after (inner .ensures .3) (c .shadow-run2 .ensures .3),
     )))
@@ -339,10 +363,11 @@ pub +shadow-anew+shadow-first+shadow-inside+shadow-lengths+shadow-run+shadow-tri
     ))
     (λ c. let asked = c .before .before .before .before .before .before .before .before .before .pre .1 .0 .0 in
     omega (arith, asked .row-stands .inside, asked .small, begin-inside (c .before .before .loop .inv .0)))
-    (λ c κs. let start = c .before .before .before .before .before .before .before .before .before .before .pre in
+    (λ c κs. let the-args = c .before .before .before .before .before .before .before .before .before .before .args in
+    let start = c .before .before .before .before .before .before .before .before .before .before .pre in
     let ends = c .before .before .before .before .before .end-of in
     let inside = begin-inside (c .before .before .before .loop .inv .0) in (
-      omega (arith, after-falls (c .before .before .before .before .before .before .before .before .before .before .args .pattern .now) (ends .result) (length (c .before .before .before .before .before .before .before .before .before .before .args .pattern .now)) (start .1 .0 .1) (ends .ensures .0) refl, start .0),
+      omega (arith, after-falls (the-args .pattern .now) (ends .result) (length (the-args .pattern .now)) (start .1 .0 .1) (ends .ensures .0) refl, start .0),
       (
         calls.asked-more (start .1 .0 .0) (start .1 .0 .1) (start .1 .1) inside (c .before .bind .ensures) (ends .result) (c .before .before .before .loop .n) (ends .ensures .0) inside,
         sure.settled-later (sure.settled-more (start .1 .0 .2) (c .before .bind .ensures)) (sure.begin-second (start .1 .0 .1) (ends .ensures .0)),
@@ -350,27 +375,37 @@ pub +shadow-anew+shadow-first+shadow-inside+shadow-lengths+shadow-run+shadow-tri
       ),
     ))
     (λ c κs. c .if2 .left)
-    (λ c. let asked = c .before .before .before .before .before .before .before .before .before .before .before .before .before .before .pre .1 .0 .0 in
-    omega (arith, asked .row-stands .inside, asked .small, c .end-of2 .ensures .2, from-length (c .before .before .before .before .before .before .before .loop .n) (c .before .before .before .before .before .before .before .before .before .before .before .before .before .before .args .row .now), begin-inside (c .before .before .before .before .before .before .before .loop .inv .0)))
     (λ c. let the-loop = c .before .before .before .before .before .before .before .loop in
-    omega (arith, c .end-of2 .ensures .1, c .end-of2 .ensures .2, from-length (the-loop .n) (c .before .before .before .before .before .before .before .before .before .before .before .before .before .before .args .row .now), begin-inside (the-loop .inv .0)))
-    (λ c. let start = c .before .before .before .before .before .before .before .before .before .before .before .before .before .before .pre in (
-      rw (c .end-of2 .ensures .0) (one-on (c .before .if2 .left) (c .before .before .before .before .before .before .before .loop .inv .0)),
-      rw (c .end-of2 .ensures .0) (returns.length-next (start .1 .0 .0) (start .1 .0 .1) (start .1 .1) (c .before .before .before .before .before .before .before .before .before .end-of .ensures .0) (c .before .before .before .before .before .before .before .loop .inv .0) (c .before .before .before .before .before .bind .ensures)
-          (c .before .before .before .shadow-run .result) (c .before .before .before .shadow-run .ensures .1) (c .before .before .before .before .before .before .before .loop .inv .1) (c .before .before .if1 .left) (c .before .if2 .left)),
-      sure.remembers-back (sure.fixed-bound (c .before .before .before .before .before .bind .ensures) _ (sure.settled-low (start .1 .0 .2))) (c .before .before .before .shadow-run .ensures .2),
+    let the-args = c .before .before .before .before .before .before .before .before .before .before .before .before .before .before .args in
+    let asked = c .before .before .before .before .before .before .before .before .before .before .before .before .before .before .pre .1 .0 .0 in
+    omega (arith, asked .row-stands .inside, asked .small, c .end-of2 .ensures .2, from-length (the-loop .n) (the-args .row .now), begin-inside (the-loop .inv .0)))
+    (λ c. let the-args = c .before .before .before .before .before .before .before .before .before .before .before .before .before .before .args in
+    let the-loop = c .before .before .before .before .before .before .before .loop in
+    omega (arith, c .end-of2 .ensures .1, c .end-of2 .ensures .2, from-length (the-loop .n) (the-args .row .now), begin-inside (the-loop .inv .0)))
+    (λ c. let the-loop = c .before .before .before .before .before .before .before .loop in
+    let the-end-of = c .before .before .before .before .before .before .before .before .before .end-of in
+    let the-bind = c .before .before .before .before .before .bind in
+    let start = c .before .before .before .before .before .before .before .before .before .before .before .before .before .before .pre in (
+      rw (c .end-of2 .ensures .0) (one-on (c .before .if2 .left) (the-loop .inv .0)),
+      rw (c .end-of2 .ensures .0) (returns.length-next (start .1 .0 .0) (start .1 .0 .1) (start .1 .1) (the-end-of .ensures .0) (the-loop .inv .0) (the-bind .ensures)
+          (c .before .before .before .shadow-run .result) (c .before .before .before .shadow-run .ensures .1) (the-loop .inv .1) (c .before .before .if1 .left) (c .before .if2 .left)),
+      sure.remembers-back (sure.fixed-bound (the-bind .ensures) _ (sure.settled-low (start .1 .0 .2))) (c .before .before .before .shadow-run .ensures .2),
     ))
-    (λ c. let start = c .before .before .before .before .before .before .before .before .before .before .before .before .pre in (
+    (λ c. let the-end-of = c .before .before .before .before .before .before .before .end-of in
+    let the-loop = c .before .before .before .before .before .loop in
+    let start = c .before .before .before .before .before .before .before .before .before .before .before .before .pre in (
       c .before .shadow-run .ensures .0,
-      returns.length-found (start .1 .0 .0) (start .1 .0 .1) (start .1 .1) (c .before .before .before .before .before .before .before .end-of .ensures .0) (c .before .before .before .before .before .loop .inv .0) (c .before .before .before .bind .ensures)
-          (c .before .shadow-run .result) (c .before .shadow-run .ensures .1) (c .before .before .before .before .before .loop .inv .1) (c .if1 .taken),
+      returns.length-found (start .1 .0 .0) (start .1 .0 .1) (start .1 .1) (the-end-of .ensures .0) (the-loop .inv .0) (c .before .before .before .bind .ensures)
+          (c .before .shadow-run .result) (c .before .shadow-run .ensures .1) (the-loop .inv .1) (c .if1 .taken),
       sure.remembers-back (sure.fixed-bound (c .before .before .before .bind .ensures) _ (sure.settled-low (start .1 .0 .2))) (c .before .shadow-run .ensures .2),
       sure.fixed-more (c .before .before .before .bind .ensures) (sure.settled-low (start .1 .0 .2)) (c .before .shadow-run .ensures .3),
     ))
-    (λ c. let start = c .before .before .before .before .before .before .before .before .before .before .before .before .before .pre in (
+    (λ c. let the-end-of = c .before .before .before .before .before .before .before .before .end-of in
+    let the-loop = c .before .before .before .before .before .before .loop in
+    let start = c .before .before .before .before .before .before .before .before .before .before .before .before .before .pre in (
       c .before .before .shadow-run .ensures .0,
-      returns.length-none (start .1 .0 .0) (start .1 .0 .1) (start .1 .1) (c .before .before .before .before .before .before .before .before .end-of .ensures .0) (c .before .before .before .before .before .before .loop .inv .0) (c .before .before .before .before .bind .ensures)
-          (c .before .before .shadow-run .result) (c .before .before .shadow-run .ensures .1) (c .before .before .before .before .before .before .loop .inv .1) (c .before .if1 .left) (c .if2 .taken),
+      returns.length-none (start .1 .0 .0) (start .1 .0 .1) (start .1 .1) (the-end-of .ensures .0) (the-loop .inv .0) (c .before .before .before .before .bind .ensures)
+          (c .before .before .shadow-run .result) (c .before .before .shadow-run .ensures .1) (the-loop .inv .1) (c .before .if1 .left) (c .if2 .taken),
       sure.remembers-back (sure.fixed-bound (c .before .before .before .before .bind .ensures) _ (sure.settled-low (start .1 .0 .2))) (c .before .before .shadow-run .ensures .2),
       sure.fixed-more (c .before .before .before .before .bind .ensures) (sure.settled-low (start .1 .0 .2)) (c .before .before .shadow-run .ensures .3),
     )))
@@ -382,7 +417,8 @@ pub +shadow-anew+shadow-first+shadow-inside+shadow-lengths+shadow-run+shadow-tri
     )
     (shadow-run-at t)
     shadow-run.Post
-    (λ c κs. c .before .before .before .before .before .before .before .before .pre .1 .0 .kept)
+    (λ c κs. let the-pre = c .before .before .before .before .before .before .before .before .pre in
+    the-pre .1 .0 .kept)
     (λ c. search needs)
     (λ c. search needs)
     (λ c. known.known-end (c .before .before .before .known-front .ensures) _ _ (c .before .n .given .1) .0 .within)
@@ -395,19 +431,27 @@ pub +shadow-anew+shadow-first+shadow-inside+shadow-lengths+shadow-run+shadow-tri
     (λ c. known.known-stop (c .before .before .before .before .known-front .ensures) _ _ _ (c .before .before .m .given .1) .0 .within)
     (λ c. known.known-stop (c .before .before .before .before .known-front .ensures) _ _ _ (c .before .before .m .given .1) .0 .within)
     (λ c. search needs)
-    (λ c. let asked = c .before .before .before .before .before .before .before .before .before .before .before .before .before .before .pre .1 .0 in
-    omega (arith, asked .pattern-stands .inside, asked .small, begin-inside (known.known-stop (c .before .before .before .before .before .known-front .ensures) _ _ _ (c .before .before .before .m .given .1) .0 .begins)))
-    (λ c. let asked = c .before .before .before .before .before .before .before .before .before .before .before .before .before .before .pre .1 .0 in
-    omega (arith, asked .row-stands .inside, asked .small, known.known-stop (c .before .before .before .before .before .known-front .ensures) _ _ _ (c .before .before .before .m .given .1) .0 .within))
-    (λ c κs. let start = c .before .before .before .before .before .before .before .before .before .before .before .before .before .before .before .pre in
-    let (passed, stopped) = known.known-stop (c .before .before .before .before .before .before .known-front .ensures) _ _ _ (c .before .before .before .before .m .given .1) in (
-      omega (arith, start .0, begin-inside (passed .begins), from-length (c .before .before .before .before .m .given .0 .0) (c .before .before .before .before .before .before .before .before .before .before .before .before .before .before .before .args .pattern .now)),
+    (λ c. let the-known-front = c .before .before .before .before .before .known-front in
+    let asked = c .before .before .before .before .before .before .before .before .before .before .before .before .before .before .pre .1 .0 in
+    omega (arith, asked .pattern-stands .inside, asked .small, begin-inside (known.known-stop (the-known-front .ensures) _ _ _ (c .before .before .before .m .given .1) .0 .begins)))
+    (λ c. let the-known-front = c .before .before .before .before .before .known-front in
+    let asked = c .before .before .before .before .before .before .before .before .before .before .before .before .before .before .pre .1 .0 in
+    omega (arith, asked .row-stands .inside, asked .small, known.known-stop (the-known-front .ensures) _ _ _ (c .before .before .before .m .given .1) .0 .within))
+    (λ c κs. let the-known-front = c .before .before .before .before .before .before .known-front in
+    let the-args = c .before .before .before .before .before .before .before .before .before .before .before .before .before .before .before .args in
+    let start = c .before .before .before .before .before .before .before .before .before .before .before .before .before .before .before .pre in
+    let (passed, stopped) = known.known-stop (the-known-front .ensures) _ _ _ (c .before .before .before .before .m .given .1) in (
+      omega (arith, start .0, begin-inside (passed .begins), from-length (c .before .before .before .before .m .given .0 .0) (the-args .pattern .now)),
       ((calls.asked-later (start .1 .0) _ _ (passed .begins) (passed .within), sure.settled-later (start .1 .1) (passed .begins), start .1 .2), stopped),
     ))
-    (λ c. (c .before .before .before .before .before .before .before .before .before .before .before .pre .1 .0 .kept, sym (ap firstIn (known.known-fails (c .before .before .known-front .ensures) (c .enum-told .given .1) false)), c .before .before .before .before .before .before .before .before .before .before .before .pre .1 .2, sure.fixed-same _ _ (sure.settled-low (c .before .before .before .before .before .before .before .before .before .before .before .pre .1 .1))))
-    (λ c. let (passed, short) = known.known-end (c .before .before .before .before .known-front .ensures) _ _ (c .before .before .n .given .1) in
-    (c .before .before .before .before .before .before .before .before .before .before .before .before .before .pre .1 .0 .kept, returns.run-end _ _ _ _ _ short ∙ sym (ap firstIn (passed .search false)), c .before .before .before .before .before .before .before .before .before .before .before .before .before .pre .1 .2, sure.fixed-same _ _ (sure.settled-low (c .before .before .before .before .before .before .before .before .before .before .before .before .before .pre .1 .1))))
-    (λ c. let passed = known.known-stop (c .before .before .before .before .before .before .before .known-front .ensures) _ _ _ (c .before .before .before .before .before .m .given .1) .0 in
+    (λ c. let the-pre = c .before .before .before .before .before .before .before .before .before .before .before .pre in
+    (the-pre .1 .0 .kept, sym (ap firstIn (known.known-fails (c .before .before .known-front .ensures) (c .enum-told .given .1) false)), the-pre .1 .2, sure.fixed-same _ _ (sure.settled-low (the-pre .1 .1))))
+    (λ c. let the-pre = c .before .before .before .before .before .before .before .before .before .before .before .before .before .pre in
+    let (passed, short) = known.known-end (c .before .before .before .before .known-front .ensures) _ _ (c .before .before .n .given .1) in
+    (the-pre .1 .0 .kept, returns.run-end _ _ _ _ _ short ∙ sym (ap firstIn (passed .search false)), the-pre .1 .2, sure.fixed-same _ _ (sure.settled-low (the-pre .1 .1))))
+    (λ c. let the-known-front = c .before .before .before .before .before .before .before .known-front in
+    let the-m = c .before .before .before .before .before .m in
+    let passed = known.known-stop (the-known-front .ensures) _ _ _ (the-m .given .1) .0 in
     (c .shadow-first .ensures .0, c .shadow-first .ensures .1 ∙ sym (ap firstIn (passed .search false)), c .shadow-first .ensures .2, c .shadow-first .ensures .3)))
     λ t. shadow-tries-lts.spec (
       closed-reads.Asked,
@@ -438,9 +482,10 @@ pub +shadow-anew+shadow-first+shadow-inside+shadow-lengths+shadow-run+shadow-tri
       start .0 .3,
       sure.fixed-same _ _ (sure.settled-low (start .0 .2)),
     ))
-    (λ c κs. let start = c .before .before .before .before .before .before .before .before .before .before .before .before .pre in
+    (λ c κs. let the-closed = c .before .before .before .before .before .closed in
+    let start = c .before .before .before .before .before .before .before .before .before .before .before .before .pre in
     let asked = start .1 .0 .0 in
-    let free = c .before .before .before .before .before .closed .ensures (not-false _ (c .before .before .before .before .if1 .left)) _ _ _ (asked .kept) (start .1 .0 .2 .same) in
+    let free = the-closed .ensures (not-false _ (c .before .before .before .before .if1 .left)) _ _ _ (asked .kept) (start .1 .0 .2 .same) in
     (omega (arith, start .0), ((asked, start .1 .0 .1, sure.settled-all (start .1 .0 .2) free, start .1 .0 .3), start .1 .1 .0)))
     (λ c κs. let start = c .before .before .before .before .before .before .before .before .before .before .before .before .before .before .before .before .pre .1 .0 in
     let asked = start .0 in (
@@ -450,9 +495,11 @@ pub +shadow-anew+shadow-first+shadow-inside+shadow-lengths+shadow-run+shadow-tri
       omega (arith, asked .row-stands .inside, asked .small),
       c .before .before .before .shadow-lengths .ensures .2 .long,
     ))
-    (λ c. let start = c .before .before .before .before .before .before .before .before .before .before .before .before .before .before .before .before .before .pre .1 in
+    (λ c. let the-closed = c .before .before .before .before .before .before .before .before .before .before .closed in
+    let the-if1 = c .before .before .before .before .before .before .before .before .before .if1 in
+    let start = c .before .before .before .before .before .before .before .before .before .before .before .before .before .before .before .before .before .pre .1 in
     let asked = start .0 .0 in
-    let free = c .before .before .before .before .before .before .before .before .before .before .closed .ensures (not-false _ (c .before .before .before .before .before .before .before .before .before .if1 .left)) _ _ _ (asked .kept) (start .0 .2 .same) in
+    let free = the-closed .ensures (not-false _ (the-if1 .left)) _ _ _ (asked .kept) (start .0 .2 .same) in
     let lengths = c .before .before .before .before .shadow-lengths in (
       lengths .ensures .0,
       lengths .ensures .1,

@@ -31,10 +31,12 @@ once-spec =
     (λ c. c .before .before .before .if1 .left)
     (λ c. search needs)
     (λ c κs. c .before .before .before .before .if1 .left)
-    (λ c. let at-loop = c .before .before .before .before .loop in
-    omega (arith, from-length (at-loop .i) (c .before .before .before .before .before .before .before .args .pattern .now), c .before .before .if1 .left, at-loop .inv .within))
-    (λ c. let at-loop = c .before .before .before .before .loop in
-    omega (arith, from-length (at-loop .i) (c .before .before .before .before .before .before .before .args .pattern .now), c .before .before .if1 .left))
+    (λ c. let the-args = c .before .before .before .before .before .before .before .args in
+    let at-loop = c .before .before .before .before .loop in
+    omega (arith, from-length (at-loop .i) (the-args .pattern .now), c .before .before .if1 .left, at-loop .inv .within))
+    (λ c. let the-args = c .before .before .before .before .before .before .before .args in
+    let at-loop = c .before .before .before .before .loop in
+    omega (arith, from-length (at-loop .i) (the-args .pattern .now), c .before .before .if1 .left))
     (λ c. let so-far = c .before .before .before .before .loop .inv in
     let long = c .before .before .if1 .left in
     let kind = c .before .word-at .ensures in

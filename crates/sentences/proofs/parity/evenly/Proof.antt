@@ -29,10 +29,12 @@ evenly-spec =
     (λ c κs. omega (arith, c .if1 .left))
     (λ c κs. c .before .before .if1 .left)
     (λ c κs. c .before .before .if1 .left)
-    (λ c. let the-loop = c .before .before .before .before .before .loop in
-    omega (arith, from-length (the-loop .i) (c .before .before .before .before .before .before .before .before .args .pattern .now), c .end-of .ensures .2, the-loop .inv .within))
-    (λ c. let the-loop = c .before .before .before .before .before .loop in
-    omega (arith, from-length (the-loop .i) (c .before .before .before .before .before .before .before .before .args .pattern .now), c .end-of .ensures .1, c .end-of .ensures .2))
+    (λ c. let the-args = c .before .before .before .before .before .before .before .before .args in
+    let the-loop = c .before .before .before .before .before .loop in
+    omega (arith, from-length (the-loop .i) (the-args .pattern .now), c .end-of .ensures .2, the-loop .inv .within))
+    (λ c. let the-args = c .before .before .before .before .before .before .before .before .args in
+    let the-loop = c .before .before .before .before .before .loop in
+    omega (arith, from-length (the-loop .i) (the-args .pattern .now), c .end-of .ensures .1, c .end-of .ensures .2))
     (λ c. let so-far = c .before .before .before .before .before .loop .inv in
     let long = c .before .before .before .if1 .left in
     let kind = c .before .before .word-at .ensures in

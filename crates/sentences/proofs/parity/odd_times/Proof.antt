@@ -25,12 +25,15 @@ odd-times-spec =
     (λ c. c .loop .inv .within)
     (λ c. c .loop .inv .within)
     (λ c. search needs)
-    (λ c κs. (c .before .before .before .before .before .before .pre, c .if1 .left))
+    (λ c κs. let the-pre = c .before .before .before .before .before .before .pre in
+    (the-pre, c .if1 .left))
     (λ c κs. c .before .before .if1 .left)
-    (λ c. let the-loop = c .before .before .before .before .before .loop in
-    omega (arith, from-length (the-loop .i) (c .before .before .before .before .before .before .before .before .before .args .pattern .now), c .end-of .ensures .2, the-loop .inv .within))
-    (λ c. let the-loop = c .before .before .before .before .before .loop in
-    omega (arith, from-length (the-loop .i) (c .before .before .before .before .before .before .before .before .before .args .pattern .now), c .end-of .ensures .1, c .end-of .ensures .2))
+    (λ c. let the-args = c .before .before .before .before .before .before .before .before .before .args in
+    let the-loop = c .before .before .before .before .before .loop in
+    omega (arith, from-length (the-loop .i) (the-args .pattern .now), c .end-of .ensures .2, the-loop .inv .within))
+    (λ c. let the-args = c .before .before .before .before .before .before .before .before .before .args in
+    let the-loop = c .before .before .before .before .before .loop in
+    omega (arith, from-length (the-loop .i) (the-args .pattern .now), c .end-of .ensures .1, c .end-of .ensures .2))
     (λ c. let so-far = c .before .before .before .before .before .loop .inv in
     let long = c .before .before .before .if1 .left in
     let same = c .before .before .atoms-same .ensures in
