@@ -10,7 +10,8 @@ reached.
   believed.py -v          also the definitions in specs/ that are not reached: examples, what the laws speak of, answers of
                           inner calls
   believed.py --lock      writes tests/believed.lock: a line with a digest for each contract, theorem, definition and type
-  believed.py --check     prints the lines that are changed, new or gone against tests/believed.lock; fails where there are any
+  believed.py --check     prints the lines that are changed, new, gone or moved against tests/believed.lock; fails where there
+                          are any
   believed.py --since COMMIT
                           prints how tests/believed.lock differs from the one at a commit
 
@@ -449,11 +450,18 @@ def lines(said, reached):
 
 
 def differences(before, after):
-    """The lines of two locks that differ: changed, new, gone."""
-    old, new = ({line.rsplit(" ", 1)[0]: line.rsplit(" ", 1)[1] for line in text} for text in (before, after))
-    for what in sorted(old.keys() | new.keys()):
-        if what not in old or what not in new or old[what] != new[what]:
-            yield f"{'new    ' if what not in old else 'gone   ' if what not in new else 'changed'} {what}"
+    """How two locks differ: what is changed, new, gone, or stands in another file with the same meaning."""
+    old, new = ({tuple(line.split()[:3]): line.split()[3] for line in text} for text in (before, after))
+    moved = {}
+    for kind, path, name in old.keys() - new.keys():
+        there = [what for what in new.keys() - old.keys() if what[::2] == (kind, name) and new[what] == old[kind, path, name]]
+        moved.update({what: path for what in there[:1] if len(there) == 1})
+    left = {(kind, path, name) for (kind, _, name), path in moved.items()}
+    for what in sorted((old.keys() | new.keys()) - left):
+        if what in moved:
+            yield f"moved   {' '.join(what)}, from {moved[what]}"
+        elif old.get(what) != new.get(what):
+            yield f"{'new    ' if what not in old else 'gone   ' if what not in new else 'changed'} {' '.join(what)}"
 
 
 def show(reached, verbose):
@@ -503,7 +511,7 @@ def main(words):
     types = sum(path.suffix == ".rt" for path, _ in reached)
     print(f"{len(reached) - types} definitions, {types} types of the code, {len(CALLS)} contracts, {len(THEOREMS)} theorems")
     if differ:
-        print(f"{len(differ)} lines differ from tests/believed.lock", file=sys.stderr)
+        print(f"! differences from tests/believed.lock: {len(differ)}", file=sys.stderr)
     return 1 if inner or differ else 0
 
 
