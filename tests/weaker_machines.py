@@ -23,9 +23,9 @@ CONDITION_HOLDS = (
     "  give-holds v (inCondition p env i cs r t k) answers h ="
     " (matches-kinded p v env (h .0), h .1, (λ d. absurd (h .2 d)), λ _. h .3)"
 )
-SYMBOL = "step law (working (tree.Run.symbol a r) env u k answers) = working r env (u ⊕ symbol (literalOf a) nothing) k answers"
+SYMBOL = "step law (working (tree.Run.symbol a r) env u k answers) = working r env (u ⊕ symbol (literalOf (symbolOf a)) nothing) k answers"
 SYMBOL_HOLDS = """    step-holds (working (tree.Run.symbol a r) env u k answers) h =
-        (h .0, h .1, λ w g. behind (Takes k) u (symbol (literalOf a) nothing) w (h .2 (symbol (literalOf a) w) (fits-symbol g)))"""
+        (h .0, h .1, λ w g. behind (Takes k) u (symbol (literalOf (symbolOf a)) nothing) w (h .2 (symbol (literalOf (symbolOf a)) w) (fits-symbol g)))"""
 ASKED = """step law (trying (ways (env ∷ es) i (condition q p cs) r t) k answers) =
     working q env nothing (inCondition p env i cs r (ways es i (condition q p cs) r t) k) answers"""
 ASKED_HOLDS = """    step-holds (trying (ways (env ∷ es) i (condition q p cs) r t) k answers) h =
@@ -37,7 +37,7 @@ INSIDE = ["inBracket a b c k", "inCall a b c d e k", "inBlock a b c d e k", "inP
 
 def symbols(line):
     """A clause for each of character and number, as for any symbol."""
-    return [line.replace("symbol a r", f"symbol ({a}) r").replace("literalOf a", f"literalOf ({a})") for a in
+    return [line.replace("symbol a r", f"symbol ({a}) r").replace("symbolOf a", f"symbolOf ({a})") for a in
             ("tree.Symbol.character c", "tree.Symbol.number c")]
 
 
