@@ -1,7 +1,7 @@
 -- Expressions: what a law's functions are called on and give back. Document 01, "A run of a law": "any expression (symbols, numbers by value,
 -- brackets around expressions)"; "a number record is one symbol, also above 4294967295".
-use Prim.Native.Nat.{ℕ, _+_, _*_, _-_}
-use mathlib.Core.List.{List, [], _∷_}
+use Prim.Native.Nat.{ℕ}
+use mathlib.Core.List.{List}
 
 -- a symbol: a character, an identifier, folded, or a number, by value
 pub data Literal : Type 0 where
@@ -18,14 +18,6 @@ pub data Terms (A : Type 0) : Type 0 where
 
 abbrev pub Expression : Type 0
 Expression = Terms Literal
-
--- the value of decimal digits, before which a value was read
-abbrev pub valueAfter : ℕ → List ℕ → ℕ
-valueAfter n [] = n
-valueAfter n (d ∷ ds) = valueAfter (n * 10 + (d - 48)) ds
-
-abbrev pub valueOf : List ℕ → ℕ
-valueOf digits = valueAfter 0 digits
 
 -- one row after another
 module _ {A : Type 0} where

@@ -2,8 +2,9 @@
 use Prim.Native.Nat.{ℕ}
 use mathlib.Core.List.{List}
 use Rattle.names.specs.Name.{folded}
+use Rattle.numbers.specs.Value.{valueOf}
 use Rattle.law.specs.Tree as tree
-use Rattle.law.specs.Expression.{Literal, valueOf}
+use Rattle.law.specs.Expression.{Literal}
 
 -- an identifier is folded, a number kept as spelled
 pub data Symbol : Type 0 where

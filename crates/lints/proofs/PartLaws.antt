@@ -19,13 +19,13 @@ use Rattle.file.specs.declared.Term.{Term}
 use Rattle.file.specs.declared.Term.the-variants.{Symbol as Symbolic, SVariable, TVariable, EVariable, Bracket, Call, Block}
 use Rattle.law.specs.Tree.{Mark, Run, empty, symbol, Sentences, noSentence}
 use Rattle.law.specs.Tree as tree
-use Rattle.law.specs.Expression.{valueOf}
+use Rattle.numbers.specs.Value.{valueOf, isMacrodigit}
 use Rattle.law.specs.Runs.{endOf, termForest}
 use Rattle.law.specs.Reading.{markAt, symbolOf, termRun, forestRun}
 use Rattle.law.proofs.RunLaws.{end-low, end-high, terms-none, terms-node}
 use Rattle.matching.proofs.CutLaws.{from-length, from-from, from-all}
 use Rattle.lints.specs.Finding.{Failure, twoIntegersWanted, divisionByZero, digitsWanted}
-use Rattle.lints.specs.Builtin.{isMacrodigit, isSign, consFound, macrodigits, unsigned, allZero, secondFails, firstFails, integersFail, charactersOf, digitsFail, Domain, integers, digits, anything, failure}
+use Rattle.lints.specs.Builtin.{isSign, consFound, macrodigits, unsigned, allZero, secondFails, firstFails, integersFail, charactersOf, digitsFail, Domain, integers, digits, anything, failure}
 use Rattle.lints.specs.Open.{eOccurrences}
 use Rattle.lints.specs.Code.Part.{argumentOf, SignTaken, operandOf, decidedBy, allOf, both, zeroOf, digitOf}
 use Rattle.lints.specs.declared.builtin.Operand.{Operand}

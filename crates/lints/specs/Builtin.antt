@@ -3,11 +3,11 @@ use Prim.Native.Nat.{ℕ}
 use mathlib.Core.Bool.{Bool, true, false, cond, _&&_, _||_}
 use mathlib.Core.List.{List, [], _∷_}
 use mathlib.Core.Option.{Option, none, some}
-use lib.Dec.{eqb, leb}
+use lib.Dec.{eqb}
 use Rattle.names.specs.Name.{sameBytes, digitByte, everyByte}
+use Rattle.numbers.specs.Value.{valueOf, isMacrodigit}
 use Rattle.law.specs.Text.{bytesOf}
 use Rattle.law.specs.Tree.{character, identifier, number, Run, empty, symbol, variable, bracket, call, block, Sentences, Function, Law}
-use Rattle.law.specs.Expression.{valueOf}
 use Rattle.law.specs.Definition.{definition}
 use Rattle.matching.specs.Match.{when, each}
 use Rattle.lints.specs.Finding.{Failure, twoIntegersWanted, divisionByZero, digitsWanted, fails, Remark, Finding, findingsFrom}
@@ -16,10 +16,6 @@ use Rattle.lints.specs.Calls.{Call, callee, sentenceCalls}
 -- ---- two integers: `ADD`, `SUB`, `MUL`, `DIV`, `MOD`, `DIVMOD`, `COMPARE`
 -- "an integer operand is an optional sign symbol followed by one or more macrodigit literals"; the first operand is one macrodigit with its sign, the
 -- rest is the second. Nothing is decided where there is anything else.
-
--- a number is a macrodigit by its value
-abbrev pub isMacrodigit : ℕ → Bool
-isMacrodigit n = leb n 4294967295
 
 -- something before what was found, if anything was
 abbrev pub consFound : ℕ → Option (List ℕ) → Option (List ℕ)

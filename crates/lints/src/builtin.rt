@@ -5,9 +5,10 @@ use file::term_at;
 use law::runs::end_of;
 use matching::spelled;
 use names::names_equal;
+use numbers::capped_value;
 ghost use mathlib.Core.Path.{_≡_};
 ghost use mathlib.Core.List.{List};
-ghost use Prim.Native.Nat.{ℕ, _-_, _<_};
+ghost use Prim.Native.Nat.{ℕ};
 ghost use Rattle.names.specs.Name.{folded, digitByte, everyByte};
 ghost use Rattle.lints.specs.Builtin.{macrodigits, allZero, secondFails, firstFails, integersFail, charactersOf, digitsFail, builtins, domainIn, failure};
 ghost use Rattle.lints.specs.Code.Part.{argumentOf, failureIn, domainFrom, signOperand, numberOperand, symbolOperand, operandOf, SignTaken, decidedBy, allOf, both, zeroOf, symbolDigit, digitOf};
@@ -44,35 +45,13 @@ enum All {
 
 // ---- integers
 
-// A byte as a word.
-fn wide(b: u8) -> u64
-    ensures { λ r. ⌜ (r ≡ b) × (r < 256) ⌝ }
-{
-    b as u64
-}
-
-// The value of a digit.
-fn digit_value(d: u8) -> u64
-    ensures { λ r. ⌜ (r ≡ d - 48) × (r < 256) ⌝ }
-{
-    if d < 48 {
-        return 0;
-    }
-    wide(d - 48)
-}
-
 // A number as an operand: a macrodigit by its value, however many zeros lead.
 fn number_operand(digits: &[u8]) -> Operand
     ensures { λ r. ⌜ r ≡ numberOperand (now (digits .entry)) ⌝ }
 {
-    let mut value = 0;
-    let mut i = 0;
-    while i < digits.len() {
-        value = value * 10 + digit_value(digits[i]);
-        if 4294967295 < value {
-            return Operand::Other;
-        }
-        i += 1;
+    let value = capped_value(digits);
+    if 4294967295 < value {
+        return Operand::Other;
     }
     Operand::Macrodigit(value)
 }

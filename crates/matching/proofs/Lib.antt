@@ -12,5 +12,4 @@ pub mod RowLaws
 pub mod SearchLaws
 pub mod FillLaws
 pub mod ShadowLaws
-pub mod DigitLaws
 pub mod LiteralLaws

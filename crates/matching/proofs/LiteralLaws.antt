@@ -2,6 +2,9 @@
 use mathlib.Core.Bool.{true}
 use mathlib.Core.Path.{_≡_, refl, ap, ap₂, sym, _∙_}
 use Rattle.names.specs.Name.{numberAllowed}
+use Rattle.numbers.specs.Value.{noNeedlessZero}
+use Rattle.numbers.proofs.DigitLaws.{digitsOf, digits-of-value}
+use Rattle.names.proofs.Laws.{both-hold}
 use Rattle.law.specs.Tree.{Kind, symbolKind, termKind, expressionKind}
 use Rattle.law.specs.Expression.{Literal, Expression, Terms, nothing, symbol, brackets, _⊕_}
 use Rattle.law.specs.Variables.{Variable}
@@ -9,11 +12,10 @@ use Rattle.law.specs.Symbol.{Symbol, character, identifier, number, literalOf}
 use Rattle.matching.specs.Pattern.{sameSymbol, literal, variable, other, Pattern}
 use Rattle.matching.specs.Match.{none-bound, some-in, anyLiteral, runMatches}
 use Rattle.matching.specs.Fill.{filled, OfKind}
-use Rattle.matching.specs.Literal.{anySymbol, literalMatches, changed, expressionOf, noNeedlessZero, symbolPasses, rowPasses, patternPasses}
-use Rattle.matching.proofs.SameLaws.{both-hold, symbol-sound, symbol-refl}
+use Rattle.matching.specs.Literal.{anySymbol, literalMatches, changed, expressionOf, symbolPasses, rowPasses, patternPasses}
+use Rattle.matching.proofs.SameLaws.{symbol-sound, symbol-refl}
 use Rattle.matching.proofs.SearchLaws.{none-agrees, none-kinded}
 use Rattle.matching.proofs.FillLaws.{fills-of-match, match-of-fills, run-complete, matches-iff-from}
-use Rattle.matching.proofs.DigitLaws.{digitsOf, digits-of-value}
 
 -- ---- rows with other symbols
 

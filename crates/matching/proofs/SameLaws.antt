@@ -7,6 +7,7 @@ use native.Mathlib.Omega.{arith}
 use lib.Dec.{T}
 use borrow.Author.Tests.{eqb-true, eq-eqb}
 use Rattle.names.specs.Name.{sameBytes}
+use Rattle.names.proofs.Laws.{both-hold}
 use Rattle.names.proofs.Laws as bytes
 use Rattle.law.specs.Tree.{Kind, symbolKind, termKind, expressionKind}
 use Rattle.law.specs.Expression.{Literal, Terms, nothing, symbol, brackets}
@@ -28,11 +29,6 @@ told e = rw e tt
 
 holds : (b : Bool) → T b → b ≡ true
 holds true h = refl
-
--- two tests both hold
-pub both-hold : (a b : Bool) → (a && b) ≡ true → (a ≡ true) × (b ≡ true)
-both-hold true b h = (refl, h)
-both-hold false b h = absurd (false-not-true h)
 
 -- ---- symbols of a law
 

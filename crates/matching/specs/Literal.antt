@@ -1,9 +1,8 @@
 -- Literal matching. Document 01: "Recognition by literals speaks only of arguments without variables, calls and blocks, and matches them wholly as the
 -- manual does, going back into a bracket whose contents matched"; numbers compare by text.
 use Prim.Native.Nat.{ℕ}
-use mathlib.Core.Bool.{Bool, true, false, not, _&&_}
-use mathlib.Core.List.{List, [], _∷_}
-use lib.Dec.{eqb}
+use mathlib.Core.Bool.{Bool, true, false, _&&_}
+use mathlib.Core.List.{List}
 use Rattle.law.specs.Tree as tree
 use Rattle.law.specs.Expression.{Expression, Terms, nothing, symbol, brackets}
 use Rattle.law.specs.Symbol.{Symbol, character, identifier, number, literalOf, symbolOf}
@@ -45,12 +44,6 @@ module _ {A B : Type 0} (f : A → B) where
 -- the expression that a literal row is in a run: numbers by value
 abbrev pub expressionOf : Terms Symbol → Expression
 expressionOf = changed literalOf
-
--- a number is one digit, or does not begin with `0`: then its text says no more than its value
-abbrev pub noNeedlessZero : List ℕ → Bool
-noNeedlessZero [] = true
-noNeedlessZero (d ∷ []) = true
-noNeedlessZero (d ∷ e ∷ ds) = not (eqb d 48)
 
 -- does every number pass a test: of a symbol, of a literal row, of a pattern?
 module _ (test : List ℕ → Bool) where

@@ -18,13 +18,14 @@ use Rattle.names.specs.declared.Order.the-variants.{Less, Equal, Greater
 
 -- ---- one byte
 
+-- two tests both hold
+pub both-hold : (a b : Bool) → (a && b) ≡ true → (a ≡ true) × (b ≡ true)
+both-hold true b h = (refl, h)
+both-hold false b h = let z : _≡_ {A = ℕ} 0 1 = cc in absurd (omega arith)
+
 -- a byte of a range is not below its start
 pub between-low : (low high c : ℕ) → between low high c ≡ true → low ≤ c
-between-low low high c h = go (leb low c) refl h
-  where
-    go : (t : Bool) → leb low c ≡ t → (t && leb c high) ≡ true → low ≤ c
-    go true e q = leb-true low c e
-    go false e q = let z : _≡_ {A = ℕ} 0 1 = cc in absurd (omega arith)
+between-low low high c h = leb-true low c (both-hold (leb low c) (leb c high) h .0)
 
 -- ---- loops that compare, folded by any `f`
 

@@ -5,14 +5,16 @@ use mathlib.Core.Bool.{Bool, true}
 use mathlib.Core.List.{List}
 use mathlib.Core.Path.{_≡_, refl, sym, ap, ap₂, _∙_}
 use Rattle.names.specs.Name.{numberAllowed}
+use Rattle.names.proofs.Laws.{both-hold}
+use Rattle.numbers.specs.Value.{noNeedlessZero}
 use Rattle.law.specs.Tree as tree
 use Rattle.law.specs.Tree.{Name, Run, Sentences, noSentence, sentence}
 use Rattle.law.specs.Expression.{Expression, symbol, brackets}
 use Rattle.law.specs.Symbol.{symbolOf, literalOf}
 use Rattle.matching.specs.Pattern.{patternOf}
 use Rattle.matching.specs.Match.{none-bound, runMatches}
-use Rattle.matching.specs.Literal.{isLiteral, literalTerms, changed, expressionOf, noNeedlessZero, rowPasses, patternPasses}
-use Rattle.matching.proofs.SameLaws.{false-not-true, both-hold}
+use Rattle.matching.specs.Literal.{isLiteral, literalTerms, changed, expressionOf, rowPasses, patternPasses}
+use Rattle.matching.proofs.SameLaws.{false-not-true}
 use Rattle.matching.proofs.LiteralLaws.{literal-misses-nothing}
 use Rattle.runs.proofs.Fits.{Fits, fits-empty, fits-symbol, fits-variable, fits-bracket, fits-call, fits-block}
 use Rattle.runs.proofs.Invariant.{NoneMatches}

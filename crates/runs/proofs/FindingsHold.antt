@@ -8,13 +8,15 @@ use mathlib.Core.Logic.{_⊎_, inl, inr}
 use mathlib.Core.Option.{some}
 use mathlib.Core.Path.{_≡_, sym, ap, _∙_}
 use native.Mathlib.Omega.{arith}
+use Rattle.names.proofs.Laws.{both-hold}
+use Rattle.numbers.specs.Value.{noNeedlessZero}
 use Rattle.file.specs.Answer.{given}
 use Rattle.law.specs.Tree.{Sentences, sentence, Function, Law}
 use Rattle.law.specs.Definition.{definition}
 use Rattle.law.specs.Expression.{Expression}
 use Rattle.matching.specs.Match.{some-in}
-use Rattle.matching.specs.Literal.{isLiteral, noNeedlessZero}
-use Rattle.matching.proofs.SameLaws.{false-not-true, both-hold}
+use Rattle.matching.specs.Literal.{isLiteral}
+use Rattle.matching.proofs.SameLaws.{false-not-true}
 use Rattle.formats.specs.Infer.{Formats, Inferred, infer}
 use Rattle.formats.proofs.RoundLaws.{EachFunction}
 use Rattle.lints.specs.Lint.{lintNumber}

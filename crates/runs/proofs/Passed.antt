@@ -3,11 +3,11 @@ use Prim.Native.Nat.{ℕ}
 use mathlib.Core.Bool.{Bool, true, _&&_}
 use mathlib.Core.List.{List}
 use mathlib.Core.Path.{_≡_}
+use Rattle.names.proofs.Laws.{both-hold}
 use Rattle.law.specs.Tree as tree
 use Rattle.law.specs.Tree.{Name, Run, Sentences, noSentence, sentence, Conditions, noCondition, condition}
 use Rattle.law.specs.Symbol.{symbolOf}
 use Rattle.matching.specs.Literal.{symbolPasses}
-use Rattle.matching.proofs.SameLaws.{both-hold}
 use Rattle.lints.proofs.Everywhere.{EachRecord, EveryRun, EverySentence, EveryCondition, Passes}
 use Rattle.runs.specs.Numbers.{runPasses, sentencesPass, conditionsPass}
 

@@ -3,10 +3,11 @@
 use Prim.Native.Nat.{ℕ}
 use mathlib.Core.Bool.{Bool, true, _&&_}
 use mathlib.Core.List.{List, [], _∷_}
+use Rattle.numbers.specs.Value.{noNeedlessZero}
 use Rattle.law.specs.Tree as tree
 use Rattle.law.specs.Tree.{Run, Sentences, noSentence, sentence, Conditions, noCondition, condition, Law}
 use Rattle.law.specs.Symbol.{symbolOf}
-use Rattle.matching.specs.Literal.{noNeedlessZero, symbolPasses}
+use Rattle.matching.specs.Literal.{symbolPasses}
 
 -- does every number pass a test: of a run with all that is inside it, of sentences, of conditions, of a law?
 module _ (test : List ℕ → Bool) where

@@ -3,6 +3,7 @@ use mathlib.Core.Bool.{Bool, true, false, cond, _&&_}
 use mathlib.Core.List.{List, [], _∷_, map, map-map, map-append}
 use mathlib.Core.Option.{Option, none, some, Option·map}
 use mathlib.Core.Path.{_≡_, refl, ap, ap₂, sym}
+use Rattle.names.proofs.Laws.{both-hold}
 use Rattle.law.specs.Tree as tree
 use Rattle.law.specs.Tree.{Kind, symbolKind, termKind, expressionKind}
 use Rattle.law.specs.Expression.{Terms, nothing, symbol, brackets}
@@ -14,7 +15,7 @@ use Rattle.matching.specs.Shadow.{sameAtom, symbolLike, singleTerm}
 use Rattle.matching.specs.Literal.{isLiteral, literalTerms, anySymbol, literalMatches, changed}
 use Rattle.matching.specs.Code.Step.{found}
 use Rattle.searches.specs.Code.Asked.{someHolds, resume}
-use Rattle.matching.proofs.SameLaws.{both-hold, false-not-true}
+use Rattle.matching.proofs.SameLaws.{false-not-true}
 
 -- ---- lists with other members
 

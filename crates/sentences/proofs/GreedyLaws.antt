@@ -5,11 +5,12 @@ use native.Mathlib.Omega.{arith}
 use mathlib.Core.Logic.{inl, inr}
 use mathlib.Core.Option.{Option, none, some, Option·none-ne-some}
 use mathlib.Core.Path.{_≡_, refl, sym, ap, _∙_}
+use Rattle.names.proofs.Laws.{both-hold}
 use Rattle.law.specs.Tree.{Kind, symbolKind, termKind, expressionKind}
 use Rattle.law.specs.Expression.{Terms, nothing, symbol, brackets}
 use Rattle.law.specs.Symbol.{Symbol}
 use Rattle.matching.specs.Pattern.{Atom, literal, variable, other, Pattern}
-use Rattle.matching.proofs.SameLaws.{false-not-true, both-hold}
+use Rattle.matching.proofs.SameLaws.{false-not-true}
 use Rattle.sentences.specs.Code.Loose.{someEnd, someRest, loosely}
 use Rattle.sentences.specs.Code.Greedy.{EndOf, termsIn, openKind, openAtom, next, orElse, kindFits, atomFits, bracketFits, frontOf, leftmostOf, leftPasses, opens}
 

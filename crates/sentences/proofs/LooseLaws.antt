@@ -3,6 +3,7 @@ use mathlib.Core.Bool.{Bool, true, false, not, _||_}
 use mathlib.Core.List.{List, [], _∷_, _++_, List·Memᴰ, List·Memᴰ·head, List·Memᴰ·tail, Memᴰ·map}
 use mathlib.Core.Option.{Option, none, some, Option·none-ne-some}
 use mathlib.Core.Path.{_≡_, refl, sym, _∙_}
+use Rattle.names.proofs.Laws.{both-hold}
 use Rattle.law.specs.Tree.{Kind, symbolKind, termKind, expressionKind}
 use Rattle.law.specs.Expression.{Terms, nothing, symbol, brackets, _⊕_}
 use Rattle.law.specs.Variables.{Variable, sameVariable, occurs}
@@ -13,7 +14,7 @@ use Rattle.matching.specs.Fill.{Plain, filled, OfKind, Kinded}
 use Rattle.matching.specs.Match.{each, all-or-first, splits, noted, choices}
 use Rattle.searches.specs.Code.Capacity.{variablesIn}
 use Rattle.matching.proofs.SearchLaws.{none-kinded, when-in, each-in, in-all-or-first, some-member, member-some}
-use Rattle.matching.proofs.SameLaws.{false-not-true, both-hold, variable-sound}
+use Rattle.matching.proofs.SameLaws.{false-not-true, variable-sound}
 use Rattle.matching.proofs.VariableLaws.{occurs-first, occurs-later, occurs-left, occurs-right}
 use Rattle.matching.proofs.FillLaws.{fills-of-match}
 use Rattle.searches.proofs.AgreeLaws.{noted-other, match-values, not-left}

@@ -7,6 +7,7 @@ use mathlib.Core.Path.{_≡_, refl, sym, ap, _∙_}
 use native.Mathlib.Omega.{arith}
 use native.Mathlib.Decide.{decLt}
 use lib.ListN.{length}
+use Rattle.names.proofs.Laws.{both-hold}
 use Rattle.file.specs.Word.{wordAt}
 use Rattle.file.specs.Forest.{contents, rest}
 use Rattle.file.specs.Head.{termAt}
@@ -19,7 +20,7 @@ use Rattle.matching.specs.Pattern.{variable}
 use Rattle.matching.specs.Code.Part.{rowOf, from, Stands, atomOf}
 use Rattle.searches.specs.Code.Capacity.{variablesIn}
 use Rattle.searches.specs.Code.Repeats.{atomAt, Alone}
-use Rattle.matching.proofs.SameLaws.{false-not-true, both-hold, variable-refl}
+use Rattle.matching.proofs.SameLaws.{false-not-true, variable-refl}
 use Rattle.matching.proofs.PartLaws.{row-empty, row-node}
 use Rattle.matching.proofs.CutLaws.{from-length, from-from, stands-from}
 use Rattle.matching.proofs.VariableLaws.{occurs-first, occurs-later, occurs-either}

@@ -7,16 +7,16 @@ use mathlib.Core.Path.{_≡_}
 use lib.ListN.{take, drop}
 use lib.Dec.{eqb}
 use Rattle.names.specs.Name.{digitByte}
+use Rattle.numbers.specs.Value.{valueOf, isMacrodigit}
 use Rattle.file.specs.declared.Symbol.{Symbol}
 use Rattle.file.specs.declared.Symbol.the-variants.{Character, Identifier, Number}
 use Rattle.file.specs.declared.Term.{Term}
 use Rattle.file.specs.declared.Term.the-variants.{Symbol as Symbolic, SVariable, TVariable, EVariable, Bracket, Call, Block}
 use Rattle.law.specs.Tree.{Run, noSentence}
-use Rattle.law.specs.Expression.{valueOf}
 use Rattle.law.specs.Runs.{termForest}
 use Rattle.law.specs.Reading.{forestRun}
 use Rattle.lints.specs.Finding.{Failure, twoIntegersWanted, divisionByZero, digitsWanted}
-use Rattle.lints.specs.Builtin.{isMacrodigit, macrodigits, isSign, unsigned, firstFails, Domain, integers, digits, anything}
+use Rattle.lints.specs.Builtin.{macrodigits, isSign, unsigned, firstFails, Domain, integers, digits, anything}
 use Rattle.lints.specs.declared.builtin.Fails as answers
 use Rattle.lints.specs.declared.builtin.Domain as domains
 use Rattle.lints.specs.declared.builtin.Operand as operands

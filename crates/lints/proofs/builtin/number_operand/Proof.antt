@@ -1,31 +1,14 @@
--- The loop's invariant: the value of all digits is that of those left, after the value read (`ValueFrom`).
-use Prim.Native.Nat.{_-_}
+-- The value of the digits, or 4294967296 where it is more, says whether they are a macrodigit: `number-over`, `number-macrodigit`.
 use native.Mathlib.Omega.{arith}
-use lib.ListN.{length}
 use borrow.Author.Needs.{needs}
-use Rattle.lints.proofs.NumberLaws.{ValueFrom, value-start, value-next, value-over, value-end}
+use Rattle.lints.proofs.NumberLaws.{number-over, number-macrodigit}
 use Rattle.lints.proofs.builtin.number_operand.Statement.{statement}
 use Rattle.lints.proofs.builtin.number_operand.Tie as tie
-
-abbrev Inv-loop : tie.InvT-loop
-Inv-loop digits value₀ i₀ value i = ValueFrom digits value i
-
-abbrev μ-loop : tie.MeasureT-loop
-μ-loop digits value₀ i₀ value i = length digits - i
 
 pub number-operand-spec : {M : Type 1} → statement M
 number-operand-spec =
     tie.close
     (tie.spec
-    Inv-loop
-    μ-loop
-    (λ c. value-start _)
-    (λ c. omega (arith, c .before .loop .inv .small))
-    (λ c. omega arith)
     (λ c κs. search needs)
-    (λ c. omega (arith, c .before .before .before .loop .inv .small, c .digit-value .ensures .1))
-    (λ c. value-over (c .before .before .before .before .loop .inv) (omega arith) (c .before .digit-value .ensures .0) (c .if1 .taken))
-    (λ c. omega arith)
-    (λ c. omega arith)
-    (λ c. value-next (c .before .before .before .before .loop .inv) (omega arith) (c .before .digit-value .ensures .0) (omega arith))
-    (λ c. value-end (c .before .loop .inv) (omega arith)))
+    (λ c. number-over (c .before .before .before .args .digits .now) (c .before .capped-value .ensures) (c .if1 .taken))
+    (λ c. number-macrodigit (c .before .before .before .args .digits .now) (c .before .capped-value .ensures) (omega arith)))

@@ -8,9 +8,8 @@ use lib.Dec.{ltb, leb, eqb}
 use lib.ListN.{length}
 use borrow.Author.Tests.{leb-true, lt-ltb, le-ltb, eqb-false, not-true}
 use Rattle.names.specs.Name.{digitByte, everyByte, lengthAllowed, numberAllowed}
-use Rattle.law.specs.Expression.{valueAfter, valueOf}
-use Rattle.matching.specs.Literal.{noNeedlessZero}
-use Rattle.matching.proofs.SameLaws.{both-hold}
+use Rattle.names.proofs.Laws.{both-hold}
+use Rattle.numbers.specs.Value.{valueAfter, valueOf, noNeedlessZero}
 
 -- the digits of a value before others, at most so many
 digitsBefore : ℕ → ℕ → List ℕ → List ℕ

@@ -1,0 +1,2 @@
+pub mod Value
+pub mod Examples
