@@ -1,4 +1,5 @@
 -- What the exported calls return, and every lent word after them. A call over C returns one number, and what it answers stands in lent words.
+-- docs/SPECIFICATION.md, 13.1.
 use Prim.Native.Nat.{ℕ, _*_}
 use mathlib.Core.Bool.{true, cond}
 use mathlib.Core.List.{List, [], _∷_}

@@ -1,4 +1,5 @@
 -- A number as it is written in decimal digits.
+-- docs/SPECIFICATION.md, 11.1 to 11.3.
 use Prim.Native.Nat.{ℕ, zero, suc, _+_, _/_, _%_}
 use mathlib.Core.Bool.{cond}
 use mathlib.Core.List.{List, [], _∷_, _++_}

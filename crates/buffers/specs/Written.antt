@@ -1,4 +1,5 @@
 -- What a list of words holds after some of them are written over.
+-- docs/SPECIFICATION.md, 12.3 to 12.5.
 use Prim.Native.Nat.{ℕ, _+_, _≤_}
 use mathlib.Core.List.{List, _++_}
 use mathlib.Core.Path.{_≡_}

@@ -1,4 +1,5 @@
 -- Document 01, "Where a call is turned back": "A refusal is its number only; the first in this table's order is given."
+-- docs/SPECIFICATION.md, 2.1.
 use Prim.Native.Nat.{ℕ}
 use mathlib.Core.Bool.{Bool, true, false}
 

@@ -1,4 +1,5 @@
 -- What holds of every number below a bound, and sums over them: records are counted from 0.
+-- docs/SPECIFICATION.md, 2.3.
 use Prim.Native.Nat.{ℕ, zero, suc, _+_}
 use mathlib.Core.Bool.{Bool, true, _&&_}
 

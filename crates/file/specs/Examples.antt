@@ -1,4 +1,5 @@
 -- Examples of the definitions, by computation.
+-- docs/SPECIFICATION.md, 2.7.
 use mathlib.Core.List.{[], _∷_, _++_}
 use mathlib.Core.Bool.{true, false}
 use mathlib.Core.Path.{_≡_, refl}

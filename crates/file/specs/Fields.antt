@@ -1,5 +1,6 @@
 -- Row 5 of the table: "value not allowed above, or outside the text". Every record of sections 2 and 5 is looked at, whether a run reaches it or not.
 -- What a count or `n` may be belongs to row 6.
+-- docs/SPECIFICATION.md, 1.5, 1.7, 2.2.
 use Prim.Native.Nat.{ℕ, _+_, _*_}
 use mathlib.Core.List.{List, [], _∷_}
 use mathlib.Core.Bool.{Bool, false, not, _&&_}

@@ -1,5 +1,6 @@
 -- What a term record's words say. Document 01: "Kinds: 0 character (a = Unicode scalar value), 1 identifier, 2 number, 3 s., 4 t., 5 e. variable
 -- (1 to 5: a, b = start and length in the text), 6 bracket, 7 call (a, b = name), 8 block (a = number of sentences)."
+-- docs/SPECIFICATION.md, 1.5, 1.6.
 use Prim.Native.Nat.{ℕ, _+_}
 use mathlib.Core.List.{List, [], _∷_}
 use lib.ListN.{getD}

@@ -1,6 +1,7 @@
 -- Document 01, "The law file": "Five sections in fixed order, each after its count. [..] File at most 16,384 bytes."
 -- 1. Text, at most 4,096 bytes. 2. Functions, at most 64, five words. 3. Sentences, at most 128, five words.
 -- 4. Conditions, at most 128, four words. 5. Terms, at most 512, six words.
+-- docs/SPECIFICATION.md, 1.1, 1.3, 1.4, 2.1.
 use Prim.Native.Nat.{ℕ, zero, _+_, _*_, _-_}
 use mathlib.Core.List.{List}
 use lib.ListN.{length, take, drop}

@@ -1,4 +1,5 @@
 -- Document 01: "Counts and fields are unsigned 32-bit words, least byte first."
+-- docs/SPECIFICATION.md, 1.2.
 use Prim.Native.Nat.{ℕ, _+_, _*_}
 use mathlib.Core.List.{List}
 use lib.ListN.{getD}

@@ -1,5 +1,6 @@
 -- Document 01's small laws about inference that it does not mark *, and further examples of the definitions, all by computation. Those marked * are the
 -- table in specs/SmallLaws.antt of the crate `lints`.
+-- docs/SPECIFICATION.md, 18.2.
 use Prim.Native.Nat.{ℕ, zero, suc}
 use mathlib.Core.Bool.{Bool, true, false}
 use mathlib.Core.List.{List, [], _∷_, _++_, flatMap}

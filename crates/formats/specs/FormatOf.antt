@@ -1,4 +1,5 @@
 -- The format of a pattern, and of a result with its calls abstracted by the results found so far, as in formats.rs.
+-- docs/SPECIFICATION.md, 3.7, 3.8.
 use mathlib.Core.Bool.{true, false}
 use mathlib.Core.List.{List}
 use mathlib.Core.Option.{Option, none, some}

@@ -1,6 +1,7 @@
 -- Inference by rounds, as `infer_formats` does it. Document 01, "Formats": "`infer_formats` rounds go through the functions in file order, each using results
 -- already renewed in that round. At most distinct folded names + 4 rounds run; an unchanged round is the last. Settled (added): 1 if the last round
 -- changed nothing, else 0." The limit on shapes and the limit on rounds are parameters.
+-- docs/SPECIFICATION.md, 4.1 to 4.5, 5.1.
 use Prim.Native.Nat.{ℕ, zero, suc, _+_}
 use mathlib.Core.Bool.{Bool, true, false, cond, not, _||_}
 use mathlib.Core.List.{List, [], _∷_}

@@ -1,5 +1,6 @@
 -- The store. Document 01, "Formats": "The store holds, by sorted folded name, argument then result format, 65 words each, unused words 0."
 -- A format has one word more than the limit on its shapes.
+-- docs/SPECIFICATION.md, 5.1.
 use Prim.Native.Nat.{ℕ, zero, suc, _+_, _*_, _≤_}
 use mathlib.Core.List.{List, [], _∷_, _++_}
 use mathlib.Core.Path.{_≡_}

@@ -1,5 +1,6 @@
 -- Which sentences a folded name means. Document 01: "With a name defined twice, literal matching uses the last definition, formats join all"; a run calls the
 -- last definition too. A law defines a folded name where there is one.
+-- docs/SPECIFICATION.md, 1.14.
 use Prim.Native.Nat.{ℕ}
 use mathlib.Core.Bool.{cond}
 use mathlib.Core.List.{List, [], _∷_}

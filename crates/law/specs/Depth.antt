@@ -1,4 +1,5 @@
 -- Row 8: "over 32 brackets, calls and blocks around a term; a block is around its sentences too".
+-- docs/SPECIFICATION.md, 2.5.
 use Prim.Native.Nat.{ℕ, suc, max}
 use mathlib.Core.List.{[], _∷_}
 use Rattle.law.specs.Tree.{Run, empty, symbol, variable, bracket, call, block, Sentences, noSentence, sentence, Conditions, noCondition, condition, Law}

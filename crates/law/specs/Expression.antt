@@ -1,5 +1,6 @@
 -- Expressions: what a law's functions are called on and give back. Document 01, "A run of a law": "any expression (symbols, numbers by value,
 -- brackets around expressions)"; "a number record is one symbol, also above 4294967295".
+-- docs/SPECIFICATION.md, 15.1.
 use Prim.Native.Nat.{ℕ}
 use mathlib.Core.List.{List}
 

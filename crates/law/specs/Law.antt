@@ -1,4 +1,5 @@
 -- A law file's meaning, and the table of refusals 1 to 9 from top to bottom.
+-- docs/SPECIFICATION.md, 2.1.
 use Prim.Native.Nat.{ℕ, _≤_}
 use mathlib.Core.List.{List}
 use mathlib.Core.Bool.{true, not}

@@ -1,5 +1,6 @@
 -- Where things stand in a file. Document 01: "Sentences stand function by function, then block by block in record order.
 -- Terms stand sentence by sentence: pattern, each condition's result and pattern, result." Records are counted from 0 in each section.
+-- docs/SPECIFICATION.md, 1.11, 1.12.
 use Prim.Native.Nat.{ℕ, suc, _+_, _*_, _≤_, _<_}
 use mathlib.Core.List.{List}
 use mathlib.Core.Bool.{cond}

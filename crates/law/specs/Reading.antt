@@ -1,5 +1,6 @@
 -- The tree that a file means, once refusals 1 to 7 have let it pass. A block's sentences are later records (row 7), so that the
 -- sentences are read from the last to the first, and a block picks its own out of those already read.
+-- docs/SPECIFICATION.md, 1.13.
 use Prim.Native.Nat.{ℕ, zero, suc, _+_, _*_, _-_}
 use mathlib.Core.List.{List, [], _∷_}
 use lib.ListN.{take, drop}

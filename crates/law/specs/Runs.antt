@@ -1,5 +1,6 @@
 -- Rows 6 and 7 of the table.
 -- 6: "n passes its enclosing run, or section 3, 4 or 5 is not used up exactly". 7: "a block has sentences and its first is not later than the one it stands in".
+-- docs/SPECIFICATION.md, 1.5, 1.6, 2.3, 2.4.
 use Prim.Native.Nat.{ℕ, suc, _+_, _*_, _-_, min}
 use mathlib.Core.List.{List}
 use mathlib.Core.Bool.{Bool, true, _&&_, _||_}

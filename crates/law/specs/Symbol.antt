@@ -1,4 +1,5 @@
 -- Symbols of a law, apart from where they are spelled, and what they are in a run.
+-- docs/SPECIFICATION.md, 15.1.
 use Prim.Native.Nat.{ℕ}
 use mathlib.Core.List.{List}
 use Rattle.names.specs.Name.{folded}

@@ -1,5 +1,6 @@
 -- Row 9: "over 32 distinct variables in a sentence's pattern". Every variable record of the pattern's run counts, inside a call or a block's
 -- argument too. Two variables are the same when kind and folded index are.
+-- docs/SPECIFICATION.md, 1.9, 2.6.
 use Prim.Native.Nat.{ℕ, zero, suc, _+_, _*_}
 use mathlib.Core.List.{List, [], _∷_, _++_}
 use mathlib.Core.Bool.{Bool, true, false, cond, _&&_, _||_}

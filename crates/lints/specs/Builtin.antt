@@ -1,4 +1,5 @@
 -- Lint 3, `builtin_domains`: calls of builtins whose literal arguments make failure certain.
+-- docs/SPECIFICATION.md, 8.7, 8.8.
 use Prim.Native.Nat.{ℕ}
 use mathlib.Core.Bool.{Bool, true, false, cond, _&&_, _||_}
 use mathlib.Core.List.{List, [], _∷_}

@@ -1,5 +1,6 @@
 -- The calls that lints 2 and 3 look at, in order: those of conditions' results and of results, inside brackets, calls, blocks' arguments and blocks'
 -- sentences. A call comes before those in its argument; patterns are not looked at.
+-- docs/SPECIFICATION.md, 8.4.
 use Prim.Native.Nat.{ℕ}
 use mathlib.Core.List.{List, [], _∷_, _++_}
 use Rattle.names.specs.Name.{folded}

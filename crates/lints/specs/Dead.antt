@@ -1,5 +1,6 @@
 -- Lint 1, `dead_sentences`: sentences that an earlier one shadows. Document 01, "The listing": "The search for the earliest shadowing sentence ends as
 -- soon as one is found; a shadowing sentence has no conditions."
+-- docs/SPECIFICATION.md, 8.2, 8.3.
 use Prim.Native.Nat.{ℕ, suc}
 use mathlib.Core.Bool.{Bool, true, false, cond}
 use mathlib.Core.List.{List, [], _∷_, _++_}

@@ -1,4 +1,5 @@
 -- Document 01's example of a listing and its small laws on findings, which it does not mark *, and further examples of the definitions, all by computation.
+-- docs/SPECIFICATION.md, 4.6, 18.3, 18.5.
 use Prim.Native.Nat.{ℕ, suc}
 use Prim.Native.String.{String}
 use mathlib.Core.Bool.{Bool, true, false}

@@ -1,5 +1,6 @@
 -- A finding: what its eight words and its text are made from. Document 01, "The listing": "A finding is eight words: lint [..], severity [..], span
 -- start, span end, a, b, function position, subject (sentence record for 1 and 4, term record for 2 and 3). Positions count from 0."
+-- docs/SPECIFICATION.md, 8.1, 10.1, 10.2.
 use Prim.Native.Nat.{ℕ, suc}
 use mathlib.Core.Bool.{Bool}
 use mathlib.Core.List.{List, [], _∷_, _++_, map}

@@ -1,5 +1,6 @@
 -- The findings of a law: `dead_sentences`, `recognition_impossible`, `builtin_domains`, `open_expression_complexity`, in this order, then the level and
 -- mode steps. Refusal 14 belongs to the settings alone and comes before any file is looked at.
+-- docs/SPECIFICATION.md, 8.1, 8.6.
 use Prim.Native.Nat.{ℕ}
 use mathlib.Core.List.{List, _++_}
 use Rattle.file.specs.Answer.{Answer, given, refuseIf, _>>=_, _>>_}

@@ -1,4 +1,5 @@
 -- Settings: the mode and the overrides of severities, and the level and mode steps of `check_program_with_levels`.
+-- docs/SPECIFICATION.md, 9.1 to 9.5, 10.1, 10.2.
 use Prim.Native.Nat.{ℕ, _/_, _%_}
 use mathlib.Core.Bool.{Bool, true, false, not, cond, _&&_}
 use mathlib.Core.List.{List, [], _∷_, map}

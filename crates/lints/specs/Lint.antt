@@ -1,5 +1,6 @@
 -- The lints with their numbers and severities, in one table. Document 01, "The listing": "lint (1 dead, 2 recognition, 3 builtin, 4 open), severity
 -- (0 error, 1 deny, 2 warn, 3 allow)".
+-- docs/SPECIFICATION.md, 8.1.
 use Prim.Native.Nat.{ℕ}
 
 pub data Lint : Type 0 where

@@ -1,5 +1,6 @@
 -- The text of a finding. Document 01, "The listing": "The text is that of `Diagnostic::message`, formats spelled as formats.rs displays them. A block's
 -- owner reads ``a block in `F` `` with no final space, inside the outer backticks." Names stand as they are spelled, a called name as at the call.
+-- docs/SPECIFICATION.md, 11.1 to 11.3.
 use Prim.Native.Nat.{ℕ}
 use mathlib.Core.Bool.{Bool, true, false}
 use mathlib.Core.List.{List, _++_}

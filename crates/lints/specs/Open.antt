@@ -1,4 +1,5 @@
 -- Lint 4, `open_expression_complexity`: patterns of functions' own sentences with two e. occurrences or more.
+-- docs/SPECIFICATION.md, 8.9.
 use Prim.Native.Nat.{ℕ, _+_}
 use mathlib.Core.List.{List, [], _∷_, _++_}
 use lib.Dec.{leb}

@@ -1,4 +1,5 @@
 -- Lint 2, `recognition_impossible`: calls that no sentence of their function can match, by formats or by literals.
+-- docs/SPECIFICATION.md, 8.5, 8.6.
 use Prim.Native.Nat.{ℕ}
 use mathlib.Core.Bool.{Bool, false, not, cond, _&&_, _||_}
 use mathlib.Core.List.{List, [], _∷_}

@@ -1,6 +1,7 @@
 -- Document 01, "Small laws": "The cases marked * are proved as one table with one theorem over the definitions." These are the cases marked *, all of
 -- them and no others, in its order: `table`, and the theorem `small-laws`. Those without * stand in specs/Examples.antt of `formats`, `matching` and this
 -- crate, and go through the calls in the test program of refusals.
+-- docs/SPECIFICATION.md, 18.1.
 use mathlib.Core.Bool.{Bool, true, false}
 use mathlib.Core.List.{List, [], _∷_}
 use mathlib.Core.Path.{_≡_, refl}

@@ -1,4 +1,5 @@
 -- The two calls on small files, by computation, every lent word included. Formats have at most one shape here, so that a store has 256 words.
+-- docs/SPECIFICATION.md, 14.1, 14.2.
 use Prim.Native.Nat.{ℕ}
 use mathlib.Core.Bool.{true}
 use mathlib.Core.List.{List, [], _∷_, _++_, flatMap}

@@ -1,5 +1,6 @@
 -- What the two calls answer, and every lent word after them. Document 01, "Where a call is turned back": "A refusal is its number only; the first in this
 -- table's order is given."
+-- docs/SPECIFICATION.md, 12.1 to 12.5.
 use Prim.Native.Nat.{ℕ, zero, suc, _+_, _*_}
 use mathlib.Core.Bool.{Bool, not, cond}
 use mathlib.Core.List.{List, [], _∷_, _++_}

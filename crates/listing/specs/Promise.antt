@@ -1,4 +1,5 @@
 -- What the findings call promises: its outcome, and demand 3 of what it lists.
+-- docs/SPECIFICATION.md, 16.4.
 use Prim.Native.Nat.{ℕ, _*_}
 use mathlib.Core.Bool.{true}
 use mathlib.Core.List.{List}

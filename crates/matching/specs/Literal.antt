@@ -1,5 +1,6 @@
 -- Literal matching. Document 01: "Recognition by literals speaks only of arguments without variables, calls and blocks, and matches them wholly as the
 -- manual does, going back into a bracket whose contents matched"; numbers compare by text.
+-- docs/SPECIFICATION.md, 7.6.
 use Prim.Native.Nat.{ℕ}
 use mathlib.Core.Bool.{Bool, true, false, _&&_}
 use mathlib.Core.List.{List}

@@ -2,6 +2,7 @@
 -- is varied last, an e. variable takes nothing first and then ever more terms, and a bracket whose contents matched is gone back into. A variable with
 -- a value matches only that. One search serves three: a run (what is matched are literals), literal matching (symbols of a law) and shadowing (the terms
 -- of another pattern); they differ in what is the same, what counts as a symbol and as a single term, and in whether a bracket is gone back into.
+-- docs/SPECIFICATION.md, 7.2 to 7.5.
 use mathlib.Core.Bool.{Bool, true, false, cond, _&&_}
 use mathlib.Core.List.{List, [], _∷_, _++_, map}
 use mathlib.Core.Option.{Option, none, some}

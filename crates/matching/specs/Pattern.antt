@@ -1,4 +1,5 @@
 -- Patterns as such: they may stand in a law, or in none.
+-- docs/SPECIFICATION.md, 7.1, 7.5, 7.6.
 use mathlib.Core.Bool.{Bool, false}
 use lib.Dec.{eqb}
 use Rattle.names.specs.Name.{foldedIndex, sameBytes}

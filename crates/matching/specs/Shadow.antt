@@ -1,6 +1,7 @@
 -- Shadowing: `pattern_subsumes`, with document 01's correction that an e. variable of the later pattern is never a single term, and never going back
 -- into a bracket whose contents matched. The later pattern is matched as if it were an expression, its variables standing for opaque values.
 -- `valued` are the variables that already have a value: such a variable matches only itself. None has, in the base.
+-- docs/SPECIFICATION.md, 7.7.
 use mathlib.Core.Bool.{Bool, true, false}
 use mathlib.Core.List.{List}
 use Rattle.law.specs.Tree.{Kind, symbolKind, termKind, expressionKind}

@@ -1,6 +1,7 @@
 -- Names, identifiers, variables' indices and numbers as they are spelled: lists of ASCII bytes.
 -- Document 01, "The law file": "Names, identifiers and indices: 1 to 64 ASCII letters, digits, `-`, `_`. Names and identifiers
 -- compare, and sort by bytes, when folded: upper case, `_` read as `-`. Indices fold to upper case only. Numbers: 1 to 64 decimal digits."
+-- docs/SPECIFICATION.md, 1.7 to 1.9.
 use Prim.Native.Nat.{ℕ, _-_}
 use mathlib.Core.List.{List, [], _∷_, map}
 use mathlib.Core.Bool.{Bool, true, false, cond, _&&_, _||_}

@@ -1,4 +1,5 @@
 -- The value of decimal digits, an unbounded number, and what is asked of digits by it. Digits are the bytes of `0` to `9`.
+-- docs/SPECIFICATION.md, 8.7, 8.8, 15.1, 16.4.
 use Prim.Native.Nat.{ℕ, _+_, _*_, _-_}
 use mathlib.Core.Bool.{Bool, true, not}
 use mathlib.Core.List.{List, [], _∷_}

@@ -2,6 +2,7 @@
 -- under the recognition lint finds a sentence of its function whose left side matches, conditions aside, or in which a function's sentence listed as
 -- dead is chosen. The theorem is `no-false-finding` (proofs/NoFalse.antt). Two functions of one folded name are allowed there: a run starts with either,
 -- a call goes to the last, which literal matching takes too, formats join both, and sentences are told by their records.
+-- docs/SPECIFICATION.md, 15.8, 16.3.
 use Prim.Native.Nat.{ℕ, _+_, _*_, _≤_}
 use mathlib.Core.Bool.{true}
 use mathlib.Core.List.{List, [], _∷_, List·Memᴰ}

@@ -1,6 +1,7 @@
 -- A run of a law: document 01, "A run of a law", as a machine with one step. Its words stand beside the cases.
 -- "A run is fed a law, one of its functions, any expression [..] and a list of such expressions, the answers of functions not defined."
 -- "Its state: what is left to work out or try, the variables' values, the answers left."
+-- docs/SPECIFICATION.md, 15.2 to 15.8.
 use Prim.Native.Nat.{ℕ, zero, suc}
 use mathlib.Core.List.{List, [], _∷_}
 use mathlib.Core.Option.{none, some}

@@ -1,5 +1,6 @@
 -- A premise of the claim over a run: no number of the law has a needless leading zero. Then numbers that compare by text compare as they do in a run,
 -- by value.
+-- docs/SPECIFICATION.md, 16.4.
 use Prim.Native.Nat.{ℕ}
 use mathlib.Core.Bool.{Bool, true, _&&_}
 use mathlib.Core.List.{List, [], _∷_}

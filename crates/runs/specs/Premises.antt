@@ -1,5 +1,6 @@
 -- The claim (specs/Claim.antt) and its premises, by computation: a law whose listed call is reached in a run, and laws that break the claim where a
 -- premise is dropped. Each law is read from its file. That no two functions have one folded name is no premise: nothing breaks without it.
+-- docs/SPECIFICATION.md, 16.5.
 use Prim.Native.Nat.{ℕ, zero, suc, _+_}
 use mathlib.Core.Bool.{Bool, true, false}
 use mathlib.Core.List.{List, [], _∷_, _++_, flatMap, List·Memᴰ·head, List·Memᴰ·tail}

@@ -1,4 +1,5 @@
 -- Disjointness, as in formats.rs: "Disjoint is yes exactly when no expression is in both."
+-- docs/SPECIFICATION.md, 3.6.
 use mathlib.Core.Bool.{Bool, true, false, not, _||_}
 use Rattle.shapes.specs.Leaf.{holdsBrackets, leavesApart}
 use Rattle.shapes.specs.Format.{Shapes, end, item, group, Format, never, of}

@@ -1,4 +1,5 @@
 -- A format as formats.rs displays it: `never`, or its items between `[` and `]`, one space between them, with `..` last where it is open.
+-- docs/SPECIFICATION.md, 6.1.
 use Prim.Native.Nat.{ℕ, _+_}
 use mathlib.Core.Bool.{Bool, true, false, cond}
 use mathlib.Core.List.{List, [], _∷_, _++_}

@@ -1,5 +1,6 @@
 -- Formats. Document 01, "Formats": "A closed format admits exactly as many terms as it has items, an open one that many or more, each item's shape
 -- holding its term; never admits nothing."
+-- docs/SPECIFICATION.md, 3.1 to 3.4.
 use Prim.Native.Nat.{ℕ, suc, _+_}
 use mathlib.Core.Bool.{Bool, true, false}
 use lib.Dec.{T}

@@ -1,4 +1,5 @@
 -- Join, as in formats.rs: "Join is the least format over both."
+-- docs/SPECIFICATION.md, 3.5.
 use mathlib.Core.Bool.{true, _||_}
 use Rattle.shapes.specs.Leaf.{unknown, joinLeaves}
 use Rattle.shapes.specs.Format.{Shapes, end, item, group, Format, never, of}

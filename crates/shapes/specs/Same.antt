@@ -1,4 +1,5 @@
 -- Are two formats the same?
+-- docs/SPECIFICATION.md, 4.2.
 use mathlib.Core.Bool.{Bool, true, false, _&&_}
 use lib.Dec.{eqb}
 use Rattle.shapes.specs.Leaf.{leafWord}

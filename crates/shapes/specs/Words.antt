@@ -1,5 +1,6 @@
 -- A format's words. Document 01, "Formats": "Header: shapes at all depths, + 256 if open, + 512 if never. Shapes depth first: 0 character, 1 number, 2 identifier, 3 symbol, 4 unknown;
 -- bracket 5 + 8 × shapes inside, + 1,024 if its contents are open." A format has one word more than the limit on its shapes.
+-- docs/SPECIFICATION.md, 5.2.
 use Prim.Native.Nat.{ℕ, _+_, _*_, _-_, _/_, _%_, _≤_, min}
 use mathlib.Core.Bool.{Bool, cond}
 use mathlib.Core.List.{List, [], _∷_, _++_}
