@@ -1,4 +1,4 @@
--- Records that hold records: a run of flat records as a forest, "contents then rest". Stated once, over the size of a record and over where the
+-- Records that hold records: a run of flat records as a forest, contents and then the rest. Stated once, over the size of a record and over where the
 -- contents of a run's first record end, since term records (24 bytes) and the shapes of a format (one word) are both read so.
 -- docs/SPECIFICATION.md, 1.5, 1.6.
 use Prim.Native.Nat.{ℕ, zero, suc, _-_}

@@ -11,7 +11,7 @@ pub data Literal : Type 0 where
   number : ℕ → Literal
   deriving Discrete as literal-discrete
 
--- terms in a row, "contents then rest": symbols of some kind, and brackets
+-- terms in a row, contents and then the rest: symbols of some kind, and brackets
 pub data Terms (A : Type 0) : Type 0 where
   nothing : Terms A
   symbol : A → Terms A → Terms A

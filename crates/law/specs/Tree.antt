@@ -1,4 +1,4 @@
--- A law as a tree, as the Rust's `Program` is: runs of terms are "contents then rest". Declarations and visibility are left out.
+-- A law as a tree, as the Rust's `Program` is: runs of terms are contents and then the rest. Declarations and visibility are left out.
 -- Names, identifiers, indices and numbers are kept as spelled, with where they stand.
 -- docs/SPECIFICATION.md, 1.13.
 use Prim.Native.Nat.{ℕ, zero, suc}

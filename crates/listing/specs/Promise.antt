@@ -27,8 +27,8 @@ toldPair r text = (toldAnswer r, text)
 -- `bytes` is the law; `store` and `words` are lent, and `filled` and `listed` are what they hold afterwards
 pub record FindingsPromise (limit : ℕ) (settings : Settings) (bytes store words filled listed : List ℕ) (r : Found) : Type 0 where
   pub outcome : findingsAfter r filled listed ≡ findingsOutcome limit settings bytes store words
-  -- Demand 3: "there is no run in which a call listed under the recognition lint finds a sentence of its function whose left side matches, conditions
-  -- aside, or in which a function's sentence listed as dead is chosen", for every law that is not refused, whatever the settings and the room. Of the
-  -- premises that it may have, two are needed: settled, and no needless leading zero.
+  -- Demand 3: there is no run in which a call listed under the recognition lint finds a sentence of its function whose left side matches, conditions
+  -- aside, or in which a function's sentence listed as dead is chosen; for every law that is not refused, whatever the settings and the room. It has
+  -- two premises: settled, and no needless leading zero.
   pub no-false-finding : (law : Law) (count : Count) → lawOf bytes ≡ given law → foundAnswer r ≡ given count → count .settled ≡ true
       → noNeedlessZeros law ≡ true → NoFalseFinding law (take (8 * count .findings) listed)
