@@ -21,11 +21,12 @@ use Rattle.law.proofs.Functions.{functionsAt, functions-end, function-reads, ke
 use Rattle.shapes.specs.Format.{Shapes, Format, never, of, size}
 use Rattle.shapes.specs.Join.{joinFormats}
 use Rattle.shapes.specs.Same.{sameFormat}
-use Rattle.shapes.proofs.JoinLaws.{join-size-left}
+use Rattle.shapes.specs.Words.{Encodable}
+use Rattle.shapes.proofs.FormatLaws.{join-encodable}
 use Rattle.shapes.proofs.SameLaws.{same-equal}
 use Rattle.formats.specs.FormatOf.{patternShapes, Results, resultShapes}
 use Rattle.formats.specs.Infer.{Entry, namesOf, find, renew, orNever, allAt, joinResults, joinPatterns, round, Rounds, roundsFrom, roundLimit, arguments, inferWithin, infer}
-use Rattle.formats.specs.Store.{entryNames, formatIn, put, EachEntry, Small}
+use Rattle.formats.specs.Store.{entryNames, formatIn, put, EachEntry}
 use Rattle.formats.specs.Code.Slots.{position, functionFolded}
 
 -- ---- names
@@ -144,33 +145,27 @@ format-all-at [] p = refl
 format-all-at (n ∷ ns) zero = refl
 format-all-at (n ∷ ns) (suc p) = format-all-at ns p
 
--- ---- no format has more shapes than the limit: one step
-
--- a join of two formats that have not
-pub join-small : (limit : ℕ) (f g : Format) → Small limit f → Small limit g → Small limit (joinFormats f g)
-join-small limit never g h k = k
-join-small limit (of f) never h k = h
-join-small limit (of f) (of g) h k = omega (arith, join-size-left f g)
+-- ---- the store has words for every format: one step
 
 -- the entries at the start
-pub all-at-small : (limit : ℕ) (ns : List (List ℕ)) → EachEntry (Small limit) (allAt never ns)
+pub all-at-encodable : (limit : ℕ) (ns : List (List ℕ)) → EachEntry (Encodable limit) (allAt never ns)
 unfolding allAt
-all-at-small limit [] = tt
-all-at-small limit (n ∷ ns) = (omega arith, all-at-small limit ns)
+all-at-encodable limit [] = tt
+all-at-encodable limit (n ∷ ns) = (omega arith, all-at-encodable limit ns)
 
 -- the entries after a change
-pub put-small : (limit p : ℕ) (f : Format) (es : List Entry) → Small limit f → EachEntry (Small limit) es → EachEntry (Small limit) (put p f es)
+pub put-encodable : (limit p : ℕ) (f : Format) (es : List Entry) → Encodable limit f → EachEntry (Encodable limit) es → EachEntry (Encodable limit) (put p f es)
 unfolding put
-put-small limit p f [] h each = tt
-put-small limit zero f (e ∷ es) h each = (h, each .1)
-put-small limit (suc p) f (e ∷ es) h each = (each .0, put-small limit p f es h (each .1))
+put-encodable limit p f [] h each = tt
+put-encodable limit zero f (e ∷ es) h each = (h, each .1)
+put-encodable limit (suc p) f (e ∷ es) h each = (each .0, put-encodable limit p f es h (each .1))
 
 -- a format by number
-pub format-small : (limit : ℕ) (es : List Entry) (p : ℕ) → EachEntry (Small limit) es → Small limit (formatIn es p)
+pub format-encodable : (limit : ℕ) (es : List Entry) (p : ℕ) → EachEntry (Encodable limit) es → Encodable limit (formatIn es p)
 unfolding formatIn
-format-small limit [] p each = omega arith
-format-small limit (e ∷ es) zero each = each .0
-format-small limit (e ∷ es) (suc p) each = format-small limit es p (each .1)
+format-encodable limit [] p each = omega arith
+format-encodable limit (e ∷ es) zero each = each .0
+format-encodable limit (e ∷ es) (suc p) each = format-encodable limit es p (each .1)
 
 -- ---- the sentences of a function, from s on
 
@@ -415,40 +410,40 @@ module _ (limit : ℕ) (law : Law) (P : List Entry → Type 0)
 -- ---- no format that is reached has more shapes than the limit
 
 -- the join of results that are not refused
-pub results-small : (limit : ℕ) (t : Results) (f : Format) (ss : Sentences) (g : Format) → Small limit f → joinResults limit t f ss ≡ given g → Small limit g
+pub results-encodable : (limit : ℕ) (t : Results) (f : Format) (ss : Sentences) (g : Format) → Encodable limit f → joinResults limit t f ss ≡ given g → Encodable limit g
 unfolding joinResults
-results-small limit t f noSentence g small h =
+results-encodable limit t f noSentence g small h =
     let e : f ≡ g = cc in
     rw e at small
-results-small limit t f (sentence m p cs r ss) g small h =
+results-encodable limit t f (sentence m p cs r ss) g small h =
     pass-given 10 (ltb limit (size (resultShapes t r))) (joinResults limit t (joinFormats f (of (resultShapes t r))) ss) g h (λ few k.
-    results-small limit t (joinFormats f (of (resultShapes t r))) ss g
-    (join-small limit f (of (resultShapes t r)) small (ltb-false limit (size (resultShapes t r)) few)) k
+    results-encodable limit t (joinFormats f (of (resultShapes t r))) ss g
+    (join-encodable limit f (of (resultShapes t r)) small (ltb-false limit (size (resultShapes t r)) few)) k
     )
 
 -- the join of patterns that are not refused
-pub patterns-small : (limit : ℕ) (f : Format) (ss : Sentences) (g : Format) → Small limit f → joinPatterns limit f ss ≡ given g → Small limit g
+pub patterns-encodable : (limit : ℕ) (f : Format) (ss : Sentences) (g : Format) → Encodable limit f → joinPatterns limit f ss ≡ given g → Encodable limit g
 unfolding joinPatterns
-patterns-small limit f noSentence g small h =
+patterns-encodable limit f noSentence g small h =
     let e : f ≡ g = cc in
     rw e at small
-patterns-small limit f (sentence m p cs r ss) g small h =
+patterns-encodable limit f (sentence m p cs r ss) g small h =
     pass-given 10 (ltb limit (size (patternShapes p))) (joinPatterns limit (joinFormats f (of (patternShapes p))) ss) g h (λ few k.
-    patterns-small limit (joinFormats f (of (patternShapes p))) ss g
-    (join-small limit f (of (patternShapes p)) small (ltb-false limit (size (patternShapes p)) few)) k
+    patterns-encodable limit (joinFormats f (of (patternShapes p))) ss g
+    (join-encodable limit f (of (patternShapes p)) small (ltb-false limit (size (patternShapes p)) few)) k
     )
 
 -- the entries after a function's turn
-turn-small : (limit : ℕ) (n : List ℕ) (g : Format) (es : List Entry) → Small limit g → EachEntry (Small limit) es
-    → EachEntry (Small limit) (updated n g es)
-turn-small limit n g es small each =
+turn-encodable : (limit : ℕ) (n : List ℕ) (g : Format) (es : List Entry) → Encodable limit g → EachEntry (Encodable limit) es
+    → EachEntry (Encodable limit) (updated n g es)
+turn-encodable limit n g es small each =
     rw (found-or-never es n, renew-put n (joinFormats (formatIn es (position (entryNames es) n)) g) es)
-    (put-small limit (position (entryNames es) n) (joinFormats (formatIn es (position (entryNames es) n)) g) es
-    (join-small limit (formatIn es (position (entryNames es) n)) g (format-small limit es (position (entryNames es) n) each) small) each)
+    (put-encodable limit (position (entryNames es) n) (joinFormats (formatIn es (position (entryNames es) n)) g) es
+    (join-encodable limit (formatIn es (position (entryNames es) n)) g (format-encodable limit es (position (entryNames es) n) each) small) each)
 
 -- the entries after a round; they have the same names
-pub round-keeps : (limit : ℕ) (law : Law) (es : List Entry) (changed : Bool) (next : List Entry) (now : Bool) → EachEntry (Small limit) es
-    → round limit law es changed ≡ given (next, now) → EachEntry (Small limit) next × (entryNames next ≡ entryNames es)
+pub round-keeps : (limit : ℕ) (law : Law) (es : List Entry) (changed : Bool) (next : List Entry) (now : Bool) → EachEntry (Encodable limit) es
+    → round limit law es changed ≡ given (next, now) → EachEntry (Encodable limit) next × (entryNames next ≡ entryNames es)
 unfolding round
 round-keeps limit [] es changed next now each h =
     let both : _≡_ {A = List Entry × Bool} (es, changed) (next, now) = cc in
@@ -457,13 +452,13 @@ round-keeps limit [] es changed next now each h =
 round-keeps limit (f ∷ fs) es changed next now each h =
     round-turn limit f fs es changed (next, now) h (λ g e k.
     let (small, names) = round-keeps limit fs (updated (nameOf f) g es) (changed || changes f g es) next now
-    (turn-small limit (nameOf f) g es (results-small limit (find es) never (f .sentences) g (omega arith) e) each) k in
+    (turn-encodable limit (nameOf f) g es (results-encodable limit (find es) never (f .sentences) g (omega arith) e) each) k in
     (small, names ∙ names-renew (nameOf f) (joinFormats (orNever (find es (nameOf f))) g) es)
     )
 
 -- the entries of the arguments; they have the same names
-pub arguments-keep : (limit : ℕ) (law : Law) (es next : List Entry) → EachEntry (Small limit) es
-    → arguments limit law es ≡ given next → EachEntry (Small limit) next × (entryNames next ≡ entryNames es)
+pub arguments-keep : (limit : ℕ) (law : Law) (es next : List Entry) → EachEntry (Encodable limit) es
+    → arguments limit law es ≡ given next → EachEntry (Encodable limit) next × (entryNames next ≡ entryNames es)
 unfolding arguments
 arguments-keep limit [] es next each h =
     let e : es ≡ next = cc in
@@ -471,15 +466,15 @@ arguments-keep limit [] es next each h =
 arguments-keep limit (f ∷ fs) es next each h =
     arguments-turn limit f fs es next h (λ g e k.
     let (small, names) = arguments-keep limit fs (updated (nameOf f) g es) next
-    (turn-small limit (nameOf f) g es (patterns-small limit never (f .sentences) g (omega arith) e) each) k in
+    (turn-encodable limit (nameOf f) g es (patterns-encodable limit never (f .sentences) g (omega arith) e) each) k in
     (small, names ∙ names-renew (nameOf f) (joinFormats (orNever (find es (nameOf f))) g) es)
     )
 
 -- the entries after rounds; they have the same names
-pub rounds-keep : (limit left : ℕ) (law : Law) (es : List Entry) (done : ℕ) (r : Rounds) → EachEntry (Small limit) es
-    → roundsFrom limit left law es done ≡ given r → EachEntry (Small limit) (r .results) × (entryNames (r .results) ≡ entryNames es)
+pub rounds-keep : (limit left : ℕ) (law : Law) (es : List Entry) (done : ℕ) (r : Rounds) → EachEntry (Encodable limit) es
+    → roundsFrom limit left law es done ≡ given r → EachEntry (Encodable limit) (r .results) × (entryNames (r .results) ≡ entryNames es)
 rounds-keep limit left law es done r each =
-    rounds-hold limit law (λ now. EachEntry (Small limit) now × (entryNames now ≡ entryNames es))
+    rounds-hold limit law (λ now. EachEntry (Encodable limit) now × (entryNames now ≡ entryNames es))
     (λ now next held e.
     let (small, names) = round-keeps limit law now false (next .0) (next .1) (held .0) e in
     (small, names ∙ held .1)

@@ -16,20 +16,21 @@ use Rattle.law.proofs.Functions.{functionsAt, tree-functions}
 use Rattle.shapes.specs.Format.{Format, never}
 use Rattle.shapes.specs.Join.{joinFormats}
 use Rattle.shapes.specs.Same.{sameFormat}
-use Rattle.shapes.specs.Words.{readFormat}
+use Rattle.shapes.specs.Words.{Encodable, readFormat}
+use Rattle.shapes.proofs.FormatLaws.{join-encodable}
 use Rattle.formats.specs.Infer.{Entry, find, arguments, round}
-use Rattle.formats.specs.Store.{Small, formatIn, put, StoreHolds}
+use Rattle.formats.specs.Store.{formatIn, put, StoreHolds}
 use Rattle.formats.specs.Code.Slots.{fileNames, functionFolded, position}
 use Rattle.formats.specs.Code.Rows.{formatAt}
 use Rattle.formats.specs.Code.Turns.{RoundAsked, Holding, resultsIn, rowsJoined, formatNumber, turnOf, TurnIs, ArgumentsIs, RoundIs}
 use Rattle.formats.specs.declared.infer.Turn.{Turn}
 use Rattle.formats.specs.declared.infer.Turn.the-variants.{Over, Changed, Same}
-use Rattle.formats.proofs.EntryLaws.{join-small, format-small, functionResults, functionPatterns, arguments-next, arguments-over, arguments-end, round-next, round-over, round-end}
+use Rattle.formats.proofs.EntryLaws.{format-encodable, functionResults, functionPatterns, arguments-next, arguments-over, arguments-end, round-next, round-over, round-end}
 use Rattle.formats.proofs.SlotLaws.{function-placed}
 use Rattle.formats.proofs.StateLaws.{whole-length, read-argument-format, read-result-format, write-argument, write-result}
 use Rattle.formats.proofs.SentenceLaws.{results-said}
 use Rattle.formats.proofs.infer.Turn.{the-type}
-use Rattle.formats.proofs.TurnSteps.{rows-small}
+use Rattle.formats.proofs.TurnSteps.{rows-encodable}
 
 -- the number of functions, as the index says it
 pub functions-read : {bytes index slots : List ℕ} {limit count : ℕ} → RoundAsked bytes index slots limit count → (most : ℕ) → most ≡ getD index 4 0
@@ -146,10 +147,10 @@ module _ {limit : ℕ} {file : File} {start store : List ℕ} {f : ℕ} (from : 
             let old : readFormat (formatAt limit store (2 * placeOf file f)) ≡ formatIn es (placeOf file f) =
             read-argument-format (now .holds) (placeOf file f) placed (omega arith) in
             let new : Format = joinFormats (formatIn es (placeOf file f)) g in
-            let small : Small limit new =
-            join-small limit (formatIn es (placeOf file f)) g
-            (format-small limit es (placeOf file f) (now .holds .entries .argumentsSmall))
-            (rows-small limit true (find es) (keep (sentencesOf file f) (sentencesAt file (firstSentence file f))) g is) in
+            let small : Encodable limit new =
+            join-encodable limit (formatIn es (placeOf file f)) g
+            (format-encodable limit es (placeOf file f) (now .holds .entries .argumentsEncodable))
+            (rows-encodable limit true (find es) (keep (sentencesOf file f) (sentencesAt file (firstSentence file f))) g is) in
             record {
               entries = put (placeOf file f) new es;
               holds = rw (e, old) (write-argument (now .holds) (placeOf file f) new placed small);
@@ -251,10 +252,10 @@ module _ {limit : ℕ} {file : File} {start store : List ℕ} {f : ℕ} {changed
             let old : readFormat (formatAt limit store (2 * placeOf file f + 1)) ≡ formatIn es (placeOf file f) =
             read-result-format (now .holds) (placeOf file f) placed (omega arith) in
             let new : Format = joinFormats (formatIn es (placeOf file f)) g in
-            let small : Small limit new =
-            join-small limit (formatIn es (placeOf file f)) g
-            (format-small limit es (placeOf file f) (now .holds .entries .resultsSmall))
-            (rows-small limit false (find es) (keep (sentencesOf file f) (sentencesAt file (firstSentence file f))) g is) in
+            let small : Encodable limit new =
+            join-encodable limit (formatIn es (placeOf file f)) g
+            (format-encodable limit es (placeOf file f) (now .holds .entries .resultsEncodable))
+            (rows-encodable limit false (find es) (keep (sentencesOf file f) (sentencesAt file (firstSentence file f))) g is) in
             let mark : after ≡ changed || not (sameFormat new (formatIn es (placeOf file f))) =
             marked-by (sameFormat new (formatIn es (placeOf file f))) r changed after (rw old at t) marked in
             record {

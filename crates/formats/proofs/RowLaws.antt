@@ -25,9 +25,9 @@ use Rattle.law.specs.Reading.{termRun, own}
 use Rattle.law.specs.Code.Index.{Readable, PartAt}
 use Rattle.law.proofs.RunLaws.{run-empty, run-node}
 use Rattle.law.proofs.PartLaws.{part-at, part-term, part-leaf, part-end, contents-part, rest-part}
-use Rattle.shapes.specs.Leaf.{leafWord, leafAt, leafOf}
-use Rattle.shapes.specs.Format.{Shapes, end, item, group, Format, never, of, size, formatSize, isOpen}
-use Rattle.shapes.specs.Words.{bracketWord, shapeWords, formatWords, FormatIn}
+use Rattle.shapes.specs.Leaf.{leafAt, leafOf, IsLeafWord}
+use Rattle.shapes.specs.Format.{Shapes, end, item, group, Format, never, of, size, isOpen}
+use Rattle.shapes.specs.Words.{bracketWord, shapeWords, formatWords, Encodable, FormatIn}
 use Rattle.buffers.specs.Written.{written}
 use Rattle.shapes.proofs.WordLaws.{words-length, format-words-length, read-write}
 use Rattle.buffers.proofs.WrittenLaws.{written-none, written-more, written-one, written-front, written-length}
@@ -104,22 +104,13 @@ pub row-end : (o : Bool) (before : List ℕ) (from most : ℕ) → from ≤ most
 unfolding size isOpen shapeWords
 row-end o before from most h k = row-written (end o) before before from most from o (omega arith) h refl k (written-none before from)
 
--- the word of a leaf is the word that says it
-leaf-word-at : (w : ℕ) → w ≤ 4 → leafWord (leafAt w) ≡ w
-leaf-word-at zero h = refl
-leaf-word-at (suc zero) h = refl
-leaf-word-at (suc (suc zero)) h = refl
-leaf-word-at (suc (suc (suc zero))) h = refl
-leaf-word-at (suc (suc (suc (suc zero)))) h = refl
-leaf-word-at (suc (suc (suc (suc (suc w))))) h = absurd (omega arith)
-
 -- a leaf, and no room for it
-pub row-leaf : (word : ℕ) (before : List ℕ) (from most : ℕ) → word ≤ 4 → from < most → most ≤ length before
+pub row-leaf : (word : ℕ) (before : List ℕ) (from most : ℕ) → IsLeafWord word → from < most → most ≤ length before
     → RowIs (item (leafAt word) (end false)) before (set before from word) from most (Ends (from + 1) false)
 unfolding size isOpen shapeWords
 row-leaf word before from most h l k =
     row-written (item (leafAt word) (end false)) before (set before from word) from most (from + 1) false (omega arith) (omega arith) refl k
-    (rw (leaf-word-at word h) (written-one before from word (omega arith)))
+    (rw h (written-one before from word (omega arith)))
 
 pub leaf-over : (word : ℕ) (before : List ℕ) (from most : ℕ) → most ≤ from → RowIs (item (leafAt word) (end false)) before before from most Over
 unfolding size
@@ -243,11 +234,11 @@ pub record Callee (shapes : Shapes) (limit header : ℕ) (words : List ℕ) : Ty
   pub same : shapeWords shapes ≡ take (header % 256) words
 
 -- a format by the words that it has
-never-words : (limit : ℕ) (f : Format) → formatSize f ≤ limit → limit ≤ 64 → 512 ≤ getD (formatWords limit f) 0 0 → calleeShapes (some f) ≡ end false
+never-words : (limit : ℕ) (f : Format) → Encodable limit f → limit ≤ 64 → 512 ≤ getD (formatWords limit f) 0 0 → calleeShapes (some f) ≡ end false
 never-words limit never h l n = refl
 never-words limit (of f) h l n = absurd (omega (arith, header-parts (size f) (isOpen f) (omega arith) .2))
 
-shapes-words : (limit : ℕ) (f : Format) → formatSize f ≤ limit → limit ≤ 64 → getD (formatWords limit f) 0 0 < 512
+shapes-words : (limit : ℕ) (f : Format) → Encodable limit f → limit ≤ 64 → getD (formatWords limit f) 0 0 < 512
     → Callee (calleeShapes (some f)) limit (getD (formatWords limit f) 0 0) (drop 1 (formatWords limit f))
 shapes-words limit never h l n = absurd (omega arith)
 shapes-words limit (of f) h l n =
@@ -279,7 +270,7 @@ module _ (store : List ℕ) (limit count place : ℕ) where
     pub callee-inside : (2 * place + 1) * (limit + 1) + (limit + 1) ≤ length store
     callee-inside =
         let words : length (formatAt limit store (2 * place + 1)) ≡ limit + 1 =
-        ap length (here .same) ∙ format-words-length limit (here .format) (here .small) in
+        ap length (here .same) ∙ format-words-length limit (here .format) (here .encodable) in
         omega (arith, words, length-take (limit + 1) (drop ((2 * place + 1) * (limit + 1)) store), length-drop ((2 * place + 1) * (limit + 1)) store)
 
     header : getD store ((2 * place + 1) * (limit + 1)) 0 ≡ getD (formatWords limit (here .format)) 0 0
@@ -287,18 +278,18 @@ module _ (store : List ℕ) (limit count place : ℕ) where
         rw (← here .same, getD-take (limit + 1) (drop ((2 * place + 1) * (limit + 1)) store) 0 0 (omega arith), getD-drop ((2 * place + 1) * (limit + 1)) store 0 0, add-zero)
 
     format : storedAt store limit count place ≡ some (here .format)
-    format = rw (lt-ltb place count known, here .same, read-write limit (here .format) (here .small) (omega (arith, stored .limited)))
+    format = rw (lt-ltb place count known, here .same, read-write limit (here .format) (here .encodable) (omega (arith, stored .limited)))
 
     -- a function that never returns so far adds nothing
     pub callee-never : 512 ≤ getD store ((2 * place + 1) * (limit + 1)) 0 → calleeShapes (storedAt store limit count place) ≡ end false
-    callee-never h = rw format (never-words limit (here .format) (here .small) (stored .limited) (rw header at h))
+    callee-never h = rw format (never-words limit (here .format) (here .encodable) (stored .limited) (rw header at h))
 
     -- else its shapes are in the store
     pub callee-shapes : getD store ((2 * place + 1) * (limit + 1)) 0 < 512
         → Callee (calleeShapes (storedAt store limit count place)) limit (getD store ((2 * place + 1) * (limit + 1)) 0)
         (drop ((2 * place + 1) * (limit + 1) + 1) store)
     callee-shapes h =
-        let found = shapes-words limit (here .format) (here .small) (stored .limited) (rw header at h) in
+        let found = shapes-words limit (here .format) (here .encodable) (stored .limited) (rw header at h) in
         rw (format, header) (record {
           number = found .number;
           few = found .few;
@@ -366,22 +357,22 @@ call-kind a b (suc (suc (suc (suc (suc (suc zero)))))) h = let z : _≡_ {A = �
 call-kind a b (suc (suc (suc (suc (suc (suc (suc zero))))))) h = refl
 call-kind a b (suc (suc (suc (suc (suc (suc (suc (suc kind)))))))) h = let z : _≡_ {A = ℕ} 0 1 = cc in absurd (omega arith)
 
--- the word of a leaf is small
-leaf-kind : (a b word kind : ℕ) → stepOf (termFrom kind a b) ≡ steps.the-variants.Leaf word → word ≤ 4
+-- a shape of one word is written with it
+leaf-kind : (a b word kind : ℕ) → stepOf (termFrom kind a b) ≡ steps.the-variants.Leaf word → IsLeafWord word
 unfolding termFrom
-leaf-kind a b word zero h = let e : 0 ≡ word = cc in omega arith
-leaf-kind a b word (suc zero) h = let e : 2 ≡ word = cc in omega arith
-leaf-kind a b word (suc (suc zero)) h = let e : 1 ≡ word = cc in omega arith
-leaf-kind a b word (suc (suc (suc zero))) h = let e : 3 ≡ word = cc in omega arith
-leaf-kind a b word (suc (suc (suc (suc zero)))) h = let e : 4 ≡ word = cc in omega arith
+leaf-kind a b word zero h = let e : word ≡ 0 = cc in rw e
+leaf-kind a b word (suc zero) h = let e : word ≡ 2 = cc in rw e
+leaf-kind a b word (suc (suc zero)) h = let e : word ≡ 1 = cc in rw e
+leaf-kind a b word (suc (suc (suc zero))) h = let e : word ≡ 3 = cc in rw e
+leaf-kind a b word (suc (suc (suc (suc zero)))) h = let e : word ≡ 4 = cc in rw e
 leaf-kind a b word (suc (suc (suc (suc (suc zero))))) h = let z : _≡_ {A = ℕ} 0 1 = cc in absurd (omega arith)
 leaf-kind a b word (suc (suc (suc (suc (suc (suc zero)))))) h = let z : _≡_ {A = ℕ} 0 1 = cc in absurd (omega arith)
 leaf-kind a b word (suc (suc (suc (suc (suc (suc (suc zero))))))) h = let z : _≡_ {A = ℕ} 0 1 = cc in absurd (omega arith)
 leaf-kind a b word (suc (suc (suc (suc (suc (suc (suc (suc kind)))))))) h = let z : _≡_ {A = ℕ} 0 1 = cc in absurd (omega arith)
 
-pub leaf-small : (s : List ℕ) (word : ℕ) → stepOf (termAt s 0) ≡ steps.the-variants.Leaf word → word ≤ 4
+pub step-leaf-word : (s : List ℕ) (word : ℕ) → stepOf (termAt s 0) ≡ steps.the-variants.Leaf word → IsLeafWord word
 unfolding termAt
-leaf-small s word h = leaf-kind (wordAt s (0 + 4)) (wordAt s (0 + 8)) word (wordAt s 0) h
+step-leaf-word s word h = leaf-kind (wordAt s (0 + 4)) (wordAt s (0 + 8)) word (wordAt s 0) h
 
 module _ (file : File) (results : Results) (at : ℕ) (p : List ℕ) where
   -- no records
@@ -623,7 +614,7 @@ leaves-next part before middle from most n word so-far room enough kind leaf fil
     step = leaf _ _
 
     written : (results : Results) → RowIs (firstShapes file results (at + n) (leftOf n part)) middle (set middle (from + n) word) (from + n) most (Ends (from + n + 1) false)
-    written results = first-leaf now whole results step (row-leaf word middle (from + n) most (leaf-small (leftOf n part) word step) room (now .room))
+    written results = first-leaf now whole results step (row-leaf word middle (from + n) most (step-leaf-word (leftOf n part) word step) room (now .room))
 
 -- a record's number is small
 pub asked-place : {file : File} {at : ℕ} {p store : List ℕ} {limit count : ℕ} {out : List ℕ} {from most : ℕ} → RowAsked file at p store limit count out from most → at ≤ 512

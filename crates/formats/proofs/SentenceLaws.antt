@@ -19,15 +19,16 @@ use Rattle.law.specs.Code.Index.{Readable, PartAt}
 use Rattle.law.proofs.PartLaws.{pattern-part, result-part}
 use Rattle.shapes.specs.Format.{Shapes, Format, never, of, size}
 use Rattle.shapes.specs.Join.{joinFormats}
-use Rattle.shapes.specs.Words.{formatWords, readFormat, FormatIn}
+use Rattle.shapes.specs.Words.{formatWords, Encodable, readFormat, FormatIn}
 use Rattle.shapes.proofs.WordLaws.{format-words-length, read-write}
+use Rattle.shapes.proofs.FormatLaws.{join-encodable}
 use Rattle.formats.specs.FormatOf.{Results}
 use Rattle.formats.specs.Infer.{Entry, find}
-use Rattle.formats.specs.Store.{entryNames, formatIn, Small, StoreHolds}
+use Rattle.formats.specs.Store.{entryNames, formatIn, StoreHolds}
 use Rattle.formats.specs.Code.Slots.{fileNames, SlotsOf}
 use Rattle.formats.specs.Code.Rows.{formatAt, Knows, Stored, partShapes}
 use Rattle.formats.specs.Code.Turns.{Holding, entriesFrom, argumentsIn, resultsIn, FormatMade, sentenceShapes, rowsJoined, JoinedIs}
-use Rattle.formats.proofs.EntryLaws.{join-small, format-small, results-next, results-over, results-end, patterns-next, patterns-over, patterns-end}
+use Rattle.formats.proofs.EntryLaws.{format-encodable, results-next, results-over, results-end, patterns-next, patterns-over, patterns-end}
 use Rattle.formats.proofs.StateLaws.{arguments-length, results-length, read-result, read-argument-format, read-result-format, store-knows}
 use Rattle.formats.proofs.RowLaws.{pattern-row, knows-none}
 
@@ -73,7 +74,7 @@ holding-stored {limit} {names} {store} count h same small =
       limited = small;
       results = λ p inside. record {
         format = formatIn (h .results) p;
-        small = format-small limit (h .results) p (h .holds .entries .resultsSmall);
+        encodable = format-encodable limit (h .results) p (h .holds .entries .resultsEncodable);
         same = read-result (h .holds) p (omega arith);
       };
     }
@@ -111,8 +112,8 @@ module _ (file : File) (s : ℕ) {slots store : List ℕ} {limit count at : ℕ}
   result-made t knows which a p = rw which (rw (a, p) at (made t knows))
 
 module _ {limit : ℕ} {f : Shapes} {ok : Bool} {words : List ℕ} (made : FormatMade limit f ok words) where
-  -- a row that is made has no more shapes than the limit
-  pub made-fits : ok ≡ true → size f ≤ limit
+  -- the store has words for a row that is made
+  pub made-fits : ok ≡ true → Encodable limit (of f)
   made-fits good = go (decLe (size f) limit)
     where
       go : Dec (size f ≤ limit) → size f ≤ limit
@@ -157,7 +158,7 @@ module _ (limit : ℕ) (file : File) where
 -- after i of so many sentences: the words of a format, and the join of all with what was joined before is that of this format with the sentences left
 pub record RowsLeft (limit : ℕ) (file : File) (patterns : Bool) (t : Results) (before : Format) (first number i : ℕ) (joined : List ℕ) : Type 0 where
   pub format : Format
-  pub small : Small limit format
+  pub encodable : Encodable limit format
   pub words : joined ≡ formatWords limit format
   pub left : rowsJoined limit patterns t before (keep number (sentencesAt file first))
       ≡ rowsJoined limit patterns t format (keep (number - i) (sentencesAt file (first + i)))
@@ -166,10 +167,10 @@ pub record RowsLeft (limit : ℕ) (file : File) (patterns : Bool) (t : Results) 
 pub rows-start : {limit : ℕ} {file : File} {patterns : Bool} {t : Results} {first number : ℕ} {joined : List ℕ} → limit ≤ 64 → FormatIn limit joined
     → RowsLeft limit file patterns t (readFormat joined) first number 0 joined
 rows-start {limit} {file} {patterns} {t} {first} {number} {joined} few h =
-    let said : readFormat joined ≡ h .format = ap readFormat (h .same) ∙ read-write limit (h .format) (h .small) (omega arith) in
+    let said : readFormat joined ≡ h .format = ap readFormat (h .same) ∙ read-write limit (h .format) (h .encodable) (omega arith) in
     record {
       format = h .format;
-      small = h .small;
+      encodable = h .encodable;
       words = h .same;
       left = cc (said, sub-zero number, add-zero first);
     }
@@ -178,11 +179,11 @@ module _ {limit : ℕ} {file : File} {patterns : Bool} {t : Results} {before : F
     (h : RowsLeft limit file patterns t before first number i joined) where
   -- the words are a format's
   pub rows-format : FormatIn limit joined
-  rows-format = record { format = h .format; small = h .small; same = h .words }
+  rows-format = record { format = h .format; encodable = h .encodable; same = h .words }
 
   -- their number
   pub rows-length : length joined ≡ limit + 1
-  rows-length = ap length (h .words) ∙ format-words-length limit (h .format) (h .small)
+  rows-length = ap length (h .words) ∙ format-words-length limit (h .format) (h .encodable)
 
   -- after the last sentence
   pub rows-all : number ≤ i → JoinedIs limit (rowsJoined limit patterns t before (keep number (sentencesAt file first))) true joined
@@ -203,7 +204,7 @@ module _ {limit : ℕ} {file : File} {patterns : Bool} {t : Results} {before : F
 
       -- they are a format's
       pub row-format : FormatIn limit (take (limit + 1) (row ++ rest))
-      row-format = record { format = of (sentenceShapes file patterns t (first + i)); small = made-fits made good; same = front }
+      row-format = record { format = of (sentenceShapes file patterns t (first + i)); encodable = made-fits made good; same = front }
 
       -- the row is joined
       pub rows-more : {after : ℕ} {next : List ℕ} → limit ≤ 64 → Readable file → first + number ≤ file .sentences .count → i < number → after ≡ i + 1
@@ -212,11 +213,11 @@ module _ {limit : ℕ} {file : File} {patterns : Bool} {t : Results} {before : F
       rows-more {after} {next} few readable inside here a is =
           let shapes : Shapes = sentenceShapes file patterns t (first + i) in
           let fits : size shapes ≤ limit = made-fits made good in
-          let said : readFormat joined ≡ h .format = ap readFormat (h .words) ∙ read-write limit (h .format) (h .small) (omega arith) in
+          let said : readFormat joined ≡ h .format = ap readFormat (h .words) ∙ read-write limit (h .format) (h .encodable) (omega arith) in
           let new : readFormat (take (limit + 1) (row ++ rest)) ≡ of shapes = ap readFormat front ∙ read-write limit (of shapes) fits (omega arith) in
           record {
             format = joinFormats (h .format) (of shapes);
-            small = join-small limit (h .format) (of shapes) (h .small) fits;
+            encodable = join-encodable limit (h .format) (of shapes) (h .encodable) fits;
             words = is ∙ rw (said, new);
             left =
                 h .left
@@ -242,7 +243,7 @@ module _ (limit : ℕ) (file : File) (patterns : Bool) (t : Results) (first numb
 
     module _ (few : limit ≤ 64) (good : ok ≡ true) where
       pub first-format : FormatIn limit row
-      first-format = record { format = of (sentenceShapes file patterns t first); small = made-fits made good; same = made-words made good }
+      first-format = record { format = of (sentenceShapes file patterns t first); encodable = made-fits made good; same = made-words made good }
 
       said : readFormat row ≡ of (sentenceShapes file patterns t first)
       said = ap readFormat (made-words made good) ∙ read-write limit (of (sentenceShapes file patterns t first)) (made-fits made good) (omega arith)

@@ -7,21 +7,22 @@ use lib.ListN.{length}
 use Rattle.file.specs.Answer.{given}
 use Rattle.law.specs.Tree.{Law}
 use Rattle.shapes.specs.Format.{never}
+use Rattle.shapes.specs.Words.{Encodable}
 use Rattle.formats.specs.Infer.{Entry, namesOf, allAt, roundLimit, Inferred, inferWithin, infer}
-use Rattle.formats.specs.Store.{EachEntry, Small, Storable}
+use Rattle.formats.specs.Store.{EachEntry, Storable}
 use Rattle.formats.proofs.SlotLaws.{names-at-most}
-use Rattle.formats.proofs.EntryLaws.{all-at-small, arguments-keep, rounds-keep}
+use Rattle.formats.proofs.EntryLaws.{all-at-encodable, arguments-keep, rounds-keep}
 use Rattle.formats.proofs.RoundLaws.{inferred-parts, infer-holds}
 
 -- every inferred format
-pub infer-small : (limit most : ℕ) (law : Law) (i : Inferred) → inferWithin limit most law ≡ given i
-    → EachEntry (Small limit) (i .formats .arguments) × EachEntry (Small limit) (i .formats .results)
-infer-small limit most law i h =
+pub infer-encodable : (limit most : ℕ) (law : Law) (i : Inferred) → inferWithin limit most law ≡ given i
+    → EachEntry (Encodable limit) (i .formats .arguments) × EachEntry (Encodable limit) (i .formats .results)
+infer-encodable limit most law i h =
     inferred-parts limit most law i h (λ found e r f same.
     let start : List Entry = allAt never (namesOf law) in
     rw (← same) (
-      arguments-keep limit law start found (all-at-small limit (namesOf law)) e .0,
-      rounds-keep limit most law start 0 r (all-at-small limit (namesOf law)) f .0,
+      arguments-keep limit law start found (all-at-encodable limit (namesOf law)) e .0,
+      rounds-keep limit most law start 0 r (all-at-encodable limit (namesOf law)) f .0,
     )
     )
 
@@ -30,11 +31,11 @@ pub infer-storable : (limit : ℕ) (law : Law) (i : Inferred) → length law ≤
     → Storable limit (namesOf law) (i .formats .arguments) (i .formats .results)
 unfolding infer
 infer-storable limit law i few h =
-    let (arguments, results) = infer-small limit (roundLimit law) law i h in
+    let (arguments, results) = infer-encodable limit (roundLimit law) law i h in
     record {
       argumentNames = infer-holds limit law i h .argument-names;
       resultNames = infer-holds limit law i h .result-names;
       few = omega (arith, names-at-most law);
-      argumentsSmall = arguments;
-      resultsSmall = results;
+      argumentsEncodable = arguments;
+      resultsEncodable = results;
     }

@@ -11,23 +11,23 @@ use lib.Seq.{take-at, drop-at, drop-drop, drop-append-add, take-append-add, set-
 use Rattle.file.specs.Word.{wordAt}
 use Rattle.file.specs.Sections.{File}
 use Rattle.shapes.specs.Format.{Format, never}
-use Rattle.shapes.specs.Words.{formatWords, readFormat}
+use Rattle.shapes.specs.Words.{formatWords, Encodable, readFormat}
 use Rattle.buffers.specs.Written.{written}
 use Rattle.shapes.proofs.WordLaws.{filled-length, format-words-length, read-write}
 use Rattle.formats.specs.Infer.{Entry, find, allAt}
-use Rattle.formats.specs.Store.{entryWords, storeSize, storeOf, rowWords, startOf, entryNames, formatIn, put, EachEntry, Small, Storable, StoreHolds}
+use Rattle.formats.specs.Store.{entryWords, storeSize, storeOf, rowWords, startOf, entryNames, formatIn, put, EachEntry, Storable, StoreHolds}
 use Rattle.formats.specs.Code.Slots.{position, callFolded, fileNames, SlotsOf}
 use Rattle.formats.specs.Code.Rows.{formatAt, Knows}
-use Rattle.formats.proofs.EntryLaws.{names-length, names-put, names-all-at, put-small, all-at-small, format-small, find-some, find-none}
+use Rattle.formats.proofs.EntryLaws.{names-length, names-put, names-all-at, put-encodable, all-at-encodable, format-encodable, find-some, find-none}
 
 -- ---- a row of formats
 
 -- no format of the row is over the limit
-abbrev EachSmall : ℕ → List Format → Type 0
-EachSmall limit [] = Unit {0}
-EachSmall limit (f ∷ fs) = Small limit f × EachSmall limit fs
+abbrev EachEncodable : ℕ → List Format → Type 0
+EachEncodable limit [] = Unit {0}
+EachEncodable limit (f ∷ fs) = Encodable limit f × EachEncodable limit fs
 
-row-length : (limit : ℕ) (fs : List Format) → EachSmall limit fs → length (rowWords limit fs) ≡ length fs * (limit + 1)
+row-length : (limit : ℕ) (fs : List Format) → EachEncodable limit fs → length (rowWords limit fs) ≡ length fs * (limit + 1)
 unfolding rowWords
 row-length limit [] each = omega arith
 row-length limit (f ∷ fs) each =
@@ -38,7 +38,7 @@ drop-after : (front back : List ℕ) (size n : ℕ) → length front ≡ size �
 drop-after front back size n e = rw (← e) (drop-append-add front back n)
 
 -- the format number k of the row
-row-read : (limit k : ℕ) (fs : List Format) (after : List ℕ) → k < length fs → EachSmall limit fs
+row-read : (limit k : ℕ) (fs : List Format) (after : List ℕ) → k < length fs → EachEncodable limit fs
     → formatAt limit (rowWords limit fs ++ after) k ≡ formatWords limit (getD fs k never)
 unfolding rowWords
 row-read limit k [] after h each = absurd (omega arith)
@@ -64,7 +64,7 @@ written-after front back new size n e =
     rw (← e, add-assoc, take-append-add front back n, drop-append-add front back (n + length new)) (simp append-assoc)
 
 -- the format number k of the row, written
-row-write : (limit k : ℕ) (f : Format) (fs : List Format) (after : List ℕ) → k < length fs → Small limit f → EachSmall limit fs
+row-write : (limit k : ℕ) (f : Format) (fs : List Format) (after : List ℕ) → k < length fs → Encodable limit f → EachEncodable limit fs
     → written (rowWords limit fs ++ after) (k * (limit + 1)) (formatWords limit f) ≡ rowWords limit (set fs k f) ++ after
 unfolding rowWords
 row-write limit k f [] after h small each = absurd (omega arith)
@@ -105,12 +105,12 @@ in-turn-length [] rs e = refl
 in-turn-length (a ∷ rest) [] e = absurd (omega arith)
 in-turn-length (a ∷ rest) (r ∷ rs) e = omega (arith, in-turn-length rest rs (omega arith))
 
-in-turn-small : (limit : ℕ) (arguments results : List Entry) → EachEntry (Small limit) arguments → EachEntry (Small limit) results
-    → EachSmall limit (inTurn arguments results)
+in-turn-encodable : (limit : ℕ) (arguments results : List Entry) → EachEntry (Encodable limit) arguments → EachEntry (Encodable limit) results
+    → EachEncodable limit (inTurn arguments results)
 unfolding inTurn
-in-turn-small limit [] rs h k = tt
-in-turn-small limit (a ∷ rest) [] h k = tt
-in-turn-small limit (a ∷ rest) (r ∷ rs) h k = (h .0, (k .0, in-turn-small limit rest rs (h .1) (k .1)))
+in-turn-encodable limit [] rs h k = tt
+in-turn-encodable limit (a ∷ rest) [] h k = tt
+in-turn-encodable limit (a ∷ rest) (r ∷ rs) h k = (h .0, (k .0, in-turn-encodable limit rest rs (h .1) (k .1)))
 
 in-turn-argument : (arguments results : List Entry) (p : ℕ) → length arguments ≡ length results
     → getD (inTurn arguments results) (2 * p) never ≡ formatIn arguments p
@@ -175,11 +175,11 @@ module _ {limit : ℕ} {names : List (List ℕ)} {arguments results : List Entry
   turns : length (inTurn arguments results) ≡ 2 * length names
   turns = in-turn-length arguments results same-length ∙ rw arguments-length
 
-  turns-small : EachSmall limit (inTurn arguments results)
-  turns-small = in-turn-small limit arguments results (h .argumentsSmall) (h .resultsSmall)
+  turns-encodable : EachEncodable limit (inTurn arguments results)
+  turns-encodable = in-turn-encodable limit arguments results (h .argumentsEncodable) (h .resultsEncodable)
 
   used-length : length (entryWords limit arguments results) ≡ 2 * length names * (limit + 1)
-  used-length = rw (entry-words limit arguments results, row-length limit (inTurn arguments results) turns-small, turns)
+  used-length = rw (entry-words limit arguments results, row-length limit (inTurn arguments results) turns-encodable, turns)
 
   -- the words of each format stand within the store's
   pub number-inside : (k : ℕ) → k < 2 * length names → k * (limit + 1) + (limit + 1) ≤ 128 * (limit + 1)
@@ -193,25 +193,25 @@ module _ {limit : ℕ} {names : List (List ℕ)} {arguments results : List Entry
       (omega (arith, used-length, mul-le-mul-right {m = 2 * length names} {n = 128} (limit + 1) (omega (arith, h .few))))
 
   -- another argument format
-  pub storable-argument : (p : ℕ) (f : Format) → Small limit f → Storable limit names (put p f arguments) results
+  pub storable-argument : (p : ℕ) (f : Format) → Encodable limit f → Storable limit names (put p f arguments) results
   storable-argument p f small =
       record {
         argumentNames = names-put p f arguments ∙ h .argumentNames;
         resultNames = h .resultNames;
         few = h .few;
-        argumentsSmall = put-small limit p f arguments small (h .argumentsSmall);
-        resultsSmall = h .resultsSmall;
+        argumentsEncodable = put-encodable limit p f arguments small (h .argumentsEncodable);
+        resultsEncodable = h .resultsEncodable;
       }
 
   -- another result format
-  pub storable-result : (p : ℕ) (f : Format) → Small limit f → Storable limit names arguments (put p f results)
+  pub storable-result : (p : ℕ) (f : Format) → Encodable limit f → Storable limit names arguments (put p f results)
   storable-result p f small =
       record {
         argumentNames = h .argumentNames;
         resultNames = names-put p f results ∙ h .resultNames;
         few = h .few;
-        argumentsSmall = h .argumentsSmall;
-        resultsSmall = put-small limit p f results small (h .resultsSmall);
+        argumentsEncodable = h .argumentsEncodable;
+        resultsEncodable = put-encodable limit p f results small (h .resultsEncodable);
       }
 
   store-row : (tail : List ℕ) → storeOf limit arguments results ++ tail ≡ rowWords limit (inTurn arguments results) ++ unused limit (length names) tail
@@ -239,13 +239,13 @@ module _ {limit : ℕ} {names : List (List ℕ)} {arguments results : List Entry
   number-read : (k : ℕ) → k < 2 * length names → formatAt limit store k ≡ formatWords limit (getD (inTurn arguments results) k never)
   number-read k inside =
       rw (h .words, store-row (h .entries) tail)
-      (row-read limit k (inTurn arguments results) (unused limit (length names) tail) (rw (turns (h .entries)) inside) (turns-small (h .entries)))
+      (row-read limit k (inTurn arguments results) (unused limit (length names) tail) (rw (turns (h .entries)) inside) (turns-encodable (h .entries)))
 
-  number-written : (k : ℕ) (f : Format) → k < 2 * length names → Small limit f
+  number-written : (k : ℕ) (f : Format) → k < 2 * length names → Encodable limit f
       → written store (k * (limit + 1)) (formatWords limit f) ≡ rowWords limit (set (inTurn arguments results) k f) ++ unused limit (length names) tail
   number-written k f inside small =
       rw (h .words, store-row (h .entries) tail)
-      (row-write limit k f (inTurn arguments results) (unused limit (length names) tail) (rw (turns (h .entries)) inside) small (turns-small (h .entries)))
+      (row-write limit k f (inTurn arguments results) (unused limit (length names) tail) (rw (turns (h .entries)) inside) small (turns-encodable (h .entries)))
 
   -- the format number 2 p is the argument format of the name at p
   pub read-argument : (p : ℕ) → p < length names → formatAt limit store (2 * p) ≡ formatWords limit (formatIn arguments p)
@@ -258,15 +258,15 @@ module _ {limit : ℕ} {names : List (List ℕ)} {arguments results : List Entry
   -- the argument format that the words say
   pub read-argument-format : (p : ℕ) → p < length names → limit ≤ 127 → readFormat (formatAt limit store (2 * p)) ≡ formatIn arguments p
   read-argument-format p inside few =
-      rw (read-argument p inside) (read-write limit (formatIn arguments p) (format-small limit arguments p (h .entries .argumentsSmall)) few)
+      rw (read-argument p inside) (read-write limit (formatIn arguments p) (format-encodable limit arguments p (h .entries .argumentsEncodable)) few)
 
   -- the result format that the words say
   pub read-result-format : (p : ℕ) → p < length names → limit ≤ 127 → readFormat (formatAt limit store (2 * p + 1)) ≡ formatIn results p
   read-result-format p inside few =
-      rw (read-result p inside) (read-write limit (formatIn results p) (format-small limit results p (h .entries .resultsSmall)) few)
+      rw (read-result p inside) (read-write limit (formatIn results p) (format-encodable limit results p (h .entries .resultsEncodable)) few)
 
   -- the argument format of the name at p written over
-  pub write-argument : (p : ℕ) (f : Format) → p < length names → Small limit f
+  pub write-argument : (p : ℕ) (f : Format) → p < length names → Encodable limit f
       → StoreHolds limit names (put p f arguments) results tail (written store (2 * p * (limit + 1)) (formatWords limit f))
   write-argument p f inside small =
       let after : Storable limit names (put p f arguments) results = storable-argument (h .entries) p f small in
@@ -276,7 +276,7 @@ module _ {limit : ℕ} {names : List (List ℕ)} {arguments results : List Entry
       }
 
   -- the result format of the name at p written over
-  pub write-result : (p : ℕ) (f : Format) → p < length names → Small limit f
+  pub write-result : (p : ℕ) (f : Format) → p < length names → Encodable limit f
       → StoreHolds limit names arguments (put p f results) tail (written store ((2 * p + 1) * (limit + 1)) (formatWords limit f))
   write-result p f inside small =
       let after : Storable limit names arguments (put p f results) = storable-result (h .entries) p f small in
@@ -286,13 +286,13 @@ module _ {limit : ℕ} {names : List (List ℕ)} {arguments results : List Entry
       }
 
   -- the same where the words of the format came back from a callee, to which they were lent as `&mut store[a..e]`
-  pub lent-argument : (p : ℕ) (f : Format) (a e : ℕ) (new : List ℕ) → p < length names → Small limit f → a ≡ 2 * p * (limit + 1) → e ≡ a + (limit + 1)
+  pub lent-argument : (p : ℕ) (f : Format) (a e : ℕ) (new : List ℕ) → p < length names → Encodable limit f → a ≡ 2 * p * (limit + 1) → e ≡ a + (limit + 1)
       → new ≡ formatWords limit f → StoreHolds limit names (put p f arguments) results tail (take a store ++ (new ++ drop (e - a) (drop a store)))
   lent-argument p f a e new inside small start end is =
       rw (lent-written store new a e (end ∙ rw (is, format-words-length limit f small)), start, is) (write-argument p f inside small)
 
   -- the same for a result format
-  pub lent-result : (p : ℕ) (f : Format) (a e : ℕ) (new : List ℕ) → p < length names → Small limit f → a ≡ (2 * p + 1) * (limit + 1) → e ≡ a + (limit + 1)
+  pub lent-result : (p : ℕ) (f : Format) (a e : ℕ) (new : List ℕ) → p < length names → Encodable limit f → a ≡ (2 * p + 1) * (limit + 1) → e ≡ a + (limit + 1)
       → new ≡ formatWords limit f → StoreHolds limit names arguments (put p f results) tail (take a store ++ (new ++ drop (e - a) (drop a store)))
   lent-result p f a e new inside small start end is =
       rw (lent-written store new a e (end ∙ rw (is, format-words-length limit f small)), start, is) (write-result p f inside small)
@@ -311,12 +311,12 @@ module _ {limit : ℕ} {names : List (List ℕ)} {arguments results : List Entry
 
 -- ---- the start: zeros, then the header of one format after the other
 
-never-small : (limit k : ℕ) → EachSmall limit (replicate k never)
-never-small limit zero = tt
-never-small limit (suc k) = (omega arith, never-small limit k)
+never-encodable : (limit k : ℕ) → EachEncodable limit (replicate k never)
+never-encodable limit zero = tt
+never-encodable limit (suc k) = (omega arith, never-encodable limit k)
 
 never-length : (limit k : ℕ) → length (rowWords limit (replicate k never)) ≡ k * (limit + 1)
-never-length limit k = rw (row-length limit (replicate k never) (never-small limit k), length-replicate)
+never-length limit k = rw (row-length limit (replicate k never) (never-encodable limit k), length-replicate)
 
 never-more : (limit k : ℕ) → rowWords limit (replicate (suc k) never) ≡ rowWords limit (replicate k never) ++ 512 ∷ replicate limit 0
 unfolding rowWords
@@ -385,8 +385,8 @@ start-storable limit names few =
       argumentNames = names-all-at never names;
       resultNames = names-all-at never names;
       few = few;
-      argumentsSmall = all-at-small limit names;
-      resultsSmall = all-at-small limit names;
+      argumentsEncodable = all-at-encodable limit names;
+      resultsEncodable = all-at-encodable limit names;
     }
 
 -- the store at the start

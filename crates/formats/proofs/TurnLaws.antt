@@ -12,16 +12,16 @@ use Rattle.file.specs.Sections.{File, fileOf}
 use Rattle.law.specs.Code.Index.{PartAt}
 use Rattle.law.proofs.Parts.{drop-take}
 use Rattle.law.proofs.IndexLaws.{terms-limit}
-use Rattle.shapes.specs.Format.{Shapes, Format, never, of, size, formatSize, isOpen}
+use Rattle.shapes.specs.Format.{Shapes, Format, never, of, size, isOpen}
 use Rattle.shapes.specs.Join.{joinFormats}
 use Rattle.shapes.specs.Same.{sameFormat}
-use Rattle.shapes.specs.Words.{shapeWords, usedWords, formatWords, readFormat, rowEnd, FormatIn}
+use Rattle.shapes.specs.Words.{shapeWords, usedWords, formatWords, Encodable, readFormat, rowEnd, FormatIn}
 use Rattle.buffers.specs.Written.{written}
 use Rattle.shapes.proofs.WordLaws.{words-length, read-write}
 use Rattle.buffers.proofs.WrittenLaws.{written-front}
 use Rattle.shapes.proofs.JoinLaws.{within-join}
 use Rattle.shapes.proofs.SameLaws.{same-itself}
-use Rattle.shapes.proofs.FormatLaws.{written-filled, format-in-length, format-in-read, format-in-words, read-never, read-row, join-small, join-format-in, same-words-format}
+use Rattle.shapes.proofs.FormatLaws.{written-filled, format-in-length, format-in-read, format-in-words, read-never, read-row, join-encodable, join-format-in, same-words-format}
 use Rattle.formats.specs.Code.Rows.{formatAt, RowIs, RowAsked, Stored}
 use Rattle.formats.specs.Code.Turns.{RoundAsked, FormatMade}
 use Rattle.formats.specs.declared.Row.{Row}
@@ -123,8 +123,8 @@ abbrev joinedAt : ℕ → List ℕ → ℕ → List ℕ → Format
 joinedAt limit store k other = joinFormats (readFormat (formatAt limit store k)) (readFormat other)
 
 -- the format that words say is no larger than they have room for
-read-small : (limit : ℕ) (words : List ℕ) → limit ≤ 64 → FormatIn limit words → formatSize (readFormat words) ≤ limit
-read-small limit words l x = rw (format-in-read limit words (omega arith) x) (x .small)
+read-encodable : (limit : ℕ) (words : List ℕ) → limit ≤ 64 → FormatIn limit words → Encodable limit (readFormat words)
+read-encodable limit words l x = rw (format-in-read limit words (omega arith) x) (x .encodable)
 
 module _ (limit : ℕ) (store : List ℕ) (k : ℕ) where
   -- it is that format
@@ -162,7 +162,7 @@ module _ (limit : ℕ) (store : List ℕ) (k : ℕ) where
           let old = formatAt limit store k in
           let few : limit ≤ 127 = omega arith in
           let front : take (limit + 1) (joined ++ rest) ≡ joined = back-front l joined rest kept in
-          let read : readFormat joined ≡ joinedAt limit store k other = rw words (read-write limit (joinedAt limit store k other) (join-small limit (readFormat old) (readFormat other) (read-small limit old l x) (read-small limit other l y)) few) in
+          let read : readFormat joined ≡ joinedAt limit store k other = rw words (read-write limit (joinedAt limit store k other) (join-encodable limit (readFormat old) (readFormat other) (read-encodable limit old l x) (read-encodable limit other l y)) few) in
           let test : same ≡ sameFormat (readFormat joined) (readFormat old) = same-words-format limit joined old same few (join-format-in limit old other joined few x y words) x (λ e. sym front ∙ (p e ∙ lent-is)) (λ e. q (front ∙ (e ∙ sym lent-is))) in
           ap not (rw read at test)
 

@@ -15,24 +15,24 @@ use Rattle.law.proofs.PlaceLaws as places
 use Rattle.shapes.specs.Format.{Format, never}
 use Rattle.shapes.specs.Join.{joinFormats}
 use Rattle.shapes.specs.Same.{sameFormat}
-use Rattle.shapes.specs.Words.{formatWords, readFormat, FormatIn}
+use Rattle.shapes.specs.Words.{formatWords, Encodable, readFormat, FormatIn}
 use Rattle.buffers.specs.Written.{written}
 use Rattle.shapes.proofs.WordLaws.{read-write}
 use Rattle.formats.specs.FormatOf.{Results}
-use Rattle.formats.specs.Store.{Small, formatIn}
+use Rattle.formats.specs.Store.{formatIn}
 use Rattle.formats.specs.Code.Rows.{formatAt}
 use Rattle.formats.specs.Code.Slots.{fileNames, functionFolded, position}
 use Rattle.formats.specs.Code.Turns.{RoundAsked, Holding, rowsJoined, JoinedIs, formatNumber, turnOf, TurnIs}
 use Rattle.formats.specs.declared.infer.Turn.{Turn}
 use Rattle.formats.specs.declared.infer.Turn.the-variants.{Over}
-use Rattle.formats.proofs.EntryLaws.{results-small, patterns-small, format-small}
+use Rattle.formats.proofs.EntryLaws.{results-encodable, patterns-encodable, format-encodable}
 use Rattle.formats.proofs.SlotLaws.{function-placed, names-few}
 use Rattle.formats.proofs.StateLaws.{part-inside, read-argument, read-result}
 
 -- what sentences join to has at most so many shapes
-pub rows-small : (limit : ℕ) (patterns : Bool) (t : Results) (ss : Sentences) (g : Format) → rowsJoined limit patterns t never ss ≡ given g → Small limit g
-rows-small limit true t ss g h = patterns-small limit never ss g (omega arith) h
-rows-small limit false t ss g h = results-small limit t never ss g (omega arith) h
+pub rows-encodable : (limit : ℕ) (patterns : Bool) (t : Results) (ss : Sentences) (g : Format) → rowsJoined limit patterns t never ss ≡ given g → Encodable limit g
+rows-encodable limit true t ss g h = patterns-encodable limit never ss g (omega arith) h
+rows-encodable limit false t ss g h = results-encodable limit t never ss g (omega arith) h
 
 false-true : false ≡ true → ⊥
 false-true e = let z : _≡_ {A = ℕ} 0 1 = cc in omega arith
@@ -58,7 +58,7 @@ module _ (limit : ℕ) (few : limit ≤ 64) (patterns : Bool) (t : Results) (ss 
   pub made-format : FormatIn limit words
   made-format =
       let (g, is, same) = joined-made limit (rowsJoined limit patterns t never ss) words ok made joined in
-      record { format = g; small = rows-small limit patterns t ss g is; same = same }
+      record { format = g; encodable = rows-encodable limit patterns t ss g is; same = same }
 
   -- and it is joined into the format number k
   pub turn-renewed : (k : ℕ) (before after : List ℕ) (changed : Bool) (r : Turn)
@@ -67,7 +67,7 @@ module _ (limit : ℕ) (few : limit ≤ 64) (patterns : Bool) (t : Results) (ss 
       → r ≡ turnOf (not changed) → TurnIs limit (rowsJoined limit patterns t never ss) k before after r
   turn-renewed k before after changed r p q e =
       let (g, is, same) = joined-made limit (rowsJoined limit patterns t never ss) words ok made joined in
-      let reads : readFormat words ≡ g = ap readFormat same ∙ read-write limit g (rows-small limit patterns t ss g is) (omega arith) in
+      let reads : readFormat words ≡ g = ap readFormat same ∙ read-write limit g (rows-encodable limit patterns t ss g is) (omega arith) in
       rw is (rw reads at p, e ∙ ap turnOf (twice (sameFormat (joinFormats (readFormat (formatAt limit before k)) g) (readFormat (formatAt limit before k))) changed (rw reads at q)))
     where
       twice : (b c : Bool) → c ≡ not b → not c ≡ b
@@ -119,5 +119,5 @@ module _ {limit : ℕ} {names : List (List ℕ)} {store : List ℕ} (h : Holding
   number-within false p less = part-inside (h .holds) (2 * p + 1) (omega arith)
 
   pub number-format : (patterns : Bool) (p : ℕ) → p < length names → FormatIn limit (formatAt limit store (formatNumber patterns p))
-  number-format true p less = record { format = formatIn (h .arguments) p; small = format-small limit (h .arguments) p (h .holds .entries .argumentsSmall); same = read-argument (h .holds) p less }
-  number-format false p less = record { format = formatIn (h .results) p; small = format-small limit (h .results) p (h .holds .entries .resultsSmall); same = read-result (h .holds) p less }
+  number-format true p less = record { format = formatIn (h .arguments) p; encodable = format-encodable limit (h .arguments) p (h .holds .entries .argumentsEncodable); same = read-argument (h .holds) p less }
+  number-format false p less = record { format = formatIn (h .results) p; encodable = format-encodable limit (h .results) p (h .holds .entries .resultsEncodable); same = read-result (h .holds) p less }

@@ -5,8 +5,8 @@ use Prim.Native.Nat.{ℕ, zero, suc, _+_, _*_, _≤_}
 use mathlib.Core.List.{List, [], _∷_, _++_}
 use mathlib.Core.Path.{_≡_}
 use lib.ListN.{length, replicate}
-use Rattle.shapes.specs.Format.{Format, never, formatSize}
-use Rattle.shapes.specs.Words.{filled, formatWords}
+use Rattle.shapes.specs.Format.{Format, never}
+use Rattle.shapes.specs.Words.{filled, formatWords, Encodable}
 use Rattle.formats.specs.Infer.{Entry, Inferred}
 
 -- argument then result of each name
@@ -50,17 +50,13 @@ abbrev pub EachEntry : (Format → Type 0) → List Entry → Type 0
 EachEntry P [] = Unit {0}
 EachEntry P (e ∷ es) = P (e .format) × EachEntry P es
 
--- at most so many shapes
-abbrev pub Small : ℕ → Format → Type 0
-Small limit f = formatSize f ≤ limit
-
--- entries that a store holds: the same names, 64 at most, and no format over the limit
+-- entries that a store holds: the same names, 64 at most, and formats that it has words for
 pub record Storable (limit : ℕ) (names : List (List ℕ)) (arguments results : List Entry) : Type 0 where
   pub argumentNames : entryNames arguments ≡ names
   pub resultNames : entryNames results ≡ names
   pub few : length names ≤ 64
-  pub argumentsSmall : EachEntry (Small limit) arguments
-  pub resultsSmall : EachEntry (Small limit) results
+  pub argumentsEncodable : EachEntry (Encodable limit) arguments
+  pub resultsEncodable : EachEntry (Encodable limit) results
 
 -- a store that holds entries, and then words that are not its own
 pub record StoreHolds (limit : ℕ) (names : List (List ℕ)) (arguments results : List Entry) (tail store : List ℕ) : Type 0 where

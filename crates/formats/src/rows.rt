@@ -7,6 +7,11 @@ use file::Term;
 use file::term_at;
 use file::word_at;
 use law::runs::end_of;
+use shapes::leaf::CHARACTER;
+use shapes::leaf::IDENTIFIER;
+use shapes::leaf::NUMBER;
+use shapes::leaf::SYMBOL;
+use shapes::leaf::UNKNOWN;
 ghost use mathlib.Core.Path.{_≡_};
 ghost use mathlib.Core.Bool.{false};
 ghost use Prim.Native.Nat.{_+_, _*_, _≤_, _<_};
@@ -14,7 +19,7 @@ ghost use lib.ListN.{length, take, drop};
 ghost use Rattle.file.specs.Sections.{fileOf};
 ghost use Rattle.file.specs.Forest.{contents};
 ghost use Rattle.law.specs.Runs.{endOf};
-ghost use Rattle.shapes.specs.Leaf.{leafAt};
+ghost use Rattle.shapes.specs.Leaf.{leafAt, IsLeafWord};
 ghost use Rattle.shapes.specs.Format.{end, item, group};
 ghost use Rattle.shapes.specs.Words.{bracketWord};
 ghost use Rattle.buffers.specs.Written.{written};
@@ -34,9 +39,9 @@ fn symbol_step(symbol: Symbol) -> Step
     ensures { λ r. ⌜ r ≡ symbolStep symbol ⌝ }
 {
     match symbol {
-        Symbol::Character(_) => Step::Leaf(0),
-        Symbol::Identifier(_, _) => Step::Leaf(2),
-        Symbol::Number(_, _) => Step::Leaf(1),
+        Symbol::Character(_) => Step::Leaf(CHARACTER),
+        Symbol::Identifier(_, _) => Step::Leaf(IDENTIFIER),
+        Symbol::Number(_, _) => Step::Leaf(NUMBER),
     }
 }
 
@@ -46,8 +51,8 @@ fn step_of(term: Term) -> Step
 {
     match term {
         Term::Symbol(x) => symbol_step(x),
-        Term::SVariable(_, _) => Step::Leaf(3),
-        Term::TVariable(_, _) => Step::Leaf(4),
+        Term::SVariable(_, _) => Step::Leaf(SYMBOL),
+        Term::TVariable(_, _) => Step::Leaf(UNKNOWN),
         Term::EVariable(_, _) => Step::Open,
         Term::Bracket => Step::Bracket,
         Term::Call(_, _) => Step::Call,
@@ -81,7 +86,7 @@ fn copy_row(store: &[u32], from: usize, n: usize, out: &mut [u32], to: usize)
 
 // A shape of one word.
 fn write_leaf(word: u32, out: &mut [u32], to: usize, most: usize) -> Row
-    requires { ⌜ (word ≤ 4) × (to ≤ most) × (most ≤ length (now out)) ⌝ }
+    requires { ⌜ IsLeafWord word × (to ≤ most) × (most ≤ length (now out)) ⌝ }
     ensures { λ r. ⌜ Between to most r × RowIs (item (leafAt word) (end false)) (now (out .entry)) (now (out .exit)) to most r ⌝ }
 {
     if most <= to {
@@ -97,10 +102,10 @@ fn leaf_word(kind: u32) -> u32
     ensures { λ r. ⌜ LeafKind kind r ⌝ }
 {
     if kind == 1 {
-        return 2;
+        return IDENTIFIER;
     }
     if kind == 2 {
-        return 1;
+        return NUMBER;
     }
     kind
 }

@@ -10,11 +10,11 @@ use native.Mathlib.Nat.{zero-add}
 use lib.ListN.{length, take, drop, getD, set, replicate, length-drop, length-replicate}
 use lib.Seq.{take-all}
 use lib.Dec.{leb}
-use Rattle.shapes.specs.Format.{Shapes, Format, never, of, size, formatSize, isOpen}
+use Rattle.shapes.specs.Format.{Shapes, Format, never, of, size, isOpen}
 use Rattle.shapes.specs.Join.{joinRows, joinFormats}
 use Rattle.shapes.specs.Disjoint.{disjointRows, disjointFormats}
 use Rattle.shapes.specs.Same.{sameFormat}
-use Rattle.shapes.specs.Words.{shapeWords, filled, usedWords, formatWords, shapesIn, readFormat, rowEnd, FormatIn}
+use Rattle.shapes.specs.Words.{shapeWords, filled, usedWords, formatWords, Encodable, shapesIn, readFormat, rowEnd, FormatIn}
 use Rattle.buffers.specs.Written.{written}
 use Rattle.shapes.specs.Code.First.{ShapesWritten}
 use Rattle.shapes.proofs.JoinLaws.{join-size-left}
@@ -26,11 +26,11 @@ use Rattle.buffers.proofs.WrittenLaws.{written-front}
 
 -- a format's words are read as that format
 pub format-in-read : (limit : ℕ) (words : List ℕ) → limit ≤ 127 → (x : FormatIn limit words) → readFormat words ≡ x .format
-format-in-read limit words l x = rw (x .same) (read-write limit (x .format) (x .small) l)
+format-in-read limit words l x = rw (x .same) (read-write limit (x .format) (x .encodable) l)
 
 -- and are one more than the limit
 pub format-in-length : (limit : ℕ) (words : List ℕ) → FormatIn limit words → length words ≡ limit + 1
-format-in-length limit words x = rw (x .same) (format-words-length limit (x .format) (x .small))
+format-in-length limit words x = rw (x .same) (format-words-length limit (x .format) (x .encodable))
 
 -- words are those of the format that they say
 pub format-in-words : (limit : ℕ) (words : List ℕ) → limit ≤ 127 → FormatIn limit words → words ≡ formatWords limit (readFormat words)
@@ -76,18 +76,18 @@ disjoint-rows-are a b f g r p q e = rw (p, q) e
 
 -- ---- join
 
--- a join is no larger than a limit on both
-pub join-small : (n : ℕ) (f g : Format) → formatSize f ≤ n → formatSize g ≤ n → formatSize (joinFormats f g) ≤ n
-join-small n never g h k = k
-join-small n (of f) never h k = h
-join-small n (of f) (of g) h k = omega (arith, join-size-left f g)
+-- the store has words for a join of formats that it has words for
+pub join-encodable : (limit : ℕ) (f g : Format) → Encodable limit f → Encodable limit g → Encodable limit (joinFormats f g)
+join-encodable limit never g h k = k
+join-encodable limit (of f) never h k = h
+join-encodable limit (of f) (of g) h k = omega (arith, join-size-left f g)
 
 -- the words of a join are a format's
 pub join-format-in : (limit : ℕ) (a b words : List ℕ) → limit ≤ 127 → FormatIn limit a → FormatIn limit b → words ≡ formatWords limit (joinFormats (readFormat a) (readFormat b))
     → FormatIn limit words
 join-format-in limit a b words l x y e = record {
   format = joinFormats (x .format) (y .format);
-  small = join-small limit (x .format) (y .format) (x .small) (y .small);
+  encodable = join-encodable limit (x .format) (y .format) (x .encodable) (y .encodable);
   same = rw (← format-in-read limit a l x, ← format-in-read limit b l y) e;
 }
 

@@ -1,13 +1,14 @@
 -- Laws of the shapes of single terms (specs/Leaf.antt). The laws of formats use these and no others of a shape that is no bracket.
 use mathlib.Core.Bool.{Bool, true, false, cond, not}
 use mathlib.Core.List.{[]}
-use mathlib.Core.Path.{_≡_, refl, sym, ap, _∙_}
+use mathlib.Core.Logic.{_↔_}
+use mathlib.Core.Path.{_≡_, refl, sym, _∙_}
 use lib.Dec.{T}
 use Rattle.law.specs.Expression as expressions
 use Rattle.law.specs.Expression.{Literal}
 use Rattle.law.specs.Symbol.{symbolOf, literalOf}
 use Rattle.law.specs.Tree as tree
-use Rattle.shapes.specs.Leaf.{Leaf, character, number, identifier, anySymbol, unknown, holdsSymbol, holdsBrackets, joinLeaves, leavesApart, leafWord, leafOf, leafAt}
+use Rattle.shapes.specs.Leaf.{Leaf, character, number, identifier, anySymbol, unknown, holdsSymbol, holdsBrackets, joinLeaves, leavesApart, sameLeaf, leafWord, leafOf, leafAt}
 use Rattle.shapes.specs.Words.{isBracket}
 
 -- a symbol of each kind
@@ -207,6 +208,28 @@ shared-symbol identifier unknown p = (someIdentifier, tt, tt)
 shared-symbol anySymbol b p = (someLiteral b, tt, some-literal-held b)
 shared-symbol unknown b p = (someLiteral b, tt, some-literal-held b)
 
+-- ---- equality
+
+-- shapes that are the same are equal
+pub leaf-same-equal : (a b : Leaf) → T (sameLeaf a b) → a ≡ b
+leaf-same-equal character character h = refl
+leaf-same-equal number number h = refl
+leaf-same-equal identifier identifier h = refl
+leaf-same-equal anySymbol anySymbol h = refl
+leaf-same-equal unknown unknown h = refl
+
+-- a shape is the same as itself
+pub leaf-same-itself : (b : Leaf) → sameLeaf b b ≡ true
+leaf-same-itself character = refl
+leaf-same-itself number = refl
+leaf-same-itself identifier = refl
+leaf-same-itself anySymbol = refl
+leaf-same-itself unknown = refl
+
+-- the test is yes exactly of equal shapes
+pub leaf-same-exact : (a b : Leaf) → (sameLeaf a b ≡ true) ↔ (a ≡ b)
+leaf-same-exact a b = (λ e. leaf-same-equal a b (rw e tt), λ e. rw e (leaf-same-itself b))
+
 -- ---- store words
 
 -- a shape is read back from its word
@@ -216,10 +239,6 @@ leaf-at-word number = refl
 leaf-at-word identifier = refl
 leaf-at-word anySymbol = refl
 leaf-at-word unknown = refl
-
--- shapes of one word are the same
-pub leaf-word-same : (a b : Leaf) → leafWord a ≡ leafWord b → a ≡ b
-leaf-word-same a b e = sym (leaf-at-word a) ∙ (ap leafAt e ∙ leaf-at-word b)
 
 -- no word of these is a bracket's
 pub leaf-word-plain : (b : Leaf) → isBracket (leafWord b) ≡ false

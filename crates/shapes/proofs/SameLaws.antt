@@ -2,12 +2,11 @@
 use mathlib.Core.Bool.{Bool, true, false, _&&_}
 use mathlib.Core.Logic.{_↔_}
 use mathlib.Core.Path.{_≡_, refl, ap}
-use lib.Dec.{T, eqb, eqb→eq}
-use borrow.Author.Tests.{eq-eqb}
-use Rattle.shapes.specs.Leaf.{leafWord}
+use lib.Dec.{T}
+use Rattle.shapes.specs.Leaf.{sameLeaf}
 use Rattle.shapes.specs.Format.{Shapes, end, item, group, Format, never, of}
 use Rattle.shapes.specs.Same.{sameShapes, sameFormat}
-use Rattle.shapes.proofs.LeafLaws.{leaf-word-same}
+use Rattle.shapes.proofs.LeafLaws.{leaf-same-equal, leaf-same-itself}
 
 both : (a b : Bool) → T (a && b) → T a × T b
 both true b h = (tt, h)
@@ -18,8 +17,8 @@ unfolding sameShapes
 shapes-equal (end true) (end true) h = refl
 shapes-equal (end false) (end false) h = refl
 shapes-equal (item a f) (item b g) h =
-    let (p, q) = both (eqb (leafWord a) (leafWord b)) (sameShapes f g) h in
-    cc (leaf-word-same a b (eqb→eq (leafWord a) (leafWord b) p), shapes-equal f g q)
+    let (p, q) = both (sameLeaf a b) (sameShapes f g) h in
+    cc (leaf-same-equal a b p, shapes-equal f g q)
 shapes-equal (group c f) (group d g) h =
     let (p, q) = both (sameShapes c d) (sameShapes f g) h in
     cc (shapes-equal c d p, shapes-equal f g q)
@@ -29,7 +28,7 @@ shapes-itself : (f : Shapes) → sameShapes f f ≡ true
 unfolding sameShapes
 shapes-itself (end true) = refl
 shapes-itself (end false) = refl
-shapes-itself (item b f) = rw (eq-eqb (leafWord b) (leafWord b) refl, shapes-itself f)
+shapes-itself (item b f) = rw (leaf-same-itself b, shapes-itself f)
 shapes-itself (group g f) = rw (shapes-itself g, shapes-itself f)
 
 -- formats that are the same are equal

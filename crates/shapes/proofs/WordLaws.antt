@@ -12,8 +12,8 @@ use borrow.Author.Tests.{le-leb, lt-leb, eq-eqb}
 use Rattle.file.specs.Forest.{contents, rest}
 use Rattle.file.proofs.Forest.{contents-falls, rest-falls, forest-end, forest-node}
 use Rattle.shapes.specs.Leaf.{leafWord, leafAt}
-use Rattle.shapes.specs.Format.{Shapes, end, item, group, Format, never, of, size, formatSize, isOpen}
-use Rattle.shapes.specs.Words.{bracketWord, shapeWords, usedWords, filled, formatWords, isBracket, insideOpen, insideOf, shapesEnd, shapesOf, shapesIn, readFormat}
+use Rattle.shapes.specs.Format.{Shapes, end, item, group, Format, never, of, size, isOpen}
+use Rattle.shapes.specs.Words.{bracketWord, shapeWords, usedWords, filled, formatWords, Encodable, isBracket, insideOpen, insideOf, shapesEnd, shapesOf, shapesIn, readFormat}
 use Rattle.shapes.proofs.LeafLaws.{leaf-at-word, leaf-word-plain}
 
 -- ---- the shapes that words say
@@ -162,7 +162,7 @@ read-shapes (group g f) h =
 pub filled-length : (n : ℕ) (s : List ℕ) → length s ≤ n → length (filled n s) ≡ n
 filled-length n s h = simp (length-append, length-replicate) (omega arith)
 
-pub format-words-length : (limit : ℕ) (f : Format) → formatSize f ≤ limit → length (formatWords limit f) ≡ limit + 1
+pub format-words-length : (limit : ℕ) (f : Format) → Encodable limit f → length (formatWords limit f) ≡ limit + 1
 format-words-length limit never h = filled-length (limit + 1) (usedWords never) (omega arith)
 format-words-length limit (of f) h = filled-length (limit + 1) (usedWords (of f)) (omega (arith, words-length f))
 
@@ -180,7 +180,7 @@ header-size n true h = omega arith
 header-size n false h = omega arith
 
 -- a format is read back from its words
-pub read-write : (limit : ℕ) (f : Format) → formatSize f ≤ limit → limit ≤ 127 → readFormat (formatWords limit f) ≡ f
+pub read-write : (limit : ℕ) (f : Format) → Encodable limit f → limit ≤ 127 → readFormat (formatWords limit f) ≡ f
 unfolding readFormat
 read-write limit never h l = refl
 read-write limit (of f) h l =

@@ -1,9 +1,10 @@
 -- The shapes of single terms that are no brackets of a format. Document 01, "Formats": "Shapes: character, number, identifier, symbol (all three), bracket of a
--- format, unknown." What they hold, how they join, when they share nothing, their store words and how they are displayed stand here.
+-- format, unknown." What they hold, how they join, when they share nothing or are the same, their store words and how they are displayed stand here.
 -- docs/SPECIFICATION.md, 3.1, 3.5, 3.6, 5.2, 6.1.
 use Prim.Native.Nat.{ℕ}
 use mathlib.Core.Bool.{Bool, true, false}
 use mathlib.Core.List.{[], _∷_}
+use mathlib.Core.Path.{_≡_}
 use lib.ListN.{getD}
 use Rattle.law.specs.Expression as expressions
 use Rattle.law.specs.Tree as tree
@@ -78,6 +79,34 @@ leavesApart identifier unknown = false
 leavesApart anySymbol b = false
 leavesApart unknown b = false
 
+-- the same shape
+abbrev pub sameLeaf : Leaf → Leaf → Bool
+sameLeaf character character = true
+sameLeaf character number = false
+sameLeaf character identifier = false
+sameLeaf character anySymbol = false
+sameLeaf character unknown = false
+sameLeaf number character = false
+sameLeaf number number = true
+sameLeaf number identifier = false
+sameLeaf number anySymbol = false
+sameLeaf number unknown = false
+sameLeaf identifier character = false
+sameLeaf identifier number = false
+sameLeaf identifier identifier = true
+sameLeaf identifier anySymbol = false
+sameLeaf identifier unknown = false
+sameLeaf anySymbol character = false
+sameLeaf anySymbol number = false
+sameLeaf anySymbol identifier = false
+sameLeaf anySymbol anySymbol = true
+sameLeaf anySymbol unknown = false
+sameLeaf unknown character = false
+sameLeaf unknown number = false
+sameLeaf unknown identifier = false
+sameLeaf unknown anySymbol = false
+sameLeaf unknown unknown = true
+
 -- store words: "0 character, 1 number, 2 identifier, 3 symbol, 4 unknown"
 abbrev pub leafWord : Leaf → ℕ
 leafWord character = 0
@@ -103,3 +132,7 @@ leafOf (tree.Symbol.number n) = number
 -- the shape that a store word says; any other word says unknown
 abbrev pub leafAt : ℕ → Leaf
 leafAt w = getD (character ∷ number ∷ identifier ∷ anySymbol ∷ []) w unknown
+
+-- the word that a shape is written with
+abbrev pub IsLeafWord : ℕ → Type 0
+IsLeafWord w = leafWord (leafAt w) ≡ w

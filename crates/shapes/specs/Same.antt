@@ -1,8 +1,7 @@
 -- Are two formats the same?
 -- docs/SPECIFICATION.md, 4.2.
 use mathlib.Core.Bool.{Bool, true, false, _&&_}
-use lib.Dec.{eqb}
-use Rattle.shapes.specs.Leaf.{leafWord}
+use Rattle.shapes.specs.Leaf.{sameLeaf}
 use Rattle.shapes.specs.Format.{Shapes, end, item, group, Format, never, of}
 
 abbrev pub sameBool : Bool → Bool → Bool
@@ -16,7 +15,7 @@ sameShapes (end o) (end p) = sameBool o p
 sameShapes (end o) (item b g) = false
 sameShapes (end o) (group d g) = false
 sameShapes (item a f) (end p) = false
-sameShapes (item a f) (item b g) = eqb (leafWord a) (leafWord b) && sameShapes f g
+sameShapes (item a f) (item b g) = sameLeaf a b && sameShapes f g
 sameShapes (item a f) (group d g) = false
 sameShapes (group c f) (end p) = false
 sameShapes (group c f) (item b g) = false

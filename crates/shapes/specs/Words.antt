@@ -35,6 +35,10 @@ filled n s = s ++ replicate (n - length s) 0
 abbrev pub formatWords : ℕ → Format → List ℕ
 formatWords limit f = filled (limit + 1) (usedWords f)
 
+-- a format that the store has words for: at most so many shapes
+abbrev pub Encodable : ℕ → Format → Type 0
+Encodable limit f = formatSize f ≤ limit
+
 -- ---- the words read back, whatever words they are
 
 -- is this shape's word a bracket's?
@@ -78,5 +82,5 @@ rowEnd s = min (1 + getD s 0 0 % 256) (length s)
 -- words that are a format's
 pub record FormatIn (limit : ℕ) (words : List ℕ) : Type 0 where
   pub format : Format
-  pub small : formatSize format ≤ limit
+  pub encodable : Encodable limit format
   pub same : words ≡ formatWords limit format

@@ -3,6 +3,7 @@ use crate::end_of;
 use crate::inside_open;
 use crate::is_bracket;
 use crate::is_never;
+use crate::leaf::leaf_byte;
 use crate::row_end;
 use crate::row_open;
 use buffers::put;
@@ -12,7 +13,6 @@ ghost use mathlib.Core.Bool.{true, false, cond};
 ghost use mathlib.Core.List.{[], _∷_};
 ghost use Prim.Native.Nat.{_+_, _*_, _≤_};
 ghost use lib.ListN.{length};
-ghost use Rattle.shapes.specs.Leaf.{leafAt, leafByte};
 ghost use Rattle.shapes.specs.Words.{shapesEnd, shapesIn, readFormat};
 ghost use Rattle.buffers.specs.Written.{Put, largest};
 ghost use Rattle.shapes.specs.Display.{display, shown, firstShown, shownOutcome, textAt};
@@ -32,19 +32,6 @@ fn put_space(first: bool, out: &mut [u8], at: usize) -> usize
         return at;
     }
     put_byte(b' ', out, at)
-}
-
-// The letter of a shape that is no bracket of a format.
-fn leaf_byte(w: u32) -> u8
-    ensures { λ r. ⌜ r ≡ leafByte (leafAt w) ⌝ }
-{
-    match w {
-        0 => b'C',
-        1 => b'N',
-        2 => b'I',
-        3 => b'S',
-        _ => b'?',
-    }
 }
 
 // The first item of a row. A bracket shows its contents.

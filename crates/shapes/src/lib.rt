@@ -1,4 +1,8 @@
 // Formats as flat words: a header and its shapes, depth first.
+use crate::leaf::UNKNOWN;
+use crate::leaf::holds_brackets;
+use crate::leaf::join_leaves;
+use crate::leaf::leaves_apart;
 use buffers::clear_words;
 use buffers::copy_words;
 ghost use mathlib.Core.Path.{_≡_};
@@ -6,7 +10,6 @@ ghost use mathlib.Core.Bool.{true, false, cond};
 ghost use Prim.Native.Nat.{_+_, _≤_, _<_};
 ghost use lib.ListN.{length};
 ghost use lib.Dec.{leb};
-ghost use Rattle.shapes.specs.Leaf.{holdsBrackets, joinLeaves, leavesApart, leafWord, leafAt};
 ghost use Rattle.shapes.specs.Format.{end, size};
 ghost use Rattle.shapes.specs.Join.{joinRows, joinFormats};
 ghost use Rattle.shapes.specs.Disjoint.{disjointRows, disjointFormats};
@@ -15,6 +18,7 @@ ghost use Rattle.buffers.specs.Written.{written};
 ghost use Rattle.shapes.specs.Code.First.{firstApart, firstJoin, ShapesWritten};
 
 pub mod display;
+pub mod leaf;
 
 // After a join was written: the position after its words, and whether the row is open.
 pub struct Joined {
@@ -54,42 +58,6 @@ pub fn end_of(s: &[u32]) -> usize
 {
     let n = 1 + inside(s[0]);
     if n < s.len() { n } else { s.len() }
-}
-
-// Does the shape that is no bracket of a format hold brackets?
-fn holds_brackets(w: u32) -> bool
-    ensures { λ r. ⌜ r ≡ holdsBrackets (leafAt w) ⌝ }
-{
-    4 <= w
-}
-
-// Is no term of both shapes, neither of which is a bracket of a format?
-fn leaves_apart(x: u32, y: u32) -> bool
-    ensures { λ r. ⌜ r ≡ leavesApart (leafAt x) (leafAt y) ⌝ }
-{
-    if 3 <= x {
-        return false;
-    }
-    if 3 <= y {
-        return false;
-    }
-    x != y
-}
-
-// The word of the join of two shapes, neither of which is a bracket of a format.
-fn join_leaves(x: u32, y: u32) -> u32
-    ensures { λ r. ⌜ r ≡ leafWord (joinLeaves (leafAt x) (leafAt y)) ⌝ }
-{
-    if 4 <= x {
-        return 4;
-    }
-    if 4 <= y {
-        return 4;
-    }
-    if x == y {
-        return x;
-    }
-    3
 }
 
 // The word of a bracket with so many shapes inside it.
@@ -178,11 +146,11 @@ fn join_shapes(a: &[u32], b: &[u32], out: &mut [u32], at: usize) -> usize
             out[at] = bracket_word(next - at - 1, j.is_open);
             return next;
         }
-        out[at] = 4; // unknown: the second shape is no bracket
+        out[at] = UNKNOWN; // the second shape is no bracket
         return at + 1;
     }
     if is_bracket(y) {
-        out[at] = 4; // unknown: the first shape is no bracket
+        out[at] = UNKNOWN; // the first shape is no bracket
         return at + 1;
     }
     out[at] = join_leaves(x, y);

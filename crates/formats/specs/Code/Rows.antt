@@ -17,7 +17,7 @@ use Rattle.file.specs.declared.Term.the-variants.{Symbol as Symbolic, SVariable
 use Rattle.law.specs.Runs.{endOf}
 use Rattle.law.specs.Reading.{runOf, own}
 use Rattle.law.specs.Code.Index.{Readable, PartAt}
-use Rattle.shapes.specs.Leaf.{leafAt}
+use Rattle.shapes.specs.Leaf.{character, number, identifier, anySymbol, unknown, leafWord, leafAt}
 use Rattle.shapes.specs.Format.{Shapes, end, item, group, Format, never, of, size, isOpen}
 use Rattle.shapes.specs.Words.{shapeWords, readFormat, FormatIn}
 use Rattle.buffers.specs.Written.{written}
@@ -64,14 +64,14 @@ storedAt store limit count place = cond (ltb place count) (some (readFormat (for
 
 -- what a term adds to a row
 abbrev pub symbolStep : Symbol → steps.Step
-symbolStep (Character c) = steps.the-variants.Leaf 0
-symbolStep (Identifier a b) = steps.the-variants.Leaf 2
-symbolStep (Number a b) = steps.the-variants.Leaf 1
+symbolStep (Character c) = steps.the-variants.Leaf (leafWord character)
+symbolStep (Identifier a b) = steps.the-variants.Leaf (leafWord identifier)
+symbolStep (Number a b) = steps.the-variants.Leaf (leafWord number)
 
 abbrev pub stepOf : Term → steps.Step
 stepOf (Symbolic x) = symbolStep x
-stepOf (SVariable a b) = steps.the-variants.Leaf 3
-stepOf (TVariable a b) = steps.the-variants.Leaf 4
+stepOf (SVariable a b) = steps.the-variants.Leaf (leafWord anySymbol)
+stepOf (TVariable a b) = steps.the-variants.Leaf (leafWord unknown)
 stepOf (EVariable a b) = steps.the-variants.Open
 stepOf Bracket = steps.the-variants.Bracket
 stepOf (Call a b) = steps.the-variants.Call

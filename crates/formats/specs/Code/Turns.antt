@@ -13,7 +13,7 @@ use Rattle.law.specs.Code.Index.{Indexed, Readable}
 use Rattle.shapes.specs.Format.{Shapes, Format, of, size}
 use Rattle.shapes.specs.Join.{joinFormats}
 use Rattle.shapes.specs.Same.{sameFormat}
-use Rattle.shapes.specs.Words.{formatWords, readFormat}
+use Rattle.shapes.specs.Words.{formatWords, Encodable, readFormat}
 use Rattle.buffers.specs.Written.{written}
 use Rattle.formats.specs.FormatOf.{patternShapes, Results, resultShapes}
 use Rattle.formats.specs.Infer.{Entry, joinResults, joinPatterns, Rounds, Inferred}
@@ -51,9 +51,9 @@ argumentsIn limit names store = entriesFrom limit store 0 names
 abbrev pub resultsIn : ℕ → List (List ℕ) → List ℕ → List Entry
 resultsIn limit names store = entriesFrom limit store 1 names
 
--- the words of a format that has at most so many shapes, or false
+-- the words of a format that the store has words for, or false
 pub record FormatMade (limit : ℕ) (f : Shapes) (ok : Bool) (words : List ℕ) : Type 0 where
-  pub fits : size f ≤ limit → (ok ≡ true) × (words ≡ formatWords limit (of f))
+  pub fits : Encodable limit (of f) → (ok ≡ true) × (words ≡ formatWords limit (of f))
   pub over : limit < size f → ok ≡ false
   pub kept : length words ≡ limit + 1
 

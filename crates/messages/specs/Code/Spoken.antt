@@ -10,7 +10,8 @@ use Rattle.file.specs.Sections.{File}
 use Rattle.law.specs.Places.{firstSentence}
 use Rattle.law.specs.Reading.{treeOf}
 use Rattle.law.specs.Code.Index.{PartAt}
-use Rattle.shapes.specs.Format.{of, size}
+use Rattle.shapes.specs.Format.{of}
+use Rattle.shapes.specs.Words.{Encodable}
 use Rattle.formats.specs.Code.Slots.{fileNames, callFolded, position}
 use Rattle.sentences.specs.Entry.{argumentPart}
 use Rattle.lints.specs.Finding.{Claim, byFormats, byLiterals, Finding, findingWords}
@@ -32,11 +33,11 @@ pub record CallHere (file : File) (t : ℕ) : Type 0 where
   pub kind : wordAt (file .terms .records) (24 * t) ≡ 7
   pub argument : PartAt file (t + 1) (argumentPart file t)
 
--- it is a call of a function of the law, and its argument's format is within the limit
+-- it is a call of a function of the law, and the store has words for its argument's format
 pub record ComparedHere (file : File) (limit : ℕ) (store : List ℕ) (t : ℕ) : Type 0 where
   pub call : CallHere file t
   pub placed : position (fileNames file) (callFolded file t) < length (fileNames file)
-  pub fits : size (passed (formatsIn file limit store) (callAt file t)) ≤ limit
+  pub fits : Encodable limit (of (passed (formatsIn file limit store) (callAt file t)))
 
 module _ (file : File) where
   -- does the sentence s stand in a block? The records of functions' sentences come first

@@ -15,10 +15,10 @@ use Rattle.shapes.proofs.disjoint_shapes.Reads as disjoint-shapes
 use Rattle.shapes.proofs.disjoint_shapes.Kinds as disjoint-shapes-kinds
 use Rattle.shapes.proofs.+disjoint_rows+disjoint_shapes.Lts-disjoint_shapes as disjoint-shapes-lts
 use Rattle.shapes.proofs.end_of.Reads as end-of-reads
-use Rattle.shapes.proofs.holds_brackets.Reads as holds-brackets-reads
+use Rattle.shapes.proofs.leaf.holds_brackets.Reads as holds-brackets-reads
 use Rattle.shapes.proofs.inside_open.Reads as inside-open-reads
 use Rattle.shapes.proofs.is_bracket.Reads as is-bracket-reads
-use Rattle.shapes.proofs.leaves_apart.Reads as leaves-apart-reads
+use Rattle.shapes.proofs.leaf.leaves_apart.Reads as leaves-apart-reads
 use Rattle.shapes.proofs.+disjoint_rows+disjoint_shapes.{statement}
 use Rattle.shapes.proofs.+disjoint_rows+disjoint_shapes.Tie.{close}
 

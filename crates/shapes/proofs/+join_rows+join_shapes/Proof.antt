@@ -20,7 +20,7 @@ use Rattle.shapes.proofs.bracket_word.Reads as bracket-word-reads
 use Rattle.shapes.proofs.end_of.Reads as end-of-reads
 use Rattle.shapes.proofs.inside_open.Reads as inside-open-reads
 use Rattle.shapes.proofs.is_bracket.Reads as is-bracket-reads
-use Rattle.shapes.proofs.join_leaves.Reads as join-leaves-reads
+use Rattle.shapes.proofs.leaf.join_leaves.Reads as join-leaves-reads
 use Rattle.shapes.proofs.+join_rows+join_shapes.{statement}
 use Rattle.shapes.proofs.+join_rows+join_shapes.Tie.{close}
 

@@ -141,7 +141,7 @@ pub +write-bracket+write-first+write-row-spec : {M : Type 1} → statement M
     (λ c. search needs)
     (λ c κs. let start = c .before .before .before .before .before .before .before .before .before .before in
     let part = start .args .part .now in (
-      laws.leaf-small part _ (laws.step-is part (c .before .before .before .before .before .term-at .ensures) (c .before .before .before .before .step-of .ensures) (c .before .before .word .given .1)),
+      laws.step-leaf-word part _ (laws.step-is part (c .before .before .before .before .before .term-at .ensures) (c .before .before .before .before .step-of .ensures) (c .before .before .word .given .1)),
       start .pre .1 .0 .begins,
       start .pre .1 .0 .room,
     ))

@@ -14,7 +14,7 @@ use Rattle.shapes.proofs.display.+show_row+show_shape.Lts-show_row as s
 use Rattle.shapes.proofs.display.show_shape.Reads as show-shape
 use Rattle.shapes.proofs.display.show_shape.Kinds as show-shape-kinds
 use Rattle.shapes.proofs.display.+show_row+show_shape.Lts-show_shape as show-shape-lts
-use Rattle.shapes.proofs.display.leaf_byte.Reads as leaf-byte-reads
+use Rattle.shapes.proofs.leaf.leaf_byte.Reads as leaf-byte-reads
 use Rattle.buffers.proofs.put.Reads as put-reads
 use Rattle.buffers.proofs.put_byte.Reads as put-byte-reads
 use Rattle.shapes.proofs.display.put_space.Reads as put-space-reads

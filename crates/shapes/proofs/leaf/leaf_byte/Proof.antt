@@ -1,8 +1,8 @@
 -- A word that is none of the first four says unknown.
 use Rattle.shapes.proofs.LeafWordLaws.{leaf-high, leaf-word-past}
 use borrow.Author.Needs.{needs}
-use Rattle.shapes.proofs.display.leaf_byte.Statement.{statement}
-use Rattle.shapes.proofs.display.leaf_byte.Tie as tie
+use Rattle.shapes.proofs.leaf.leaf_byte.Statement.{statement}
+use Rattle.shapes.proofs.leaf.leaf_byte.Tie as tie
 
 pub leaf-byte-spec : {M : Type 1} → statement M
 leaf-byte-spec = tie.close (tie.spec

@@ -1,8 +1,8 @@
 -- Rests on the table of joins by words, at the answers of the tests.
 use borrow.Author.Tests.{le-leb, lt-leb, eq-eqb, ne-eqb}
 use Rattle.shapes.proofs.LeafWordLaws.{leaves-join}
-use Rattle.shapes.proofs.join_leaves.Statement.{statement}
-use Rattle.shapes.proofs.join_leaves.Tie as tie
+use Rattle.shapes.proofs.leaf.join_leaves.Statement.{statement}
+use Rattle.shapes.proofs.leaf.join_leaves.Tie as tie
 
 pub join-leaves-spec : {M : Type 1} → statement M
 join-leaves-spec = tie.close (tie.spec

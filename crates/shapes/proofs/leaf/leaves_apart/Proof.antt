@@ -1,8 +1,8 @@
 -- Rests on the table of shapes that are apart by words, at the answers of the tests.
 use borrow.Author.Tests.{le-leb, lt-leb}
 use Rattle.shapes.proofs.LeafWordLaws.{leaves-apart}
-use Rattle.shapes.proofs.leaves_apart.Statement.{statement}
-use Rattle.shapes.proofs.leaves_apart.Tie as tie
+use Rattle.shapes.proofs.leaf.leaves_apart.Statement.{statement}
+use Rattle.shapes.proofs.leaf.leaves_apart.Tie as tie
 
 pub leaves-apart-spec : {M : Type 1} → statement M
 leaves-apart-spec = tie.close (tie.spec
