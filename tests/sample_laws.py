@@ -1,8 +1,8 @@
 """Makes the law files of the samples, and what the listing program has to write of one of them.
 
 Run at the repository's root: python3 tests/sample_laws.py
-It reads samples/*.ref, laws in Refal-5 notation, and writes samples/*.law with spans that are byte offsets into these
-texts; it writes crates/list_law/stdin, which is samples/bearing.law, and crates/list_law/stdout.
+It reads samples/bearing.ref and samples/example.ref, laws in Refal-5 notation, and writes their .law files, with spans that
+are byte offsets into these texts; it writes crates/list_law/stdin, which is samples/bearing.law, and crates/list_law/stdout.
 
 python3 tests/sample_laws.py --check writes nothing and says whether the files are as they would be written.
 
