@@ -14,12 +14,12 @@ infer-accepted-spec =
     (λ c. search needs)
     (λ c. search needs)
     (λ c. search needs)
-    (λ c.
+    (λ c. let the-if1 = c .before .before .before .before .before .before .before .before .if1 in
     let start = c .before .before .before .before .before .before .before .before .before .before .before in
     let inferred = c .before .before .before .before .infer-store in
-    outcome-over 64 _ (start .args .store .now) _ (c .before .before .before .before .before .before .before .before .if1 .left) (inferred .result) (inferred .ensures) (c .enum-told .given .1))
+    outcome-over 64 _ (start .args .store .now) _ (the-if1 .left) (inferred .result) (inferred .ensures) (c .enum-told .given .1))
     (λ c. search needs)
-    (λ c.
+    (λ c. let the-if1 = c .before .before .before .before .before .before .before .before .before .if1 in
     let start = c .before .before .before .before .before .before .before .before .before .before .before .before in
     let inferred = c .before .before .before .before .before .infer-store in
-    outcome-formed 64 _ (start .args .store .now) _ (c .before .before .before .before .before .before .before .before .before .if1 .left) (inferred .result) (inferred .ensures) _ _ (c .before .rounds .given .1)))
+    outcome-formed 64 _ (start .args .store .now) _ (the-if1 .left) (inferred .result) (inferred .ensures) _ _ (c .before .rounds .given .1)))

@@ -20,8 +20,8 @@ infer-formats-spec =
     let read = c .before .before .before .read-law in
     outcome-refused 64 (start .args .law .now) _ _ (read .result) (c .before .why .given .1) (read .ensures .0))
     (λ c. search needs)
-    (λ c.
+    (λ c. let the-enum-told = c .before .before .before .before .before .enum-told in
     let start = c .before .before .before .before .before .before .before .before .before .before .before in
     let read = c .before .before .before .before .before .before .before .read-law in
     let inferred = c .before .before .infer-accepted in
-    outcome-accepted 64 (start .args .law .now) (start .args .store .now) _ (read .result) (c .before .before .before .before .before .enum-told .given .1) (read .ensures .0) (inferred .result) (inferred .ensures)))
+    outcome-accepted 64 (start .args .law .now) (start .args .store .now) _ (read .result) (the-enum-told .given .1) (read .ensures .0) (inferred .result) (inferred .ensures)))

@@ -25,8 +25,15 @@ disjoint-formats-spec =
     (λ c. search needs)
     (λ c κs. search needs)
     (λ c κs. search needs)
-    (λ c. let x = c .before .before .before .before .before .before .before .before .before .before .before .before .before .before .before .args in
+    (λ c. let the-pre = c .before .before .before .before .before .before .before .before .before .before .before .before .before .before .before .pre in
+    let the-is-never = c .before .before .before .before .before .before .before .before .before .before .is-never in
+    let the-if1 = c .before .before .before .before .before .before .before .before .before .if1 in
+    let the-row-end = c .before .before .before .before .before .before .row-end in
+    let the-is-never2 = c .before .before .before .before .before .before .before .before .is-never2 in
+    let the-if2 = c .before .before .before .before .before .before .before .if2 in
+    let the-row-end2 = c .before .before .before .before .before .row-end2 in
+    let x = c .before .before .before .before .before .before .before .before .before .before .before .before .before .before .before .args in
     disjoint-rows-are (x .a .now) (x .b .now) _ _ _
-    (read-row (x .a .now) _ _ _ (c .before .before .before .before .before .before .before .before .before .before .before .before .before .before .before .pre .0) (c .before .before .before .before .before .before .before .before .before .before .is-never .ensures) (c .before .before .before .before .before .before .before .before .before .if1 .left) (c .before .before .before .before .before .before .row-end .ensures .0) (c .before .before .before .row-open .ensures))
-    (read-row (x .b .now) _ _ _ (c .before .before .before .before .before .before .before .before .before .before .before .before .before .before .before .pre .1) (c .before .before .before .before .before .before .before .before .is-never2 .ensures) (c .before .before .before .before .before .before .before .if2 .left) (c .before .before .before .before .before .row-end2 .ensures .0) (c .before .row-open2 .ensures))
+    (read-row (x .a .now) _ _ _ (the-pre .0) (the-is-never .ensures) (the-if1 .left) (the-row-end .ensures .0) (c .before .before .before .row-open .ensures))
+    (read-row (x .b .now) _ _ _ (the-pre .1) (the-is-never2 .ensures) (the-if2 .left) (the-row-end2 .ensures .0) (c .before .row-open2 .ensures))
     (c .disjoint-rows .ensures)))

@@ -26,29 +26,46 @@ infer-arguments-spec =
     (λ c.
     let start = c .before .before .before .before in
     (arguments-start (start .args .limit) (fileOf (start .args .law .now)) (start .args .store .now), start .pre .2))
-    (λ c κs.
+    (λ c κs. let the-pre = c .before .before .before .before .before .before .before .before .pre in
     let now = c .before .before .before .loop in
     let start = c .before .before .before .before .before .before .before .before in (
       start .pre .0,
       arguments-holding (now .inv .0) (start .pre .1),
-      (omega (arith, c .before .before .loop-test .taken, functions-read (c .before .before .before .before .before .before .before .before .pre .0) (c .before .before .before .before .functions .result) (c .before .before .before .before .functions .ensures))),
+      (omega (arith, c .before .before .loop-test .taken, functions-read (the-pre .0) (c .before .before .before .before .functions .result) (c .before .before .before .before .functions .ensures))),
       now .inv .1,
     ))
     (λ c. c .match .keys1)
-    (λ c. c .before .before .before .before .before .before .function-turn .kept .1 .1 .1 .0 ∙ arguments-long (c .before .before .before .before .before .before .before .before .before .before .loop .inv .0) (c .before .before .before .before .before .before .before .before .before .before .before .before .before .before .before .pre .1))
-    (λ c. c .before .before .before .before .before .before .function-turn .kept .1 .1 .1 .1 .1 .1 .1 .1 .0 ∙ c .before .before .before .before .before .before .before .before .before .before .loop .inv .1 ∙ sym (c .before .before .before .before .before .before .before .before .before .before .before .before .before .before .before .pre .2))
-    (λ c.
+    (λ c. let the-function-turn = c .before .before .before .before .before .before .function-turn in
+    let the-loop = c .before .before .before .before .before .before .before .before .before .before .loop in
+    let the-pre = c .before .before .before .before .before .before .before .before .before .before .before .before .before .before .before .pre in
+    the-function-turn .kept .1 .1 .1 .0 ∙ arguments-long (the-loop .inv .0) (the-pre .1))
+    (λ c. let the-function-turn = c .before .before .before .before .before .before .function-turn in
+    let the-loop = c .before .before .before .before .before .before .before .before .before .before .loop in
+    let the-pre = c .before .before .before .before .before .before .before .before .before .before .before .before .before .before .before .pre in
+    the-function-turn .kept .1 .1 .1 .1 .1 .1 .1 .1 .0 ∙ the-loop .inv .1 ∙ sym (the-pre .2))
+    (λ c. let the-loop = c .before .before .before .before .before .before .before .before .before .before .loop in
+    let the-loop-test = c .before .before .before .before .before .before .before .before .before .loop-test in
+    let the-pre = c .before .before .before .before .before .before .before .before .before .before .before .before .before .before .before .pre in
+    let the-functions = c .before .before .before .before .before .before .before .before .before .before .before .functions in
     let turn = c .before .before .before .before .before .before .function-turn in
-    arguments-refused (c .before .before .before .before .before .before .before .before .before .before .loop .inv .0) (turn .last .1 .1 .1 .0) (turn .result) (turn .ensures) (tag-over _ (c .before .match .keys1)) (omega (arith, c .before .before .before .before .before .before .before .before .before .loop-test .taken, functions-read (c .before .before .before .before .before .before .before .before .before .before .before .before .before .before .before .pre .0) (c .before .before .before .before .before .before .before .before .before .before .before .functions .result) (c .before .before .before .before .before .before .before .before .before .before .before .functions .ensures))))
-    (λ c.
+    arguments-refused (the-loop .inv .0) (turn .last .1 .1 .1 .0) (turn .result) (turn .ensures) (tag-over _ (c .before .match .keys1)) (omega (arith, the-loop-test .taken, functions-read (the-pre .0) (the-functions .result) (the-functions .ensures))))
+    (λ c. let the-loop-test = c .before .before .before .before .before .before .before .before .loop-test in
+    let the-functions = c .before .before .before .before .before .before .before .before .before .before .functions in
     let start = c .before .before .before .before .before .before .before .before .before .before .before .before .before .before in
-    omega (arith, c .before .before .before .before .before .before .before .before .loop-test .taken, functions-read (start .pre .0) (c .before .before .before .before .before .before .before .before .before .before .functions .result) (c .before .before .before .before .before .before .before .before .before .before .functions .ensures), functions-limit (start .args .law .now) (start .args .index .now) (start .pre .0 .indexed)))
-    (λ c. omega (arith, c .before .before .before .before .before .before .before .before .loop-test .taken))
-    (λ c.
+    omega (arith, the-loop-test .taken, functions-read (start .pre .0) (the-functions .result) (the-functions .ensures), functions-limit (start .args .law .now) (start .args .index .now) (start .pre .0 .indexed)))
+    (λ c. let the-loop-test = c .before .before .before .before .before .before .before .before .loop-test in
+    omega (arith, the-loop-test .taken))
+    (λ c. let the-loop = c .before .before .before .before .before .before .before .before .before .loop in
+    let the-loop-test = c .before .before .before .before .before .before .before .before .loop-test in
+    let the-pre = c .before .before .before .before .before .before .before .before .before .before .before .before .before .before .pre in
+    let the-functions = c .before .before .before .before .before .before .before .before .before .before .functions in
     let turn = c .before .before .before .before .before .function-turn in (
-      arguments-more (c .before .before .before .before .before .before .before .before .before .loop .inv .0) (turn .last .1 .1 .1 .0) (turn .result) (turn .ensures) (tag-not-over _ (c .match .keys2)) (omega (arith, c .before .before .before .before .before .before .before .before .loop-test .taken, functions-read (c .before .before .before .before .before .before .before .before .before .before .before .before .before .before .pre .0) (c .before .before .before .before .before .before .before .before .before .before .functions .result) (c .before .before .before .before .before .before .before .before .before .before .functions .ensures))) (c .before .before .before .before .before .before .before .before .before .before .before .before .before .before .pre .0 .small),
-      turn .kept .1 .1 .1 .1 .1 .1 .1 .1 .0 ∙ c .before .before .before .before .before .before .before .before .before .loop .inv .1,
+      arguments-more (the-loop .inv .0) (turn .last .1 .1 .1 .0) (turn .result) (turn .ensures) (tag-not-over _ (c .match .keys2)) (omega (arith, the-loop-test .taken, functions-read (the-pre .0) (the-functions .result) (the-functions .ensures))) (the-pre .0 .small),
+      turn .kept .1 .1 .1 .1 .1 .1 .1 .1 .0 ∙ the-loop .inv .1,
     ))
-    (λ c. arguments-long (c .before .loop .inv .0) (c .before .before .before .before .before .before .pre .1))
-    (λ c. c .before .loop .inv .1 ∙ sym (c .before .before .before .before .before .before .pre .2))
-    (λ c. arguments-all (c .before .loop .inv .0) (omega (arith, c .loop-test .left, functions-read (c .before .before .before .before .before .before .pre .0) (c .before .before .functions .result) (c .before .before .functions .ensures)))))
+    (λ c. let the-pre = c .before .before .before .before .before .before .pre in
+    arguments-long (c .before .loop .inv .0) (the-pre .1))
+    (λ c. let the-pre = c .before .before .before .before .before .before .pre in
+    c .before .loop .inv .1 ∙ sym (the-pre .2))
+    (λ c. let the-pre = c .before .before .before .before .before .before .pre in
+    arguments-all (c .before .loop .inv .0) (omega (arith, c .loop-test .left, functions-read (the-pre .0) (c .before .before .functions .result) (c .before .before .functions .ensures)))))

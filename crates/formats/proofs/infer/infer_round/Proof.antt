@@ -29,36 +29,56 @@ infer-round-spec =
     (λ c.
     let start = c .before .before .before .before in
     (round-start (start .args .limit) (fileOf (start .args .law .now)) (start .args .store .now), start .pre .2))
-    (λ c κs.
+    (λ c κs. let the-pre = c .before .before .before .before .before .before .before .before .pre in
     let now = c .before .before .before .loop in
     let start = c .before .before .before .before .before .before .before .before in (
       start .pre .0,
       round-holding (now .inv .0) (start .pre .1),
-      (omega (arith, c .before .before .loop-test .taken, functions-read (c .before .before .before .before .before .before .before .before .pre .0) (c .before .before .before .before .functions .result) (c .before .before .before .before .functions .ensures))),
+      (omega (arith, c .before .before .loop-test .taken, functions-read (the-pre .0) (c .before .before .before .before .functions .result) (c .before .before .before .before .functions .ensures))),
       now .inv .1,
     ))
     (λ c. c .match .keys1)
-    (λ c. c .before .before .before .before .before .before .function-turn .kept .1 .1 .1 .0 ∙ round-long (c .before .before .before .before .before .before .before .before .before .before .loop .inv .0) (c .before .before .before .before .before .before .before .before .before .before .before .before .before .before .before .pre .1))
-    (λ c. c .before .before .before .before .before .before .function-turn .kept .1 .1 .1 .1 .1 .1 .1 .1 .0 ∙ c .before .before .before .before .before .before .before .before .before .before .loop .inv .1 ∙ sym (c .before .before .before .before .before .before .before .before .before .before .before .before .before .before .before .pre .2))
-    (λ c.
+    (λ c. let the-function-turn = c .before .before .before .before .before .before .function-turn in
+    let the-loop = c .before .before .before .before .before .before .before .before .before .before .loop in
+    let the-pre = c .before .before .before .before .before .before .before .before .before .before .before .before .before .before .before .pre in
+    the-function-turn .kept .1 .1 .1 .0 ∙ round-long (the-loop .inv .0) (the-pre .1))
+    (λ c. let the-function-turn = c .before .before .before .before .before .before .function-turn in
+    let the-loop = c .before .before .before .before .before .before .before .before .before .before .loop in
+    let the-pre = c .before .before .before .before .before .before .before .before .before .before .before .before .before .before .before .pre in
+    the-function-turn .kept .1 .1 .1 .1 .1 .1 .1 .1 .0 ∙ the-loop .inv .1 ∙ sym (the-pre .2))
+    (λ c. let the-loop = c .before .before .before .before .before .before .before .before .before .before .loop in
+    let the-loop-test = c .before .before .before .before .before .before .before .before .before .loop-test in
+    let the-pre = c .before .before .before .before .before .before .before .before .before .before .before .before .before .before .before .pre in
+    let the-functions = c .before .before .before .before .before .before .before .before .before .before .before .functions in
     let turn = c .before .before .before .before .before .before .function-turn in
-    round-refused (c .before .before .before .before .before .before .before .before .before .before .loop .inv .0) (turn .last .1 .1 .1 .0) (turn .result) (turn .ensures) (tag-over _ (c .before .match .keys1)) (omega (arith, c .before .before .before .before .before .before .before .before .before .loop-test .taken, functions-read (c .before .before .before .before .before .before .before .before .before .before .before .before .before .before .before .pre .0) (c .before .before .before .before .before .before .before .before .before .before .before .functions .result) (c .before .before .before .before .before .before .before .before .before .before .before .functions .ensures))) (c .before .before .before .before .before .before .before .before .before .before .before .before .before .before .before .pre .0 .small))
+    round-refused (the-loop .inv .0) (turn .last .1 .1 .1 .0) (turn .result) (turn .ensures) (tag-over _ (c .before .match .keys1)) (omega (arith, the-loop-test .taken, functions-read (the-pre .0) (the-functions .result) (the-functions .ensures))) (the-pre .0 .small))
     (λ c. c .match .keys2)
     (λ c. c .match .keys3)
-    (λ c.
+    (λ c. let the-loop-test = c .before .before .before .before .before .before .before .before .loop-test in
+    let the-functions = c .before .before .before .before .before .before .before .before .before .before .functions in
     let start = c .before .before .before .before .before .before .before .before .before .before .before .before .before .before in
-    omega (arith, c .before .before .before .before .before .before .before .before .loop-test .taken, functions-read (start .pre .0) (c .before .before .before .before .before .before .before .before .before .before .functions .result) (c .before .before .before .before .before .before .before .before .before .before .functions .ensures), functions-limit (start .args .law .now) (start .args .index .now) (start .pre .0 .indexed)))
-    (λ c. omega (arith, c .before .before .before .before .before .before .before .before .loop-test .taken))
-    (λ c.
+    omega (arith, the-loop-test .taken, functions-read (start .pre .0) (the-functions .result) (the-functions .ensures), functions-limit (start .args .law .now) (start .args .index .now) (start .pre .0 .indexed)))
+    (λ c. let the-loop-test = c .before .before .before .before .before .before .before .before .loop-test in
+    omega (arith, the-loop-test .taken))
+    (λ c. let the-loop = c .before .before .before .before .before .before .before .before .before .loop in
+    let the-loop-test = c .before .before .before .before .before .before .before .before .loop-test in
+    let the-pre = c .before .before .before .before .before .before .before .before .before .before .before .before .before .before .pre in
+    let the-functions = c .before .before .before .before .before .before .before .before .before .before .functions in
     let turn = c .before .before .before .before .before .function-turn in
-    let marked : Marked (turn .result) (c .before .before .before .before .before .before .before .before .before .loop .changed) (c .match .changed) =
+    let marked : Marked (turn .result) (the-loop .changed) (c .match .changed) =
     ⊎-elim (λ w. inl (tag-changed _ (w .0 .keys2), w .2)) (λ w. inr (tag-same _ (w .0 .keys3), w .2)) (c .match .came) in (
-      round-more (c .before .before .before .before .before .before .before .before .before .loop .inv .0) (turn .last .1 .1 .1 .0) (turn .result) (turn .ensures) (c .match .changed) marked (omega (arith, c .before .before .before .before .before .before .before .before .loop-test .taken, functions-read (c .before .before .before .before .before .before .before .before .before .before .before .before .before .before .pre .0) (c .before .before .before .before .before .before .before .before .before .before .functions .result) (c .before .before .before .before .before .before .before .before .before .before .functions .ensures))) (c .before .before .before .before .before .before .before .before .before .before .before .before .before .before .pre .0 .small),
-      turn .kept .1 .1 .1 .1 .1 .1 .1 .1 .0 ∙ c .before .before .before .before .before .before .before .before .before .loop .inv .1,
+      round-more (the-loop .inv .0) (turn .last .1 .1 .1 .0) (turn .result) (turn .ensures) (c .match .changed) marked (omega (arith, the-loop-test .taken, functions-read (the-pre .0) (the-functions .result) (the-functions .ensures))) (the-pre .0 .small),
+      turn .kept .1 .1 .1 .1 .1 .1 .1 .1 .0 ∙ the-loop .inv .1,
     ))
-    (λ c. round-long (c .before .before .loop .inv .0) (c .before .before .before .before .before .before .before .pre .1))
-    (λ c. c .before .before .loop .inv .1 ∙ sym (c .before .before .before .before .before .before .before .pre .2))
-    (λ c. round-all (c .before .before .loop .inv .0) Changed (rw (c .if1 .taken)) (omega (arith, c .before .loop-test .left, functions-read (c .before .before .before .before .before .before .before .pre .0) (c .before .before .before .functions .result) (c .before .before .before .functions .ensures))))
-    (λ c. round-long (c .before .before .loop .inv .0) (c .before .before .before .before .before .before .before .pre .1))
-    (λ c. c .before .before .loop .inv .1 ∙ sym (c .before .before .before .before .before .before .before .pre .2))
-    (λ c. round-all (c .before .before .loop .inv .0) Same (rw (c .if1 .left)) (omega (arith, c .before .loop-test .left, functions-read (c .before .before .before .before .before .before .before .pre .0) (c .before .before .before .functions .result) (c .before .before .before .functions .ensures)))))
+    (λ c. let the-pre = c .before .before .before .before .before .before .before .pre in
+    round-long (c .before .before .loop .inv .0) (the-pre .1))
+    (λ c. let the-pre = c .before .before .before .before .before .before .before .pre in
+    c .before .before .loop .inv .1 ∙ sym (the-pre .2))
+    (λ c. let the-pre = c .before .before .before .before .before .before .before .pre in
+    round-all (c .before .before .loop .inv .0) Changed (rw (c .if1 .taken)) (omega (arith, c .before .loop-test .left, functions-read (the-pre .0) (c .before .before .before .functions .result) (c .before .before .before .functions .ensures))))
+    (λ c. let the-pre = c .before .before .before .before .before .before .before .pre in
+    round-long (c .before .before .loop .inv .0) (the-pre .1))
+    (λ c. let the-pre = c .before .before .before .before .before .before .before .pre in
+    c .before .before .loop .inv .1 ∙ sym (the-pre .2))
+    (λ c. let the-pre = c .before .before .before .before .before .before .before .pre in
+    round-all (c .before .before .loop .inv .0) Same (rw (c .if1 .left)) (omega (arith, c .before .loop-test .left, functions-read (the-pre .0) (c .before .before .before .functions .result) (c .before .before .before .functions .ensures)))))

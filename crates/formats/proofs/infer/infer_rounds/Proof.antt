@@ -27,27 +27,41 @@ infer-rounds-spec =
     (λ c. let start = c .before .before .before in (start .pre .2, rounds-start (start .args .limit) (start .args .most) (treeOf (fileOf (start .args .law .now))) (start .args .store .now)))
     (λ c κs. let p = c .before .before .before .before .before .before .before .pre in (p .0, rounds-holding (c .before .before .before .loop .inv .1) (p .1), c .before .before .before .loop .inv .0))
     (λ c. search needs)
-    (λ c. c .before .before .before .before .before .before .infer-round .kept .1 .1 .1 .0 ∙ c .before .before .before .before .before .before .before .before .before .before .loop .inv .1 .long)
-    (λ c. c .before .before .before .before .before .before .infer-round .kept .1 .1 .1 .1 .1 .1 .0 ∙ c .before .before .before .before .before .before .before .before .before .before .loop .inv .0 ∙ sym (c .before .before .before .before .before .before .before .before .before .before .before .before .before .before .pre .2))
-    (λ c.
+    (λ c. let the-infer-round = c .before .before .before .before .before .before .infer-round in
+    let the-loop = c .before .before .before .before .before .before .before .before .before .before .loop in
+    the-infer-round .kept .1 .1 .1 .0 ∙ the-loop .inv .1 .long)
+    (λ c. let the-infer-round = c .before .before .before .before .before .before .infer-round in
+    let the-loop = c .before .before .before .before .before .before .before .before .before .before .loop in
+    let the-pre = c .before .before .before .before .before .before .before .before .before .before .before .before .before .before .pre in
+    the-infer-round .kept .1 .1 .1 .1 .1 .1 .0 ∙ the-loop .inv .0 ∙ sym (the-pre .2))
+    (λ c. let the-loop = c .before .before .before .before .before .before .before .before .before .before .loop in
+    let the-loop-test = c .before .before .before .before .before .before .before .before .before .loop-test in
     let one = c .before .before .before .before .before .before .infer-round in
-    rounds-wide (c .before .before .before .before .before .before .before .before .before .before .loop .inv .1) (one .last .1 .1 .1 .0) (one .result) (one .ensures) (c .enum-told .given .1) (c .before .before .before .before .before .before .before .before .before .loop-test .taken))
+    rounds-wide (the-loop .inv .1) (one .last .1 .1 .1 .0) (one .result) (one .ensures) (c .enum-told .given .1) (the-loop-test .taken))
     (λ c. search needs)
     (λ c. search needs)
-    (λ c. omega (arith, c .before .before .before .before .before .before .before .before .before .loop-test .taken))
-    (λ c.
+    (λ c. let the-loop-test = c .before .before .before .before .before .before .before .before .before .loop-test in
+    omega (arith, the-loop-test .taken))
+    (λ c. let the-loop-test = c .before .before .before .before .before .before .before .before .before .loop-test in
     let one = c .before .before .before .before .before .before .infer-round in
     let inv = c .before .before .before .before .before .before .before .before .before .before .loop .inv in (
       one .kept .1 .1 .1 .1 .1 .1 .0 ∙ inv .0,
-      rounds-more (inv .1) (one .last .1 .1 .1 .0) (one .result) (one .ensures) (c .enum-told2 .given .1) (c .before .before .before .before .before .before .before .before .before .loop-test .taken) (one .kept .1 .1 .1 .0),
+      rounds-more (inv .1) (one .last .1 .1 .1 .0) (one .result) (one .ensures) (c .enum-told2 .given .1) (the-loop-test .taken) (one .kept .1 .1 .1 .0),
     ))
     (λ c. search needs)
     (λ c. search needs)
-    (λ c. c .before .before .before .before .before .before .infer-round .kept .1 .1 .1 .0 ∙ c .before .before .before .before .before .before .before .before .before .before .loop .inv .1 .long)
-    (λ c. c .before .before .before .before .before .before .infer-round .kept .1 .1 .1 .1 .1 .1 .0 ∙ c .before .before .before .before .before .before .before .before .before .before .loop .inv .0 ∙ sym (c .before .before .before .before .before .before .before .before .before .before .before .before .before .before .pre .2))
-    (λ c.
+    (λ c. let the-infer-round = c .before .before .before .before .before .before .infer-round in
+    let the-loop = c .before .before .before .before .before .before .before .before .before .before .loop in
+    the-infer-round .kept .1 .1 .1 .0 ∙ the-loop .inv .1 .long)
+    (λ c. let the-infer-round = c .before .before .before .before .before .before .infer-round in
+    let the-loop = c .before .before .before .before .before .before .before .before .before .before .loop in
+    let the-pre = c .before .before .before .before .before .before .before .before .before .before .before .before .before .before .pre in
+    the-infer-round .kept .1 .1 .1 .1 .1 .1 .0 ∙ the-loop .inv .0 ∙ sym (the-pre .2))
+    (λ c. let the-loop = c .before .before .before .before .before .before .before .before .before .before .loop in
+    let the-loop-test = c .before .before .before .before .before .before .before .before .before .loop-test in
     let one = c .before .before .before .before .before .before .infer-round in
-    rounds-settled (c .before .before .before .before .before .before .before .before .before .before .loop .inv .1) (one .last .1 .1 .1 .0) (one .result) (one .ensures) (c .enum-told3 .given .1) (c .before .before .before .before .before .before .before .before .before .loop-test .taken))
+    rounds-settled (the-loop .inv .1) (one .last .1 .1 .1 .0) (one .result) (one .ensures) (c .enum-told3 .given .1) (the-loop-test .taken))
     (λ c. c .before .loop .inv .1 .long)
-    (λ c. c .before .loop .inv .0 ∙ sym (c .before .before .before .before .before .pre .2))
+    (λ c. let the-pre = c .before .before .before .before .before .pre in
+    c .before .loop .inv .0 ∙ sym (the-pre .2))
     (λ c. rounds-out (c .before .loop .inv .1) (c .loop-test .left)))

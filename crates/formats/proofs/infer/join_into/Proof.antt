@@ -17,14 +17,16 @@ join-into-spec =
     let start = c .before .before .before .before in
     sym (lent-length (start .args .limit) (start .pre .0)))
     (λ c κs. let p = c .before .before .before .before .pre in (omega (arith, p .0), p .1, p .2, lent-length (c .before .before .before .before .args .limit) (p .0)))
-    (λ c. let joined = c .before .join-formats in back-inside (c .before .before .before .before .before .before .pre .0) (joined .last .1 .1 .1 .0) _ (joined .kept .1 .1 .1 .0))
-    (λ c. let joined = c .before .before .join-formats in sym (back-length (c .before .before .before .before .before .before .before .pre .0) (joined .last .1 .1 .1 .0) _ (joined .kept .1 .1 .1 .0)))
+    (λ c. let the-pre = c .before .before .before .before .before .before .pre in
+    let joined = c .before .join-formats in back-inside (the-pre .0) (joined .last .1 .1 .1 .0) _ (joined .kept .1 .1 .1 .0))
+    (λ c. let the-pre = c .before .before .before .before .before .before .before .pre in
+    let joined = c .before .before .join-formats in sym (back-length (the-pre .0) (joined .last .1 .1 .1 .0) _ (joined .kept .1 .1 .1 .0)))
     (λ c κs.
     let joined = c .before .before .before .join-formats in
     let start = c .before .before .before .before .before .before .before .before in
     let a = start .args in
     back-length (start .pre .0) (joined .last .1 .1 .1 .0) _ (joined .kept .1 .1 .1 .0) ∙ sym (format-in-length (a .limit) (a .format .now) (start .pre .1)))
     (λ c. search needs)
-    (λ c.
+    (λ c. let the-pre = c .before .before .before .before .before .before .before .before .before .before .before .pre in
     let joined = c .before .before .before .before .before .before .join-formats in
-    c .before .before .copy-words .ensures ∙ (back-front (c .before .before .before .before .before .before .before .before .before .before .before .pre .0) (joined .last .1 .1 .1 .0) _ (joined .kept .1 .1 .1 .0) ∙ joined .ensures)))
+    c .before .before .copy-words .ensures ∙ (back-front (the-pre .0) (joined .last .1 .1 .1 .0) _ (joined .kept .1 .1 .1 .0) ∙ joined .ensures)))

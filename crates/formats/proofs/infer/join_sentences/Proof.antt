@@ -45,7 +45,8 @@ join-sentences-spec =
     (λ c.
     let start = c .before .before .before .before .before in
     omega (arith, c .loop-test .taken, start .pre .2, sentences-limit (start .args .law .now) (start .args .index .now) (start .pre .0 .indexed)))
-    (λ c. omega (arith, c .before .loop .inv .0, c .before .before .before .before .before .pre .0 .small))
+    (λ c. let the-pre = c .before .before .before .before .before .pre in
+    omega (arith, c .before .loop .inv .0, the-pre .0 .small))
     (λ c.
     let now = c .before .before .loop in
     let start = c .before .before .before .before .before .before in
@@ -58,12 +59,12 @@ join-sentences-spec =
       omega (arith, c .before .loop-test .taken, start .pre .2),
       lent-length (start .args .limit) (now .row) (start .pre .0 .small) (now .inv .0),
     ))
-    (λ c.
+    (λ c. let the-loop = c .before .before .before .before .before .loop in
     let start = c .before .before .before .before .before .before .before .before .before in
-    rows-length (c .before .before .before .before .before .loop .inv .1) ∙ sym (format-in-length (start .args .limit) (start .args .joined .now) (start .pre .3)))
-    (λ c.
+    rows-length (the-loop .inv .1) ∙ sym (format-in-length (start .args .limit) (start .args .joined .now) (start .pre .3)))
+    (λ c. let the-loop = c .before .before .before .before .before .loop in
     let p = c .before .before .before .before .before .before .before .before .before .pre in
-    rows-refused (c .before .before .before .before .before .loop .inv .1) (c .before .before .sentence-format .ensures) (not-true _ (c .if1 .taken)) (p .0 .readable) (p .2)
+    rows-refused (the-loop .inv .1) (c .before .before .sentence-format .ensures) (not-true _ (c .if1 .taken)) (p .0 .readable) (p .2)
     (c .before .before .before .before .loop-test .taken))
     (λ c.
     let made = c .before .before .before .sentence-format in
@@ -90,17 +91,21 @@ join-sentences-spec =
       rows-format (now .inv .1),
       row-format (now .inv .1) (made .ensures) (not-false _ (c .before .before .if1 .left)) (drop (start .args .limit + 1) (now .row)),
     ))
-    (λ c. omega (arith, c .before .before .before .before .before .before .before .before .before .loop-test .taken, c .before .before .before .before .before .before .before .before .before .before .before .before .before .before .fits))
-    (λ c. omega (arith, c .before .before .before .before .before .before .before .before .before .loop-test .taken))
-    (λ c.
+    (λ c. let the-loop-test = c .before .before .before .before .before .before .before .before .before .loop-test in
+    let the-fits = c .before .before .before .before .before .before .before .before .before .before .before .before .before .before .fits in
+    omega (arith, the-loop-test .taken, the-fits))
+    (λ c. let the-loop-test = c .before .before .before .before .before .before .before .before .before .loop-test in
+    omega (arith, the-loop-test .taken))
+    (λ c. let the-if1 = c .before .before .before .before .before .if1 in
+    let the-loop-test = c .before .before .before .before .before .before .before .before .before .loop-test in
     let made = c .before .before .before .before .before .before .before .sentence-format in
-    let good : made .result ≡ true = not-false (made .result) (c .before .before .before .before .before .if1 .left) in
+    let good : made .result ≡ true = not-false (made .result) (the-if1 .left) in
     let now = c .before .before .before .before .before .before .before .before .before .before .loop in
     let start = c .before .before .before .before .before .before .before .before .before .before .before .before .before .before in
     let a = start .args in (
       back-length (a .limit) (now .row) (made .last .1 .1 .1 .1 .1 .1 .1 .1 .0) (made .kept .1 .1 .1 .1 .1 .1 .1 .1 .0) (now .inv .0),
       rows-more (now .inv .1) (made .ensures) good (drop (a .limit + 1) (now .row)) (start .pre .0 .small) (start .pre .0 .readable) (start .pre .2)
-          (c .before .before .before .before .before .before .before .before .before .loop-test .taken) refl (c .before .before .join-into .ensures),
+          (the-loop-test .taken) refl (c .before .before .join-into .ensures),
     ))
     (λ c.
     let start = c .before .before .before .before .before in

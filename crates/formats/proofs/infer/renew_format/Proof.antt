@@ -31,17 +31,18 @@ renew-format-spec =
     omega (arith, format-in-length (start .args .limit) (start .args .other .now) (start .pre .4)))
     (λ c κs. search needs)
     (λ c. search needs)
-    (λ c.
+    (λ c. let the-is-never = c .before .before .before .before .before .before .before .is-never in
+    let the-if1 = c .before .before .before .before .before .before .if1 in
     let start = c .before .before .before .before .before .before .before .before .before .before .before in (
-      started-words (start .args .limit) (start .args .store .now) (start .args .k) (start .args .other .now) (start .pre .0) (start .pre .4) (c .before .before .before .before .before .before .before .is-never .ensures) (c .before .before .before .before .before .before .if1 .taken) (c .before .before .before .before .copy-words .ensures),
-      started-test (start .args .limit) (start .args .store .now) (start .args .k) (start .args .other .now) (start .pre .0) (start .pre .4) (c .before .before .before .before .before .before .before .is-never .ensures) (c .before .before .before .before .before .before .if1 .taken) (c .is-never2 .ensures),
+      started-words (start .args .limit) (start .args .store .now) (start .args .k) (start .args .other .now) (start .pre .0) (start .pre .4) (the-is-never .ensures) (the-if1 .taken) (c .before .before .before .before .copy-words .ensures),
+      started-test (start .args .limit) (start .args .store .now) (start .args .k) (start .args .other .now) (start .pre .0) (start .pre .4) (the-is-never .ensures) (the-if1 .taken) (c .is-never2 .ensures),
     ))
     (λ c κs.
     let start = c .before .before .before .before .before in
     omega (arith, format-in-length (start .args .limit) (start .args .other .now) (start .pre .4)))
-    (λ c.
+    (λ c. let the-args = c .before .before .before .before .before .before .before .args in
     let the-end = c .before .row-end in
-    sym (length-take-le (the-end .result) (c .before .before .before .before .before .before .before .args .other .now) (the-end .ensures .2)))
+    sym (length-take-le (the-end .result) (the-args .other .now) (the-end .ensures .2)))
     (λ c. search needs)
     (λ c. search needs)
     (λ c. search needs)

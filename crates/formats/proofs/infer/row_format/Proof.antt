@@ -17,14 +17,22 @@ row-format-spec =
     (λ c κs. let p = c .before .before .before .before .before .before .before .before .before .pre in row-cleared (p .0) (c .before .before .before .clear-words .kept .0) refl)
     (λ c. search needs)
     (λ c. search needs)
-    (λ c. omega (arith, ends-between (c .before .next .given .1) (c .before .before .before .before .before .write-row .ensures .0)))
-    (λ c κs. omega (arith, ends-between (c .before .next .given .1) (c .before .before .before .before .before .write-row .ensures .0), c .before .before .before .before .before .before .before .before .before .before .before .before .before .before .before .pre .0 .stored .limited))
+    (λ c. let the-write-row = c .before .before .before .before .before .write-row in
+    omega (arith, ends-between (c .before .next .given .1) (the-write-row .ensures .0)))
+    (λ c κs. let the-write-row = c .before .before .before .before .before .write-row in
+    let the-pre = c .before .before .before .before .before .before .before .before .before .before .before .before .before .before .before .pre in
+    omega (arith, ends-between (c .before .next .given .1) (the-write-row .ensures .0), the-pre .0 .stored .limited))
     (λ c. search needs)
     (λ c. search needs)
-    (λ c.
+    (λ c. let the-args = c .before .before .before .before .before .before .before .before .before .before .before .before .before .before .args in
+    let the-clear-words = c .before .before .before .before .before .before .before .before .clear-words in
     let p = c .before .before .before .before .before .before .before .before .before .before .before .before .before .before .pre in
-    λ t knows. made-over (c .before .before .before .before .before .before .before .before .before .before .before .before .before .before .args .limit) _ _ _ (c .before .before .before .before .before .before .before .before .clear-words .kept .0 ∙ p .1) refl (c .enum-told .given .1) (c .before .before .before .before .write-row .ensures .1 t knows))
-    (λ c. length-set (c .before .before .before .before .before .before .write-row .last .1 .1 .1 .1 .1 .1 .1 .0) _ _ ∙ c .before .before .before .before .before .before .write-row .kept .1 .1 .1 .1 .1 .1 .1 .0 ∙ c .before .before .before .before .before .before .before .before .before .before .clear-words .kept .0)
-    (λ c.
+    λ t knows. made-over (the-args .limit) _ _ _ (the-clear-words .kept .0 ∙ p .1) refl (c .enum-told .given .1) (c .before .before .before .before .write-row .ensures .1 t knows))
+    (λ c. let the-write-row = c .before .before .before .before .before .before .write-row in
+    let the-clear-words = c .before .before .before .before .before .before .before .before .before .before .clear-words in
+    length-set (the-write-row .last .1 .1 .1 .1 .1 .1 .1 .0) _ _ ∙ the-write-row .kept .1 .1 .1 .1 .1 .1 .1 .0 ∙ the-clear-words .kept .0)
+    (λ c. let the-args = c .before .before .before .before .before .before .before .before .before .before .before .before .before .before .before .before .args in
+    let the-clear-words = c .before .before .before .before .before .before .before .before .before .before .clear-words in
+    let the-write-row = c .before .before .before .before .before .before .write-row in
     let p = c .before .before .before .before .before .before .before .before .before .before .before .before .before .before .before .before .pre in
-    λ t knows. made-written (c .before .before .before .before .before .before .before .before .before .before .before .before .before .before .before .before .args .limit) _ _ _ (c .before .before .before .before .before .before .before .before .before .before .clear-words .ensures ∙ ap (λ n. replicate n 0) (p .1)) refl (c .before .before .next .given .1) (c .header-word .ensures) (c .before .before .before .before .before .before .write-row .ensures .1 t knows)))
+    λ t knows. made-written (the-args .limit) _ _ _ (the-clear-words .ensures ∙ ap (λ n. replicate n 0) (p .1)) refl (c .before .before .next .given .1) (c .header-word .ensures) (the-write-row .ensures .1 t knows)))

@@ -18,7 +18,8 @@ sentences-format-spec =
     tie.close
     (tie.spec
     (λ c κs. search needs)
-    (λ c. omega (arith, c .before .before .clear-words .kept .0, c .before .before .before .before .before .before .before .before .pre .3))
+    (λ c. let the-pre = c .before .before .before .before .before .before .before .before .pre in
+    omega (arith, c .before .before .clear-words .kept .0, the-pre .3))
     (λ c. length-set (c .before .before .clear-words .last .0) _ _ ∙ c .before .before .clear-words .kept .0)
     (λ c.
     let start = c .before .before .before .before .before .before .before .before in
@@ -27,26 +28,31 @@ sentences-format-spec =
     let start = c .before .before .before .before .before in
     (start .pre .0, start .pre .1, omega (arith, c .before .if1 .left, start .pre .2), start .pre .3))
     (λ c. c .before .before .before .sentence-format .kept .1 .1 .1 .1 .1 .1 .1 .1 .0)
-    (λ c.
+    (λ c. let the-if1 = c .before .before .before .before .before .if1 in
     let start = c .before .before .before .before .before .before .before .before .before in
-    first-refused (start .args .limit) (fileOf (start .args .law .now)) (start .args .patterns) (find (resultsIn (start .args .limit) (fileNames (fileOf (start .args .law .now))) (start .args .store .now))) (start .args .from) (start .args .number) (c .before .before .before .sentence-format .ensures) (start .pre .0 .readable) (start .pre .2) (omega (arith, c .before .before .before .before .before .if1 .left)) (not-true _ (c .if2 .taken)))
+    first-refused (start .args .limit) (fileOf (start .args .law .now)) (start .args .patterns) (find (resultsIn (start .args .limit) (fileNames (fileOf (start .args .law .now))) (start .args .store .now))) (start .args .from) (start .args .number) (c .before .before .before .sentence-format .ensures) (start .pre .0 .readable) (start .pre .2) (omega (arith, the-if1 .left)) (not-true _ (c .if2 .taken)))
     (λ c. c .before .before .before .before .sentence-format .kept .1 .1 .1 .1 .1 .1 .1 .1 .0)
-    (λ c.
+    (λ c. let the-if1 = c .before .before .before .before .before .before .if1 in
     let start = c .before .before .before .before .before .before .before .before .before .before in
-    first-alone (start .args .limit) (fileOf (start .args .law .now)) (start .args .patterns) (find (resultsIn (start .args .limit) (fileNames (fileOf (start .args .law .now))) (start .args .store .now))) (start .args .from) (start .args .number) (c .before .before .before .before .sentence-format .ensures) (start .pre .0 .readable) (start .pre .2) (omega (arith, c .before .before .before .before .before .before .if1 .left)) (start .pre .0 .small) (not-false _ (c .before .if2 .left)) (c .if3 .taken))
-    (λ c.
+    first-alone (start .args .limit) (fileOf (start .args .law .now)) (start .args .patterns) (find (resultsIn (start .args .limit) (fileNames (fileOf (start .args .law .now))) (start .args .store .now))) (start .args .from) (start .args .number) (c .before .before .before .before .sentence-format .ensures) (start .pre .0 .readable) (start .pre .2) (omega (arith, the-if1 .left)) (start .pre .0 .small) (not-false _ (c .before .if2 .left)) (c .if3 .taken))
+    (λ c. let the-if1 = c .before .before .before .before .before .before .if1 in
     let start = c .before .before .before .before .before .before .before .before .before .before in
-    omega (arith, c .before .before .before .before .before .before .if1 .left, start .pre .2, sentences-limit (start .args .law .now) (start .args .index .now) (start .pre .0 .indexed)))
-    (λ c. omega (arith, c .before .before .before .before .before .before .if1 .left))
-    (λ c κs.
+    omega (arith, the-if1 .left, start .pre .2, sentences-limit (start .args .law .now) (start .args .index .now) (start .pre .0 .indexed)))
+    (λ c. let the-if1 = c .before .before .before .before .before .before .if1 in
+    omega (arith, the-if1 .left))
+    (λ c κs. let the-if1 = c .before .before .before .before .before .before .before .if1 in
+    let the-sentence-format = c .before .before .before .before .before .sentence-format in
     let start = c .before .before .before .before .before .before .before .before .before .before .before in (
       start .pre .0,
       start .pre .1,
-      omega (arith, c .before .before .before .before .before .before .before .if1 .left, start .pre .2),
-      first-format (start .args .limit) (fileOf (start .args .law .now)) (start .args .patterns) (find (resultsIn (start .args .limit) (fileNames (fileOf (start .args .law .now))) (start .args .store .now))) (start .args .from) (start .args .number) (c .before .before .before .before .before .sentence-format .ensures) (start .pre .0 .readable) (start .pre .2) (omega (arith, c .before .before .before .before .before .before .before .if1 .left)) (start .pre .0 .small) (not-false _ (c .before .before .if2 .left)),
+      omega (arith, the-if1 .left, start .pre .2),
+      first-format (start .args .limit) (fileOf (start .args .law .now)) (start .args .patterns) (find (resultsIn (start .args .limit) (fileNames (fileOf (start .args .law .now))) (start .args .store .now))) (start .args .from) (start .args .number) (the-sentence-format .ensures) (start .pre .0 .readable) (start .pre .2) (omega (arith, the-if1 .left)) (start .pre .0 .small) (not-false _ (c .before .before .if2 .left)),
     ))
-    (λ c. c .before .before .join-sentences .kept .1 .1 .1 .1 .1 .1 .1 .1 .1 .0 ∙ c .before .before .before .before .before .before .before .before .sentence-format .kept .1 .1 .1 .1 .1 .1 .1 .1 .0)
-    (λ c.
+    (λ c. let the-sentence-format = c .before .before .before .before .before .before .before .before .sentence-format in
+    c .before .before .join-sentences .kept .1 .1 .1 .1 .1 .1 .1 .1 .1 .0 ∙ the-sentence-format .kept .1 .1 .1 .1 .1 .1 .1 .1 .0)
+    (λ c. let the-sentence-format = c .before .before .before .before .before .before .before .before .sentence-format in
+    let the-if1 = c .before .before .before .before .before .before .before .before .before .before .if1 in
+    let the-if2 = c .before .before .before .before .before .if2 in
     let start = c .before .before .before .before .before .before .before .before .before .before .before .before .before .before in
     let others = c .before .before .join-sentences in
-    first-joined (start .args .limit) (fileOf (start .args .law .now)) (start .args .patterns) (find (resultsIn (start .args .limit) (fileNames (fileOf (start .args .law .now))) (start .args .store .now))) (start .args .from) (start .args .number) (c .before .before .before .before .before .before .before .before .sentence-format .ensures) (start .pre .0 .readable) (start .pre .2) (omega (arith, c .before .before .before .before .before .before .before .before .before .before .if1 .left)) (start .pre .0 .small) (not-false _ (c .before .before .before .before .before .if2 .left)) (others .result) (others .last .1 .1 .1 .1 .1 .1 .1 .1 .1 .0) (others .ensures)))
+    first-joined (start .args .limit) (fileOf (start .args .law .now)) (start .args .patterns) (find (resultsIn (start .args .limit) (fileNames (fileOf (start .args .law .now))) (start .args .store .now))) (start .args .from) (start .args .number) (the-sentence-format .ensures) (start .pre .0 .readable) (start .pre .2) (omega (arith, the-if1 .left)) (start .pre .0 .small) (not-false _ (the-if2 .left)) (others .result) (others .last .1 .1 .1 .1 .1 .1 .1 .1 .1 .0) (others .ensures)))

@@ -98,27 +98,34 @@ pub +write-bracket+write-first+write-row-spec : {M : Type 1} → statement M
     ))
     (λ c. search needs)
     (λ c. search needs)
-    (λ c. omega (arith, laws.ends-between (c .before .next .given .1) (c .before .before .before .before .before .write-row .ensures .0)))
-    (λ c κs. let start = c .before .before .before .before .before .before .before .before .before .before .before .before .before .before in
-    omega (arith, laws.ends-between (c .before .next .given .1) (c .before .before .before .before .before .write-row .ensures .0), start .pre .1 .0 .small))
-    (λ c. let start = c .before .before .before .before .before .before .before .before .before .before .before .before .before .before .before in
-    omega (arith, c .before .before .before .before .before .before .before .before .before .before .if1 .left, start .pre .1 .0 .small))
-    (λ c. let start = c .before .before .before .before .before .before .before .before .before .before .before .before .before .before .before in
-    omega (arith, c .before .before .before .before .before .before .before .before .before .before .if1 .left, start .pre .1 .0 .room, c .before .before .before .before .before .before .write-row .kept .1 .1 .1 .1 .1 .1 .1 .0))
+    (λ c. let the-write-row = c .before .before .before .before .before .write-row in
+    omega (arith, laws.ends-between (c .before .next .given .1) (the-write-row .ensures .0)))
+    (λ c κs. let the-write-row = c .before .before .before .before .before .write-row in
+    let start = c .before .before .before .before .before .before .before .before .before .before .before .before .before .before in
+    omega (arith, laws.ends-between (c .before .next .given .1) (the-write-row .ensures .0), start .pre .1 .0 .small))
+    (λ c. let the-if1 = c .before .before .before .before .before .before .before .before .before .before .if1 in
+    let start = c .before .before .before .before .before .before .before .before .before .before .before .before .before .before .before in
+    omega (arith, the-if1 .left, start .pre .1 .0 .small))
+    (λ c. let the-if1 = c .before .before .before .before .before .before .before .before .before .before .if1 in
+    let the-write-row = c .before .before .before .before .before .before .write-row in
+    let start = c .before .before .before .before .before .before .before .before .before .before .before .before .before .before .before in
+    omega (arith, the-if1 .left, start .pre .1 .0 .room, the-write-row .kept .1 .1 .1 .1 .1 .1 .1 .0))
     (λ c. c .before .before .before .before .write-row .kept .1 .1 .1 .1 .1 .1 .1 .0)
-    (λ c. let start = c .before .before .before .before .before .before .before .before .before .before .before .before .before in
+    (λ c. let the-end-of = c .before .before .before .before .before .before .before .end-of in
+    let start = c .before .before .before .before .before .before .before .before .before .before .before .before .before in
     let inside = c .before .before .before .before .write-row in (
       tt,
-      λ results knows. laws.bracket-over (start .pre .1 .0) (start .pre .1 .1) results (c .before .before .before .before .before .before .before .end-of .ensures .0) (c .enum-told .given .1) (inside .ensures .1 results knows),
+      λ results knows. laws.bracket-over (start .pre .1 .0) (start .pre .1 .1) results (the-end-of .ensures .0) (c .enum-told .given .1) (inside .ensures .1 results knows),
     ))
     (λ c. let inside = c .before .before .before .before .before .before .write-row in
     length-set (inside .last .1 .1 .1 .1 .1 .1 .1 .0) _ _ ∙ inside .kept .1 .1 .1 .1 .1 .1 .1 .0)
-    (λ c. let start = c .before .before .before .before .before .before .before .before .before .before .before .before .before .before .before in
+    (λ c. let the-end-of = c .before .before .before .before .before .before .before .before .before .end-of in
+    let start = c .before .before .before .before .before .before .before .before .before .before .before .before .before .before .before in
     let inside = c .before .before .before .before .before .before .write-row in
     let ends = c .before .before .next .given .1 in
     let between = laws.ends-between ends (inside .ensures .0) in (
       (omega arith, omega arith),
-      λ results knows. laws.bracket-written (start .pre .1 .0) (start .pre .1 .1) results (c .before .before .before .before .before .before .before .before .before .end-of .ensures .0) ends (c .bracket-word .ensures) (inside .ensures .1 results knows),
+      λ results knows. laws.bracket-written (start .pre .1 .0) (start .pre .1 .1) results (the-end-of .ensures .0) ends (c .bracket-word .ensures) (inside .ensures .1 results knows),
     )))
     (λ t. write-first-lts.spec (
       term-at-reads.Asked,
@@ -139,9 +146,10 @@ pub +write-bracket+write-first+write-row-spec : {M : Type 1} → statement M
     (λ c κs. search needs)
     (λ c κs. search needs)
     (λ c. search needs)
-    (λ c κs. let start = c .before .before .before .before .before .before .before .before .before .before in
+    (λ c κs. let the-term-at = c .before .before .before .before .before .term-at in
+    let start = c .before .before .before .before .before .before .before .before .before .before in
     let part = start .args .part .now in (
-      laws.step-leaf-word part _ (laws.step-is part (c .before .before .before .before .before .term-at .ensures) (c .before .before .before .before .step-of .ensures) (c .before .before .word .given .1)),
+      laws.step-leaf-word part _ (laws.step-is part (the-term-at .ensures) (c .before .before .before .before .step-of .ensures) (c .before .before .word .given .1)),
       start .pre .1 .0 .begins,
       start .pre .1 .0 .room,
     ))
@@ -158,8 +166,11 @@ pub +write-bracket+write-first+write-row-spec : {M : Type 1} → statement M
     (λ c κs. let start = c .before .before .before .before .before .before .before .before .before .before .before in
     (start .pre .1 .0 .stored, c .before .wide .ensures .1, start .pre .1 .0 .begins, start .pre .1 .0 .room))
     (λ c. c .before .before .write-leaf .kept .1 .0)
-    (λ c. let start = c .before .before .before .before .before .before .before .before .before .before .before .before .before in
-    let step = laws.step-is (start .args .part .now) (c .before .before .before .before .before .before .before .before .term-at .ensures) (c .before .before .before .before .before .before .before .step-of .ensures) (c .before .before .before .before .before .word .given .1) in (
+    (λ c. let the-term-at = c .before .before .before .before .before .before .before .before .term-at in
+    let the-step-of = c .before .before .before .before .before .before .before .step-of in
+    let the-word = c .before .before .before .before .before .word in
+    let start = c .before .before .before .before .before .before .before .before .before .before .before .before .before in
+    let step = laws.step-is (start .args .part .now) (the-term-at .ensures) (the-step-of .ensures) (the-word .given .1) in (
       c .before .before .write-leaf .ensures .0,
       λ results knows. laws.first-leaf (start .pre .1 .0) (start .pre .1 .1) results step (c .before .before .write-leaf .ensures .1),
     ))
@@ -171,14 +182,19 @@ pub +write-bracket+write-first+write-row-spec : {M : Type 1} → statement M
       λ results knows. laws.first-open _ results _ (a .part .now) (a .out .now) (a .to) (a .most) (asked .begins) (asked .room) step,
     ))
     (λ c. c .before .before .write-bracket .kept .1 .1 .1 .1 .1 .1 .1 .0)
-    (λ c. let start = c .before .before .before .before .before .before .before .before .before .before .before .before in
-    let step = laws.step-is (start .args .part .now) (c .before .before .before .before .before .before .before .term-at .ensures) (c .before .before .before .before .before .before .step-of .ensures) (c .before .before .before .before .enum-told2 .given .1) in (
+    (λ c. let the-term-at = c .before .before .before .before .before .before .before .term-at in
+    let the-step-of = c .before .before .before .before .before .before .step-of in
+    let start = c .before .before .before .before .before .before .before .before .before .before .before .before in
+    let step = laws.step-is (start .args .part .now) (the-term-at .ensures) (the-step-of .ensures) (c .before .before .before .before .enum-told2 .given .1) in (
       c .before .before .write-bracket .ensures .0,
       λ results knows. laws.first-bracket (start .pre .1 .0) (start .pre .1 .1) results step (c .before .before .write-bracket .ensures .1 results knows),
     ))
     (λ c. c .before .before .write-call .kept .1 .1 .1 .1 .0)
-    (λ c. let start = c .before .before .before .before .before .before .before .before .before .before .before .before .before .before in
-    let step = laws.step-is (start .args .part .now) (c .before .before .before .before .before .before .before .before .before .term-at .ensures) (c .before .before .before .before .before .before .before .before .step-of .ensures) (c .before .before .before .before .before .before .enum-told3 .given .1) in (
+    (λ c. let the-term-at = c .before .before .before .before .before .before .before .before .before .term-at in
+    let the-step-of = c .before .before .before .before .before .before .before .before .step-of in
+    let the-enum-told3 = c .before .before .before .before .before .before .enum-told3 in
+    let start = c .before .before .before .before .before .before .before .before .before .before .before .before .before .before in
+    let step = laws.step-is (start .args .part .now) (the-term-at .ensures) (the-step-of .ensures) (the-enum-told3 .given .1) in (
       c .before .before .write-call .ensures .0,
       λ results knows. laws.first-call (start .pre .1 .0) (start .pre .1 .1) results step (c .before .before .before .before .wide .ensures .0) knows (c .before .before .write-call .ensures .1),
     )))
@@ -221,36 +237,44 @@ pub +write-bracket+write-first+write-row-spec : {M : Type 1} → statement M
     (omega (arith, laws.left-length (leaves .result) (start .args .part .now), start .pre .0), (onward .asked, c .before .if1 .left)))
     (λ c. search needs)
     (λ c. search needs)
-    (λ c. c .before .before .before .before .write-first .kept .1 .1 .1 .1 .1 .1 .1 .0 ∙ c .before .before .before .before .before .before .before .before .before .before .write-leaves .kept .1 .0)
-    (λ c. let start = c .before .before .before .before .before .before .before .before .before .before .before .before .before .before .before .before in
+    (λ c. let the-write-leaves = c .before .before .before .before .before .before .before .before .before .before .write-leaves in
+    c .before .before .before .before .write-first .kept .1 .1 .1 .1 .1 .1 .1 .0 ∙ the-write-leaves .kept .1 .0)
+    (λ c. let the-if1 = c .before .before .before .before .before .before .if1 in
+    let start = c .before .before .before .before .before .before .before .before .before .before .before .before .before .before .before .before in
     let leaves = c .before .before .before .before .before .before .before .before .before .before .write-leaves in
     let onward = leaves .ensures .2 _ (start .args .at) (start .args .store .now) (start .args .limit) (start .args .count) (start .pre .1) in
-    (tt, λ results knows. onward .goes results _ _ (laws.row-first-over (onward .asked) (c .before .before .before .before .before .before .if1 .left) results (c .enum-told .given .1) (c .before .before .before .before .write-first .ensures .1 results knows))))
-    (λ c. c .before .before .before .before .before .before .write-first .kept .1 .1 .1 .1 .1 .1 .1 .0 ∙ c .before .before .before .before .before .before .before .before .before .before .before .before .write-leaves .kept .1 .0)
-    (λ c. let start = c .before .before .before .before .before .before .before .before .before .before .before .before .before .before .before .before .before .before in
+    (tt, λ results knows. onward .goes results _ _ (laws.row-first-over (onward .asked) (the-if1 .left) results (c .enum-told .given .1) (c .before .before .before .before .write-first .ensures .1 results knows))))
+    (λ c. let the-write-first = c .before .before .before .before .before .before .write-first in
+    let the-write-leaves = c .before .before .before .before .before .before .before .before .before .before .before .before .write-leaves in
+    the-write-first .kept .1 .1 .1 .1 .1 .1 .1 .0 ∙ the-write-leaves .kept .1 .0)
+    (λ c. let the-if1 = c .before .before .before .before .before .before .before .before .if1 in
+    let start = c .before .before .before .before .before .before .before .before .before .before .before .before .before .before .before .before .before .before in
     let leaves = c .before .before .before .before .before .before .before .before .before .before .before .before .write-leaves in
     let onward = leaves .ensures .2 _ (start .args .at) (start .args .store .now) (start .args .limit) (start .args .count) (start .pre .1) in
     let first = c .before .before .before .before .before .before .write-first in
     let ends = c .before .before .first .given .1 in
     let between = laws.ends-between ends (first .ensures .0) in (
       (omega (arith, between .0), between .1),
-      λ results knows. onward .goes results _ _ (laws.row-first-open (onward .asked) (c .before .before .before .before .before .before .before .before .if1 .left) results ends (c .if2 .taken) (first .ensures .1 results knows)),
+      λ results knows. onward .goes results _ _ (laws.row-first-open (onward .asked) (the-if1 .left) results ends (c .if2 .taken) (first .ensures .1 results knows)),
     ))
     (λ c κs. search needs)
     (λ c. search needs)
     (λ c. search needs)
     (λ c. search needs)
-    (λ c. let start = c .before .before .before .before .before .before .before .before .before .before .before .before .before .before .before .before .before .before .before .before in
+    (λ c. let the-if1 = c .before .before .before .before .before .before .before .before .before .before .if1 in
+    let start = c .before .before .before .before .before .before .before .before .before .before .before .before .before .before .before .before .before .before .before .before in
     let leaves = c .before .before .before .before .before .before .before .before .before .before .before .before .before .before .write-leaves in
     let onward = leaves .ensures .2 _ (start .args .at) (start .args .store .now) (start .args .limit) (start .args .count) (start .pre .1) in
-    omega (arith, laws.asked-small (onward .asked) (c .before .before .before .before .before .before .before .before .before .before .if1 .left)))
+    omega (arith, laws.asked-small (onward .asked) (the-if1 .left)))
     (λ c κs. search needs)
     (λ c. search needs)
-    (λ c. let start = c .before .before .before .before .before .before .before .before .before .before .before .before .before .before .before .before .before .before .before .before .before in
+    (λ c. let the-if1 = c .before .before .before .before .before .before .before .before .before .before .before .if1 in
+    let start = c .before .before .before .before .before .before .before .before .before .before .before .before .before .before .before .before .before .before .before .before .before in
     let leaves = c .before .before .before .before .before .before .before .before .before .before .before .before .before .before .before .write-leaves in
     let onward = leaves .ensures .2 _ (start .args .at) (start .args .store .now) (start .args .limit) (start .args .count) (start .pre .1) in
-    omega (arith, laws.rest-small (onward .asked) (c .before .before .before .before .before .before .before .before .before .before .before .if1 .left) (c .word-at .ensures)))
-    (λ c κs. let start = c .before .before .before .before .before .before .before .before .before .before .before .before .before .before .before .before .before .before .before .before .before .before in
+    omega (arith, laws.rest-small (onward .asked) (the-if1 .left) (c .word-at .ensures)))
+    (λ c κs. let the-first = c .before .before .before .before .before .before .first in
+    let start = c .before .before .before .before .before .before .before .before .before .before .before .before .before .before .before .before .before .before .before .before .before .before in
     let leaves = c .before .before .before .before .before .before .before .before .before .before .before .before .before .before .before .before .write-leaves in
     let onward = leaves .ensures .2 _ (start .args .at) (start .args .store .now) (start .args .limit) (start .args .count) (start .pre .1) in
     let the-end = c .before .before .before .end-of in
@@ -258,15 +282,20 @@ pub +write-bracket+write-first+write-row-spec : {M : Type 1} → statement M
     let some = c .before .before .before .before .before .before .before .before .before .before .before .before .if1 .left in
     let left = leftOf (leaves .result) (start .args .part .now) in (
       omega (arith, after-falls left (the-end .result) (length left) some (the-end .ensures .0) refl, laws.left-length (leaves .result) (start .args .part .now), start .pre .0),
-      laws.asked-rest (onward .asked) some (the-end .ensures .0) (c .before .word-at .ensures) (laws.ends-between (c .before .before .before .before .before .before .first .given .1) (first .ensures .0) .1) (first .kept .1 .1 .1 .1 .1 .1 .1 .0),
+      laws.asked-rest (onward .asked) some (the-end .ensures .0) (c .before .word-at .ensures) (laws.ends-between (the-first .given .1) (first .ensures .0) .1) (first .kept .1 .1 .1 .1 .1 .1 .1 .0),
     ))
-    (λ c. c .before .before .write-row .kept .1 .1 .1 .1 .1 .1 .1 .0 ∙ c .before .before .before .before .before .before .before .before .before .before .before .before .before .write-first .kept .1 .1 .1 .1 .1 .1 .1 .0 ∙ c .before .before .before .before .before .before .before .before .before .before .before .before .before .before .before .before .before .before .before .write-leaves .kept .1 .0)
-    (λ c. let start = c .before .before .before .before .before .before .before .before .before .before .before .before .before .before .before .before .before .before .before .before .before .before .before .before .before in
+    (λ c. let the-write-first = c .before .before .before .before .before .before .before .before .before .before .before .before .before .write-first in
+    let the-write-leaves = c .before .before .before .before .before .before .before .before .before .before .before .before .before .before .before .before .before .before .before .write-leaves in
+    c .before .before .write-row .kept .1 .1 .1 .1 .1 .1 .1 .0 ∙ the-write-first .kept .1 .1 .1 .1 .1 .1 .1 .0 ∙ the-write-leaves .kept .1 .0)
+    (λ c. let the-if1 = c .before .before .before .before .before .before .before .before .before .before .before .before .before .before .before .if1 in
+    let the-if2 = c .before .before .before .before .before .before .before .if2 in
+    let the-end-of = c .before .before .before .before .before .before .end-of in
+    let start = c .before .before .before .before .before .before .before .before .before .before .before .before .before .before .before .before .before .before .before .before .before .before .before .before .before in
     let leaves = c .before .before .before .before .before .before .before .before .before .before .before .before .before .before .before .before .before .before .before .write-leaves in
     let onward = leaves .ensures .2 _ (start .args .at) (start .args .store .now) (start .args .limit) (start .args .count) (start .pre .1) in
     let first = c .before .before .before .before .before .before .before .before .before .before .before .before .before .write-first in
     let rest = c .before .before .write-row in
     let ends = c .before .before .before .before .before .before .before .before .before .first .given .1 in (
       laws.between-later _ (start .args .most) _ (rest .result) (omega (arith, laws.ends-between ends (first .ensures .0) .0)) (rest .ensures .0),
-      λ results knows. onward .goes results _ _ (laws.row-first-rest (onward .asked) (c .before .before .before .before .before .before .before .before .before .before .before .before .before .before .before .if1 .left) results ends (c .before .before .before .before .before .before .before .if2 .left) (c .before .before .before .before .before .before .end-of .ensures .0) (c .before .before .before .before .word-at .ensures) (first .ensures .1 results knows) (rest .ensures .1 results knows)),
+      λ results knows. onward .goes results _ _ (laws.row-first-rest (onward .asked) (the-if1 .left) results ends (the-if2 .left) (the-end-of .ensures .0) (c .before .before .before .before .word-at .ensures) (first .ensures .1 results knows) (rest .ensures .1 results knows)),
     ))

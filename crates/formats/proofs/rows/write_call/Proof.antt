@@ -52,7 +52,8 @@ write-call-spec =
     ))
     (λ c. search needs)
     (λ c. search needs)
-    (λ c.
+    (λ c. let the-if1 = c .before .before .before .before .before .before .before .if1 in
+    let the-if2 = c .before .before .before .before .before .if2 in
     let start = c .before .before .before .before .before .before .before .before .before .before in
     let a = start .args in
-    ((omega arith, omega arith), row-callee (a .store .now) (a .limit) (a .count) (a .place) (start .pre .0) (c .before .before .before .before .before .before .before .if1 .left) (a .out .now) (a .to) (a .most) (omega arith) (omega arith) (c .before .before .copy-row .last .1 .1 .1 .0) (c .before .before .before .before .before .if2 .left) (c .before .before .before .before .if3 .left) (c .before .before .copy-row .ensures))))
+    ((omega arith, omega arith), row-callee (a .store .now) (a .limit) (a .count) (a .place) (start .pre .0) (the-if1 .left) (a .out .now) (a .to) (a .most) (omega arith) (omega arith) (c .before .before .copy-row .last .1 .1 .1 .0) (the-if2 .left) (c .before .before .before .before .if3 .left) (c .before .before .copy-row .ensures))))

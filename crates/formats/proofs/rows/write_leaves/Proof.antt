@@ -32,8 +32,10 @@ write-leaves-spec =
     (λ c. omega arith)
     (λ c. search needs)
     (λ c. search needs)
-    (λ c κs. omega (arith, leb-true (24 * c .before .before .before .loop .n + 24) (length (c .before .before .before .before .before .before .args .part .now)) (c .before .if1 .taken), left-length (c .before .before .before .loop .n) (c .before .before .before .before .before .before .args .part .now)))
-    (λ c. c .before .before .before .before .before .loop .inv .2)
+    (λ c κs. let the-args = c .before .before .before .before .before .before .args in
+    omega (arith, leb-true (24 * c .before .before .before .loop .n + 24) (length (the-args .part .now)) (c .before .if1 .taken), left-length (c .before .before .before .loop .n) (the-args .part .now)))
+    (λ c. let the-loop = c .before .before .before .before .before .loop in
+    the-loop .inv .2)
     (λ c.
     let inv = c .before .before .before .before .before .loop .inv in
     (inv .0, inv .1, inv .3))

@@ -45,8 +45,10 @@ fill-calls-spec =
     (λ c κs. let start = c .before .before .before .before .before .before in
     (start .pre .0, start .pre .1, omega arith, kind-read (fileOf (start .args .law .now)) _ _ (c .before .term-word .ensures) ∙ c .if1 .taken))
     (λ c. omega (arith, c .callee-slot .ensures .inside))
-    (λ c. omega (arith, terms-limit _ _ (c .before .before .before .before .before .before .before .before .pre .0)))
-    (λ c. omega (arith, terms-limit _ _ (c .before .before .before .before .before .before .before .before .pre .0)))
+    (λ c. let the-pre = c .before .before .before .before .before .before .before .before .pre in
+    omega (arith, terms-limit _ _ (the-pre .0)))
+    (λ c. let the-pre = c .before .before .before .before .before .before .before .before .pre in
+    omega (arith, terms-limit _ _ (the-pre .0)))
     (λ c. omega arith)
     (λ c. omega arith)
     (λ c. (c .before .before .before .loop .inv .0, omega arith, passed c .0, passed c .1))

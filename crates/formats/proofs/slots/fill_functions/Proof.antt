@@ -28,13 +28,15 @@ fill-functions-spec =
     let start = c .before .before in
     (c .functions .ensures ∙ start .pre .0 .words .functions, omega arith, start .pre .3, λ i l. absurd (omega arith)))
     (λ c κs. let p = c .before .before .before .before .pre in (p .0, p .1, p .2, omega arith))
-    (λ c. omega (arith, functions-limit _ _ (c .before .before .before .before .before .pre .0)))
+    (λ c. let the-pre = c .before .before .before .before .before .pre in
+    omega (arith, functions-limit _ _ (the-pre .0)))
     (λ c. omega arith)
     (λ c. omega arith)
-    (λ c. let l = c .before .before .loop in (
+    (λ c. let the-pre = c .before .before .before .before .before .pre in
+    let l = c .before .before .loop in (
       l .inv .0,
       omega arith,
       length-set (l .slots) _ _ ∙ l .inv .2,
-      filled-next (l .slots) (l .f) _ _ (l .inv .3) (omega (arith, functions-limit _ _ (c .before .before .before .before .before .pre .0))) (c .place .ensures),
+      filled-next (l .slots) (l .f) _ _ (l .inv .3) (omega (arith, functions-limit _ _ (the-pre .0))) (c .place .ensures),
     ))
     (λ c. let l = c .before .loop in (l .inv .2, λ i k. l .inv .3 i (omega arith))))

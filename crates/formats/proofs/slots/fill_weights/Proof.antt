@@ -28,15 +28,18 @@ fill-weights-spec =
     let start = c .before .before in
     (c .functions .ensures ∙ start .pre .0 .words .functions, start .pre .2, count-start _ _, λ i l. absurd (omega arith)))
     (λ c κs. let p = c .before .before .before .before .pre in (p .0, p .1, omega arith))
-    (λ c. omega (arith, functions-limit _ _ (c .before .before .before .before .before .pre .0)))
-    (λ c. omega (arith, functions-limit _ _ (c .before .before .before .before .before .pre .0)))
+    (λ c. let the-pre = c .before .before .before .before .before .pre in
+    omega (arith, functions-limit _ _ (the-pre .0)))
+    (λ c. let the-pre = c .before .before .before .before .before .pre in
+    omega (arith, functions-limit _ _ (the-pre .0)))
     (λ c. omega arith)
     (λ c. omega arith)
-    (λ c. let l = c .before .before .loop in
+    (λ c. let the-pre = c .before .before .before .before .before .pre in
+    let l = c .before .before .loop in
     let w = c .weight .ensures in (
       l .inv .0,
       length-set (l .weights) _ _ ∙ l .inv .1,
       count-next _ _ (l .found) (l .f) _ (l .inv .2) (omega arith) (w .0) (w .1),
-      filled-next (l .weights) (l .f) _ _ (l .inv .3) (omega (arith, functions-limit _ _ (c .before .before .before .before .before .pre .0))) (w .0),
+      filled-next (l .weights) (l .f) _ _ (l .inv .3) (omega (arith, functions-limit _ _ (the-pre .0))) (w .0),
     ))
     (λ c. let l = c .before .loop in (count-names _ (l .found) (l .f) (l .inv .2) (omega arith), λ i k. l .inv .3 i (omega arith))))

@@ -50,9 +50,9 @@ earliest-shadow-spec =
     (λ c κs.
     let start = c .before .before .before .before .before .before in
     ((start .pre .0, start .pre .1), (omega (arith, c .before .before .before .if1 .left, start .pre .2), start .pre .2)))
-    (λ c.
+    (λ c. let the-if1 = c .before .before .before .before .before .if1 in
     let start = c .before .before .before .before .before .before .before .before in
-    omega (arith, c .before .before .before .before .before .if1 .left, start .pre .2, sentences-limit _ _ (start .pre .0)))
+    omega (arith, the-if1 .left, start .pre .2, sentences-limit _ _ (start .pre .0)))
     (λ c.
     let start = c .before .before .before .before .before .before in
     omega (arith, c .before .before .before .if1 .left, start .pre .2, sentences-limit _ _ (start .pre .0)))
@@ -68,6 +68,7 @@ earliest-shadow-spec =
     (λ c.
     let start = c .before .before .before in
     (laws.search-ends (fileOf (start .args .law .now)) (start .args .first) (start .args .later) (c .before .loop .i) _ (c .if1 .taken) (c .before .loop .inv .0) (c .before .loop .inv .1), omega arith))
-    (λ c.
+    (λ c. let the-loop = c .before .before .before .before .before .before .loop in
+    let the-if1 = c .before .before .before .before .before .if1 in
     let start = c .before .before .before .before .before .before .before .before in
-    (laws.shadow-found (start .pre .0) _ _ (c .before .before .before .before .before .before .loop .i) _ _ (start .pre .2) (omega (arith, c .before .before .before .before .before .if1 .left)) (c .before .before .before .before .first-condition .ensures) (c .before .before .before .first-condition2 .ensures) (c .before .before .if2 .taken) (c .before .shadow-sentences .ensures) (c .if3 .taken) (c .before .before .before .before .before .before .loop .inv .1), omega (arith, c .before .before .before .before .before .if1 .left))))
+    (laws.shadow-found (start .pre .0) _ _ (the-loop .i) _ _ (start .pre .2) (omega (arith, the-if1 .left)) (c .before .before .before .before .first-condition .ensures) (c .before .before .before .first-condition2 .ensures) (c .before .before .if2 .taken) (c .before .shadow-sentences .ensures) (c .if3 .taken) (the-loop .inv .1), omega (arith, the-if1 .left))))

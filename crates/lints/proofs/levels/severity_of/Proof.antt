@@ -11,5 +11,7 @@ severity-of-spec =
     (λ c. search needs)
     (λ c κs. search needs)
     (λ c. search needs)
-    (λ c. severity-own (c .before .before .before .before .before .args .overrides .now) (c .before .before .before .level-of .ensures) (c .before .enum-told .given .1) (c .own-severity .ensures))
-    (λ c. severity-said (c .before .before .before .before .before .args .overrides .now) (c .before .before .before .level-of .ensures) (c .before .severity .given .1)))
+    (λ c. let the-args = c .before .before .before .before .before .args in
+    severity-own (the-args .overrides .now) (c .before .before .before .level-of .ensures) (c .before .enum-told .given .1) (c .own-severity .ensures))
+    (λ c. let the-args = c .before .before .before .before .before .args in
+    severity-said (the-args .overrides .now) (c .before .before .before .level-of .ensures) (c .before .severity .given .1)))

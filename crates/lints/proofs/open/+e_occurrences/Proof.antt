@@ -66,14 +66,18 @@ pub +e-occurrences-spec : {M : Type 1} → statement M
     (λ c κs.
     let start = c .before .before .before .before .before .before in
     omega (arith, from-length (c .before .before .before .before .loop .i) (start .args .part .now), c .before .before .before .loop-test .taken))
-    (λ c. omega (arith, c .before .before .before .before .before .loop-test .taken))
-    (λ c. omega (arith, c .before .before .before .before .before .loop-test .taken))
-    (λ c.
+    (λ c. let the-loop-test = c .before .before .before .before .before .loop-test in
+    omega (arith, the-loop-test .taken))
+    (λ c. let the-loop-test = c .before .before .before .before .before .loop-test in
+    omega (arith, the-loop-test .taken))
+    (λ c. let the-loop = c .before .before .before .before .before .before .loop in
+    let the-loop-test = c .before .before .before .before .before .loop-test in
     let own = ⊎-elim (λ w. e-self (w .0 .taken) (w .1)) (λ w. e-not-self (w .0 .left) (w .1)) (c .before .before .if1 .came) in
-    e-empty (c .before .before .before .before .before .before .loop .inv) (c .before .before .before .before .before .loop-test .taken) (c .before .before .before .word-at .ensures) own (c .before .word-at2 .ensures) (c .if2 .taken))
-    (λ c κs.
+    e-empty (the-loop .inv) (the-loop-test .taken) (c .before .before .before .word-at .ensures) own (c .before .word-at2 .ensures) (c .if2 .taken))
+    (λ c κs. let the-loop = c .before .before .before .before .before .before .loop in
+    let the-loop-test = c .before .before .before .before .before .loop-test in
     let start = c .before .before .before .before .before .before .before .before in
-    omega (arith, from-length (c .before .before .before .before .before .before .loop .i) (start .args .part .now), c .before .before .before .before .before .loop-test .taken))
+    omega (arith, from-length (the-loop .i) (start .args .part .now), the-loop-test .taken))
     (λ c. c .before .end-of .ensures .1)
     (λ c. c .before .end-of .ensures .1)
     (λ c. c .before .end-of .ensures .2)
@@ -86,16 +90,16 @@ pub +e-occurrences-spec : {M : Type 1} → statement M
     let the-end = c .before .before .end-of in
     let less = inside-falls left (the-end .result) (length left) (omega (arith, left-size, some)) (the-end .ensures .0) refl in
     (omega (arith, less, left-size, start .pre .0), tt))
-    (λ c.
+    (λ c. let the-if1 = c .before .before .before .before .before .before .before .if1 in
     let so-far = c .before .before .before .before .before .before .before .before .before .before .before .loop .inv in
-    let own = ⊎-elim (λ w. e-self (w .0 .taken) (w .1)) (λ w. e-not-self (w .0 .left) (w .1)) (c .before .before .before .before .before .before .before .if1 .came) in
+    let own = ⊎-elim (λ w. e-self (w .0 .taken) (w .1)) (λ w. e-not-self (w .0 .left) (w .1)) (the-if1 .came) in
     omega (arith, so-far .few, so-far .within, own .few, c .before .e-occurrences .ensures .1))
     (λ c.
     let start = c .before .before .before .before .before .before .before .before .before .before in
     let the-loop = c .before .before .before .before .before .before .before .before .loop in
     omega (arith, from-length (the-loop .i) (start .args .part .now), c .before .end-of .ensures .2, the-loop .inv .within))
-    (λ c.
-    omega (arith, c .before .end-of .ensures .1, c .before .before .before .before .before .before .before .loop-test .taken))
+    (λ c. let the-loop-test = c .before .before .before .before .before .before .before .loop-test in
+    omega (arith, c .before .end-of .ensures .1, the-loop-test .taken))
     (λ c.
     let own = ⊎-elim (λ w. e-self (w .0 .taken) (w .1)) (λ w. e-not-self (w .0 .left) (w .1)) (c .before .before .before .before .if1 .came) in
     let so-far = c .before .before .before .before .before .before .before .before .loop .inv in

@@ -35,19 +35,19 @@ some-matches-spec =
     (λ c.
     let p = c .before .before .before .pre in
     matches-start (p .0 .0) (c .before .before .before .args .f) (p .1 .0) _ _ (c .first-sentence2 .ensures) (c .before .first-sentence .ensures))
-    (λ c κs.
+    (λ c κs. let the-args = c .before .before .before .before .before .args in
     let p = c .before .before .before .before .before .pre in
-    (p .0, (omega (arith, c .loop-test .taken, c .before .loop .inv .few), p .1 .1, sym (argument-literal (fileOf (c .before .before .before .before .before .args .law .now)) (c .before .before .before .before .before .args .t)) ∙ p .1 .2)))
-    (λ c.
+    (p .0, (omega (arith, c .loop-test .taken, c .before .loop .inv .few), p .1 .1, sym (argument-literal (fileOf (the-args .law .now)) (the-args .t)) ∙ p .1 .2)))
+    (λ c. let the-args = c .before .before .before .before .before .before .before .args in
     let p = c .before .before .before .before .before .before .before .pre in
-    matches-here (c .before .before .before .before .before .before .before .args .t) (c .before .before .before .loop .inv) (accepted-readable (c .before .before .before .before .before .before .before .args .law .now) (p .0 .1)) (c .before .before .loop-test .taken) (c .before .literal-sentence .ensures) (c .if1 .taken))
-    (λ c.
+    matches-here (the-args .t) (c .before .before .before .loop .inv) (accepted-readable (the-args .law .now) (p .0 .1)) (c .before .before .loop-test .taken) (c .before .literal-sentence .ensures) (c .if1 .taken))
+    (λ c. let the-args = c .before .before .before .before .before .before .before .args in
     let p = c .before .before .before .before .before .before .before .pre in
-    omega (arith, c .before .before .loop-test .taken, c .before .before .before .loop .inv .few, sentences-limit (c .before .before .before .before .before .before .before .args .law .now) (c .before .before .before .before .before .before .before .args .index .now) (p .0 .0)))
+    omega (arith, c .before .before .loop-test .taken, c .before .before .before .loop .inv .few, sentences-limit (the-args .law .now) (the-args .index .now) (p .0 .0)))
     (λ c. omega (arith, c .before .before .loop-test .taken))
-    (λ c.
+    (λ c. let the-args = c .before .before .before .before .before .before .before .args in
     let p = c .before .before .before .before .before .before .before .pre in
-    matches-next (c .before .before .before .before .before .before .before .args .t) (c .before .before .before .loop .inv) (accepted-readable (c .before .before .before .before .before .before .before .args .law .now) (p .0 .1)) (c .before .before .loop-test .taken) (c .before .literal-sentence .ensures) (c .if1 .left))
-    (λ c.
+    matches-next (the-args .t) (c .before .before .before .loop .inv) (accepted-readable (the-args .law .now) (p .0 .1)) (c .before .before .loop-test .taken) (c .before .literal-sentence .ensures) (c .if1 .left))
+    (λ c. let the-args = c .before .before .before .before .before .args in
     let p = c .before .before .before .before .before .pre in
-    matches-end (c .before .before .before .before .before .args .t) (c .before .loop .inv) (accepted-readable (c .before .before .before .before .before .args .law .now) (p .0 .1)) (c .loop-test .left)))
+    matches-end (the-args .t) (c .before .loop .inv) (accepted-readable (the-args .law .now) (p .0 .1)) (c .loop-test .left)))

@@ -13,17 +13,18 @@ show-format-spec =
     (λ c. search needs)
     (λ c κs. search needs)
     (λ c. search needs)
-    (λ c.
+    (λ c. let the-if1 = c .before .before .before .before .before .if1 in
     let x = c .before .before .before .before .before .before .before .before .args in
-    show-none (x .format .now) (x .out .now) _ (x .at) _ (c .before .before .before .before .before .if1 .taken) (c .before .before .put .ensures))
+    show-none (x .format .now) (x .out .now) _ (x .at) _ (the-if1 .taken) (c .before .before .put .ensures))
     (λ c. search needs)
     (λ c κs. search needs)
     (λ c. search needs)
     (λ c κs. search needs)
     (λ c. search needs)
-    (λ c.
+    (λ c. let the-is-never = c .before .before .before .before .before .before .is-never in
+    let the-if2 = c .before .before .before .before .before .if2 in
     let x = c .before .before .before .before .before .before .before .before .before .before .before .args in
-    show-never (x .format .now) (x .out .now) _ (x .at) _ _ (c .before .before .before .before .before .before .is-never .ensures) (c .before .before .before .before .before .if2 .taken) (c .before .before .put2 .ensures))
+    show-never (x .format .now) (x .out .now) _ (x .at) _ _ (the-is-never .ensures) (the-if2 .taken) (c .before .before .put2 .ensures))
     (λ c κs. search needs)
     (λ c. search needs)
     (λ c κs. search needs)
@@ -31,13 +32,15 @@ show-format-spec =
     (λ c. search needs)
     (λ c. search needs)
     (λ c κs. search needs)
-    (λ c κs.
+    (λ c κs. let the-put3 = c .before .before .before .before .before .put3 in
+    let the-row-end = c .before .before .before .before .before .before .before .before .row-end in
     let start = c .before .before .before .before .before .before .before .before .before .before .before .before .before .before .before in
-    omega (arith, start .pre, c .before .before .before .before .before .put3 .ensures .end, c .before .before .before .before .before .before .before .before .row-end .ensures, row-end-few (start .args .format .now)))
+    omega (arith, start .pre, the-put3 .ensures .end, the-row-end .ensures, row-end-few (start .args .format .now)))
     (λ c. search needs)
-    (λ c κs.
+    (λ c κs. let the-put3 = c .before .before .before .before .before .before .before .before .before .before .put3 in
+    let the-row-end = c .before .before .before .before .before .before .before .before .before .before .before .before .before .row-end in
     let start = c .before .before .before .before .before .before .before .before .before .before .before .before .before .before .before .before .before .before .before .before in
-    omega (arith, start .pre, c .before .before .before .before .show-row .ensures .0, c .before .before .before .before .before .before .before .before .before .before .put3 .ensures .end, c .before .before .before .before .before .before .before .before .before .before .before .before .before .row-end .ensures, row-end-few (start .args .format .now)))
+    omega (arith, start .pre, c .before .before .before .before .show-row .ensures .0, the-put3 .ensures .end, the-row-end .ensures, row-end-few (start .args .format .now)))
     (λ c. search needs)
     (λ c.
     let row = c .before .before .before .before .before .before .before in
