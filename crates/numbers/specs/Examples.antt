@@ -1,5 +1,5 @@
 -- Examples of the definitions in `Value`, each by computation. Digits stand as the list of their bytes.
-use Prim.Native.Nat.{_+_}
+use Prim.Native.Nat.{_^_, _-_}
 use mathlib.Core.List.{[], _∷_}
 use mathlib.Core.Bool.{true, false}
 use mathlib.Core.Path.{_≡_, refl}
@@ -40,11 +40,11 @@ last-macrodigit = refl
 next-over : isMacrodigit (valueOf (52 ∷ 50 ∷ 57 ∷ 52 ∷ 57 ∷ 54 ∷ 55 ∷ 50 ∷ 57 ∷ 54 ∷ [])) ≡ false
 next-over = refl
 
--- 64 zeros, 64 nines and `1` before 64 zeros: nothing is lost past a machine word
+-- 64 zeros and 64 nines: nothing is lost past a machine word
 many-zeros : valueOf (replicate 64 48) ≡ 0
 many-zeros = refl
 
-many-nines : valueOf (replicate 64 57) + 1 ≡ valueOf (49 ∷ replicate 64 48)
+many-nines : valueOf (replicate 64 57) ≡ 10 ^ 64 - 1
 many-nines = refl
 
 nines-over : isMacrodigit (valueOf (replicate 64 57)) ≡ false
