@@ -13,7 +13,7 @@ use Rattle.formats.specs.Infer.{Formats}
 use Rattle.matching.specs.Pattern.{patternOf}
 use Rattle.matching.specs.Match.{when, each}
 use Rattle.matching.specs.Literal.{isLiteral}
-use Rattle.lints.specs.Lint.{Lint, deadSentence, recognitionImpossible, builtinDomain, openExpressions, lintNumber}
+use Rattle.lints.specs.Lint.{Lint, deadSentence, recognitionImpossible, builtinDomain, openExpressions, lintNumber, lints}
 use Rattle.lints.specs.Finding.{Failure, byFormats, byLiterals, lintOf, Remark, Finding, findingWords, findingIn, findingsFrom}
 use Rattle.lints.specs.Calls.{Call, callee, sentenceCalls}
 use Rattle.lints.specs.Dead.{Earlier, unconditional, earliest, deadBy, deadAfter, ownDead, blockDead, sentenceBlocks, deadRemarks, deadFindings}
@@ -21,11 +21,11 @@ use Rattle.lints.specs.Recognition.{compared, passed, accepted, judged, recogni
 use Rattle.lints.specs.Builtin.{failed, failure, domainIn, builtins, builtinOn, builtinRemarks, builtinFindings}
 use Rattle.lints.specs.Open.{eOccurrences, openIn, openRemarks, openFindings}
 use Rattle.lints.specs.Levels.{Settings, severityOf, isShown, shown}
-use Rattle.lints.specs.Findings.{findingsOf}
+use Rattle.lints.specs.Findings.{findingsBy, findingsOf}
 use Rattle.findings.specs.declared.Task.{Task}
 use Rattle.findings.specs.Code.Events.{Event, noting, tooWide}
 use Rattle.findings.specs.Code.Tasks.{remarkEvent, remarkEvents, recognitionEvents, callEvents, blockEvents, functionEvents, atPosition, functionsEvents}
-use Rattle.findings.specs.Code.All.{taskFor, taskEvents, allEvents}
+use Rattle.findings.specs.Code.All.{taskFor, taskEvents, eventsBy, allEvents}
 use Rattle.findings.proofs.WalkEvents.{each-append, walk-sentence-calls, walk-sentence-blocks}
 
 -- ---- lists
@@ -315,23 +315,28 @@ module _ (settings : Settings) where
           )
           (when-or (isShown settings recognitionImpossible) (map eventOf (findingsFrom (recognitionRemarks law formats) 0 law)))
 
-      -- all lints, where no argument is too wide
-      pub all-found : argumentsOver limit law formats ≡ false → allEvents law formats settings room limit ≡ map eventOf (shown settings (findingsOf law formats))
-      unfolding allEvents findingsOf argumentsOver deadFindings recognitionFindings builtinFindings openFindings
-      all-found h =
-          let dead : List Finding = findingsFrom deadRemarks 0 law in
-          let recognition : List Finding = findingsFrom (recognitionRemarks law formats) 0 law in
-          let builtin : List Finding = findingsFrom (builtinRemarks law) 0 law in
-          let patterns : List Finding = findingsFrom openRemarks 0 law in
+      -- each lint, where no argument is too wide
+      lint-found : argumentsOver limit law formats ≡ false → (l : Lint)
+          → eventsBy law formats settings room limit l ≡ map eventOf (shown settings (findingsBy law formats l))
+      unfolding argumentsOver deadFindings recognitionFindings builtinFindings openFindings
+      lint-found h deadSentence = task-found deadSentence deadRemarks refl dead-of dead-says
+      lint-found h recognitionImpossible = recognition-found h
+      lint-found h builtinDomain = task-found builtinDomain (builtinRemarks law) refl (builtin-of law) builtin-says
+      lint-found h openExpressions = task-found openExpressions openRemarks refl open-of open-says
+
+      -- one after the other
+      lints-found : ((l : Lint) → eventsBy law formats settings room limit l ≡ map eventOf (shown settings (findingsBy law formats l))) → (ls : List Lint)
+          → each (eventsBy law formats settings room limit) ls ≡ map eventOf (shown settings (each (findingsBy law formats) ls))
+      unfolding shown
+      lints-found each-lint [] = refl
+      lints-found each-lint (l ∷ ls) =
           rw (
-            task-found deadSentence deadRemarks refl dead-of dead-says,
-            recognition-found h,
-            task-found builtinDomain (builtinRemarks law) refl (builtin-of law) builtin-says,
-            task-found openExpressions openRemarks refl open-of open-says,
-            shown-append (dead ++ recognition ++ builtin) patterns,
-            shown-append (dead ++ recognition) builtin,
-            shown-append dead recognition,
-            map-append eventOf (shown settings dead ++ shown settings recognition ++ shown settings builtin) (shown settings patterns),
-            map-append eventOf (shown settings dead ++ shown settings recognition) (shown settings builtin),
-            map-append eventOf (shown settings dead) (shown settings recognition),
+            each-lint l,
+            lints-found each-lint ls,
+            shown-append (findingsBy law formats l) (each (findingsBy law formats) ls),
+            map-append eventOf (shown settings (findingsBy law formats l)) (shown settings (each (findingsBy law formats) ls)),
           )
+
+      pub all-found : argumentsOver limit law formats ≡ false → allEvents law formats settings room limit ≡ map eventOf (shown settings (findingsOf law formats))
+      unfolding allEvents findingsOf
+      all-found h = lints-found (lint-found h) lints

@@ -108,5 +108,4 @@ module _ (law : Law) (formats : Formats) where
         let recognition : List Event = taskEvents law formats task in
         let builtin : List Event = taskEvents law formats (taskFor settings room limit builtinDomain) in
         let patterns : List Event = taskEvents law formats (taskFor settings room limit openExpressions) in
-        ends-before room (dead ++ recognition ++ builtin) patterns
-        (ends-before room (dead ++ recognition) builtin (ends-after room dead recognition (task-ends h)))
+        ends-after room dead (recognition ++ (builtin ++ (patterns ++ []))) (ends-before room recognition (builtin ++ (patterns ++ [])) (task-ends h))

@@ -16,6 +16,9 @@ ghost use Rattle.lints.specs.Lint.{lintNumber, Lint};
 ghost use Rattle.lints.specs.Levels.{settingsFrom};
 ghost use Rattle.findings.specs.Code.All.{taskFor, isDue, taskEvents, allEvents};
 
+// Lints are numbered from 1 to this.
+const LINTS: u32 = 4;
+
 // What a lint is to do.
 fn task_of(mode: u32, overrides: &[u32], lint: u32, room: usize, limit: usize) -> Task
     ensures { λ r. ⌜ ((l : Lint) → lintNumber l ≡ lint → r ≡ taskFor (settingsFrom mode (now (overrides .entry))) room limit l) ⌝ }
@@ -62,7 +65,7 @@ fn lint_task(
     lint_law(law, index, slots, store, task, out, tally)
 }
 
-// Notes the findings of a law that the settings show.
+// Notes the findings of a law that the settings show, lint by lint.
 pub fn lint_all(
     law: &[u8],
     index: &Index,
@@ -78,12 +81,12 @@ pub fn lint_all(
     ensures { λ r. ⌜ sinkOf r (now (out .exit)) ≡ collect room (sinkOf (Upto 0) (now (out .entry)))
         (allEvents (treeOf (fileOf (now (law .entry)))) (formatsIn (fileOf (now (law .entry))) limit (now (store .entry))) (settingsFrom mode (now (overrides .entry))) room limit) ⌝ }
 {
-    let dead = task_of(mode, overrides, 1, room, limit);
-    let first = lint_task(law, index, slots, store, dead, out, NONE);
-    let recognition = task_of(mode, overrides, 2, room, limit);
-    let second = lint_task(law, index, slots, store, recognition, out, first);
-    let builtin = task_of(mode, overrides, 3, room, limit);
-    let third = lint_task(law, index, slots, store, builtin, out, second);
-    let patterns = task_of(mode, overrides, 4, room, limit);
-    lint_task(law, index, slots, store, patterns, out, third)
+    let mut tally = NONE;
+    let mut lint = 1;
+    while lint <= LINTS {
+        let task = task_of(mode, overrides, lint, room, limit);
+        tally = lint_task(law, index, slots, store, task, out, tally);
+        lint += 1;
+    }
+    tally
 }

@@ -1,7 +1,7 @@
 -- What the findings of a law say (crate `lints`), taken apart: from a finding back to the call or the sentence that it is about.
 use Prim.Native.Nat.{ℕ, suc}
 use mathlib.Core.Bool.{Bool, true, false, cond, not, _&&_, _||_}
-use mathlib.Core.List.{List, [], _∷_, _++_, map, List·Memᴰ, List·Memᴰ·head, List·Memᴰ·tail, List·Memᴰ·append-cases}
+use mathlib.Core.List.{List, [], _∷_, _++_, map, List·Memᴰ, List·Memᴰ·head, List·Memᴰ·tail, List·Memᴰ·append-cases, List·Memᴰ·not-nil}
 use mathlib.Core.Logic.{_⊎_, inl, inr}
 use mathlib.Core.Option.{Option, some}
 use mathlib.Core.Path.{_≡_, refl, sym, ap, _∙_}
@@ -270,9 +270,9 @@ module _ (law : Law) (formats : Formats) (x : Finding) (m : List·Memᴰ x (find
       → (List·Memᴰ x (builtinFindings law) → R) → (List·Memᴰ x (openFindings law) → R) → R
   unfolding findingsOf
   by-lint f g h k =
-      either (deadFindings law ++ recognitionFindings law formats ++ builtinFindings law) (openFindings law) m
-      (λ j. either (deadFindings law ++ recognitionFindings law formats) (builtinFindings law) j
-      (λ i. either (deadFindings law) (recognitionFindings law formats) i f g) h) k
+      either (deadFindings law) (recognitionFindings law formats ++ (builtinFindings law ++ (openFindings law ++ []))) m f
+      (λ i. either (recognitionFindings law formats) (builtinFindings law ++ (openFindings law ++ [])) i g
+      (λ j. either (builtinFindings law) (openFindings law ++ []) j h (λ n. either (openFindings law) [] n k (λ o. absurd (List·Memᴰ·not-nil o)))))
 
   -- a finding with lint 1 is one of the dead, and one with lint 2 of recognition
   pub dead-found : lintNumber (lintOf (x .claim)) ≡ 1 → List·Memᴰ x (deadFindings law)

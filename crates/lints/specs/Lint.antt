@@ -2,6 +2,7 @@
 -- (0 error, 1 deny, 2 warn, 3 allow)".
 -- docs/SPECIFICATION.md, 8.1.
 use Prim.Native.Nat.{ℕ}
+use mathlib.Core.List.{List, [], _∷_}
 
 pub data Lint : Type 0 where
   deadSentence recognitionImpossible builtinDomain openExpressions : Lint
@@ -12,7 +13,11 @@ lintNumber recognitionImpossible = 2
 lintNumber builtinDomain = 3
 lintNumber openExpressions = 4
 
--- lints are numbered from 1 to this
+-- all of them, by their numbers from 1 on: what is listed and what is done goes by this order
+abbrev pub lints : List Lint
+lints = deadSentence ∷ recognitionImpossible ∷ builtinDomain ∷ openExpressions ∷ []
+
+-- the number of the last
 abbrev pub lastLint : ℕ
 lastLint = 4
 

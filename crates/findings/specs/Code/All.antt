@@ -1,12 +1,12 @@
 -- All lints under given settings.
 use Prim.Native.Nat.{ℕ}
 use mathlib.Core.Bool.{Bool, _||_}
-use mathlib.Core.List.{List, _++_}
+use mathlib.Core.List.{List}
 use lib.Dec.{eqb}
 use Rattle.law.specs.Tree.{Law}
 use Rattle.formats.specs.Infer.{Formats}
-use Rattle.matching.specs.Match.{when}
-use Rattle.lints.specs.Lint.{Lint, deadSentence, recognitionImpossible, builtinDomain, openExpressions, lintNumber}
+use Rattle.matching.specs.Match.{when, each}
+use Rattle.lints.specs.Lint.{Lint, lintNumber, lints}
 use Rattle.lints.specs.Levels.{Settings, severityOf, isShown}
 use Rattle.findings.specs.declared.Task.{Task}
 use Rattle.findings.specs.Code.Events.{Event}
@@ -30,10 +30,9 @@ isDue task = task .shown || eqb (task .lint) 2
 unfoldable pub taskEvents : Law → Formats → Task → List Event
 taskEvents law formats task = when (isDue task) (lintEvents law formats task)
 
--- `dead_sentences`, `recognition_impossible`, `builtin_domains`, `open_expression_complexity`, in this order
+-- of a lint, and of all
+abbrev pub eventsBy : Law → Formats → Settings → ℕ → ℕ → Lint → List Event
+eventsBy law formats settings room limit lint = taskEvents law formats (taskFor settings room limit lint)
+
 unfoldable pub allEvents : Law → Formats → Settings → ℕ → ℕ → List Event
-allEvents law formats settings room limit =
-    taskEvents law formats (taskFor settings room limit deadSentence)
-    ++ taskEvents law formats (taskFor settings room limit recognitionImpossible)
-    ++ taskEvents law formats (taskFor settings room limit builtinDomain)
-    ++ taskEvents law formats (taskFor settings room limit openExpressions)
+allEvents law formats settings room limit = each (eventsBy law formats settings room limit) lints
