@@ -27,47 +27,47 @@ use Rattle.listing.specs.Promise.{findingsAfter, FindingsPromise, textAf
 use Rattle.listing.proofs.GatherLaws.{all-left}
 use Rattle.listing.proofs.PromiseLaws.{words-length, promise}
 
-module _ (settings : Settings) (bytes store : List ℕ) (front : Front) (index : List ℕ) (h : FrontIs 64 settings bytes store front index) where
+module _ (limit : ℕ) (settings : Settings) (bytes store : List ℕ) (front : Front) (index : List ℕ) (h : FrontIs limit settings bytes store front index) where
   -- a law that is ready
-  pub front-ready : front ≡ Ready → Prepares 64 bytes index store
+  pub front-ready : front ≡ Ready → Prepares limit bytes index store
   front-ready is = (rw is at h) .1
 
   -- ---- the findings call
 
-  pub findings-turned : (words : List ℕ) (why : Turned) → front ≡ Refused why → FindingsPromise 64 settings bytes store words store words (found.Refused why)
+  pub findings-turned : (words : List ℕ) (why : Turned) → front ≡ Refused why → FindingsPromise limit settings bytes store words store words (found.Refused why)
   unfolding findingsOutcome
-  findings-turned words why is = promise 64 settings bytes store words store words (found.Refused why) (rw (rw is at h))
+  findings-turned words why is = promise limit settings bytes store words store words (found.Refused why) (rw (rw is at h))
 
   pub findings-goes : (words filled after : List ℕ) (r : Found) → front ≡ Ready
-      → findingsAfter r filled after ≡ findingsFront 64 settings store words (given (treeOf (fileOf bytes)))
-      → FindingsPromise 64 settings bytes store words filled after r
+      → findingsAfter r filled after ≡ findingsFront limit settings store words (given (treeOf (fileOf bytes)))
+      → FindingsPromise limit settings bytes store words filled after r
   unfolding findingsOutcome
-  findings-goes words filled after r is e = promise 64 settings bytes store words filled after r (rw ((rw is at h) .0) e)
+  findings-goes words filled after r is e = promise limit settings bytes store words filled after r (rw ((rw is at h) .0) e)
 
   -- ---- the text call
 
   pub text-turned : (position : ℕ) (text : List ℕ) (why : Turned) → front ≡ Refused why
-      → textAfter (told.Refused why) store text ≡ textOutcome 64 settings bytes store position text
+      → textAfter (told.Refused why) store text ≡ textOutcome limit settings bytes store position text
   unfolding textOutcome
   text-turned position text why is = rw (rw is at h)
 
   pub text-goes : (position : ℕ) (text filled after : List ℕ) (r : Told) → front ≡ Ready
-      → textAfter r filled after ≡ textFront 64 settings store text position (given (treeOf (fileOf bytes)))
-      → textAfter r filled after ≡ textOutcome 64 settings bytes store position text
+      → textAfter r filled after ≡ textFront limit settings store text position (given (treeOf (fileOf bytes)))
+      → textAfter r filled after ≡ textOutcome limit settings bytes store position text
   unfolding textOutcome
   text-goes position text filled after r is e = rw ((rw is at h) .0) e
 
 -- ---- findings that had no place in the call's own buffer are collected again
 
-module _ (settings : Settings) {bytes index slots store own : List ℕ} {count : ℕ} (c : Collected 64 settings bytes index slots store own count) (words : List ℕ)
+module _ (settings : Settings) {limit : ℕ} {bytes index slots store own : List ℕ} {count : ℕ} (c : Collected limit settings bytes index slots store own count) (words : List ℕ)
     (fits : 8 * count ≤ length words) where
   pub again : (room : ℕ) (tally : Tally) (after : List ℕ) → room ≡ length words
       → sinkOf tally after
-      ≡ collect room (sinkOf (Upto 0) words) (allEvents (treeOf (fileOf bytes)) (formatsIn (fileOf bytes) 64 store) settings room 64)
-      → after ≡ written words 0 (listingWords settings (shownIn 64 settings bytes store))
+      ≡ collect room (sinkOf (Upto 0) words) (allEvents (treeOf (fileOf bytes)) (formatsIn (fileOf bytes) limit store) settings room limit)
+      → after ≡ written words 0 (listingWords settings (shownIn limit settings bytes store))
   again room tally after size e =
-      all-left settings room (shownIn 64 settings bytes store) words (sinkOf tally after)
-      (e ∙ ap (λ es. collect room (sinkOf (Upto 0) words) es) (all-found settings room 64 (treeOf (fileOf bytes)) (formatsIn (fileOf bytes) 64 store) (c .within)))
+      all-left settings room (shownIn limit settings bytes store) words (sinkOf tally after)
+      (e ∙ ap (λ es. collect room (sinkOf (Upto 0) words) es) (all-found settings room limit (treeOf (fileOf bytes)) (formatsIn (fileOf bytes) limit store) (c .within)))
       .placed (omega (arith, fits, size, c .counted)) (omega (arith, fits, c .counted))
 
   -- ---- those that have place there are copied
@@ -79,9 +79,9 @@ module _ (settings : Settings) {bytes index slots store own : List ℕ} {count :
   words-part = sym (length-take-le (8 * count) words fits)
 
   pub handed : (copied : List ℕ) → 8 * count ≤ length own → copied ≡ take (8 * count) own
-      → copied ++ drop (8 * count) words ≡ written words 0 (listingWords settings (shownIn 64 settings bytes store))
+      → copied ++ drop (8 * count) words ≡ written words 0 (listingWords settings (shownIn limit settings bytes store))
   unfolding written
   handed copied few same =
-      let number : 0 + length (listingWords settings (shownIn 64 settings bytes store)) ≡ 8 * count =
-      omega (arith, words-length settings (shownIn 64 settings bytes store), c .counted) in
+      let number : 0 + length (listingWords settings (shownIn limit settings bytes store)) ≡ 8 * count =
+      omega (arith, words-length settings (shownIn limit settings bytes store), c .counted) in
       rw (number, same, c .placed few)

@@ -4,6 +4,7 @@ use mathlib.Core.Bool.{Bool, true, false, not}
 use mathlib.Core.List.{List, [], _++_}
 use mathlib.Core.Path.{_≡_, refl, ap, _∙_}
 use native.Mathlib.Omega.{arith}
+use native.Mathlib.Nat.{sub-zero}
 use borrow.Author.Tests.{le-leb, le-ltb, lt-ltb, not-true, not-false}
 use lib.ListN.{length, drop, replicate}
 use Rattle.file.specs.Answer.{given}
@@ -58,27 +59,28 @@ unfolding
 none-listed limit settings = refl
 
 -- the refusals that are left, 14 and 15; else the store is all zeros, and no word of the findings changes
-module _ (settings : Settings) (bytes store words : List ℕ) (empty : lawOf bytes ≡ given []) {allowed : Bool} (is : allowed ≡ settingsAllowed settings) where
-  pub none-settings : not allowed ≡ true → findingsAfter (found.Refused turned.Settings) store words ≡ findingsOutcome 64 settings bytes store words
+module _ (limit : ℕ) (settings : Settings) (bytes store words : List ℕ) (empty : lawOf bytes ≡ given []) {allowed : Bool} (is : allowed ≡ settingsAllowed settings) where
+  pub none-settings : not allowed ≡ true → findingsAfter (found.Refused turned.Settings) store words ≡ findingsOutcome limit settings bytes store words
   unfolding findingsOutcome front
   none-settings h = rw (← is, not-true allowed h)
 
   module _ (h : not allowed ≡ false) where
-    pub none-short : length store < 8320 → findingsAfter (found.Refused turned.Store) store words ≡ findingsOutcome 64 settings bytes store words
+    pub none-short : length store < storeSize limit → findingsAfter (found.Refused turned.Store) store words ≡ findingsOutcome limit settings bytes store words
     unfolding findingsOutcome front
-    none-short short = rw (← is, not-false allowed h, empty, lt-ltb (length store) 8320 short)
+    none-short short = rw (← is, not-false allowed h, empty, lt-ltb (length store) (storeSize limit) short)
 
-    pub none-found : (after : List ℕ) → 8320 ≤ length store → after ≡ replicate (storeSize 64) 0 ++ drop (storeSize 64) store
-        → findingsAfter (found.Listed 0 1 true) after words ≡ findingsOutcome 64 settings bytes store words
+    pub none-found : (after : List ℕ) → storeSize limit ≤ length store → after ≡ replicate (storeSize limit) 0 ++ drop (storeSize limit) store
+        → findingsAfter (found.Listed 0 1 true) after words ≡ findingsOutcome limit settings bytes store words
     unfolding findingsOutcome front listingWords storeOf entryWords
     none-found after enough cleared =
         rw (
           ← is,
           not-false allowed h,
           empty,
-          le-ltb (length store) 8320 enough,
-          none-listed 64 settings,
+          le-ltb (length store) (storeSize limit) enough,
+          none-listed limit settings,
           le-leb (8 * length {A = Finding} []) (length words) (omega arith),
           ← written-none words 0,
           cleared,
+          sub-zero (storeSize limit),
         )

@@ -19,12 +19,13 @@ use Rattle.lints.specs.Levels.{Settings, settingsAllowed}
 use Rattle.listing.specs.declared.Turned.the-variants as turned
 use Rattle.listing.specs.declared.front.Front.{Front}
 use Rattle.listing.specs.declared.front.Front.the-variants.{Refused, Ready}
+use Rattle.formats.specs.Store.{storeSize}
 use Rattle.listing.specs.Outcome.{front}
 use Rattle.listing.specs.Code.Gather.{FrontIs}
 
-module _ (settings : Settings) (bytes : List ℕ) (words : ℕ) where
+module _ (limit : ℕ) (settings : Settings) (bytes : List ℕ) (words : ℕ) where
   abbrev Says : Front → List ℕ → Type 0
-  Says answer index = (store : List ℕ) → length store ≡ words → FrontIs 64 settings bytes store answer index
+  Says answer index = (store : List ℕ) → length store ≡ words → FrontIs limit settings bytes store answer index
 
   -- 14
   pub turned-settings : (index : List ℕ) {allowed : Bool} → allowed ≡ settingsAllowed settings → allowed ≡ false → Says (Refused turned.Settings) index
@@ -46,13 +47,13 @@ module _ (settings : Settings) (bytes : List ℕ) (words : ℕ) where
         (λ law is same. let (ok, tree) = law-accepted bytes law is in (ok, is ∙ ap given tree))
 
     -- 15
-    pub turned-store : check ≡ checks.Accepted → words < 8320 → Says (Refused turned.Store) index
+    pub turned-store : check ≡ checks.Accepted → words < storeSize limit → Says (Refused turned.Store) index
     unfolding front
-    turned-store r short store l = rw (← e, q, accepted r .1, l, lt-ltb words 8320 short) refl
+    turned-store r short store l = rw (← e, q, accepted r .1, l, lt-ltb words (storeSize limit) short) refl
 
-    pub goes-on : check ≡ checks.Accepted → 8320 ≤ words → Says Ready index
+    pub goes-on : check ≡ checks.Accepted → limit ≤ 64 → storeSize limit ≤ words → Says Ready index
     unfolding front
-    goes-on r enough store l = (
-      rw (← e, q, accepted r .1, l, le-ltb words 8320 enough) refl,
-      record { indexed = rw r at indexed; accepted = accepted r .0; small = omega arith; room = omega (arith, l, enough) },
+    goes-on r small enough store l = (
+      rw (← e, q, accepted r .1, l, le-ltb words (storeSize limit) enough) refl,
+      record { indexed = rw r at indexed; accepted = accepted r .0; small = small; room = omega (arith, l, enough) },
     )

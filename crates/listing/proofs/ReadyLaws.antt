@@ -34,10 +34,10 @@ wide-upto e = let z : _≡_ {A = ℕ} 0 1 = cc in omega arith
 full-upto : {a b : ℕ} {c : Bool} → gathered.Full ≡ gathered.Upto a b c → ⊥
 full-upto e = let z : _≡_ {A = ℕ} 0 1 = cc in omega arith
 
-module _ {room : ℕ} (settings : Settings) {bytes before after start own : List ℕ} {r : Gathered}
-    (g : GatherIs 64 settings room bytes before after start own r) where
+module _ {limit room : ℕ} (settings : Settings) {bytes before after start own : List ℕ} {r : Gathered}
+    (g : GatherIs limit settings room bytes before after start own r) where
   abbrev made : Answer Listing
-  made = listing 64 settings (treeOf (fileOf bytes))
+  made = listing limit settings (treeOf (fileOf bytes))
 
   -- refusal 10
   wide : r ≡ gathered.TooWide → made ≡ refused 10
@@ -85,16 +85,16 @@ module _ {room : ℕ} (settings : Settings) {bytes before after start own : List
   -- ---- the findings call
 
   pub findings-wide : (words : List ℕ) → r ≡ gathered.TooWide
-      → findingsAfter (found.Refused turned.Shapes) after words ≡ findingsFront 64 settings before words (given (treeOf (fileOf bytes)))
+      → findingsAfter (found.Refused turned.Shapes) after words ≡ findingsFront limit settings before words (given (treeOf (fileOf bytes)))
   findings-wide words is = rw (g .store, wide is)
 
   pub findings-full : (words : List ℕ) → room ≡ length words → r ≡ gathered.Full
-      → findingsAfter (found.Refused turned.Findings) after words ≡ findingsFront 64 settings before words (given (treeOf (fileOf bytes)))
+      → findingsAfter (found.Refused turned.Findings) after words ≡ findingsFront limit settings before words (given (treeOf (fileOf bytes)))
   findings-full words size is =
       let (l, e, more) = full is in
       rw (g .store, e, lt-leb (8 * length (l .findings)) (length words) (omega (arith, more, size)))
 
-  module _ {index slots : List ℕ} (p : Prepares 64 bytes index before) (s : SlotsOf (fileOf bytes) slots) (count rounds : ℕ) (settled : Bool)
+  module _ {index slots : List ℕ} (p : Prepares limit bytes index before) (s : SlotsOf (fileOf bytes) slots) (count rounds : ℕ) (settled : Bool)
       (is : r ≡ gathered.Upto count rounds settled) where
     upto-same : {a b c d : ℕ} {x y : Bool} → gathered.Upto a c x ≡ gathered.Upto b d y → (a ≡ b) × (c ≡ d) × (x ≡ y)
     upto-same e = (cc, cc, cc)
@@ -102,18 +102,18 @@ module _ {room : ℕ} (settings : Settings) {bytes before after start own : List
     pub count-fits : 8 * count ≤ room
     count-fits = let (l, e, fits, f) = listed is in omega (arith, fits, upto-same (f .counted fits) .0)
 
-    pub findings-collected : length own ≡ length start → Collected 64 settings bytes index slots after own count
+    pub findings-collected : length own ≡ length start → Collected limit settings bytes index slots after own count
     findings-collected kept = let (l, e, fits, f) = listed is in collected settings p s l e (rw e at (g .store)) room count own start rounds settled kept f fits
 
-    pub findings-listed : (words end : List ℕ) → room ≡ length words → end ≡ written words 0 (listingWords settings (shownIn 64 settings bytes after))
-        → findingsAfter (found.Listed count rounds settled) after end ≡ findingsFront 64 settings before words (given (treeOf (fileOf bytes)))
+    pub findings-listed : (words end : List ℕ) → room ≡ length words → end ≡ written words 0 (listingWords settings (shownIn limit settings bytes after))
+        → findingsAfter (found.Listed count rounds settled) after end ≡ findingsFront limit settings before words (given (treeOf (fileOf bytes)))
     findings-listed words end size same =
         let (l, e, fits, f) = listed is in
         hand l e fits f (same ∙ ap (λ fs. written words 0 (listingWords settings fs)) (shown-are settings p s l e (rw e at (g .store))))
       where
         hand : (l : Listing) → made ≡ given l → 8 * length (l .findings) ≤ room → Fitted settings room l start own (gathered.Upto count rounds settled)
             → end ≡ written words 0 (listingWords settings (l .findings))
-            → findingsAfter (found.Listed count rounds settled) after end ≡ findingsFront 64 settings before words (given (treeOf (fileOf bytes)))
+            → findingsAfter (found.Listed count rounds settled) after end ≡ findingsFront limit settings before words (given (treeOf (fileOf bytes)))
         hand l e fits f is-end =
             rw (
               g .store,
@@ -131,19 +131,19 @@ module _ {room : ℕ} (settings : Settings) {bytes before after start own : List
     text-places size = omega (arith, count-fits, size)
 
     pub text-told : (position : ℕ) (text end : List ℕ) (t : Told) → room ≡ 2048
-        → toldPair t end ≡ textOf text (findingAt (shownIn 64 settings bytes after) position)
-        → textAfter t after end ≡ textFront 64 settings before text position (given (treeOf (fileOf bytes)))
+        → toldPair t end ≡ textOf text (findingAt (shownIn limit settings bytes after) position)
+        → textAfter t after end ≡ textFront limit settings before text position (given (treeOf (fileOf bytes)))
     text-told position text end t size same =
         let (l, e, fits, f) = listed is in
         let told : toldPair t end ≡ textOf text (findingAt (l .findings) position) = rw (shown-are settings p s l e (rw e at (g .store))) at same in
         rw (g .store, e, le-ltb 256 (length (l .findings)) (omega (arith, fits, size)), ← told)
 
   pub text-wide : (position : ℕ) (text : List ℕ) → r ≡ gathered.TooWide
-      → textAfter (told.Refused turned.Shapes) after text ≡ textFront 64 settings before text position (given (treeOf (fileOf bytes)))
+      → textAfter (told.Refused turned.Shapes) after text ≡ textFront limit settings before text position (given (treeOf (fileOf bytes)))
   text-wide position text is = rw (g .store, wide is)
 
   pub text-full : (position : ℕ) (text : List ℕ) → room ≡ 2048 → r ≡ gathered.Full
-      → textAfter (told.Refused turned.Findings) after text ≡ textFront 64 settings before text position (given (treeOf (fileOf bytes)))
+      → textAfter (told.Refused turned.Findings) after text ≡ textFront limit settings before text position (given (treeOf (fileOf bytes)))
   text-full position text size is =
       let (l, e, more) = full is in
       rw (g .store, e, lt-ltb 256 (length (l .findings)) (omega (arith, more, size)))

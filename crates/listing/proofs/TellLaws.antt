@@ -51,9 +51,9 @@ found-at settings (f ∷ fs) (suc p) after h =
     let next : 8 * suc p ≡ suc (suc (suc (suc (suc (suc (suc (suc (8 * p)))))))) = omega arith in
     record { finding = rest .finding; at = rest .at; among = List·Memᴰ·tail (rest .among); words = rw next (rest .words) }
 
-module _ (settings : Settings) {bytes index slots store own : List ℕ} {count : ℕ} (c : Collected 64 settings bytes index slots store own count) where
+module _ (settings : Settings) {limit : ℕ} {bytes index slots store own : List ℕ} {count : ℕ} (c : Collected limit settings bytes index slots store own count) where
   abbrev fs : List Finding
-  fs = shownIn 64 settings bytes store
+  fs = shownIn limit settings bytes store
 
   -- 12
   pub tell-none : (position : ℕ) (text : List ℕ) → count ≤ position → toldPair (told.Refused turned.NoFinding) text ≡ textOf text (findingAt fs position)
@@ -74,10 +74,10 @@ module _ (settings : Settings) {bytes index slots store own : List ℕ} {count :
         let eight : 8 * position + 8 - 8 * position ≡ 8 = omega arith in
         rw eight (ap (λ words. take 8 (drop (8 * position) words)) (sym whole) ∙ here .words)
 
-    listed : List·Memᴰ (here .finding) (findingsOf (treeOf (fileOf bytes)) (formatsIn (fileOf bytes) 64 store))
-    listed = shown-in settings (findingsOf (treeOf (fileOf bytes)) (formatsIn (fileOf bytes) 64 store)) (here .finding) (here .among)
+    listed : List·Memᴰ (here .finding) (findingsOf (treeOf (fileOf bytes)) (formatsIn (fileOf bytes) limit store))
+    listed = shown-in settings (findingsOf (treeOf (fileOf bytes)) (formatsIn (fileOf bytes) limit store)) (here .finding) (here .among)
 
-    pub spoken : Spoken (fileOf bytes) 64 store part
+    pub spoken : Spoken (fileOf bytes) limit store part
     spoken = record {
       finding = here .finding;
       severity = severityOf settings (lintOf (here .finding .claim));
@@ -88,7 +88,7 @@ module _ (settings : Settings) {bytes index slots store own : List ℕ} {count :
 
     abbrev Puts : List ℕ → ℕ → List ℕ → Type 0
     Puts old next now =
-        (f : Finding) (severity : ℕ) → List·Memᴰ f (findingsOf (treeOf (fileOf bytes)) (formatsIn (fileOf bytes) 64 store)) → part ≡ findingWords severity f
+        (f : Finding) (severity : ℕ) → List·Memᴰ f (findingsOf (treeOf (fileOf bytes)) (formatsIn (fileOf bytes) limit store)) → part ≡ findingWords severity f
         → Put old 0 (message f) next now
 
     put : {old now : List ℕ} {next : ℕ} → Puts old next now → Put old 0 (message (here .finding)) next now

@@ -10,10 +10,11 @@ use lints::levels::settings_allowed;
 ghost use mathlib.Core.Bool.{true};
 ghost use mathlib.Core.List.{List, []};
 ghost use mathlib.Core.Path.{_≡_};
-ghost use Prim.Native.Nat.{ℕ};
+ghost use Prim.Native.Nat.{ℕ, _≤_};
 ghost use lib.ListN.{length};
 ghost use Rattle.file.specs.Answer.{given};
 ghost use Rattle.law.specs.Law.{lawOf};
+ghost use Rattle.formats.specs.Store.{storeSize};
 ghost use Rattle.lints.specs.Levels.{settingsFrom};
 ghost use Rattle.listing.specs.Code.Gather.{FrontIs};
 
@@ -23,8 +24,13 @@ pub enum Front {
     Ready,
 }
 
-// The words of a store: 128 formats of 64 shapes.
-pub const STORE: usize = 8320;
+// The words of a store: 128 formats of so many shapes.
+pub fn store_words(limit: usize) -> usize
+    requires { ⌜ limit ≤ 64 ⌝ }
+    ensures { λ r. ⌜ r ≡ storeSize limit ⌝ }
+{
+    128 * (limit + 1)
+}
 
 // Are there no functions, sentences, conditions and terms?
 fn no_records(sections: Sections) -> bool
@@ -58,10 +64,11 @@ pub fn check_front(
     overrides: &[u32],
     law: &[u8],
     words: usize,
+    limit: usize,
     index: &mut Index,
 ) -> Front
-    requires { ⌜ length (now index) ≡ 972 ⌝ }
-    ensures { λ r. ⌜ ((store : List ℕ) → length store ≡ words → FrontIs 64 (settingsFrom mode (now (overrides .entry))) (now (law .entry)) store r (now (index .exit))) ⌝ }
+    requires { ⌜ (length (now index) ≡ 972) × (limit ≤ 64) ⌝ }
+    ensures { λ r. ⌜ ((store : List ℕ) → length store ≡ words → FrontIs limit (settingsFrom mode (now (overrides .entry))) (now (law .entry)) store r (now (index .exit))) ⌝ }
 {
     if !settings_allowed(mode, overrides) {
         return Front::Refused(Turned::Settings);
@@ -69,7 +76,7 @@ pub fn check_front(
     match read_law(law, index) {
         Check::Refused(why) => Front::Refused(Turned::File(why)),
         Check::Accepted => {
-            if words < STORE {
+            if words < store_words(limit) {
                 return Front::Refused(Turned::Store);
             }
             Front::Ready

@@ -1,8 +1,8 @@
 // The two calls: the findings of a law, and the text of one of them.
 use crate::front::Front;
-use crate::front::STORE;
 use crate::front::check_front;
 use crate::front::is_empty;
+use crate::front::store_words;
 use crate::gather::Gathered;
 use crate::gather::gather;
 use buffers::copy_words;
@@ -88,15 +88,16 @@ fn hand_over(
     index: &Index,
     slots: &Slots,
     store: &[u32],
+    limit: usize,
     mode: u32,
     overrides: &[u32],
     own: &[u32],
     count: usize,
     words: &mut [u32],
 )
-    requires { ⌜ Collected 64 (settingsFrom mode (now overrides)) (now law) (now index) (now slots) (now store) (now own) count × (8 * count ≤ length (now words)) ⌝ }
+    requires { ⌜ Collected limit (settingsFrom mode (now overrides)) (now law) (now index) (now slots) (now store) (now own) count × (8 * count ≤ length (now words)) ⌝ }
     ensures { λ _. ⌜ now (words .exit) ≡ written (now (words .entry)) 0 (listingWords (settingsFrom mode (now (overrides .entry)))
-        (shownIn 64 (settingsFrom mode (now (overrides .entry))) (now (law .entry)) (now (store .entry)))) ⌝ }
+        (shownIn limit (settingsFrom mode (now (overrides .entry))) (now (law .entry)) (now (store .entry)))) ⌝ }
 {
     let end = 8 * count;
     if own.len() < end {
@@ -109,7 +110,7 @@ fn hand_over(
             mode,
             overrides,
             lent,
-            LIMIT,
+            limit,
             words,
         );
         return;
@@ -124,20 +125,32 @@ fn findings_gathered(
     mode: u32,
     overrides: &[u32],
     store: &mut [u32],
+    limit: usize,
     own: &mut [u32],
     out: &mut [u32],
 ) -> Found
-    requires { ⌜ Prepares 64 (now law) (now index) (now store) ⌝ }
+    requires { ⌜ Prepares limit (now law) (now index) (now store) ⌝ }
     ensures { λ r. ⌜ findingsAfter r (now (store .exit)) (now (out .exit))
-        ≡ findingsFront 64 (settingsFrom mode (now (overrides .entry))) (now (store .entry)) (now (out .entry)) (given (treeOf (fileOf (now (law .entry))))) ⌝ }
+        ≡ findingsFront limit (settingsFrom mode (now (overrides .entry))) (now (store .entry)) (now (out .entry)) (given (treeOf (fileOf (now (law .entry))))) ⌝ }
 {
     let slots = slots_of(law, index);
     let room = out.len();
-    match gather(law, index, &slots, store, LIMIT, mode, overrides, room, own) {
+    match gather(law, index, &slots, store, limit, mode, overrides, room, own) {
         Gathered::TooWide => Found::Refused(Turned::Shapes),
         Gathered::Full => Found::Refused(Turned::Findings),
         Gathered::Upto(count, rounds, settled) => {
-            hand_over(law, index, &slots, store, mode, overrides, own, count, out);
+            hand_over(
+                law,
+                index,
+                &slots,
+                store,
+                limit,
+                mode,
+                overrides,
+                own,
+                count,
+                out,
+            );
             Found::Listed(count, rounds, settled)
         }
     }
@@ -150,11 +163,12 @@ fn findings_ready(
     mode: u32,
     overrides: &[u32],
     store: &mut [u32],
+    limit: usize,
     words: &mut [u32],
 ) -> Found
-    requires { ⌜ Prepares 64 (now law) (now index) (now store) ⌝ }
+    requires { ⌜ Prepares limit (now law) (now index) (now store) ⌝ }
     ensures { λ r. ⌜ findingsAfter r (now (store .exit)) (now (words .exit))
-        ≡ findingsFront 64 (settingsFrom mode (now (overrides .entry))) (now (store .entry)) (now (words .entry)) (given (treeOf (fileOf (now (law .entry))))) ⌝ }
+        ≡ findingsFront limit (settingsFrom mode (now (overrides .entry))) (now (store .entry)) (now (words .entry)) (given (treeOf (fileOf (now (law .entry))))) ⌝ }
 {
     if sentences(index) <= FEW {
         let mut few = [0u32; OWN_FEW];
@@ -164,26 +178,37 @@ fn findings_ready(
             mode,
             overrides,
             store,
+            limit,
             &mut few[..OWN_FEW],
             words,
         );
     }
     let mut own = [0u32; OWN];
-    findings_gathered(law, index, mode, overrides, store, &mut own[..OWN], words)
+    findings_gathered(
+        law,
+        index,
+        mode,
+        overrides,
+        store,
+        limit,
+        &mut own[..OWN],
+        words,
+    )
 }
 
 // The findings call, of a law without functions: there are no findings, and one round settles.
-fn findings_none(mode: u32, overrides: &[u32], store: &mut [u32]) -> Found
+fn findings_none(mode: u32, overrides: &[u32], store: &mut [u32], limit: usize) -> Found
+    requires { ⌜ limit ≤ 64 ⌝ }
     ensures { λ r. ⌜ ((bytes words : List ℕ) → lawOf bytes ≡ given [] → findingsAfter r (now (store .exit)) words
-        ≡ findingsOutcome 64 (settingsFrom mode (now (overrides .entry))) bytes (now (store .entry)) words) ⌝ }
+        ≡ findingsOutcome limit (settingsFrom mode (now (overrides .entry))) bytes (now (store .entry)) words) ⌝ }
 {
     if !settings_allowed(mode, overrides) {
         return Found::Refused(Turned::Settings);
     }
-    if store.len() < STORE {
+    if store.len() < store_words(limit) {
         return Found::Refused(Turned::Store);
     }
-    clear_store(store, LIMIT);
+    clear_store(store, limit);
     Found::Listed(0, 1, true)
 }
 
@@ -198,12 +223,12 @@ pub fn findings(
     ensures { λ r. ⌜ FindingsPromise 64 (settingsFrom mode (now (overrides .entry))) (now (law .entry)) (now (store .entry)) (now (words .entry)) (now (store .exit)) (now (words .exit)) r ⌝ }
 {
     if is_empty(law) {
-        return findings_none(mode, overrides, store);
+        return findings_none(mode, overrides, store, LIMIT);
     }
     let mut index: Index = [0; 972];
-    match check_front(mode, overrides, law, store.len(), &mut index) {
+    match check_front(mode, overrides, law, store.len(), LIMIT, &mut index) {
         Front::Refused(why) => Found::Refused(why),
-        Front::Ready => findings_ready(law, &index, mode, overrides, store, words),
+        Front::Ready => findings_ready(law, &index, mode, overrides, store, LIMIT, words),
     }
 }
 
@@ -213,14 +238,15 @@ fn tell(
     index: &Index,
     slots: &Slots,
     store: &[u32],
+    limit: usize,
     own: &[u32],
     count: usize,
     position: usize,
     text: &mut [u8],
 ) -> Told
-    requires { ⌜ ((settings : Settings) × Collected 64 settings (now law) (now index) (now slots) (now store) (now own) count) × (8 * count ≤ length (now own)) ⌝ }
-    ensures { λ r. ⌜ ((settings : Settings) → Collected 64 settings (now (law .entry)) (now (index .entry)) (now (slots .entry)) (now (store .entry)) (now (own .entry)) count
-        → toldPair r (now (text .exit)) ≡ textOf (now (text .entry)) (findingAt (shownIn 64 settings (now (law .entry)) (now (store .entry))) position)) ⌝ }
+    requires { ⌜ ((settings : Settings) × Collected limit settings (now law) (now index) (now slots) (now store) (now own) count) × (8 * count ≤ length (now own)) ⌝ }
+    ensures { λ r. ⌜ ((settings : Settings) → Collected limit settings (now (law .entry)) (now (index .entry)) (now (slots .entry)) (now (store .entry)) (now (own .entry)) count
+        → toldPair r (now (text .exit)) ≡ textOf (now (text .entry)) (findingAt (shownIn limit settings (now (law .entry)) (now (store .entry))) position)) ⌝ }
 {
     if count <= position {
         return Told::Refused(Turned::NoFinding);
@@ -229,11 +255,11 @@ fn tell(
     let at = 8 * position;
     let end = at + 8;
     let words = &own[at..end];
-    let length = put_message(law, index, slots, store, LIMIT, words, &mut text[..0]); // no byte fits: only the length is found
+    let length = put_message(law, index, slots, store, limit, words, &mut text[..0]); // no byte fits: only the length is found
     if room < length {
         return Told::Refused(Turned::Text);
     }
-    put_message(law, index, slots, store, LIMIT, words, text);
+    put_message(law, index, slots, store, limit, words, text);
     Told::Written(length)
 }
 
@@ -244,12 +270,13 @@ fn text_ready(
     mode: u32,
     overrides: &[u32],
     store: &mut [u32],
+    limit: usize,
     position: usize,
     text: &mut [u8],
 ) -> Told
-    requires { ⌜ Prepares 64 (now law) (now index) (now store) ⌝ }
+    requires { ⌜ Prepares limit (now law) (now index) (now store) ⌝ }
     ensures { λ r. ⌜ textAfter r (now (store .exit)) (now (text .exit))
-        ≡ textFront 64 (settingsFrom mode (now (overrides .entry))) (now (store .entry)) (now (text .entry)) position (given (treeOf (fileOf (now (law .entry))))) ⌝ }
+        ≡ textFront limit (settingsFrom mode (now (overrides .entry))) (now (store .entry)) (now (text .entry)) position (given (treeOf (fileOf (now (law .entry))))) ⌝ }
 {
     let slots = slots_of(law, index);
     let mut own = [0u32; OWN];
@@ -258,7 +285,7 @@ fn text_ready(
         index,
         &slots,
         store,
-        LIMIT,
+        limit,
         mode,
         overrides,
         OWN,
@@ -271,6 +298,7 @@ fn text_ready(
             index,
             &slots,
             store,
+            limit,
             &own[..OWN],
             count,
             position,
@@ -292,8 +320,8 @@ pub fn text(
         ≡ textOutcome 64 (settingsFrom mode (now (overrides .entry))) (now (law .entry)) (now (store .entry)) position (now (text .entry)) ⌝ }
 {
     let mut index: Index = [0; 972];
-    match check_front(mode, overrides, law, store.len(), &mut index) {
+    match check_front(mode, overrides, law, store.len(), LIMIT, &mut index) {
         Front::Refused(why) => Told::Refused(why),
-        Front::Ready => text_ready(law, &index, mode, overrides, store, position, text),
+        Front::Ready => text_ready(law, &index, mode, overrides, store, LIMIT, position, text),
     }
 }

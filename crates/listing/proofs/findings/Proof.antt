@@ -27,12 +27,12 @@ findings-spec =
     let start = c .before .before .before .before .before .before .before .before .before .before .before .before .before in
     let settings = settingsFrom (start .args .mode) (start .args .overrides .now) in
     let front = c .before .before .before .before .before .check-front in
-    front-ready settings (start .args .law .now) (start .args .store .now) _ _ (front .ensures _ refl) (c .before .before .before .enum-told .given .1))
+    front-ready 64 settings (start .args .law .now) (start .args .store .now) _ _ (front .ensures _ refl) (c .before .before .before .enum-told .given .1))
     (λ c.
     let start = c .before .before .before .before .before .before .before .before .before .before .before in
     let settings = settingsFrom (start .args .mode) (start .args .overrides .now) in
     let front = c .before .before .before .check-front in
-    findings-turned settings (start .args .law .now) (start .args .store .now) _ _ (front .ensures _ refl) _ _ (c .before .why .given .1))
+    findings-turned 64 settings (start .args .law .now) (start .args .store .now) _ _ (front .ensures _ refl) _ _ (c .before .why .given .1))
     (λ c. search needs)
     (λ c. search needs)
     (λ c. let the-enum-told = c .before .before .before .before .before .before .before .before .enum-told in
@@ -40,4 +40,4 @@ findings-spec =
     let settings = settingsFrom (start .args .mode) (start .args .overrides .now) in
     let front = c .before .before .before .before .before .before .before .before .before .before .check-front in
     let ready = c .before .before .before .before .findings-ready in
-    findings-goes settings (start .args .law .now) (start .args .store .now) _ _ (front .ensures _ refl) _ _ _ (ready .result) (the-enum-told .given .1) (ready .ensures)))
+    findings-goes 64 settings (start .args .law .now) (start .args .store .now) _ _ (front .ensures _ refl) _ _ _ (ready .result) (the-enum-told .given .1) (ready .ensures)))

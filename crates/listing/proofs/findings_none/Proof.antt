@@ -1,3 +1,4 @@
+use native.Mathlib.Omega.{arith}
 use borrow.Author.Needs.{needs}
 use Rattle.lints.specs.Levels.{settingsFrom}
 use Rattle.listing.proofs.EmptyLaws.{none-settings, none-short, none-found}
@@ -9,15 +10,17 @@ findings-none-spec =
     tie.close
     (tie.spec
     (λ c κs. search needs)
-    (λ c.
-    let start = c .before .before .before .before in
-    λ bytes words empty. none-settings (settingsFrom (start .args .mode) (start .args .overrides .now)) bytes (start .args .store .now) words empty (c .before .settings-allowed .ensures) (c .if1 .taken))
-    (λ c.
-    let start = c .before .before .before .before .before in
-    λ bytes words empty. none-short (settingsFrom (start .args .mode) (start .args .overrides .now)) bytes (start .args .store .now) words empty (c .before .before .settings-allowed .ensures) (c .before .if1 .left) (c .if2 .taken))
+    (λ c. let a = c .before .before .before .before .args in
+    λ bytes words empty. none-settings (a .limit) (settingsFrom (a .mode) (a .overrides .now)) bytes (a .store .now) words empty (c .before .settings-allowed .ensures) (c .if1 .taken))
+    (λ c κs. search needs)
+    (λ c. let a = c .before .before .before .before .before .before .args in
+    λ bytes words empty. none-short (a .limit) (settingsFrom (a .mode) (a .overrides .now)) bytes (a .store .now) words empty (c .before .before .before .settings-allowed .ensures)
+    (c .before .before .if1 .left) (omega (arith, c .if2 .taken, c .before .store-words .ensures)))
     (λ c κs. search needs)
     (λ c. search needs)
-    (λ c. let the-settings-allowed = c .before .before .before .before .before .before .settings-allowed in
-    let the-if1 = c .before .before .before .before .before .if1 in
-    let start = c .before .before .before .before .before .before .before .before .before in
-    λ bytes words empty. none-found (settingsFrom (start .args .mode) (start .args .overrides .now)) bytes (start .args .store .now) words empty (the-settings-allowed .ensures) (the-if1 .left) _ (c .before .before .before .before .if2 .left) (c .before .before .clear-store .ensures)))
+    (λ c. let a = c .before .before .before .before .before .before .before .before .before .before .args in
+    let allowed = c .before .before .before .before .before .before .before .settings-allowed in
+    let the-if1 = c .before .before .before .before .before .before .if1 in
+    let size = c .before .before .before .before .before .store-words in
+    λ bytes words empty. none-found (a .limit) (settingsFrom (a .mode) (a .overrides .now)) bytes (a .store .now) words empty (allowed .ensures) (the-if1 .left) _
+    (omega (arith, c .before .before .before .before .if2 .left, size .ensures)) (c .before .before .clear-store .ensures)))
