@@ -12,7 +12,6 @@ use Rattle.file.specs.Answer.{Answer, refused, given}
 use Rattle.file.specs.Sections.{fileOf}
 use Rattle.law.specs.Tree.{Law}
 use Rattle.law.specs.Reading.{treeOf}
-use Rattle.law.proofs.Accepted.{passed, taken}
 use Rattle.law.proofs.Allowed.{accepted-readable}
 use Rattle.law.proofs.Functions.{tree-length}
 use Rattle.law.proofs.IndexLaws.{functions-limit}
@@ -37,6 +36,7 @@ use Rattle.listing.specs.declared.gather.Gathered.{Gathered}
 use Rattle.listing.specs.declared.gather.Gathered.the-variants as gathered
 use Rattle.listing.specs.Outcome.{storeAfter}
 use Rattle.listing.specs.Code.Gather.{Prepares, StoreFilled, Fitted, GatheredIs, GatherIs, shownIn, Collected}
+use Rattle.runs.proofs.NoFalse.{listing-parts}
 use Rattle.listing.proofs.PromiseLaws.{words-length, start-taken}
 use Rattle.listing.proofs.GatherLaws.{Wide, Narrow, comes-to}
 
@@ -231,17 +231,6 @@ module _ {limit : ℕ} (room : ℕ) (settings : Settings) {bytes index before sl
         same-past (given l) q = rw past
 
 -- ---- findings to be handed over
-
-listing-parts : (limit : ℕ) (settings : Settings) (law : Law) (l : Listing) → listing limit settings law ≡ given l
-    → (infer limit law ≡ given (l .inferred)) × (argumentsOver limit law (l .inferred .formats) ≡ false)
-    × (l .findings ≡ shown settings (findingsOf law (l .inferred .formats)))
-unfolding listing formatsOf
-listing-parts limit settings law l h =
-    let (formed, formats, rest) = taken (formatsOf limit law) _ l h in
-    let (inferred, is-inferred, few) = taken (infer limit law) _ formed formats in
-    let (narrow, same) = passed 10 (argumentsOver limit law (inferred .formats)) _ formed few in
-    let it : record { inferred = inferred; findings = shown settings (findingsOf law (inferred .formats)) } ≡ l = cc in
-    rw (← it) (is-inferred, narrow, refl)
 
 module _ {limit : ℕ} (settings : Settings) {bytes index before after slots : List ℕ} (p : Prepares limit bytes index before) (s : SlotsOf (fileOf bytes) slots)
     (l : Listing) (is : listing limit settings (treeOf (fileOf bytes)) ≡ given l) (words : after ≡ storeWords limit (l .inferred) ++ drop (storeSize limit) before) where

@@ -1,6 +1,6 @@
 -- No finding is false: the claim over a whole run (specs/Claim.antt) holds of the words of every listing.
 use Prim.Native.Nat.{ℕ, zero, suc, _+_, _*_}
-use mathlib.Core.Bool.{true}
+use mathlib.Core.Bool.{true, false}
 use mathlib.Core.List.{List, [], _∷_, List·Memᴰ·head, List·Memᴰ·tail}
 use mathlib.Core.Path.{_≡_, refl}
 use native.Mathlib.Omega.{arith}
@@ -41,15 +41,16 @@ shown-found settings fs all same lint subject (x, m, e, s) = (x, shown-in settin
 -- ---- the claim
 
 -- what a listing is made of
-listing-parts : (limit : ℕ) (settings : Settings) (law : Law) (l : Listing) → listing limit settings law ≡ given l
-    → (infer limit law ≡ given (l .inferred)) × (l .findings ≡ shown settings (findingsOf law (l .inferred .formats)))
+pub listing-parts : (limit : ℕ) (settings : Settings) (law : Law) (l : Listing) → listing limit settings law ≡ given l
+    → (infer limit law ≡ given (l .inferred)) × (argumentsOver limit law (l .inferred .formats) ≡ false)
+    × (l .findings ≡ shown settings (findingsOf law (l .inferred .formats)))
 unfolding listing formatsOf
 listing-parts limit settings law l h =
     let (formed, formats, rest) = taken (formatsOf limit law) _ l h in
     let (inferred, is-inferred, few) = taken (infer limit law) _ formed formats in
     let (narrow, same) = passed 10 (argumentsOver limit law (inferred .formats)) _ formed few in
     let it : record { inferred = inferred; findings = shown settings (findingsOf law (inferred .formats)) } ≡ l = cc in
-    rw (← it) (is-inferred, refl)
+    rw (← it) (is-inferred, narrow, refl)
 
 module _ (bytes : List ℕ) (law : Law) (accepted : lawOf bytes ≡ given law)
     (limit : ℕ) (settings : Settings) (l : Listing) (is-listed : listing limit settings law ≡ given l) where
@@ -58,7 +59,7 @@ module _ (bytes : List ℕ) (law : Law) (accepted : lawOf bytes ≡ given law)
 
   found : (lint subject : ℕ) → Lists (listingWords settings (l .findings)) lint subject → Found (findingsOf law (l .inferred .formats)) lint subject
   found lint subject w =
-      shown-found settings (l .findings) (findingsOf law (l .inferred .formats)) (listing-parts limit settings law l is-listed .1) lint subject
+      shown-found settings (l .findings) (findingsOf law (l .inferred .formats)) (listing-parts limit settings law l is-listed .2) lint subject
       (listed-found settings (l .findings) lint subject w)
 
   -- a function's sentence that is listed as dead is never chosen

@@ -36,6 +36,10 @@ use Rattle.sentences.proofs.OpenLaws.{next-row}
 
 -- ---- one of two
 
+differ-none : (b : Bool) → differ b false ≡ b
+differ-none true = refl
+differ-none false = refl
+
 not-differ : (a b : Bool) → not (differ a b) ≡ differ (not a) b
 not-differ true true = refl
 not-differ true false = refl
@@ -149,11 +153,7 @@ module _ {A : Type 0} (ofLaw : Symbol → A) (σ : Variable → Terms A) where
   module _ (isSymbol isSingle : A → Bool) (kinded : Kinded isSymbol isSingle σ) where
     even-filled : (p : Pattern) → Plain p → Evenly p → oddTerms (filled ofLaw σ p) ≡ oddTerms p
     even-filled p g even =
-        odd-filled p g ∙ rw (even-sum (outside p) (λ v. not (oddTerms (σ v))) (λ u k. even u (odd-single isSymbol isSingle (u .kind) (σ u) (kinded u) k))) (none (oddTerms p))
-      where
-        none : (b : Bool) → differ b false ≡ b
-        none true = refl
-        none false = refl
+        odd-filled p g ∙ rw (even-sum (outside p) (λ v. not (oddTerms (σ v))) (λ u k. even u (odd-single isSymbol isSingle (u .kind) (σ u) (kinded u) k))) (differ-none (oddTerms p))
 
 -- there is no match where the numbers differ by an odd number
 uneven-none : (p x : Pattern) → Evenly p → (oddTerms p ≡ oddTerms x → ⊥) → (back : Bool) → found back p x none-bound ≡ []
@@ -194,11 +194,7 @@ pub record OddSoFar (part : List ℕ) (odd : Bool) (i : ℕ) : Type 0 where
 pub odd-begun : (part : List ℕ) → OddSoFar part false 0
 odd-begun part = record { within = omega arith; left = λ text. rw (from-all part) }
 
--- none are left, or one more is counted
-differ-none : (b : Bool) → differ b false ≡ b
-differ-none true = refl
-differ-none false = refl
-
+-- one more is counted
 differ-one : (a b : Bool) → differ a (not b) ≡ differ (not a) b
 differ-one true true = refl
 differ-one true false = refl
