@@ -6,7 +6,7 @@ use native.Mathlib.Omega.{arith}
 use native.Mathlib.Decide.{decLt}
 use lib.ListN.{length, length-append}
 use borrow.Author.Tests.{lt-ltb, le-ltb}
-use Rattle.buffers.specs.Written.{largest}
+use Rattle.buffers.specs.Code.Put.{largest}
 use Rattle.buffers.specs.Decimal.{digitsWithin, decimal}
 
 -- a number below ten, and one of ten or more

@@ -4,7 +4,7 @@ use mathlib.Core.List.{List, [], _∷_, _++_}
 use mathlib.Core.Path.{_≡_, refl, _∙_}
 use native.Mathlib.Omega.{arith}
 use lib.ListN.{length, set, length-append}
-use Rattle.buffers.specs.Written.{Put}
+use Rattle.buffers.specs.Code.Put.{Put}
 use Rattle.buffers.proofs.WrittenLaws.{written-none, written-one, written-more}
 
 -- nothing

@@ -6,7 +6,8 @@ ghost use mathlib.Core.Path.{_≡_};
 ghost use mathlib.Core.List.{[], _∷_};
 ghost use Prim.Native.Nat.{_+_, _≤_};
 ghost use lib.ListN.{length, replicate};
-ghost use Rattle.buffers.specs.Written.{written, Put, largest};
+ghost use Rattle.buffers.specs.Written.{written};
+ghost use Rattle.buffers.specs.Code.Put.{Put, largest};
 ghost use Rattle.buffers.specs.Decimal.{decimal};
 
 // Every word of the one list into the other.

@@ -7,8 +7,8 @@ use native.Mathlib.Omega.{arith}
 use lib.ListN.{length, take, drop, length-take, length-drop}
 use Rattle.file.specs.Answer.{given}
 use Rattle.file.specs.declared.Sections.{Sections}
-use Rattle.file.specs.Sections.{sectionsOf, fileOf, countsOf}
-use Rattle.file.specs.Code.Counts.{Limits, fileLength}
+use Rattle.file.specs.Sections.{sectionsOf, fileOf}
+use Rattle.file.specs.Code.Counts.{countsOf, Limits, fileLength}
 use Rattle.file.specs.Fields.{fieldsAllowed, functionsAllowed, termsAllowed}
 use Rattle.file.proofs.SectionLaws.{part-slice, sections-length, sections-limits}
 

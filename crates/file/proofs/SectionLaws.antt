@@ -9,7 +9,8 @@ use lib.Dec.{ltb}
 use borrow.Author.Tests.{lt-ltb, le-ltb, ltb-false}
 use Rattle.file.specs.Word.{wordAt}
 use Rattle.file.specs.Answer.{refused, given, mapAnswer}
-use Rattle.file.specs.Sections.{Section, section, File, sectionsOf, fileOf, part, countsOf, cutAnswer, numberOf}
+use Rattle.file.specs.Sections.{Section, section, File, sectionsOf, fileOf, part, numberOf}
+use Rattle.file.specs.Code.Counts.{countsOf, cutAnswer}
 use Rattle.file.specs.declared.Sections.{Sections}
 use Rattle.file.specs.declared.Refusal.{Refusal}
 use Rattle.file.specs.declared.Cut.{Cut}

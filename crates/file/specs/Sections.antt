@@ -7,12 +7,9 @@ use mathlib.Core.List.{List}
 use lib.ListN.{length, take, drop}
 use lib.Dec.{ltb}
 use Rattle.file.specs.Word.{wordAt}
-use Rattle.file.specs.Answer.{Answer, refused, given, refuseIf, _>>=_, _>>_}
-use Rattle.file.specs.declared.Sections.{Sections}
+use Rattle.file.specs.Answer.{Answer, given, refuseIf, _>>=_, _>>_}
 use Rattle.file.specs.declared.Refusal.{Refusal}
 use Rattle.file.specs.declared.Refusal.the-variants.{FileOver, CutOff, LeftOver, CountOver, Fields, Runs, Blocks, Depth, Patterns}
-use Rattle.file.specs.declared.Cut.{Cut}
-use Rattle.file.specs.declared.Cut.the-variants.{Refused, Whole}
 
 -- a section: the number of its records, and their bytes
 pub record Section : Type 0 where
@@ -58,21 +55,6 @@ numberOf Runs = 6
 numberOf Blocks = 7
 numberOf Depth = 8
 numberOf Patterns = 9
-
--- the five counts of a file
-abbrev pub countsOf : File → Sections
-countsOf file = record {
-  text = file .text .count;
-  functions = file .functions .count;
-  sentences = file .sentences .count;
-  conditions = file .conditions .count;
-  terms = file .terms .count;
-}
-
--- what the code answers, as an `Answer`
-abbrev pub cutAnswer : Cut → Answer Sections
-cutAnswer (Refused r) = refused (numberOf r)
-cutAnswer (Whole s) = given s
 
 -- so many bytes from a position on
 abbrev pub part : ℕ → ℕ → List ℕ → List ℕ

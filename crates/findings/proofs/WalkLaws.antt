@@ -14,7 +14,8 @@ use Rattle.file.specs.declared.Term.the-variants.{Symbol as Symbolic, SVariable
 use Rattle.lints.specs.Calls.{Call as CallOf}
 use Rattle.law.specs.Tree.{Mark, Run, empty, symbol, variable, bracket, call, block, Sentences, noSentence, sentence, Conditions, noCondition, condition}
 use Rattle.law.specs.Variables.{Variable}
-use Rattle.law.specs.Reading.{nameAt, sentencesIn, termRun}
+use Rattle.law.specs.Reading.{nameAt, termRun}
+use Rattle.law.specs.Code.Terms.{sentencesIn}
 use Rattle.law.proofs.Terms.{InsideAllowed}
 use Rattle.matching.specs.Pattern.{patternOf}
 use Rattle.matching.specs.Match.{when, each}

@@ -15,9 +15,10 @@ use Rattle.file.specs.Forest.{contents, rest}
 use Rattle.file.specs.Head.{termAt}
 use Rattle.file.specs.Sections.{File, fileOf}
 use Rattle.law.specs.Tree.{empty, noSentence, keep}
-use Rattle.law.specs.Places.{blockFirst, sentencesOf, firstSentence, conditionsOf, firstCondition, patternAt, resultAt, patternPart, resultPart, conditionResultAt, conditionResultSize, conditionResultPart, conditionPatternPart, Owns}
+use Rattle.law.specs.Places.{blockFirst, sentencesOf, firstSentence, conditionsOf, firstCondition, patternAt, resultAt, patternPart, resultPart, conditionResultAt, conditionResultSize, conditionResultPart, conditionPatternPart}
+use Rattle.law.specs.Code.Terms.{Owns, sentencesIn}
 use Rattle.law.specs.Runs.{endOf}
-use Rattle.law.specs.Reading.{markAt, runOf, own, sentencesAt, sentencesIn, conditionsFrom, treeOf}
+use Rattle.law.specs.Reading.{markAt, runOf, own, sentencesAt, conditionsFrom, treeOf}
 use Rattle.law.specs.Code.Index.{Indexed, Readable, PartAt}
 use Rattle.law.proofs.Parts.{part-word, terms-word, terms-end, terms-contents}
 use Rattle.law.proofs.RunLaws.{end-high, run-empty, run-node, fits-first}

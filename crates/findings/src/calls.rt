@@ -23,7 +23,7 @@ ghost use Rattle.file.specs.Word.{wordAt};
 ghost use Rattle.file.specs.Sections.{fileOf};
 ghost use Rattle.law.specs.Reading.{treeOf};
 ghost use Rattle.law.specs.Code.Index.{Indexed};
-ghost use Rattle.law.specs.Law.{Accepted};
+ghost use Rattle.law.specs.Code.Accepted.{Accepted};
 ghost use Rattle.matching.specs.Match.{when, each};
 ghost use Rattle.lints.specs.Builtin.{builtinOn};
 ghost use Rattle.lints.specs.Code.Part.{failureIn};

@@ -16,7 +16,7 @@ ghost use Rattle.file.specs.Sections.{fileOf};
 ghost use Rattle.law.specs.Tree.{keep};
 ghost use Rattle.law.specs.Reading.{sentencesAt};
 ghost use Rattle.law.specs.Code.Index.{Indexed};
-ghost use Rattle.law.specs.Law.{Accepted};
+ghost use Rattle.law.specs.Code.Accepted.{Accepted};
 ghost use Rattle.lints.specs.Dead.{earliest, deadAfter};
 ghost use Rattle.findings.specs.Code.Events.{noting, sinkOf, met, collect};
 ghost use Rattle.findings.specs.Code.Tasks.{remarkEvents};

@@ -11,7 +11,7 @@ ghost use Rattle.file.specs.Sections.{fileOf};
 ghost use Rattle.law.specs.Tree.{keep};
 ghost use Rattle.law.specs.Reading.{sentencesAt};
 ghost use Rattle.law.specs.Code.Index.{Indexed};
-ghost use Rattle.law.specs.Law.{Accepted};
+ghost use Rattle.law.specs.Code.Accepted.{Accepted};
 ghost use Rattle.lints.specs.Open.{openIn};
 ghost use Rattle.findings.specs.Code.Events.{sinkOf, collect};
 ghost use Rattle.findings.specs.Code.Tasks.{remarkEvents};

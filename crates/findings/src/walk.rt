@@ -33,7 +33,7 @@ ghost use Rattle.law.specs.Places.{sentencesOf, firstSentence};
 ghost use Rattle.matching.specs.Match.{when};
 ghost use Rattle.law.specs.Reading.{own, sentencesAt, treeOf};
 ghost use Rattle.law.specs.Code.Index.{Indexed, PartAt};
-ghost use Rattle.law.specs.Law.{Accepted};
+ghost use Rattle.law.specs.Code.Accepted.{Accepted};
 ghost use Rattle.lints.specs.Code.Records.{Prepared, formatsIn, conditionsAt};
 ghost use Rattle.findings.specs.Code.Events.{Collects};
 ghost use Rattle.findings.specs.Code.Tasks.{ownAlone, blockEvents, conditionEvents, functionEvents, lintEvents, runMet, termMet, sentencesMet};

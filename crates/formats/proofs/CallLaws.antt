@@ -13,7 +13,8 @@ use Rattle.shapes.specs.Format.{Format, never, of, size}
 use Rattle.shapes.specs.Join.{joinFormats}
 use Rattle.formats.specs.FormatOf.{Results, resultShapes, patternShapes}
 use Rattle.formats.specs.Infer.{Entry, Inferred, Rounds, namesOf, allAt, find, joinResults, joinPatterns, round, roundsFrom, roundLimit, arguments, inferWithin, infer}
-use Rattle.formats.specs.Store.{StoreHolds, storeSize, startOf}
+use Rattle.formats.specs.Store.{storeSize}
+use Rattle.formats.specs.Code.Entries.{StoreHolds, startOf}
 use Rattle.formats.specs.Code.Turns.{RoundAsked, Holding, ArgumentsIs, RoundsIs, StartedIs, InferIs}
 use Rattle.formats.specs.Call.{inferredOutcome, lawOutcome, callOutcome, inferOutcome}
 use Rattle.formats.specs.declared.infer.Inference.{Inference}
@@ -28,7 +29,8 @@ use Rattle.file.specs.Sections.{fileOf, numberOf}
 use Rattle.file.proofs.Answers.{map-refused, map-given}
 use Rattle.law.specs.Code.Index.{Indexed, Readable}
 use Rattle.law.specs.Reading.{treeOf}
-use Rattle.law.specs.Law.{lawOf, checkAnswer, checkOf, IndexAfter}
+use Rattle.law.specs.Law.{lawOf, checkAnswer, checkOf}
+use Rattle.law.specs.Code.Accepted.{IndexAfter}
 use Rattle.law.specs.declared.Check.{Check}
 use Rattle.law.specs.declared.Check.the-variants as check
 use Rattle.file.specs.declared.Refusal.{Refusal}

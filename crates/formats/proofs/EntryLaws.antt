@@ -26,7 +26,7 @@ use Rattle.shapes.proofs.FormatLaws.{join-encodable}
 use Rattle.shapes.proofs.SameLaws.{same-equal}
 use Rattle.formats.specs.FormatOf.{patternShapes, Results, resultShapes}
 use Rattle.formats.specs.Infer.{Entry, namesOf, find, renew, orNever, allAt, joinResults, joinPatterns, round, Rounds, roundsFrom, roundLimit, arguments, inferWithin, infer}
-use Rattle.formats.specs.Store.{entryNames, formatIn, put, EachEntry}
+use Rattle.formats.specs.Code.Entries.{entryNames, formatIn, put, EachEntry}
 use Rattle.formats.specs.Code.Slots.{position, functionFolded}
 
 -- ---- names

@@ -19,7 +19,7 @@ use Rattle.shapes.specs.Same.{sameFormat}
 use Rattle.shapes.specs.Words.{Encodable, readFormat}
 use Rattle.shapes.proofs.FormatLaws.{join-encodable}
 use Rattle.formats.specs.Infer.{Entry, find, arguments, round}
-use Rattle.formats.specs.Store.{formatIn, put, StoreHolds}
+use Rattle.formats.specs.Code.Entries.{formatIn, put, StoreHolds}
 use Rattle.formats.specs.Code.Slots.{fileNames, functionFolded, position}
 use Rattle.formats.specs.Code.Rows.{formatAt}
 use Rattle.formats.specs.Code.Turns.{RoundAsked, Holding, resultsIn, rowsJoined, formatNumber, turnOf, TurnIs, ArgumentsIs, RoundIs}

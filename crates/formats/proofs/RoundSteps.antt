@@ -10,7 +10,7 @@ use Rattle.file.specs.Sections.{fileOf}
 use Rattle.law.specs.Tree.{Law}
 use Rattle.law.proofs.IndexLaws.{functions-limit}
 use Rattle.formats.specs.Infer.{Entry, namesOf, round, roundsFrom}
-use Rattle.formats.specs.Store.{StoreHolds}
+use Rattle.formats.specs.Code.Entries.{StoreHolds}
 use Rattle.formats.specs.Code.Turns.{RoundAsked, Holding, turnOf, RoundIs, RoundsIs}
 use Rattle.formats.specs.declared.infer.Turn.{Turn}
 use Rattle.formats.specs.declared.infer.Turn.the-variants.{Over, Changed, Same}

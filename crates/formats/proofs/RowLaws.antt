@@ -25,9 +25,10 @@ use Rattle.law.specs.Reading.{termRun, own}
 use Rattle.law.specs.Code.Index.{Readable, PartAt}
 use Rattle.law.proofs.RunLaws.{run-empty, run-node}
 use Rattle.law.proofs.PartLaws.{part-at, part-term, part-leaf, part-end, contents-part, rest-part}
-use Rattle.shapes.specs.Leaf.{leafAt, leafOf, IsLeafWord}
+use Rattle.shapes.specs.Leaf.{leafAt, leafOf}
+use Rattle.shapes.specs.Code.Words.{IsLeafWord, FormatIn}
 use Rattle.shapes.specs.Format.{Shapes, end, item, group, Format, never, of, size, isOpen}
-use Rattle.shapes.specs.Words.{bracketWord, shapeWords, formatWords, Encodable, FormatIn}
+use Rattle.shapes.specs.Words.{bracketWord, shapeWords, formatWords, Encodable}
 use Rattle.buffers.specs.Written.{written}
 use Rattle.shapes.proofs.WordLaws.{words-length, format-words-length, read-write}
 use Rattle.buffers.proofs.WrittenLaws.{written-none, written-more, written-one, written-front, written-length}

@@ -19,12 +19,13 @@ use Rattle.law.specs.Code.Index.{Readable, PartAt}
 use Rattle.law.proofs.PartLaws.{pattern-part, result-part}
 use Rattle.shapes.specs.Format.{Shapes, Format, never, of, size}
 use Rattle.shapes.specs.Join.{joinFormats}
-use Rattle.shapes.specs.Words.{formatWords, Encodable, readFormat, FormatIn}
+use Rattle.shapes.specs.Words.{formatWords, Encodable, readFormat}
+use Rattle.shapes.specs.Code.Words.{FormatIn}
 use Rattle.shapes.proofs.WordLaws.{format-words-length, read-write}
 use Rattle.shapes.proofs.FormatLaws.{join-encodable}
 use Rattle.formats.specs.FormatOf.{Results}
 use Rattle.formats.specs.Infer.{Entry, find}
-use Rattle.formats.specs.Store.{entryNames, formatIn, StoreHolds}
+use Rattle.formats.specs.Code.Entries.{entryNames, formatIn, StoreHolds}
 use Rattle.formats.specs.Code.Slots.{fileNames, SlotsOf}
 use Rattle.formats.specs.Code.Rows.{formatAt, Knows, Stored, partShapes}
 use Rattle.formats.specs.Code.Turns.{Holding, entriesFrom, argumentsIn, resultsIn, FormatMade, sentenceShapes, rowsJoined, JoinedIs}

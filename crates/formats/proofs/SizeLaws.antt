@@ -9,7 +9,7 @@ use Rattle.law.specs.Tree.{Law}
 use Rattle.shapes.specs.Format.{never}
 use Rattle.shapes.specs.Words.{Encodable}
 use Rattle.formats.specs.Infer.{Entry, namesOf, allAt, roundLimit, Inferred, inferWithin, infer}
-use Rattle.formats.specs.Store.{EachEntry, Storable}
+use Rattle.formats.specs.Code.Entries.{EachEntry, Storable}
 use Rattle.formats.proofs.SlotLaws.{names-at-most}
 use Rattle.formats.proofs.EntryLaws.{all-at-encodable, arguments-keep, rounds-keep}
 use Rattle.formats.proofs.RoundLaws.{inferred-parts, infer-holds}

@@ -15,7 +15,8 @@ use Rattle.shapes.specs.Words.{formatWords, Encodable, readFormat}
 use Rattle.buffers.specs.Written.{written}
 use Rattle.shapes.proofs.WordLaws.{filled-length, format-words-length, read-write}
 use Rattle.formats.specs.Infer.{Entry, find, allAt}
-use Rattle.formats.specs.Store.{entryWords, storeSize, storeOf, rowWords, startOf, entryNames, formatIn, put, EachEntry, Storable, StoreHolds}
+use Rattle.formats.specs.Store.{entryWords, storeSize, storeOf}
+use Rattle.formats.specs.Code.Entries.{rowWords, startOf, entryNames, formatIn, put, EachEntry, Storable, StoreHolds}
 use Rattle.formats.specs.Code.Slots.{position, callFolded, fileNames, SlotsOf}
 use Rattle.formats.specs.Code.Rows.{formatAt, Knows}
 use Rattle.formats.proofs.EntryLaws.{names-length, names-put, names-all-at, put-encodable, all-at-encodable, format-encodable, find-some, find-none}

@@ -9,7 +9,7 @@ use Rattle.names.proofs.Laws.{same-sound}
 use Rattle.law.specs.Tree.{Law}
 use Rattle.shapes.specs.Format.{Format}
 use Rattle.formats.specs.Infer.{Entry, namesOf, find, renew, orNever}
-use Rattle.formats.specs.Store.{entryNames, formatIn}
+use Rattle.formats.specs.Code.Entries.{entryNames, formatIn}
 use Rattle.formats.specs.Code.Slots.{position, isAmong}
 use Rattle.formats.proofs.SlotLaws.{listed-insert}
 use Rattle.formats.proofs.EntryLaws.{renew-put, found-or-never, put-same}

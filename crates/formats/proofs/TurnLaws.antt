@@ -15,7 +15,8 @@ use Rattle.law.proofs.IndexLaws.{terms-limit}
 use Rattle.shapes.specs.Format.{Shapes, Format, never, of, size, isOpen}
 use Rattle.shapes.specs.Join.{joinFormats}
 use Rattle.shapes.specs.Same.{sameFormat}
-use Rattle.shapes.specs.Words.{shapeWords, usedWords, formatWords, Encodable, readFormat, rowEnd, FormatIn}
+use Rattle.shapes.specs.Words.{shapeWords, usedWords, formatWords, Encodable, readFormat}
+use Rattle.shapes.specs.Code.Words.{rowEnd, FormatIn}
 use Rattle.buffers.specs.Written.{written}
 use Rattle.shapes.proofs.WordLaws.{words-length, read-write}
 use Rattle.buffers.proofs.WrittenLaws.{written-front}

@@ -15,11 +15,12 @@ use Rattle.law.proofs.PlaceLaws as places
 use Rattle.shapes.specs.Format.{Format, never}
 use Rattle.shapes.specs.Join.{joinFormats}
 use Rattle.shapes.specs.Same.{sameFormat}
-use Rattle.shapes.specs.Words.{formatWords, Encodable, readFormat, FormatIn}
+use Rattle.shapes.specs.Words.{formatWords, Encodable, readFormat}
+use Rattle.shapes.specs.Code.Words.{FormatIn}
 use Rattle.buffers.specs.Written.{written}
 use Rattle.shapes.proofs.WordLaws.{read-write}
 use Rattle.formats.specs.FormatOf.{Results}
-use Rattle.formats.specs.Store.{formatIn}
+use Rattle.formats.specs.Code.Entries.{formatIn}
 use Rattle.formats.specs.Code.Rows.{formatAt}
 use Rattle.formats.specs.Code.Slots.{fileNames, functionFolded, position}
 use Rattle.formats.specs.Code.Turns.{RoundAsked, Holding, rowsJoined, JoinedIs, formatNumber, turnOf, TurnIs}

@@ -15,7 +15,8 @@ ghost use Rattle.law.specs.Code.Index.{Indexed, Readable};
 ghost use Rattle.law.specs.Reading.{treeOf};
 ghost use Rattle.shapes.specs.Format.{Format};
 ghost use Rattle.formats.specs.Infer.{allAt, infer};
-ghost use Rattle.formats.specs.Store.{StoreHolds, storeSize, startOf};
+ghost use Rattle.formats.specs.Store.{storeSize};
+ghost use Rattle.formats.specs.Code.Entries.{StoreHolds, startOf};
 ghost use Rattle.formats.specs.Code.Slots.{fileNames, SlotsOf};
 ghost use Rattle.formats.specs.Code.Turns.{RoundAsked, StartedIs, InferIs};
 

@@ -14,7 +14,8 @@ use Rattle.law.specs.Runs.{runsAllowed, blocksAllowed}
 use Rattle.law.specs.Reading.{treeOf}
 use Rattle.law.specs.Depth.{depthOf}
 use Rattle.law.specs.Variables.{patternsAllowed}
-use Rattle.law.specs.Law.{lawOf, Accepted}
+use Rattle.law.specs.Law.{lawOf}
+use Rattle.law.specs.Code.Accepted.{Accepted}
 
 -- a step that refuses is passed only if its test fails
 pub passed : {A : Type 0} (n : ℕ) (test : Bool) (after : Answer A) (a : A) → refuseIf n test >> after ≡ given a → (test ≡ false) × (after ≡ given a)

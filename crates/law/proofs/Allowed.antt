@@ -14,7 +14,7 @@ use Rattle.law.specs.Code.Index.{Readable}
 use Rattle.law.specs.Places.{conditionsOf, blockSize, blockFirst, firstCondition, patternAt, patternPart, resultPart, conditionResultPart, conditionPatternPart}
 use Rattle.law.specs.Runs.{runFits, conditionFits, sentenceFits, usedUp, runsAllowed, blockLater, sentenceBlocks, blocksAllowed}
 use Rattle.law.specs.Variables.{distinct, patternVariables, patternsAllowed}
-use Rattle.law.specs.Law.{Accepted}
+use Rattle.law.specs.Code.Accepted.{Accepted}
 use Rattle.law.proofs.Tests.{three-hold}
 use Rattle.law.proofs.PlaceLaws.{condition-next}
 

@@ -16,10 +16,11 @@ use Rattle.file.specs.Head.{termFrom, termAt}
 use Rattle.file.specs.Sections.{File}
 use Rattle.file.specs.declared.Term.{Term}
 use Rattle.file.specs.declared.Term.the-variants.{Symbol, SVariable, TVariable, EVariable, Bracket, Call, Block}
-use Rattle.law.specs.Tree.{Mark, Run, empty, Sentences, noSentence, keep, firstTerm}
+use Rattle.law.specs.Tree.{Mark, Run, empty, Sentences, noSentence, keep}
+use Rattle.law.specs.Code.Terms.{firstTerm, sentencesIn}
 use Rattle.law.specs.Places.{blockFirst, sentencesOf, firstSentence, conditionsOf, firstCondition, patternAt, resultAt, patternPart, resultPart, conditionResultAt, conditionResultSize, conditionResultPart, conditionPatternPart}
 use Rattle.law.specs.Runs.{endOf}
-use Rattle.law.specs.Reading.{markAt, termRun, runOf, own, sentencesAt, sentencesIn, conditionsFrom, treeOf}
+use Rattle.law.specs.Reading.{markAt, termRun, runOf, own, sentencesAt, conditionsFrom, treeOf}
 use Rattle.law.specs.Depth.{deepest, deepestSentences, deepestConditions, depthOf}
 use Rattle.law.specs.Code.Index.{Readable, PartAt}
 use Rattle.law.proofs.RunLaws.{run-empty, run-node}

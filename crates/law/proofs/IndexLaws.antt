@@ -10,7 +10,8 @@ use Rattle.file.specs.Word.{wordAt}
 use Rattle.file.specs.Sections.{fileOf}
 use Rattle.file.proofs.Words.{word-part}
 use Rattle.file.proofs.SectionLaws.{sections-length, sections-limits, lengthBy}
-use Rattle.law.specs.Places.{sentencesOf, patternSize, conditionsOf, resultSize, conditionResultSize, conditionPatternSize, firstSentence, firstCondition, patternAt, conditionResultAt, resultAt, termsAt, Owns}
+use Rattle.law.specs.Places.{sentencesOf, patternSize, conditionsOf, resultSize, conditionResultSize, conditionPatternSize, firstSentence, firstCondition, patternAt, conditionResultAt, resultAt, termsAt}
+use Rattle.law.specs.Code.Terms.{Owns}
 use Rattle.law.specs.Code.Index.{Indexed, functionsStart, sentencesStart, conditionsStart, termsStart}
 use Rattle.law.proofs.PlaceLaws as places
 use Rattle.law.proofs.Parts.{part-part}

@@ -21,7 +21,7 @@ use Rattle.law.specs.Depth.{deepest, deepestSentences, depthOf}
 use Rattle.law.proofs.PlaceLaws.{sentence-start, sentence-next, block-next, block-start, condition-next, pattern-start, asked-first, asked-next, asked-last, pattern-next, sentences-used, terms-used, block-inside, pattern-inside, result-inside, asked-inside}
 use Rattle.law.proofs.RunLaws.{run-first, by-records}
 use Rattle.law.proofs.Terms.{InsideAllowed, block-size, inside-allowed}
-use Rattle.law.specs.Reading.{sentencesIn}
+use Rattle.law.specs.Code.Terms.{sentencesIn}
 use Rattle.law.proofs.Allowed.{all-used, pattern-fits, result-fits, condition-result-fits, condition-pattern-fits, block-after}
 use Rattle.law.specs.Code.Index.{Readable}
 use Rattle.law.proofs.DepthLaws.{sentences-grow, PartsDepth, kept-depth, function-parts-depth, condition-parts-depth}

@@ -9,9 +9,9 @@ use Rattle.file.specs.Word.{wordAt}
 use Rattle.file.specs.Forest.{contents, rest}
 use Rattle.file.specs.Head.{termFrom, termAt}
 use Rattle.file.specs.Sections.{File, fileOf}
-use Rattle.law.specs.Places.{blockFirst, termsAt, patternAt, patternSize, patternPart, resultAt, resultSize, resultPart, conditionResultAt, conditionResultSize, conditionResultPart, conditionPatternSize, conditionPatternPart, Owns}
+use Rattle.law.specs.Places.{blockFirst, termsAt, patternAt, patternSize, patternPart, resultAt, resultSize, resultPart, conditionResultAt, conditionResultSize, conditionResultPart, conditionPatternSize, conditionPatternPart}
+use Rattle.law.specs.Code.Terms.{Owns, sentencesIn}
 use Rattle.law.specs.Runs.{endOf, runFits}
-use Rattle.law.specs.Reading.{sentencesIn}
 use Rattle.law.specs.Code.Index.{Indexed, Readable, PartAt}
 use Rattle.law.proofs.Parts.{terms-length, terms-word, terms-end, terms-contents, terms-rest}
 use Rattle.law.proofs.RunLaws.{fits-first}

@@ -16,7 +16,8 @@ use Rattle.law.specs.Tree.{Mark, Run, Sentences}
 use Rattle.law.specs.Places.{patternAt, patternSize, patternPart, termsAt}
 use Rattle.law.specs.Runs.{runFits}
 use Rattle.law.specs.Reading.{markAt, termRun, runOf}
-use Rattle.law.specs.Variables.{Variable, variableOf, variablesFrom, distinct, patternVariables, patternsAllowed, runVariables}
+use Rattle.law.specs.Variables.{Variable, variableOf, variablesFrom, distinct, patternVariables, patternsAllowed}
+use Rattle.law.specs.Code.Terms.{runVariables}
 use Rattle.law.proofs.PlaceLaws.{pattern-inside}
 use Rattle.law.proofs.RunLaws.{run-none, run-first, by-records}
 use Rattle.law.proofs.Terms.{InsideAllowed, inside-allowed}

@@ -19,7 +19,7 @@ use Rattle.law.specs.Reading.{termRun, runOf, conditionsFrom, ownIn, sen
 use Rattle.law.proofs.PlaceLaws.{condition-next, pattern-next, pattern-within, result-within, asked-after, asked-within, terms-inside}
 use Rattle.law.proofs.RunLaws.{run-none, run-first, by-records}
 use Rattle.law.proofs.Terms.{block-size}
-use Rattle.law.specs.Reading.{sentencesIn}
+use Rattle.law.specs.Code.Terms.{sentencesIn}
 use Rattle.law.proofs.Allowed.{all-used, pattern-fits, result-fits, condition-result-fits, condition-pattern-fits, block-after}
 use Rattle.law.specs.Code.Index.{Readable}
 

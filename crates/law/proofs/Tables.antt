@@ -14,9 +14,9 @@ use Rattle.file.specs.Word.{wordAt}
 use Rattle.file.specs.Below.{total}
 use Rattle.file.specs.Answer.{given}
 use Rattle.file.specs.declared.Sections.{Sections}
-use Rattle.file.specs.Sections.{File, sectionsOf, fileOf, countsOf}
+use Rattle.file.specs.Sections.{File, sectionsOf, fileOf}
+use Rattle.file.specs.Code.Counts.{countsOf, Limits}
 use Rattle.file.proofs.Below.{both-first, both-second, total-next, total-mono}
-use Rattle.file.specs.Code.Counts.{Limits}
 use Rattle.file.proofs.SectionLaws.{part-slice, sections-limits}
 use Rattle.file.proofs.Parts.{cutOut, functionsPart, sentencesPart, conditionsPart, termsPart}
 use Rattle.law.specs.Places.{sentencesOf, patternSize, conditionsOf, resultSize, conditionResultSize, conditionPatternSize, blockSize, firstSentence, blockFirst, firstCondition, sentenceRecords, conditionRecords, patternAt}

@@ -15,7 +15,7 @@ use Rattle.file.specs.declared.Term.{Term}
 use Rattle.file.specs.declared.Term.the-variants.{Symbol, SVariable, TVariable, EVariable, Bracket, Call, Block}
 use Rattle.file.proofs.Below.{both-second, every-at}
 use Rattle.law.specs.Places.{blockSize}
-use Rattle.law.specs.Reading.{sentencesIn}
+use Rattle.law.specs.Code.Terms.{sentencesIn}
 
 -- n is what a term may have as the number of records inside it
 abbrev pub InsideAllowed : Term → ℕ → Type 0

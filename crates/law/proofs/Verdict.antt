@@ -15,7 +15,8 @@ use Rattle.law.specs.Runs.{usedUp, sentenceFits, runsAllowed, blocksAllo
 use Rattle.law.specs.Reading.{treeOf}
 use Rattle.law.specs.Depth.{depthOf}
 use Rattle.law.specs.Variables.{patternsAllowed}
-use Rattle.law.specs.Law.{lawOf, checkOf, checkAnswer, IndexAfter}
+use Rattle.law.specs.Law.{lawOf, checkOf, checkAnswer}
+use Rattle.law.specs.Code.Accepted.{IndexAfter}
 use Rattle.law.specs.Code.Index.{Indexed}
 use Rattle.law.specs.declared.Check.{Check}
 use Rattle.law.specs.declared.Check.the-variants.{Accepted, Refused}

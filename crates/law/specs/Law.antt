@@ -1,20 +1,17 @@
 -- A law file's meaning, and the table of refusals 1 to 9 from top to bottom.
 -- docs/SPECIFICATION.md, 2.1.
-use Prim.Native.Nat.{ℕ, _≤_}
+use Prim.Native.Nat.{ℕ}
 use mathlib.Core.List.{List}
-use mathlib.Core.Bool.{true, not}
-use mathlib.Core.Path.{_≡_}
+use mathlib.Core.Bool.{not}
 use lib.Dec.{ltb}
-use lib.ListN.{replicate}
 use Rattle.file.specs.Answer.{Answer, refused, given, refuseIf, mapAnswer, _>>=_, _>>_}
-use Rattle.file.specs.Sections.{sectionsOf, numberOf, fileOf}
+use Rattle.file.specs.Sections.{sectionsOf, numberOf}
 use Rattle.file.specs.Fields.{fieldsAllowed}
 use Rattle.law.specs.Tree.{Law}
 use Rattle.law.specs.Runs.{runsAllowed, blocksAllowed}
 use Rattle.law.specs.Reading.{treeOf}
 use Rattle.law.specs.Depth.{depthOf}
 use Rattle.law.specs.Variables.{patternsAllowed}
-use Rattle.law.specs.Code.Index.{Indexed}
 use Rattle.law.specs.declared.Check.{Check}
 use Rattle.law.specs.declared.Check.the-variants.{Accepted as Allowed, Refused}
 
@@ -36,17 +33,3 @@ checkAnswer (Refused r) = refused (numberOf r)
 
 abbrev pub checkOf : List ℕ → Answer (Unit {0})
 checkOf bytes = mapAnswer (λ _. tt) (lawOf bytes)
-
--- none of the refusals 1 to 9 holds of these bytes
-pub record Accepted (bytes : List ℕ) : Type 0 where
-  pub sections : sectionsOf bytes ≡ given (fileOf bytes)
-  pub fields : fieldsAllowed (fileOf bytes) ≡ true
-  pub runs : runsAllowed (fileOf bytes) ≡ true
-  pub blocks : blocksAllowed (fileOf bytes) ≡ true
-  pub depth : depthOf (treeOf (fileOf bytes)) ≤ 32
-  pub patterns : patternsAllowed (fileOf bytes) ≡ true
-
--- the index that the check leaves: of an accepted file its index, and of a refused one zeros
-abbrev pub IndexAfter : Check → List ℕ → List ℕ → Type 0
-IndexAfter Allowed bytes index = Indexed bytes index
-IndexAfter (Refused r) bytes index = index ≡ replicate 972 0

@@ -1,7 +1,7 @@
 -- Where things stand in a file. Document 01: "Sentences stand function by function, then block by block in record order.
 -- Terms stand sentence by sentence: pattern, each condition's result and pattern, result." Records are counted from 0 in each section.
 -- docs/SPECIFICATION.md, 1.11, 1.12.
-use Prim.Native.Nat.{ℕ, suc, _+_, _*_, _≤_, _<_}
+use Prim.Native.Nat.{ℕ, suc, _+_, _*_}
 use mathlib.Core.List.{List}
 use mathlib.Core.Bool.{cond}
 use lib.ListN.{take, drop}
@@ -80,9 +80,3 @@ module _ (file : File) where
 
   unfoldable pub conditionPatternPart : ℕ → ℕ → List ℕ
   conditionPatternPart s c = termsAt (conditionResultAt s c + conditionResultSize c) (conditionPatternSize c)
-
-  -- the condition c is one of the sentence s
-  pub record Owns (s c : ℕ) : Type 0 where
-    pub sentence : s < file .sentences .count
-    pub from : firstCondition s ≤ c
-    pub upTo : c < firstCondition (suc s)

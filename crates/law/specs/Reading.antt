@@ -23,16 +23,6 @@ symbolOf text (heads.the-variants.Character c) = character c
 symbolOf text (heads.the-variants.Identifier a b) = identifier (nameAt text a b)
 symbolOf text (heads.the-variants.Number a b) = number (nameAt text a b)
 
--- a term's number of sentences, 0 where it is no block
-abbrev pub sentencesIn : terms.Term → ℕ
-sentencesIn (terms.the-variants.Symbol x) = 0
-sentencesIn (terms.the-variants.SVariable a b) = 0
-sentencesIn (terms.the-variants.TVariable a b) = 0
-sentencesIn (terms.the-variants.EVariable a b) = 0
-sentencesIn terms.the-variants.Bracket = 0
-sentencesIn (terms.the-variants.Call a b) = 0
-sentencesIn (terms.the-variants.Block n) = n
-
 -- the mark of a record whose span stands at a byte position
 abbrev pub markAt : ℕ → List ℕ → ℕ → Mark
 markAt at s span = record { at = at; spanStart = wordAt s span; spanEnd = wordAt s (span + 4) }

@@ -64,12 +64,3 @@ unfoldable pub skip : ℕ → Sentences → Sentences
 skip zero ss = ss
 skip (suc n) noSentence = noSentence
 skip (suc n) (sentence m p cs r ss) = skip n ss
-
--- a run's first term alone
-unfoldable pub firstTerm : Run → Run
-firstTerm empty = empty
-firstTerm (symbol x after) = symbol x empty
-firstTerm (variable k i after) = variable k i empty
-firstTerm (bracket inside after) = bracket inside empty
-firstTerm (call m f inside after) = call m f inside empty
-firstTerm (block m inside ss after) = block m inside ss empty

@@ -64,12 +64,3 @@ patternVariables file s = variablesFrom (file .text .records) (file .terms .reco
 -- row 9
 unfoldable pub patternsAllowed : File → Bool
 patternsAllowed file = every (file .sentences .count) (λ s. leb (distinct (patternVariables file s)) 32)
-
--- the variables of a run of the tree, in record order: those inside brackets, calls and blocks' arguments too, those of blocks' sentences not
-unfoldable pub runVariables : Run → List Variable
-runVariables empty = []
-runVariables (symbol x after) = runVariables after
-runVariables (variable k i after) = record { kind = k; index = foldedIndex (i .spelled) } ∷ runVariables after
-runVariables (bracket inside after) = runVariables inside ++ runVariables after
-runVariables (call m f inside after) = runVariables inside ++ runVariables after
-runVariables (block m inside ss after) = runVariables inside ++ runVariables after

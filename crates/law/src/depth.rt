@@ -21,9 +21,10 @@ ghost use Prim.Native.Nat.{_+_, _≤_, _<_};
 ghost use lib.Dec.{leb};
 ghost use lib.ListN.{length};
 ghost use Rattle.file.specs.Sections.{fileOf};
-ghost use Rattle.law.specs.Tree.{keep, firstTerm};
+ghost use Rattle.law.specs.Tree.{keep};
+ghost use Rattle.law.specs.Code.Terms.{firstTerm, sentencesIn};
 ghost use Rattle.law.specs.Places.{conditionsOf, firstCondition};
-ghost use Rattle.law.specs.Reading.{runOf, own, sentencesAt, sentencesIn, conditionsFrom, treeOf};
+ghost use Rattle.law.specs.Reading.{runOf, own, sentencesAt, conditionsFrom, treeOf};
 ghost use Rattle.law.specs.Depth.{deepest, deepestSentences, deepestConditions, depthOf};
 ghost use Rattle.law.specs.Code.Index.{Indexed, Readable, PartAt};
 

@@ -9,11 +9,11 @@ ghost use Prim.Native.Nat.{_+_, _*_, _≤_, _<_};
 ghost use lib.ListN.{length, drop};
 ghost use lib.Dec.{eqb};
 ghost use Rattle.file.specs.Answer.{given};
-ghost use Rattle.file.specs.Sections.{sectionsOf, fileOf, countsOf};
+ghost use Rattle.file.specs.Sections.{sectionsOf, fileOf};
+ghost use Rattle.file.specs.Code.Counts.{countsOf, Limits, fileLength};
 ghost use Rattle.law.specs.Runs.{usedUp};
 ghost use Rattle.law.specs.Code.Index.{Indexed};
 ghost use Rattle.law.specs.Code.Filling.{Table, wordSum, pairSum, blockWord, blockSum, asWord, TablesOf, header};
-ghost use Rattle.file.specs.Code.Counts.{Limits, fileLength};
 
 // An array's length is known only where it is made, so the functions below ask for it and say it again.
 

@@ -13,10 +13,12 @@ ghost use mathlib.Core.Path.{_≡_};
 ghost use mathlib.Core.Bool.{true};
 ghost use lib.ListN.{length};
 ghost use Rattle.file.specs.Answer.{given};
-ghost use Rattle.file.specs.Sections.{sectionsOf, fileOf, countsOf};
+ghost use Rattle.file.specs.Sections.{sectionsOf, fileOf};
+ghost use Rattle.file.specs.Code.Counts.{countsOf};
 ghost use Rattle.file.specs.Fields.{fieldsAllowed};
 ghost use Rattle.law.specs.Code.Index.{Indexed};
-ghost use Rattle.law.specs.Law.{checkAnswer, checkOf, IndexAfter};
+ghost use Rattle.law.specs.Law.{checkAnswer, checkOf};
+ghost use Rattle.law.specs.Code.Accepted.{IndexAfter};
 
 mod blocks;
 pub mod depth;

@@ -9,7 +9,8 @@ ghost use lib.ListN.{getD};
 ghost use Rattle.file.specs.Word.{wordAt};
 ghost use Rattle.file.specs.Sections.{fileOf};
 ghost use Rattle.file.specs.Fields.{fieldsAllowed};
-ghost use Rattle.law.specs.Places.{patternSize, conditionResultSize, patternAt, conditionResultAt, resultAt, termsAt, patternPart, resultPart, conditionResultPart, conditionPatternPart, Owns};
+ghost use Rattle.law.specs.Places.{patternSize, conditionResultSize, patternAt, conditionResultAt, resultAt, termsAt, patternPart, resultPart, conditionResultPart, conditionPatternPart};
+ghost use Rattle.law.specs.Code.Terms.{Owns};
 ghost use Rattle.law.specs.Reading.{functionName};
 ghost use Rattle.law.specs.Code.Index.{Indexed};
 

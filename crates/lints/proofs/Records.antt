@@ -20,7 +20,8 @@ use Rattle.file.proofs.Below.{both-first, both-second}
 use Rattle.law.specs.Tree.{Name, Mark, Run, Sentences, Conditions, Law, keep}
 use Rattle.law.specs.Places.{sentencesOf, patternSize, conditionsOf, resultSize, conditionResultSize, conditionPatternSize, blockSize, firstSentence, blockFirst, firstCondition, patternAt, conditionResultAt, resultAt, termsAt, patternPart, resultPart, conditionResultPart, conditionPatternPart}
 use Rattle.law.specs.Runs.{runFits}
-use Rattle.law.specs.Reading.{nameAt, symbolOf, sentencesIn, markAt, termRun, runOf, conditionsFrom, sentenceAt, treeOf, sentencesAt, own}
+use Rattle.law.specs.Reading.{nameAt, symbolOf, markAt, termRun, runOf, conditionsFrom, sentenceAt, treeOf, sentencesAt, own}
+use Rattle.law.specs.Code.Terms.{sentencesIn}
 use Rattle.law.specs.Law.{lawOf}
 use Rattle.law.specs.Code.Index.{Readable, PartAt}
 use Rattle.law.proofs.Accepted.{law-accepted}

@@ -7,7 +7,7 @@ ghost use mathlib.Core.Path.{_≡_};
 ghost use Prim.Native.Nat.{_+_, _≤_, _<_};
 ghost use Rattle.file.specs.Sections.{fileOf};
 ghost use Rattle.law.specs.Code.Index.{Indexed};
-ghost use Rattle.law.specs.Law.{Accepted};
+ghost use Rattle.law.specs.Code.Accepted.{Accepted};
 ghost use Rattle.sentences.specs.Entry.{patternIn};
 ghost use Rattle.lints.specs.Dead.{earliest};
 ghost use Rattle.lints.specs.Code.Records.{earlierAt, numberOr0};

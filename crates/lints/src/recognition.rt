@@ -18,7 +18,7 @@ ghost use Rattle.file.specs.Word.{wordAt};
 ghost use Rattle.file.specs.Sections.{fileOf};
 ghost use Rattle.law.specs.Reading.{treeOf};
 ghost use Rattle.law.specs.Code.Index.{Indexed};
-ghost use Rattle.law.specs.Law.{Accepted};
+ghost use Rattle.law.specs.Code.Accepted.{Accepted};
 ghost use Rattle.formats.specs.Code.Slots.{position, callFolded, fileNames};
 ghost use Rattle.matching.specs.Literal.{isLiteral, literalTerms};
 ghost use Rattle.sentences.specs.Entry.{argumentIn};

@@ -16,7 +16,8 @@ use Rattle.law.proofs.Allowed.{accepted-readable}
 use Rattle.law.proofs.Functions.{tree-length}
 use Rattle.law.proofs.IndexLaws.{functions-limit}
 use Rattle.formats.specs.Infer.{Inferred, infer}
-use Rattle.formats.specs.Store.{StoreHolds, storeSize, storeWords}
+use Rattle.formats.specs.Store.{storeSize, storeWords}
+use Rattle.formats.specs.Code.Entries.{StoreHolds}
 use Rattle.formats.specs.Code.Slots.{SlotsOf, fileNames}
 use Rattle.formats.specs.Code.Turns.{InferIs}
 use Rattle.formats.specs.declared.infer.Inference.{Inference}

@@ -11,7 +11,8 @@ use Rattle.file.specs.Sections.{fileOf, numberOf}
 use Rattle.file.specs.declared.Refusal.{Refusal}
 use Rattle.file.proofs.Answers.{map-refused, map-given}
 use Rattle.law.specs.Reading.{treeOf}
-use Rattle.law.specs.Law.{lawOf, checkAnswer, checkOf, IndexAfter, Accepted}
+use Rattle.law.specs.Law.{lawOf, checkAnswer, checkOf}
+use Rattle.law.specs.Code.Accepted.{IndexAfter, Accepted}
 use Rattle.law.specs.declared.Check.{Check}
 use Rattle.law.specs.declared.Check.the-variants as checks
 use Rattle.law.proofs.Accepted.{law-accepted}

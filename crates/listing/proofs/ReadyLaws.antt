@@ -21,8 +21,8 @@ use Rattle.listing.specs.declared.Told.the-variants as told
 use Rattle.listing.specs.declared.gather.Gathered.{Gathered}
 use Rattle.listing.specs.declared.gather.Gathered.the-variants as gathered
 use Rattle.listing.specs.Outcome.{findingsFront, textFront, textOf, findingAt}
-use Rattle.listing.specs.Code.Gather.{Prepares, Fitted, GatheredIs, GatherIs, shownIn, Collected}
-use Rattle.listing.specs.Promise.{findingsAfter, textAfter, toldPair}
+use Rattle.listing.specs.Code.Gather.{Prepares, Fitted, GatheredIs, GatherIs, shownIn, Collected, toldPair}
+use Rattle.listing.specs.Promise.{findingsAfter, textAfter}
 use Rattle.listing.proofs.CollectedLaws.{shown-are, collected}
 
 wide-full : gathered.TooWide ≡ gathered.Full → ⊥

@@ -9,7 +9,7 @@ use borrow.Author.Tests.{le-leb, lt-leb}
 use lib.ListN.{length, take, drop, take-append-drop}
 use Rattle.file.specs.Sections.{fileOf}
 use Rattle.law.specs.Reading.{treeOf}
-use Rattle.buffers.specs.Written.{Put}
+use Rattle.buffers.specs.Code.Put.{Put}
 use Rattle.lints.specs.Finding.{Finding, lintOf, findingWords}
 use Rattle.lints.specs.Levels.{Settings, severityOf, listingWords}
 use Rattle.lints.specs.Findings.{findingsOf}
@@ -20,8 +20,7 @@ use Rattle.messages.specs.Code.Spoken.{Spoken}
 use Rattle.listing.specs.declared.Turned.the-variants as turned
 use Rattle.listing.specs.declared.Told.the-variants as told
 use Rattle.listing.specs.Outcome.{textOf, findingAt}
-use Rattle.listing.specs.Code.Gather.{shownIn, Collected}
-use Rattle.listing.specs.Promise.{toldPair}
+use Rattle.listing.specs.Code.Gather.{shownIn, Collected, toldPair}
 
 -- an empty part
 none : (part : List ℕ) → length part ≡ 0 → part ≡ []

@@ -5,7 +5,7 @@ use mathlib.Core.Bool.{true}
 use mathlib.Core.List.{List}
 use mathlib.Core.Path.{_≡_}
 use lib.ListN.{take}
-use Rattle.file.specs.Answer.{Answer, given}
+use Rattle.file.specs.Answer.{given}
 use Rattle.law.specs.Tree.{Law}
 use Rattle.law.specs.Law.{lawOf}
 use Rattle.lints.specs.Levels.{Settings}
@@ -20,9 +20,6 @@ findingsAfter r store words = record { answer = foundAnswer r; store = store; fi
 
 abbrev pub textAfter : Told → List ℕ → List ℕ → TextOutcome
 textAfter r store text = record { answer = toldAnswer r; store = store; text = text }
-
-abbrev pub toldPair : Told → List ℕ → Answer ℕ × List ℕ
-toldPair r text = (toldAnswer r, text)
 
 -- `bytes` is the law; `store` and `words` are lent, and `filled` and `listed` are what they hold afterwards
 pub record FindingsPromise (limit : ℕ) (settings : Settings) (bytes store words filled listed : List ℕ) (r : Found) : Type 0 where

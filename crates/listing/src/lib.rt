@@ -27,8 +27,8 @@ ghost use Rattle.law.specs.Reading.{treeOf};
 ghost use Rattle.buffers.specs.Written.{written};
 ghost use Rattle.lints.specs.Levels.{Settings, settingsFrom, listingWords};
 ghost use Rattle.listing.specs.Outcome.{turnedNumber, findingsFront, findingsOutcome, textFront, textOf, findingAt, textOutcome};
-ghost use Rattle.listing.specs.Code.Gather.{Prepares, shownIn, Collected};
-ghost use Rattle.listing.specs.Promise.{findingsAfter, textAfter, toldPair, FindingsPromise};
+ghost use Rattle.listing.specs.Code.Gather.{Prepares, shownIn, Collected, toldPair};
+ghost use Rattle.listing.specs.Promise.{findingsAfter, textAfter, FindingsPromise};
 
 mod front;
 mod gather;

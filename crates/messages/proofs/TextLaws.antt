@@ -8,7 +8,7 @@ use lib.ListN.{length, take, drop, getD, length-append, length-take, length-drop
 use lib.Dec.{leb}
 use Rattle.shapes.specs.Format.{Shapes, end, item, group, size}
 use Rattle.shapes.specs.Words.{shapesIn, readFormat}
-use Rattle.buffers.specs.Written.{Put}
+use Rattle.buffers.specs.Code.Put.{Put}
 use Rattle.shapes.specs.Display.{spaced, display}
 use Rattle.shapes.proofs.WordLaws.{shapes-size}
 

@@ -27,7 +27,7 @@ ghost use Rattle.file.specs.Fields.{fieldsAllowed};
 ghost use Rattle.law.specs.Tree.{Name};
 ghost use Rattle.law.specs.Reading.{functionName, treeOf};
 ghost use Rattle.law.specs.Code.Index.{Indexed};
-ghost use Rattle.buffers.specs.Written.{Put};
+ghost use Rattle.buffers.specs.Code.Put.{Put};
 ghost use Rattle.lints.specs.Finding as finding;
 ghost use Rattle.lints.specs.Finding.{dead, fails, failureNumber, findingWords};
 ghost use Rattle.lints.specs.Findings.{findingsOf};

@@ -11,7 +11,7 @@ ghost use Prim.Native.Nat.{_+_, _*_, _≤_};
 ghost use lib.ListN.{length};
 ghost use Rattle.law.specs.Tree.{Name};
 ghost use Rattle.shapes.specs.Words.{readFormat};
-ghost use Rattle.buffers.specs.Written.{Put, largest};
+ghost use Rattle.buffers.specs.Code.Put.{Put, largest};
 ghost use Rattle.lints.specs.Finding.{dead, byFormats, byLiterals, fails, openPattern};
 ghost use Rattle.lints.specs.Message.{ownerText, callText, failureText, claimText};
 ghost use Rattle.messages.specs.Code.Failures.{failureOf};

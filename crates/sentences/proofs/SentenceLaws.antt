@@ -17,7 +17,8 @@ use Rattle.law.specs.Places.{patternSize, patternAt, patternPart, termsAt}
 use Rattle.law.specs.Reading.{treeOf, own}
 use Rattle.law.specs.Code.Index.{Indexed, Readable}
 use Rattle.law.specs.Variables.{distinct}
-use Rattle.law.specs.Law.{lawOf, checkOf, checkAnswer, Accepted, IndexAfter}
+use Rattle.law.specs.Law.{lawOf, checkOf, checkAnswer}
+use Rattle.law.specs.Code.Accepted.{Accepted, IndexAfter}
 use Rattle.law.specs.declared.Check.{Check}
 use Rattle.law.specs.declared.Check.the-variants as check
 use Rattle.file.proofs.Answers.{map-given, map-refused}

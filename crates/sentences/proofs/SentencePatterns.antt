@@ -11,7 +11,8 @@ use Rattle.law.specs.Tree.{Run, empty, symbol, variable, bracket, call, block}
 use Rattle.law.specs.Places.{patternAt, patternPart}
 use Rattle.law.specs.Reading.{runOf, treeOf, own}
 use Rattle.law.specs.Depth.{deepest, depthOf}
-use Rattle.law.specs.Variables.{Variable, occurs, distinct, patternsAllowed, runVariables}
+use Rattle.law.specs.Variables.{Variable, occurs, distinct, patternsAllowed}
+use Rattle.law.specs.Code.Terms.{runVariables}
 use Rattle.law.specs.Code.Index.{Readable}
 use Rattle.law.proofs.PatternVariables as records
 use Rattle.law.proofs.DepthLaws.{symbol-depth, variable-depth, bracket-depth, call-depth, block-depth}

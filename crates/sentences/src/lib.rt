@@ -26,7 +26,7 @@ ghost use Rattle.file.specs.Answer.{given};
 ghost use Rattle.file.specs.Sections.{fileOf};
 ghost use Rattle.law.specs.Places.{patternPart};
 ghost use Rattle.law.specs.Code.Index.{Indexed};
-ghost use Rattle.law.specs.Law.{Accepted};
+ghost use Rattle.law.specs.Code.Accepted.{Accepted};
 ghost use Rattle.law.specs.Variables.{distinct};
 ghost use Rattle.matching.specs.Shadow.{shadows};
 ghost use Rattle.matching.specs.Literal.{literalMatches};

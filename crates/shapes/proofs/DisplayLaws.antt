@@ -9,9 +9,11 @@ use lib.Dec.{leb}
 use borrow.Author.Tests.{le-leb, lt-leb}
 use Rattle.shapes.specs.Leaf.{leafByte, leafAt}
 use Rattle.shapes.specs.Format.{Shapes, end, of}
-use Rattle.shapes.specs.Words.{isBracket, insideOpen, shapesEnd, shapesIn, readFormat, rowEnd}
-use Rattle.buffers.specs.Written.{Put}
-use Rattle.shapes.specs.Display.{spaced, display, shown, firstShown, shownOutcome, textAt}
+use Rattle.shapes.specs.Words.{isBracket, insideOpen, shapesEnd, shapesIn, readFormat}
+use Rattle.shapes.specs.Code.Words.{rowEnd}
+use Rattle.buffers.specs.Code.Put.{Put}
+use Rattle.shapes.specs.Display.{spaced, display, shownOutcome, textAt}
+use Rattle.shapes.specs.Code.Shown.{shown, firstShown}
 use Rattle.shapes.specs.declared.display.Shown.the-variants.{At, NoRoom}
 use Rattle.shapes.proofs.WordLaws.{shapes-none, shapes-leaf, shapes-bracket}
 use Rattle.buffers.proofs.PutLaws.{put-none, put-more}

@@ -14,7 +14,8 @@ use Rattle.shapes.specs.Format.{Shapes, Format, never, of, size, isOpen}
 use Rattle.shapes.specs.Join.{joinRows, joinFormats}
 use Rattle.shapes.specs.Disjoint.{disjointRows, disjointFormats}
 use Rattle.shapes.specs.Same.{sameFormat}
-use Rattle.shapes.specs.Words.{shapeWords, filled, usedWords, formatWords, Encodable, shapesIn, readFormat, rowEnd, FormatIn}
+use Rattle.shapes.specs.Words.{shapeWords, filled, usedWords, formatWords, Encodable, shapesIn, readFormat}
+use Rattle.shapes.specs.Code.Words.{rowEnd, FormatIn}
 use Rattle.buffers.specs.Written.{written}
 use Rattle.shapes.specs.Code.First.{ShapesWritten}
 use Rattle.shapes.proofs.JoinLaws.{join-size-left}

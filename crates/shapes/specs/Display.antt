@@ -1,15 +1,13 @@
 -- A format as formats.rs displays it: `never`, or its items between `[` and `]`, one space between them, with `..` last where it is open.
 -- docs/SPECIFICATION.md, 6.1.
 use Prim.Native.Nat.{ℕ, _+_}
-use mathlib.Core.Bool.{Bool, true, false, cond}
+use mathlib.Core.Bool.{true, false, cond}
 use mathlib.Core.List.{List, [], _∷_, _++_}
-use lib.ListN.{length, drop, getD}
+use lib.ListN.{length, drop}
 use lib.Dec.{leb}
 use Rattle.file.specs.Answer.{Answer, refused, given}
-use Rattle.shapes.specs.Leaf.{leafByte, leafAt}
+use Rattle.shapes.specs.Leaf.{leafByte}
 use Rattle.shapes.specs.Format.{Shapes, end, item, group, Format, never, of}
-use Rattle.shapes.specs.Words.{isBracket}
-use Rattle.shapes.specs.Code.First.{firstInside}
 use Rattle.buffers.specs.Written.{written}
 use Rattle.shapes.specs.declared.display.Shown.{Shown}
 use Rattle.shapes.specs.declared.display.Shown.the-variants.{At, NoRoom}
@@ -46,16 +44,3 @@ textAt buffer at text =
     cond (leb (at + length text) (length buffer))
     (record { answer = given (at + length text); buffer = written buffer at text })
     (record { answer = refused 13; buffer = buffer })
-
--- ---- as the code writes it
-
--- the items of a row, with no space before the first of them or with one
-abbrev pub shown : Bool → Shapes → List ℕ
-shown first f = cond first (drop 1 (spaced f)) (spaced f)
-
--- the first item of a row's words, where they are not empty
-unfoldable pub firstShown : List ℕ → List ℕ
-firstShown s =
-    cond (isBracket (getD s 0 0))
-    (40 ∷ 91 ∷ drop 1 (spaced (firstInside s)) ++ 93 ∷ 41 ∷ [])
-    (leafByte (leafAt (getD s 0 0)) ∷ [])

@@ -4,7 +4,6 @@
 use Prim.Native.Nat.{ℕ}
 use mathlib.Core.Bool.{Bool, true, false}
 use mathlib.Core.List.{[], _∷_}
-use mathlib.Core.Path.{_≡_}
 use lib.ListN.{getD}
 use Rattle.law.specs.Expression as expressions
 use Rattle.law.specs.Tree as tree
@@ -132,7 +131,3 @@ leafOf (tree.Symbol.number n) = number
 -- the shape that a store word says; any other word says unknown
 abbrev pub leafAt : ℕ → Leaf
 leafAt w = getD (character ∷ number ∷ identifier ∷ anySymbol ∷ []) w unknown
-
--- the word that a shape is written with
-abbrev pub IsLeafWord : ℕ → Type 0
-IsLeafWord w = leafWord (leafAt w) ≡ w

@@ -5,7 +5,6 @@ use Prim.Native.Nat.{ℕ, _+_, _*_, _-_, _/_, _%_, _≤_, min}
 use mathlib.Core.Bool.{Bool, cond}
 use mathlib.Core.List.{List, [], _∷_, _++_}
 use lib.ListN.{length, take, drop, getD, replicate}
-use mathlib.Core.Path.{_≡_}
 use lib.Dec.{eqb, leb}
 use Rattle.file.specs.Forest as forest
 use Rattle.shapes.specs.Leaf.{leafWord, leafAt}
@@ -74,13 +73,3 @@ unfoldable pub readFormat : List ℕ → Format
 readFormat s =
     cond (leb 512 (getD s 0 0)) never
     (of (shapesIn (leb 256 (getD s 0 0)) (take (getD s 0 0 % 256) (drop 1 s))))
-
--- where the shapes of a format's words end: at the last word at most
-unfoldable pub rowEnd : List ℕ → ℕ
-rowEnd s = min (1 + getD s 0 0 % 256) (length s)
-
--- words that are a format's
-pub record FormatIn (limit : ℕ) (words : List ℕ) : Type 0 where
-  pub format : Format
-  pub encodable : Encodable limit format
-  pub same : words ≡ formatWords limit format

@@ -14,8 +14,9 @@ ghost use mathlib.Core.List.{[], _∷_};
 ghost use Prim.Native.Nat.{_+_, _*_, _≤_};
 ghost use lib.ListN.{length};
 ghost use Rattle.shapes.specs.Words.{shapesEnd, shapesIn, readFormat};
-ghost use Rattle.buffers.specs.Written.{Put, largest};
-ghost use Rattle.shapes.specs.Display.{display, shown, firstShown, shownOutcome, textAt};
+ghost use Rattle.buffers.specs.Code.Put.{Put, largest};
+ghost use Rattle.shapes.specs.Display.{display, shownOutcome, textAt};
+ghost use Rattle.shapes.specs.Code.Shown.{shown, firstShown};
 
 // The position after a text, or that there is no room for it.
 pub enum Shown {

@@ -13,7 +13,8 @@ ghost use lib.Dec.{leb};
 ghost use Rattle.shapes.specs.Format.{end, size};
 ghost use Rattle.shapes.specs.Join.{joinRows, joinFormats};
 ghost use Rattle.shapes.specs.Disjoint.{disjointRows, disjointFormats};
-ghost use Rattle.shapes.specs.Words.{bracketWord, shapeWords, formatWords, isBracket, insideOpen, insideOf, shapesEnd, shapesIn, readFormat, rowEnd, FormatIn};
+ghost use Rattle.shapes.specs.Words.{bracketWord, shapeWords, formatWords, isBracket, insideOpen, insideOf, shapesEnd, shapesIn, readFormat};
+ghost use Rattle.shapes.specs.Code.Words.{rowEnd, FormatIn};
 ghost use Rattle.buffers.specs.Written.{written};
 ghost use Rattle.shapes.specs.Code.First.{firstApart, firstJoin, ShapesWritten};
 

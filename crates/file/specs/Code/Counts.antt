@@ -3,8 +3,10 @@ use Prim.Native.Nat.{ℕ, _+_, _*_, _-_, _≤_}
 use mathlib.Core.List.{List}
 use lib.ListN.{length}
 use Rattle.file.specs.Answer.{Answer, refused, given}
-use Rattle.file.specs.Sections.{Section, numberOf}
+use Rattle.file.specs.Sections.{Section, File, numberOf}
 use Rattle.file.specs.declared.Sections.{Sections}
+use Rattle.file.specs.declared.Cut.{Cut}
+use Rattle.file.specs.declared.Cut.the-variants.{Refused as RefusedCut, Whole}
 use Rattle.file.specs.declared.Counted.{Counted}
 use Rattle.file.specs.declared.Found.{Found}
 use Rattle.file.specs.declared.Found.the-variants.{Refused, Part}
@@ -17,6 +19,21 @@ countedOf law found = record { count = found .0 .count; end = length law - lengt
 abbrev pub sectionAnswer : Found → Answer Counted
 sectionAnswer (Refused r) = refused (numberOf r)
 sectionAnswer (Part p) = given p
+
+-- the five counts of a file
+abbrev pub countsOf : File → Sections
+countsOf file = record {
+  text = file .text .count;
+  functions = file .functions .count;
+  sentences = file .sentences .count;
+  conditions = file .conditions .count;
+  terms = file .terms .count;
+}
+
+-- what the code answers, as an `Answer`
+abbrev pub cutAnswer : Cut → Answer Sections
+cutAnswer (RefusedCut r) = refused (numberOf r)
+cutAnswer (Whole s) = given s
 
 -- the limits of the counts
 abbrev pub Limits : Sections → Type 0

@@ -19,7 +19,8 @@ use Rattle.law.specs.Reading.{runOf, own}
 use Rattle.law.specs.Code.Index.{Readable, PartAt}
 use Rattle.shapes.specs.Leaf.{character, number, identifier, anySymbol, unknown, leafWord, leafAt}
 use Rattle.shapes.specs.Format.{Shapes, end, item, group, Format, never, of, size, isOpen}
-use Rattle.shapes.specs.Words.{shapeWords, readFormat, FormatIn}
+use Rattle.shapes.specs.Words.{shapeWords, readFormat}
+use Rattle.shapes.specs.Code.Words.{FormatIn}
 use Rattle.buffers.specs.Written.{written}
 use Rattle.formats.specs.FormatOf.{Results, resultShapes}
 use Rattle.formats.specs.Code.Slots.{callFolded}

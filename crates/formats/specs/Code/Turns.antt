@@ -17,7 +17,8 @@ use Rattle.shapes.specs.Words.{formatWords, Encodable, readFormat}
 use Rattle.buffers.specs.Written.{written}
 use Rattle.formats.specs.FormatOf.{patternShapes, Results, resultShapes}
 use Rattle.formats.specs.Infer.{Entry, joinResults, joinPatterns, Rounds, Inferred}
-use Rattle.formats.specs.Store.{StoreHolds, storeSize, storeWords}
+use Rattle.formats.specs.Store.{storeSize, storeWords}
+use Rattle.formats.specs.Code.Entries.{StoreHolds}
 use Rattle.formats.specs.Code.Slots.{SlotsOf, fileNames}
 use Rattle.formats.specs.Code.Rows.{formatAt}
 use Rattle.formats.specs.declared.infer.Turn.{Turn}

@@ -9,7 +9,7 @@ use Rattle.file.specs.Sections.{File, fileOf}
 use Rattle.law.specs.Tree.{Conditions}
 use Rattle.law.specs.Places.{patternAt, patternPart, conditionsOf, firstCondition}
 use Rattle.law.specs.Reading.{nameAt, markAt, runOf, own, conditionsFrom}
-use Rattle.law.specs.Law.{Accepted}
+use Rattle.law.specs.Code.Accepted.{Accepted}
 use Rattle.formats.specs.Infer.{Formats}
 use Rattle.formats.specs.Code.Slots.{fileNames}
 use Rattle.formats.specs.Code.Turns.{RoundAsked, Holding, argumentsIn, resultsIn}

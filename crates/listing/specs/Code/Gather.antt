@@ -8,7 +8,7 @@ use Rattle.file.specs.Answer.{Answer, refused, given}
 use Rattle.file.specs.Sections.{File, fileOf}
 use Rattle.law.specs.Reading.{treeOf}
 use Rattle.law.specs.Code.Index.{Indexed}
-use Rattle.law.specs.Law.{Accepted}
+use Rattle.law.specs.Code.Accepted.{Accepted}
 use Rattle.formats.specs.Infer.{Inferred, infer}
 use Rattle.formats.specs.Store.{storeSize, storeWords}
 use Rattle.buffers.specs.Written.{written}
@@ -21,7 +21,12 @@ use Rattle.listing.specs.declared.front.Front.{Front}
 use Rattle.listing.specs.declared.front.Front.the-variants.{Refused, Ready}
 use Rattle.listing.specs.declared.gather.Gathered.{Gathered}
 use Rattle.listing.specs.declared.gather.Gathered.the-variants.{TooWide, Full, Upto}
-use Rattle.listing.specs.Outcome.{turnedNumber, front, storeAfter}
+use Rattle.listing.specs.declared.Told.{Told}
+use Rattle.listing.specs.Outcome.{turnedNumber, front, storeAfter, toldAnswer}
+
+-- the answer of the text call, and the text after it
+abbrev pub toldPair : Told → List ℕ → Answer ℕ × List ℕ
+toldPair r text = (toldAnswer r, text)
 
 -- ---- the front
 

@@ -1,6 +1,6 @@
 -- Rests on `rowEnd`, the least of two numbers.
 use native.Mathlib.Omega.{arith}
-use Rattle.shapes.specs.Words.{rowEnd}
+use Rattle.shapes.specs.Code.Words.{rowEnd}
 use borrow.Author.Needs.{needs}
 use Rattle.shapes.proofs.row_end.Statement.{statement}
 use Rattle.shapes.proofs.row_end.Tie as tie

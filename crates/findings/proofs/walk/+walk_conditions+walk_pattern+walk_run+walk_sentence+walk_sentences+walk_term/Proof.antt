@@ -8,7 +8,7 @@ use borrow.Author.Needs.{needs}
 use lib.ListN.{length}
 use Rattle.file.specs.Sections.{fileOf}
 use Rattle.law.specs.Places.{conditionsOf, firstCondition}
-use Rattle.law.specs.Reading.{sentencesIn}
+use Rattle.law.specs.Code.Terms.{sentencesIn}
 use Rattle.matching.specs.Code.Part.{from}
 use Rattle.lints.specs.Code.Records.{formatsIn}
 use Rattle.findings.specs.Code.Events.{sinkOf}

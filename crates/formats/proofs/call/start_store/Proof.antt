@@ -6,7 +6,8 @@ use native.Mathlib.Omega.{arith}
 use lib.ListN.{length, drop, length-set}
 use borrow.Author.Needs.{needs}
 use Rattle.formats.proofs.StateLaws.{header-inside, started-length, cleared-past, start-none, start-next}
-use Rattle.formats.specs.Store.{storeSize, startOf}
+use Rattle.formats.specs.Store.{storeSize}
+use Rattle.formats.specs.Code.Entries.{startOf}
 use Rattle.formats.proofs.call.start_store.Statement.{statement}
 use Rattle.formats.proofs.call.start_store.Tie as tie
 

@@ -9,7 +9,7 @@ use borrow.Author.Tests.{not-true, not-false}
 use lib.ListN.{length}
 use Rattle.file.specs.Sections.{fileOf}
 use Rattle.law.specs.Places.{conditionsOf, firstCondition}
-use Rattle.law.specs.Reading.{sentencesIn}
+use Rattle.law.specs.Code.Terms.{sentencesIn}
 use Rattle.law.proofs.IndexLaws as laws
 use Rattle.law.proofs.PartLaws as parts
 use Rattle.law.proofs.DepthSteps as steps
