@@ -1,4 +1,4 @@
--- Laws of text put at a position (`Put`, specs/Written.antt): nothing, one byte, a piece without room, and one text after another.
+-- Laws of text put at a position (`Put`, specs/Code/Put.antt): nothing, one byte, a piece without room, and one text after another.
 use Prim.Native.Nat.{ℕ, _+_, _≤_, _<_}
 use mathlib.Core.List.{List, [], _∷_, _++_}
 use mathlib.Core.Path.{_≡_, refl, _∙_}

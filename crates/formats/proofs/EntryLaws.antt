@@ -1,4 +1,4 @@
--- Laws of entries by number (specs/Store.antt): names stand where they stood, a name's format is that of the entry at the name's position, and one step
+-- Laws of entries by number (specs/Code/Entries.antt): names stand where they stood, a name's format is that of the entry at the name's position, and one step
 -- of each loop of inference (specs/Infer.antt): over sentences, over functions, over rounds; and what is known of inference that was not refused.
 use Prim.Native.Nat.{ℕ, zero, suc, _-_, _≤_, _<_}
 use mathlib.Core.Bool.{Bool, true, false, cond, not, _||_, or-true, or-false}

@@ -1,4 +1,4 @@
--- What the check of a file answers (`verdictOf`, specs/Law.antt), a refusal at a time.
+-- What the check of a file answers (`checkOf`, specs/Law.antt), a refusal at a time.
 use Prim.Native.Nat.{ℕ}
 use mathlib.Core.List.{List}
 use mathlib.Core.Bool.{true, false}
