@@ -18,7 +18,7 @@ ghost use Rattle.formats.specs.Store.{storeSize};
 ghost use Rattle.lints.specs.Levels.{settingsFrom};
 ghost use Rattle.listing.specs.Code.Gather.{FrontIs};
 
-// A refusal, or a law that is ready. `FrontIs` of specs/Gather.antt says what either means.
+// A refusal, or a law that is ready. `FrontIs` of specs/Code/Gather.antt says what either means.
 pub enum Front {
     Refused(Turned),
     Ready,
