@@ -1,14 +1,15 @@
 -- The number of words of the first row falls, as for disjointness. One law of `FirstLaws` for each return; what is written takes no more words than
 -- the first row has.
-use Prim.Native.Nat.{ℕ, _<_, _+_, _*_}
+use Prim.Native.Nat.{ℕ, _<_, _≤_, _+_, _*_}
 use mathlib.Core.Bool.{Bool, true, false, _||_}
 use mathlib.Core.Path.{_≡_}
 use native.Mathlib.Omega.{arith}
 use borrow.Author.Needs.{needs}
 use lib.ListN.{length}
+use Rattle.shapes.specs.Words.{shapesEnd}
 use Rattle.shapes.proofs.WordLaws.{shapes-end-low}
 use Rattle.shapes.proofs.FirstLaws.{join-none-none, join-none-some, join-some-none, join-some-some, join-brackets, join-bracket-leaf, join-leaf-bracket, join-leaves}
-use borrow.Fn.Kinds.{In}
+use borrow.Fn.Kinds.{In, Out}
 use borrow.Fn.PlainCycle.{Measures, is, falls, and}
 use Rattle.shapes.proofs.join_rows.Reads as join-rows
 use Rattle.shapes.proofs.join_rows.Kinds as join-rows-kinds
@@ -45,6 +46,72 @@ abbrev join-shapes-below : ℕ → In 3 join-shapes-kinds.ps
 join-shapes-below t =
     and 3 join-shapes-kinds.ps (falls 3 join-shapes-kinds.ps _<_ μ-join-shapes t) join-shapes.Pre
 
+-- what each of the two asks of the functions that it calls, and what it learns from them
+abbrev rows-claims : ℕ → join-rows-lts.Claims
+rows-claims t = (
+  join-shapes-below t,
+  join-shapes.Post,
+  end-of-reads.Asked,
+  end-of-reads.Learnt,
+  join-rows-below t,
+  join-rows.Post,
+)
+
+abbrev shapes-claims : ℕ → join-shapes-lts.Claims
+shapes-claims t = (
+  is-bracket-reads.Asked,
+  is-bracket-reads.Learnt,
+  end-of-reads.Asked,
+  end-of-reads.Learnt,
+  inside-open-reads.Asked,
+  inside-open-reads.Learnt,
+  join-rows-below t,
+  join-rows.Post,
+  bracket-word-reads.Asked,
+  bracket-word-reads.Learnt,
+  join-leaves-reads.Asked,
+  join-leaves-reads.Learnt,
+)
+
+-- a context of each, at a measure
+abbrev In-rows : ℕ → (join-rows-lts.Claims → In 3 join-rows-kinds.ps → Out 3 join-rows-kinds.ps join-rows-kinds.r → Type 0) → Type 0
+In-rows t Context = Context (rows-claims t) (join-rows-at t) join-rows.Post
+
+abbrev In-shapes : ℕ → (join-shapes-lts.Claims → In 3 join-shapes-kinds.ps → Out 3 join-shapes-kinds.ps join-shapes-kinds.r → Type 0) → Type 0
+In-shapes t Context = Context (shapes-claims t) (join-shapes-at t) join-shapes.Post
+
+-- the start of `join_rows`, from where the first row is tested
+abbrev rows-start : (t : ℕ) → In-rows t join-rows-lts.After-slice-known → In-rows t join-rows-lts.Start
+rows-start t c = c .before .before .before
+
+-- where the ends of the first shapes are read, from where the rows after them are joined
+abbrev ends-read : (t : ℕ) → In-rows t join-rows-lts.After-slice-known3 → In-rows t join-rows-lts.After-end-of2
+ends-read t c = c .before .before .before .before .before .before
+
+-- the start of `join_shapes`, from where the first word is asked for a bracket
+abbrev shapes-start : (t : ℕ) → In-shapes t join-shapes-lts.After-is-bracket → In-shapes t join-shapes-lts.Start
+shapes-start t c = c .before .before .before .before .before .before
+
+-- from where the word of the joined bracket is made: where its contents are joined, where the ends of both brackets are read, the start
+abbrev contents-joined : (t : ℕ) → In-shapes t join-shapes-lts.After-bracket-word → In-shapes t join-shapes-lts.After-join-rows
+contents-joined t c = c .before .before .before
+
+abbrev brackets-ended : (t : ℕ) → In-shapes t join-shapes-lts.After-bracket-word → In-shapes t join-shapes-lts.After-end-of2
+brackets-ended t c = contents-joined t c .before .before .before .before .before .before
+
+abbrev brackets-start : (t : ℕ) → In-shapes t join-shapes-lts.After-bracket-word → In-shapes t join-shapes-lts.Start
+brackets-start t c = shapes-start t (brackets-ended t c .before .before .before .before .before)
+
+-- the position after the contents is within the buffer, and is not past the first bracket's words. (Said here, not beside the `let`s of the answer:
+-- `omega` reads every record that a `let` names, up to a bound.)
+contents-within : (t : ℕ) (c : In-shapes t join-shapes-lts.After-bracket-word)
+    → contents-joined t c .join-rows .result .next ≤ length (brackets-start t c .args .out .now)
+contents-within t c = omega arith
+
+contents-short : (t : ℕ) (c : In-shapes t join-shapes-lts.After-bracket-word)
+    → (let args = brackets-start t c .args in contents-joined t c .join-rows .result .next ≤ args .at + shapesEnd (args .a .now))
+contents-short t c = omega arith
+
 -- the two cases of an `||`
 or-left : (o p : Bool) → o ≡ true → o ≡ (o || p)
 or-left o p e = rw e
@@ -53,20 +120,27 @@ or-right : (o p : Bool) → o ≡ false → p ≡ (o || p)
 or-right o p e = rw e
 
 pub +join-rows+join-shapes-spec : {M : Type 1} → statement M
-+join-rows+join-shapes-spec = close μ-join-rows μ-join-shapes (λ t. join-rows-lts.spec (
-  join-shapes-below t,
-  join-shapes.Post,
-  end-of-reads.Asked,
-  end-of-reads.Learnt,
-  join-rows-below t,
-  join-rows.Post,
-)
++join-rows+join-shapes-spec = close μ-join-rows μ-join-shapes (λ t. join-rows-lts.spec (rows-claims t)
     (join-rows-at t)
     join-rows.Post
-    (λ c. let x = c .before .before .before .before .before .before .args in (omega arith, join-none-none (x .a .now) (x .a-open) (x .b .now) (x .b-open) (x .out .now) (x .at) _ (c .before .before .if1 .taken) (c .before .if2 .taken) (or-left (x .a-open) (x .b-open) (c .if3 .taken))))
-    (λ c. let x = c .before .before .before .before .before .before .args in (omega arith, join-none-none (x .a .now) (x .a-open) (x .b .now) (x .b-open) (x .out .now) (x .at) _ (c .before .before .if1 .taken) (c .before .if2 .taken) (or-right (x .a-open) (x .b-open) (c .if3 .left))))
-    (λ c. let x = c .before .before .before .before .before .args in (omega arith, join-none-some (x .a .now) (x .a-open) (x .b .now) (x .b-open) (x .out .now) (x .at) (c .before .if1 .taken) (c .if2 .left)))
-    (λ c. let x = c .before .before .before .before .before .args in (omega arith, join-some-none (x .a .now) (x .a-open) (x .b .now) (x .b-open) (x .out .now) (x .at) (c .before .if1 .left) (c .if4 .taken)))
+    (λ c.
+    let args = rows-start t (c .before .before .before) .args in (
+      omega arith,
+      join-none-none (args .a .now) (args .a-open) (args .b .now) (args .b-open) (args .out .now) (args .at) _ (c .before .before .if1 .taken)
+          (c .before .if2 .taken) (or-left (args .a-open) (args .b-open) (c .if3 .taken)),
+    ))
+    (λ c.
+    let args = rows-start t (c .before .before .before) .args in (
+      omega arith,
+      join-none-none (args .a .now) (args .a-open) (args .b .now) (args .b-open) (args .out .now) (args .at) _ (c .before .before .if1 .taken)
+          (c .before .if2 .taken) (or-right (args .a-open) (args .b-open) (c .if3 .left)),
+    ))
+    (λ c.
+    let args = rows-start t (c .before .before) .args in
+    (omega arith, join-none-some (args .a .now) (args .a-open) (args .b .now) (args .b-open) (args .out .now) (args .at) (c .before .if1 .taken) (c .if2 .left)))
+    (λ c.
+    let args = rows-start t (c .before .before) .args in
+    (omega arith, join-some-none (args .a .now) (args .a-open) (args .b .now) (args .b-open) (args .out .now) (args .at) (c .before .if1 .left) (c .if4 .taken)))
     (λ c κs. search needs)
     (λ c κs. search needs)
     (λ c κs. search needs)
@@ -80,21 +154,17 @@ pub +join-rows+join-shapes-spec : {M : Type 1} → statement M
     (λ c. search needs)
     (λ c κs. search needs)
     (λ c. omega arith)
-    (λ c. let x = c .before .before .before .before .before .before .before .before .before .before .before .before .before .before .before .before .before .args in (omega arith, join-some-some (x .a .now) (x .a-open) (x .b .now) (x .b-open) (x .out .now) (x .at) _ _ _ _ _ _ _ (c .before .before .before .before .before .before .before .before .before .before .before .before .before .if1 .left) (c .before .before .before .before .before .before .before .before .before .before .before .before .if4 .left) (c .before .before .before .before .before .before .before .end-of .ensures .0) (c .before .before .before .before .before .before .end-of2 .ensures .0) (omega arith) (c .before .before .before .before .before .before .before .before .before .before .join-shapes .ensures .1) (c .before .before .before .before .before .before .before .before .before .before .join-shapes .ensures .2) (c .before .before .join-rows .ensures .1))))
-    λ t. join-shapes-lts.spec (
-      is-bracket-reads.Asked,
-      is-bracket-reads.Learnt,
-      end-of-reads.Asked,
-      end-of-reads.Learnt,
-      inside-open-reads.Asked,
-      inside-open-reads.Learnt,
-      join-rows-below t,
-      join-rows.Post,
-      bracket-word-reads.Asked,
-      bracket-word-reads.Learnt,
-      join-leaves-reads.Asked,
-      join-leaves-reads.Learnt,
-    )
+    (λ c.
+    let ends = ends-read t c in
+    let first-joined = ends .before .before .before .before in
+    let neither-empty = first-joined .before .before in
+    let args = rows-start t (neither-empty .before .before) .args in (
+      omega arith,
+      join-some-some (args .a .now) (args .a-open) (args .b .now) (args .b-open) (args .out .now) (args .at) _ _ _ _ _ _ _
+          (neither-empty .before .if1 .left) (neither-empty .if4 .left) (ends .before .end-of .ensures .0) (ends .end-of2 .ensures .0) (omega arith)
+          (first-joined .join-shapes .ensures .1) (first-joined .join-shapes .ensures .2) (c .before .before .join-rows .ensures .1),
+    )))
+    λ t. join-shapes-lts.spec (shapes-claims t)
     (join-shapes-at t)
     join-shapes.Post
     (λ c. omega arith)
@@ -119,21 +189,55 @@ pub +join-rows+join-shapes-spec : {M : Type 1} → statement M
     (λ c. search needs)
     (λ c. omega arith)
     (λ c. search needs)
-    (λ c. let x = c .before .before .before .before .before .before .before .before .before .before .before .before .before .before .before .before .before .before .before .before .args in let l = join-brackets (x .a .now) (x .b .now) (x .out .now) (x .at) _ _ (c .before .before .before .before .before .before .before .before .before .before .before .before .before .before .is-bracket .ensures) (c .before .before .before .before .before .before .before .before .before .before .before .before .is-bracket2 .ensures) _ _ _ _ _ _ _ _ (c .before .before .before .before .before .before .before .before .before .before .before .before .before .if1 .taken) (c .before .before .before .before .before .before .before .before .before .before .before .if2 .taken) (c .before .before .before .before .before .before .before .before .before .before .end-of .ensures .0) (c .before .before .before .before .before .before .before .before .before .end-of2 .ensures .0) (c .before .before .before .before .before .before .before .inside-open .ensures) (c .before .before .before .before .before .inside-open2 .ensures) (omega arith) (c .before .before .before .join-rows .ensures .1) (c .bracket-word .ensures) in (omega arith, l .0, l .1))
+    (λ c.
+    let contents = contents-joined t c in
+    let second-inside = contents .before .before in
+    let first-inside = second-inside .before .before in
+    let ends = brackets-ended t c in
+    let both-brackets = ends .before .before in
+    let second-asked = both-brackets .before in
+    let first-bracket = second-asked .before in
+    let first-asked = first-bracket .before in
+    let args = brackets-start t c .args in
+    let joined =
+    join-brackets (args .a .now) (args .b .now) (args .out .now) (args .at) _ _ (first-asked .is-bracket .ensures) (second-asked .is-bracket2 .ensures)
+    _ _ _ _ _ _ _ _ (first-bracket .if1 .taken) (both-brackets .if2 .taken) (ends .before .end-of .ensures .0) (ends .end-of2 .ensures .0)
+    (first-inside .inside-open .ensures) (second-inside .inside-open2 .ensures) (contents-within t c) (contents .join-rows .ensures .1)
+    (c .bracket-word .ensures) in
+    (contents-short t c, joined .0, joined .1))
     (λ c. search needs)
     (λ c. omega arith)
     (λ c. omega arith)
     (λ c. search needs)
-    (λ c. let x = c .before .before .before .before .before .before .before .before .before .args in let l = join-bracket-leaf (x .a .now) (x .b .now) (x .out .now) (x .at) _ _ (c .before .before .before .is-bracket .ensures) (c .before .is-bracket2 .ensures) (c .before .before .if1 .taken) (c .if2 .left) (omega arith) in (omega (arith, shapes-end-low (x .a .now) (c .before .before .before .before .before .before .before .before .before .pre .1 .0)), l .0, l .1))
+    (λ c.
+    let start = shapes-start t (c .before .before .before) in
+    let args = start .args in
+    let joined =
+    join-bracket-leaf (args .a .now) (args .b .now) (args .out .now) (args .at) _ _
+    (c .before .before .before .is-bracket .ensures) (c .before .is-bracket2 .ensures) (c .before .before .if1 .taken) (c .if2 .left) (omega arith) in
+    (omega (arith, shapes-end-low (args .a .now) (start .pre .1 .0)), joined .0, joined .1))
     (λ c κs. search needs)
     (λ c. search needs)
     (λ c. omega arith)
     (λ c. omega arith)
     (λ c. search needs)
-    (λ c. let x = c .before .before .before .before .before .before .before .before .before .args in let l = join-leaf-bracket (x .a .now) (x .b .now) (x .out .now) (x .at) _ _ (c .before .before .before .is-bracket .ensures) (c .before .is-bracket3 .ensures) (c .before .before .if1 .left) (c .if3 .taken) (omega arith) in (omega (arith, shapes-end-low (x .a .now) (c .before .before .before .before .before .before .before .before .before .pre .1 .0)), l .0, l .1))
+    (λ c.
+    let start = shapes-start t (c .before .before .before) in
+    let args = start .args in
+    let joined =
+    join-leaf-bracket (args .a .now) (args .b .now) (args .out .now) (args .at) _ _
+    (c .before .before .before .is-bracket .ensures) (c .before .is-bracket3 .ensures) (c .before .before .if1 .left) (c .if3 .taken) (omega arith) in
+    (omega (arith, shapes-end-low (args .a .now) (start .pre .1 .0)), joined .0, joined .1))
     (λ c κs. search needs)
     (λ c. search needs)
     (λ c. omega arith)
     (λ c. omega arith)
     (λ c. search needs)
-    (λ c. let x = c .before .before .before .before .before .before .before .before .before .before .args in let l = join-leaves (x .a .now) (x .b .now) (x .out .now) (x .at) _ _ (c .before .before .before .before .is-bracket .ensures) (c .before .before .is-bracket3 .ensures) _ (c .before .before .before .if1 .left) (c .before .if3 .left) (omega arith) (c .join-leaves .ensures) in (omega (arith, shapes-end-low (x .a .now) (c .before .before .before .before .before .before .before .before .before .before .pre .1 .0)), l .0, l .1))
+    (λ c.
+    let start = shapes-start t (c .before .before .before .before) in
+    let args = start .args in
+    let joined =
+    join-leaves (args .a .now) (args .b .now) (args .out .now) (args .at) _ _
+    (c .before .before .before .before .is-bracket .ensures) (c .before .before .is-bracket3 .ensures) _ (c .before .before .before .if1 .left)
+    (c .before .if3 .left) (omega arith) (c .join-leaves .ensures) in
+    (omega (arith, shapes-end-low (args .a .now) (start .pre .1 .0)), joined .0, joined .1))
