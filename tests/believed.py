@@ -9,7 +9,8 @@ reached.
   believed.py             prints them, file by file
   believed.py -v          also the definitions in specs/ that are not reached: examples, what the laws speak of, answers of
                           inner calls
-  believed.py --lock      writes tests/believed.lock: a line with a digest for each contract, theorem, definition and type
+  believed.py --lock      writes tests/believed.lock: a line with a digest for each contract, theorem, definition and type, and
+                          for each example, with the definitions that it alone speaks of
   believed.py --check     prints the lines that are changed, new, gone or moved against tests/believed.lock; fails where there
                           are any
   believed.py --since COMMIT
@@ -53,8 +54,13 @@ THEOREMS = [
     ("shapes/proofs/JoinLaws.antt", "join-least"),
     ("shapes/proofs/DisjointLaws.antt", "disjoint-exact"),
     ("shapes/proofs/WordLaws.antt", "read-write"),
+    ("formats/proofs/RoundLaws.antt", "pattern-closed"),
+    ("formats/proofs/RoundLaws.antt", "result-closed"),
     ("matching/proofs/FillLaws.antt", "matches-iff"),
+    ("matching/proofs/FillLaws.antt", "matches-iff-from"),
     ("matching/proofs/FillLaws.antt", "call-or-block-matches-nothing"),
+    ("matching/proofs/OrderLaws.antt", "every-match"),
+    ("matching/proofs/OrderLaws.antt", "matches-in-order"),
     ("matching/proofs/ShadowLaws.antt", "shadow-sound"),
     ("matching/proofs/LiteralLaws.antt", "literal-misses-nothing"),
 ]
@@ -400,6 +406,24 @@ def reach():
     return said, reached
 
 
+def examples(reached):
+    """What specs/ proves by computation: each statement, and the definitions that it reaches and no reader must believe."""
+    known = {CRATES / file: name for file, name in THEOREMS}
+    for path in sorted(CRATES.glob("*/specs/*.antt")):
+        for name, definition in module(path).definitions.items():
+            marked = definition.statement[: definition.statement.index(name)]
+            if (path, name) in reached or known.get(path) == name or set(marked) - {"pub"}:
+                continue
+            items = definition.around + [definition.statement]
+            todo, found = [place for place in references(path, items) if place != (path, name)], {}
+            while todo:
+                where = resolve(todo.pop())
+                if where and where not in reached and where not in found and where[0].suffix == ".antt":
+                    found[where] = module(where[0]).definitions[where[1]].items()
+                    todo += references(where[0], found[where])
+            yield path, name, items, found
+
+
 def spelled(path, items, shared):
     """Items as one line: no comments, no layout but for the ends of steps and clauses, names by what they stand for."""
     here, out = module(path), []
@@ -446,6 +470,9 @@ def lines(said, reached):
             add("declared", path, name, rust_spelled(path, declared(path, name), shared))
         else:
             add("definition", path, name, spelled(path, module(path).definitions[name].items(), shared))
+    for path, name, items, found in examples(reached):
+        parts = [(where, items) for (where, _), items in sorted(found.items())]
+        add("example", path, name, "".join(spelled(where, items, shared) for where, items in [(path, items)] + parts))
     return sorted(out)
 
 
@@ -509,7 +536,11 @@ def main(words):
     else:
         show(reached, words == ["-v"])
     types = sum(path.suffix == ".rt" for path, _ in reached)
-    print(f"{len(reached) - types} definitions, {types} types of the code, {len(CALLS)} contracts, {len(THEOREMS)} theorems")
+    shown = sum(line.startswith("example") for line in lock)
+    print(
+        f"{len(reached) - types} definitions, {types} types of the code, {len(CALLS)} contracts, {len(THEOREMS)} theorems,"
+        f" {shown} examples"
+    )
     if differ:
         print(f"! differences from tests/believed.lock: {len(differ)}", file=sys.stderr)
     return 1 if inner or differ else 0

@@ -15,7 +15,7 @@ use Rattle.file.specs.Fields.{fieldsAllowed, termAllowed, spelled}
 use Rattle.file.specs.Forest.{decode, forestOf}
 use Rattle.file.specs.Head.{termAt, termFrom}
 use Rattle.law.specs.Tree as tree
-use Rattle.law.specs.Tree.{Name, Mark, Run, noSentence, sentence, noCondition, Law, keep, skip}
+use Rattle.law.specs.Tree.{Name, Mark, Run, noSentence, sentence, noCondition, Function, Law, keep, skip}
 use Rattle.law.specs.Places.{firstSentence, blockFirst, firstCondition, patternAt, conditionResultAt, resultAt, patternPart, resultPart, conditionResultPart, conditionPatternPart}
 use Rattle.law.specs.Runs.{endOf, fits, usedUp, runsAllowed, blocksAllowed}
 use Rattle.law.specs.Reading.{forestRun, conditionsFrom, sentencesFrom, functionsFrom, treeOf}
@@ -54,6 +54,21 @@ growing n =
       sentences = sentence mark Run.empty noCondition (Run.symbol (tree.Symbol.character 97) (Run.call mark nameF Run.empty (ones n))) noSentence;
     } ∷ []
 
+-- a law whose one sentence has a pattern, and nothing else
+abbrev patterned : Run → Law
+patterned p = record { name = nameF; sentences = sentence mark p noCondition Run.empty noSentence } ∷ []
+
+-- F takes a character and then anything, and gives nothing
+abbrev opensAfterFirst : Inferred
+opensAfterFirst = record {
+  formats = record {
+    arguments = record { name = 70 ∷ []; format = of (item character opened) } ∷ [];
+    results = record { name = 70 ∷ []; format = of closed } ∷ [];
+  };
+  rounds = 2;
+  settled = true;
+}
+
 -- ---- document 01
 
 abbrev Inferences : Type 0
@@ -68,6 +83,9 @@ Inferences =
       rounds = 5;
       settled = true;
     }))
+    -- a call in a pattern is an open tail, as a block is: `F { 'a' <F> 1 = ; }`
+    × (infer 64 (patterned (Run.symbol (tree.Symbol.character 97) (Run.call mark nameF Run.empty (ones 1)))) ≡ given opensAfterFirst)
+    × (infer 64 (patterned (Run.symbol (tree.Symbol.character 97) (Run.block mark Run.empty noSentence (ones 1)))) ≡ given opensAfterFirst)
     -- "No functions: no findings, 1 round, settled."
     × (infer 64 [] ≡ given (record { formats = record { arguments = []; results = [] }; rounds = 1; settled = true }))
 
@@ -75,7 +93,7 @@ inferences : Inferences
 unfolding
     joinRows size patternShapes chain resultShapes sameShapes insertName namesOf find renew allAt joinResults joinPatterns round roundsFrom arguments
     inferWithin infer sameBytes orderBytes
-inferences = (refl, refl)
+inferences = (refl, refl, refl, refl)
 
 -- ---- further examples of inference
 
@@ -85,7 +103,11 @@ flat n = record { name = nameF; sentences = sentence mark Run.empty noCondition 
 
 -- a law whose one pattern is n times 1
 abbrev asking : ℕ → Law
-asking n = record { name = nameF; sentences = sentence mark (ones n) noCondition Run.empty noSentence } ∷ []
+asking n = patterned (ones n)
+
+-- a second function of the name F, spelled `f`, without sentences
+abbrev again : Function
+again = record { name = record { start = 0; spelled = 102 ∷ [] }; sentences = noSentence }
 
 -- how many rounds ran, and whether the last changed nothing; 0 for a refusal
 abbrev restOf : Answer Inferred → ℕ × Bool
@@ -97,6 +119,8 @@ Rounds =
     -- with four 1s the last round that may run changes the format, though the next would not
     (restOf (infer 64 (growing 4)) ≡ (5, false))
     × (restOf (inferWithin 64 6 (growing 4)) ≡ (6, true))
+    -- names are counted and not functions: a second function of the same name gives no round more
+    × (restOf (infer 64 (growing 4 ++ again ∷ [])) ≡ (5, false))
     -- the limit on shapes: 64 pass, 65 are refused, in a result and in a pattern
     × (restOf (infer 64 (flat 64)) ≡ (2, true))
     × (infer 64 (flat 65) ≡ refused 10)
@@ -110,7 +134,7 @@ rounds : Rounds
 unfolding
     joinRows size patternShapes chain resultShapes sameShapes insertName namesOf find renew allAt joinResults joinPatterns round roundsFrom arguments
     inferWithin infer sameBytes orderBytes
-rounds = (refl, refl, refl, refl, refl, refl, refl, refl)
+rounds = (refl, refl, refl, refl, refl, refl, refl, refl, refl)
 
 -- ---- calls
 

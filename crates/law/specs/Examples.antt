@@ -171,13 +171,25 @@ unfoldable pub variableTerms : ℕ → ℕ → List (List ℕ)
 variableTerms zero at = []
 variableTerms (suc n) at = termWords 3 at 1 0 0 0 ∷ variableTerms n (suc at)
 
-abbrev pub variablesFile : String → List ℕ
-variablesFile text =
-    let n : ℕ = length (bytesOf text) in
-    fileBytes text (functionWords 0 1 1 0 0 ∷ []) (sentenceWords n 0 0 0 0 ∷ []) [] (variableTerms n 0)
+abbrev pub variablesFile : String → List (List ℕ) → List ℕ
+variablesFile text more =
+    let terms : List (List ℕ) = variableTerms (length (bytesOf text)) 0 ++ more in
+    fileBytes text (functionWords 0 1 1 0 0 ∷ []) (sentenceWords (length terms) 0 0 0 0 ∷ []) [] terms
+
+-- a block whose one sentence has a result, as the result of the one sentence of `F`
+abbrev blockLaw : Run → Law
+blockLaw inside =
+    record {
+      name = named 0 "F";
+      sentences =
+          sentence (marked 0 0 0) empty noCondition
+          (block (marked 0 0 0) empty (sentence (marked 1 0 0) empty noCondition inside noSentence) empty)
+          noSentence;
+    } ∷ []
 
 -- what each file means: of 33 brackets with nothing inside 32 are around the innermost one, with a symbol inside 33 are around the symbol;
--- 33 variables are too many, unless two of them are one, since indices fold to upper case
+-- 33 variables are too many, unless two of them are one, since indices fold to upper case; `s.A` and `e.A` are two, since kinds tell them apart; a
+-- block is around its sentences
 pub meanings :
     (map lawOf
     (listed
@@ -196,12 +208,19 @@ pub meanings :
     ∷ given (nestedLaw 33 empty)
     ∷ refused 8
     ∷ [])
-    × (map checkOf (variablesFile "ABCDEFGHIJKLMNOPQRSTUVWXYZ0123456" ∷ variablesFile "ABCDEFGHIJKLMNOPQRSTUVWXYZ012345a" ∷ []) ≡ refused 9 ∷ given tt ∷ [])
+    × (map checkOf
+    (variablesFile "ABCDEFGHIJKLMNOPQRSTUVWXYZ0123456" []
+    ∷ variablesFile "ABCDEFGHIJKLMNOPQRSTUVWXYZ012345a" []
+    ∷ variablesFile "ABCDEFGHIJKLMNOPQRSTUVWXYZ012345" (termWords 3 0 1 0 0 0 ∷ [])
+    ∷ variablesFile "ABCDEFGHIJKLMNOPQRSTUVWXYZ012345" (termWords 5 0 1 0 0 0 ∷ [])
+    ∷ [])
+    ≡ refused 9 ∷ given tt ∷ given tt ∷ refused 9 ∷ [])
     × (map (λ inside. depthOf (nestedLaw 33 inside)) (empty ∷ symbol (character 97) empty ∷ []) ≡ 32 ∷ 33 ∷ [])
+    × (map (λ inside. depthOf (blockLaw inside)) (empty ∷ symbol (character 97) empty ∷ nested 32 (symbol (character 97) empty) ∷ []) ≡ 0 ∷ 1 ∷ 33 ∷ [])
 unfolding
     bytesOf flatMap nested nestedTerms variableTerms
     lawOf sectionsOf section wordAt every total fieldsAllowed termAllowed spelled everyByte
     runsAllowed usedUp fits blocksAllowed patternsAllowed distinct occurs sameBytes variablesFrom
     firstSentence blockFirst firstCondition patternAt conditionResultAt resultAt patternPart resultPart conditionResultPart conditionPatternPart
     decode forestOf endOf termAt termFrom treeOf functionsFrom sentencesFrom conditionsFrom forestRun keep skip deepest depthOf
-meanings = (refl, refl, refl)
+meanings = (refl, refl, refl, refl)

@@ -139,6 +139,8 @@ RecognitionLaws =
     (found (asking (text "a" empty) (text "a" empty)) ≡ given [])
     × (found (asking (text "a" empty) (digits "1" empty)) ≡ given ((2, 1, 0) ∷ []))
     × (found (asking (text "a" empty) (text "b" empty)) ≡ given ((2, 2, 0) ∷ []))
+    -- every sentence is looked at: `F { 'a' = ; 'b' = ; } G { = <F 'b'>; }`
+    × (found (function "F" (plain 0 (text "a" empty) empty (plain 1 (text "b" empty) empty noSentence)) ∷ calls-only "F" (text "b" empty)) ≡ given [])
     -- brackets are literal: `F { ('a') = ; } G { = <F ('b')>; }`; a bracket is gone back into: `F { (e.A e.B) e.A = ; }` with `('x') 'x'`
     × (found (asking (bracket (text "a" empty) empty) (bracket (text "b" empty) empty)) ≡ given ((2, 2, 0) ∷ []))
     × (found (asking (bracket (eVariable "A" (eVariable "B" empty)) (eVariable "A" empty)) (bracket (text "x" empty) (text "x" empty)))
@@ -198,6 +200,7 @@ BuiltinLaws =
     ∷ ("Divmod", digits "7" (text "-" empty))
     -- zero, by value; not where nothing is divided, nor where another macrodigit is not zero
     ∷ ("Mod", digits "7" (digits "00" (digits "0" empty)))
+    ∷ ("Divmod", digits "7" (digits "0" empty))
     ∷ ("MUL", digits "7" (digits "0" empty))
     ∷ ("div", digits "7" (digits "0" (digits "1" empty)))
     -- undecided: a value over 4294967295, a second sign, a bracket, a variable, a character, a call
@@ -217,7 +220,7 @@ BuiltinLaws =
     -- no such builtin
     ∷ ("Symb", empty)
     ∷ [])
-    ≡ 1 ∷ 1 ∷ 1 ∷ 1 ∷ 1 ∷ 2 ∷ 0 ∷ 0 ∷ 2 ∷ 0 ∷ 2 ∷ 0 ∷ 0 ∷ 0 ∷ 0 ∷ 0 ∷ 0 ∷ 3 ∷ 0 ∷ 0 ∷ 0 ∷ [])
+    ≡ 1 ∷ 1 ∷ 1 ∷ 1 ∷ 1 ∷ 2 ∷ 2 ∷ 0 ∷ 0 ∷ 2 ∷ 0 ∷ 2 ∷ 0 ∷ 0 ∷ 0 ∷ 0 ∷ 0 ∷ 0 ∷ 3 ∷ 0 ∷ 0 ∷ 0 ∷ [])
     -- also where the law defines the name: `Add { e.X = ; } G { = <Add 1>; }`
     × (found (function "ADD" (plain 0 (eVariable "X" empty) empty noSentence) ∷ calls-only "Add" (ones 1)) ≡ given ((3, 1, 0) ∷ []))
 
@@ -234,8 +237,20 @@ openLaw =
     (block (marked 1 0 0) empty (plain 4 (eVariable "1" (eVariable "2" empty)) empty noSentence) empty)
     noSentence)))) ∷ []
 
+-- all four: `F { e.X = <Add 1>; e.1 e.2 = <H 2>; } H { 'q' = ; }`
+abbrev fourLints : Law
+fourLints =
+    function "F"
+    (plain 0 (eVariable "X" empty) (calling 0 "Add" (ones 1) empty)
+    (plain 1 (eVariable "1" (eVariable "2" empty)) (calling 1 "H" (digits "2" empty) empty) noSentence))
+    ∷ function "H" (plain 2 (text "q" empty) empty noSentence)
+    ∷ []
+
 abbrev OpenLaws : Type 0
-OpenLaws = found openLaw ≡ given ((4, 2, 0) ∷ (4, 3, 3) ∷ [])
+OpenLaws =
+    (found openLaw ≡ given ((4, 2, 0) ∷ (4, 3, 3) ∷ []))
+    -- lint by lint, in the order of their numbers
+    × (found fourLints ≡ given ((1, 2, 1) ∷ (2, 1, 1) ∷ (3, 1, 0) ∷ (4, 2, 1) ∷ []))
 
 -- ---- levels and mode
 
@@ -315,9 +330,9 @@ unfolding
 examples = (
   (refl, refl, refl, refl, refl, refl),
   (refl, refl, refl, refl, refl),
-  (refl, refl, refl, refl, refl, refl, refl, refl, refl, refl, refl, refl, refl, refl, refl, refl, refl, refl),
+  (refl, refl, refl, refl, refl, refl, refl, refl, refl, refl, refl, refl, refl, refl, refl, refl, refl, refl, refl),
   (refl, refl),
-  refl,
+  (refl, refl),
   (refl, refl),
   (refl, refl, refl, refl, refl, refl, refl, refl),
 )

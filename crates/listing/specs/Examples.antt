@@ -1,10 +1,10 @@
 -- The two calls on small files, by computation, every lent word included. Formats have at most one shape here, so that a store has 256 words.
 -- docs/SPECIFICATION.md, 14.1, 14.2.
-use Prim.Native.Nat.{ℕ}
+use Prim.Native.Nat.{ℕ, _-_}
 use mathlib.Core.Bool.{true}
 use mathlib.Core.List.{List, [], _∷_, _++_, flatMap}
 use mathlib.Core.Path.{_≡_, refl}
-use lib.ListN.{replicate}
+use lib.ListN.{length, replicate}
 use Rattle.names.specs.Name.{everyByte, sameBytes, orderBytes}
 use Rattle.file.specs.Answer.{refused, given}
 use Rattle.file.specs.Word.{wordAt}
@@ -22,7 +22,7 @@ use Rattle.law.specs.Reading.{forestRun, conditionsFrom, sentencesFrom, functio
 use Rattle.law.specs.Depth.{deepest, depthOf}
 use Rattle.law.specs.Variables.{distinct, occurs, variablesFrom, patternsAllowed}
 use Rattle.law.specs.Law.{lawOf}
-use Rattle.law.specs.Examples.{listed}
+use Rattle.law.specs.Examples.{listed, fileBytes, functionWords, sentenceWords, termWords}
 use Rattle.shapes.specs.Format.{size}
 use Rattle.shapes.specs.Join.{joinRows}
 use Rattle.shapes.specs.Disjoint.{disjointRows}
@@ -53,6 +53,14 @@ use Rattle.listing.specs.Outcome.{front, findingsOutcome, findingAt, tex
 -- a file without text, functions, sentences, conditions and terms
 abbrev noFunctions : List ℕ
 noFunctions = replicate 20 0
+
+-- `F { e.1 e.2 = ; }`, and the text of its one finding, which ends in a digit
+abbrev twoOpen : List ℕ
+twoOpen =
+    fileBytes "F12" (functionWords 0 1 1 0 0 ∷ []) (sentenceWords 2 0 0 0 0 ∷ []) [] (termWords 5 1 1 0 0 0 ∷ termWords 5 2 1 0 0 0 ∷ [])
+
+abbrev power : List ℕ
+power = bytesOf "sentence of `F` has 2 `e.`-variables in its pattern; matching may backtrack proportionally to the argument length to the power 2"
 
 -- what is lent: a store with one word more than it needs, or one word less
 abbrev lent : List ℕ
@@ -97,6 +105,10 @@ TextCalls =
     × (textOutcome 1 (settingsFrom 1 []) listed lent 2 [] .answer ≡ refused 12)
     × (textOutcome 1 (settingsFrom 1 []) listed lent 1 (replicate 64 9) .answer ≡ refused 13)
     × (textOutcome 1 (settingsFrom 1 []) listed lent 1 (replicate 64 9) .text ≡ replicate 64 9)
+    -- a text that fits exactly and ends in a digit, and a buffer that is one byte short
+    × (textOutcome 1 (settingsFrom 1 []) twoOpen lent 0 (replicate (length power) 9) .answer ≡ given (length power))
+    × (textOutcome 1 (settingsFrom 1 []) twoOpen lent 0 (replicate (length power) 9) .text ≡ power)
+    × (textOutcome 1 (settingsFrom 1 []) twoOpen lent 0 (replicate (length power - 1) 9) .answer ≡ refused 13)
 
 pub examples : FindingsCalls × Refusals × TextCalls
 unfolding
@@ -116,5 +128,5 @@ unfolding
 examples = (
   (refl, refl, refl, refl, refl, refl, refl),
   (refl, refl, refl, refl),
-  (refl, refl, refl, refl, refl),
+  (refl, refl, refl, refl, refl, refl, refl, refl),
 )

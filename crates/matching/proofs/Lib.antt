@@ -11,5 +11,6 @@ pub mod SameLaws
 pub mod RowLaws
 pub mod SearchLaws
 pub mod FillLaws
+pub mod OrderLaws
 pub mod ShadowLaws
 pub mod LiteralLaws

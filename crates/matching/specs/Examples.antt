@@ -88,6 +88,8 @@ match-examples :
     ∷ (sVariable "a" (sVariable "A" empty), text "xx" empty)
     ∷ [])
     ≡ true ∷ false ∷ true ∷ [])
+    -- kinds tell variables apart: `s.A t.A e.A` with `'x' 'y' 'z'`
+    × (map allThree ((sVariable "A" (tVariable "A" (eVariable "A" empty)), text "xyz" empty) ∷ []) ≡ (true, true, true) ∷ [])
     -- a call or a block at any depth: `(<F>)` and a block in a bracket match nothing
     × (map inRun
     ((bracket (call (marked 0 0 0) (named 0 "F") empty empty) empty, bracket empty empty)
@@ -98,4 +100,4 @@ match-examples :
 unfolding
     bytesOf characters sameBytes patternOf isLiteral literalTerms changed
     valueIn splits sameTerms after choices matches ownValues shadowsWith
-match-examples = (refl, refl, refl, refl, refl)
+match-examples = (refl, refl, refl, refl, refl, refl)

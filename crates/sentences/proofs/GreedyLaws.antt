@@ -12,7 +12,8 @@ use Rattle.law.specs.Symbol.{Symbol}
 use Rattle.matching.specs.Pattern.{Atom, literal, variable, other, Pattern}
 use Rattle.matching.proofs.SameLaws.{false-not-true}
 use Rattle.sentences.specs.Code.Loose.{someEnd, someRest, loosely}
-use Rattle.sentences.specs.Code.Greedy.{EndOf, termsIn, openKind, openAtom, next, orElse, kindFits, atomFits, bracketFits, frontOf, leftmostOf, leftPasses, opens}
+use Rattle.sentences.specs.Code.Greedy.{EndOf, openKind, openAtom, next, orElse, kindFits, atomFits, bracketFits, frontOf, leftmostOf, leftPasses, opens}
+use Rattle.matching.specs.Order.{termsIn}
 
 or-true : (b : Bool) → (b || true) ≡ true
 or-true true = refl

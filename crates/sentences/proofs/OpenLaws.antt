@@ -26,7 +26,8 @@ use Rattle.matching.proofs.SameLaws.{false-not-true}
 use Rattle.matching.proofs.PartLaws.{row-empty, row-node}
 use Rattle.matching.proofs.CutLaws.{from-all, from-length, from-from}
 use Rattle.sentences.specs.Code.Loose.{loosely}
-use Rattle.sentences.specs.Code.Greedy.{EndOf, termsIn, leftPasses, opens}
+use Rattle.sentences.specs.Code.Greedy.{EndOf, leftPasses, opens}
+use Rattle.matching.specs.Order.{termsIn}
 use Rattle.sentences.specs.Code.Ahead.{passes, frontIn, leftmostIn, endPasses, aheadOf, AheadIn, OpenStart, Skipped}
 use Rattle.sentences.specs.declared.loose.Ahead.{Ahead}
 use Rattle.sentences.specs.declared.loose.Ahead.the-variants.{At, Fails}

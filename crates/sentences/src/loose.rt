@@ -16,7 +16,8 @@ ghost use Rattle.file.specs.Word.{wordAt};
 ghost use Rattle.matching.specs.Code.Part.{rowOf};
 ghost use Rattle.searches.specs.Code.Capacity.{variablesIn};
 ghost use Rattle.sentences.specs.Code.Loose.{onceEach};
-ghost use Rattle.sentences.specs.Code.Greedy.{opens, termsIn};
+ghost use Rattle.sentences.specs.Code.Greedy.{opens};
+ghost use Rattle.matching.specs.Order.{termsIn};
 ghost use Rattle.sentences.specs.Code.Ahead.{passes, frontIn, leftmostIn, endPasses, aheadOf, AheadIn, OpenStart, fitsFirst, Skipped};
 
 // Where a pattern and a row stand once the pattern's terms before its first e. variable are matched.

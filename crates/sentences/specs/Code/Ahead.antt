@@ -18,7 +18,8 @@ use Rattle.matching.specs.Code.Part.{rowOf, from, atomOf, isBracket}
 use Rattle.matching.specs.Code.Step.{mayStand}
 use Rattle.searches.specs.Code.Repeats.{atomAt}
 use Rattle.sentences.specs.Code.Loose.{someEnd, loosely}
-use Rattle.sentences.specs.Code.Greedy.{EndOf, termsIn, openAtom, frontOf, leftmostOf}
+use Rattle.sentences.specs.Code.Greedy.{EndOf, openAtom, frontOf, leftmostOf}
+use Rattle.matching.specs.Order.{termsIn}
 use Rattle.sentences.specs.declared.loose.Ahead.{Ahead}
 use Rattle.sentences.specs.declared.loose.Ahead.the-variants.{At, Fails}
 

@@ -1,5 +1,4 @@
 -- The loose test as a program does it: term by term up to an e. variable, then each segment at its leftmost place.
-use Prim.Native.Nat.{ℕ, suc}
 use mathlib.Core.Bool.{Bool, true, false, cond}
 use mathlib.Core.Logic.{_⊎_}
 use mathlib.Core.Option.{Option, none, some}
@@ -16,13 +15,6 @@ module _ {A : Type 0} where
   EndOf y nothing = y ≡ nothing
   EndOf y (symbol a x) = (y ≡ symbol a x) ⊎ EndOf y x
   EndOf y (brackets c x) = (y ≡ brackets c x) ⊎ EndOf y x
-
-module _ {A : Type 0} where
-  -- the number of terms of a row; brackets are one term
-  abbrev pub termsIn : Terms A → ℕ
-  termsIn nothing = 0
-  termsIn (symbol a x) = suc (termsIn x)
-  termsIn (brackets c x) = suc (termsIn x)
 
 abbrev pub openKind : Kind → Bool
 openKind symbolKind = false
