@@ -3,3 +3,4 @@ pub mod Numbers
 pub mod Claim
 pub mod Examples
 pub mod Premises
+pub mod FalseListings
