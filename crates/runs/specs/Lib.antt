@@ -2,5 +2,7 @@ pub mod Machine
 pub mod Numbers
 pub mod Claim
 pub mod Examples
-pub mod Premises
+pub mod TermRuns
+pub mod ConditionRuns
 pub mod FalseListings
+pub mod Premises
