@@ -1,6 +1,6 @@
 -- Listings that are false, each in another way: `falseListings`, and the theorem `all-refuted`, by which the claim (specs/Claim.antt) refutes each. A claim
--- that spoke of fewer runs, calls, sentences or findings would be easier to prove, and would leave some of these unrefuted. Records are numbered as in a
--- file.
+-- over fewer runs, calls, sentences or findings would be easier to prove, and would leave some of these unrefuted; tests/weaker_claims.py tries such claims.
+-- Records are numbered as in a file.
 -- docs/SPECIFICATION.md, 16.3.
 use Prim.Native.Nat.{ℕ, zero, suc}
 use Prim.Native.String.{String}
@@ -38,8 +38,9 @@ dead position subject later = 1 ∷ 1 ∷ 0 ∷ 0 ∷ 2 ∷ 1 ∷ position ∷ s
 
 -- ---- the table
 
-abbrev pub listing : List ℕ → Law → FalseListing
-listing words law = record { words = words; law = law }
+-- these words, of this law
+abbrev pub falseOf : List ℕ → Law → FalseListing
+falseOf words law = record { words = words; law = law }
 
 -- so many calls of a function in a row, without arguments; their term records are counted from the first one's
 unfoldable pub callsOf : String → ℕ → ℕ → Run → Run
@@ -50,176 +51,187 @@ abbrev pub falseListings : List FalseListing
 falseListings =
     -- ---- recognition: the listed call finds a sentence whose left side matches
     -- `F { = <F>; }`: the run does not end
-    listing (recognition 0 0 [])
+    falseOf (recognition 0 0 [])
     (function "F" (plain 0 empty (calling 0 "F" empty empty) noSentence)
     ∷ [])
     -- `F { = <G 'b'>; } G { 'a' = ; 'b' = ; }`: only the second sentence of G matches
-    ∷ listing (recognition 0 0 [])
+    ∷ falseOf (recognition 0 0 [])
     (function "F" (plain 0 empty (calling 0 "G" (text "b" empty) empty) noSentence)
     ∷ function "G" (plain 1 (text "a" empty) empty (plain 2 (text "b" empty) empty noSentence))
     ∷ [])
     -- `F { 'a' = <G 'b'>; 'b' = <G 'a'>; } G { 'a' = ; }`: the first finding, of `<G 'b'>`, is true, and the second, of `<G 'a'>`, is not
-    ∷ listing (recognition 0 1 (recognition 0 4 []))
+    ∷ falseOf (recognition 0 1 (recognition 0 4 []))
     (function "F" (plain 0 (text "a" empty) (calling 1 "G" (text "b" empty) empty)
     (plain 1 (text "b" empty) (calling 4 "G" (text "a" empty) empty) noSentence))
     ∷ function "G" (plain 2 (text "a" empty) empty noSentence)
     ∷ [])
-    -- `F { = <F>; }`: by literals, with severity 2 and a span
-    ∷ listing (2 ∷ 2 ∷ 6 ∷ 9 ∷ 2 ∷ 0 ∷ 0 ∷ 0 ∷ [])
-    (function "F" (plain 0 empty (calling 0 "F" empty empty) noSentence)
+    -- `F { = <G>; } G { = ; }`: by literals, with severity 2 and a span
+    ∷ falseOf (2 ∷ 2 ∷ 6 ∷ 9 ∷ 2 ∷ 0 ∷ 0 ∷ 0 ∷ [])
+    (function "F" (plain 0 empty (calling 0 "G" empty empty) noSentence)
+    ∷ function "G" (plain 1 empty empty noSentence)
     ∷ [])
     -- `F { = <G>; } G { = <H>; } H { = ; }`: `<H>` stands in the second function
-    ∷ listing (recognition 1 1 [])
+    ∷ falseOf (recognition 1 1 [])
     (function "F" (plain 0 empty (calling 0 "G" empty empty) noSentence)
     ∷ function "G" (plain 1 empty (calling 1 "H" empty empty) noSentence)
     ∷ function "H" (plain 2 empty empty noSentence)
     ∷ [])
     -- `F { = ; } G { = <F>; }`: only runs of the second function reach `<F>`
-    ∷ listing (recognition 1 0 [])
+    ∷ falseOf (recognition 1 0 [])
     (function "F" (plain 0 empty empty noSentence)
     ∷ function "G" (plain 1 empty (calling 0 "F" empty empty) noSentence)
     ∷ [])
     -- `F { = <G 'a'>; } G { 'b' = ; } G { 'a' = ; }`: only the last function of the name matches
-    ∷ listing (recognition 0 0 [])
+    ∷ falseOf (recognition 0 0 [])
     (function "F" (plain 0 empty (calling 0 "G" (text "a" empty) empty) noSentence)
     ∷ function "G" (plain 1 (text "b" empty) empty noSentence)
     ∷ function "G" (plain 2 (text "a" empty) empty noSentence)
     ∷ [])
     -- `F { = <g_1>; } G-1 { = ; }`: the call spells its function's name in another way
-    ∷ listing (recognition 0 0 [])
+    ∷ falseOf (recognition 0 0 [])
     (function "F" (plain 0 empty (calling 0 "g_1" empty empty) noSentence)
     ∷ function "G-1" (plain 1 empty empty noSentence)
     ∷ [])
-    -- `F { = [ : = <F>;]; }`: in a block's sentence
-    ∷ listing (recognition 0 1 [])
-    (function "F" (plain 0 empty (block (marked 0 0 0) empty (plain 1 empty (calling 1 "F" empty empty) noSentence) empty) noSentence)
-    ∷ [])
-    -- `F { = [ : = [ : = <F>;];]; }`: in a block's sentence inside another block
-    ∷ listing (recognition 0 2 [])
-    (function "F" (plain 0 empty (block (marked 0 0 0) empty (plain 1 empty (block (marked 1 0 0) empty
-    (plain 2 empty (calling 2 "F" empty empty) noSentence) empty) noSentence) empty) noSentence)
-    ∷ [])
-    -- `F { = [<F> : = ;]; }`: in a block's argument
-    ∷ listing (recognition 0 1 [])
-    (function "F" (plain 0 empty (block (marked 0 0 0) (calling 1 "F" empty empty) (plain 1 empty empty noSentence) empty) noSentence)
-    ∷ [])
-    -- `F { , <F>: = ; }`: in a condition
-    ∷ listing (recognition 0 0 [])
-    (function "F" (sentence (marked 0 0 0) empty (condition (calling 0 "F" empty empty) empty noCondition) empty noSentence)
-    ∷ [])
-    -- `F { s.X, s.X: s.Y, <F s.Y>: = ; }`: in a second condition, on what the first gave a value to
-    ∷ listing (recognition 0 3 [])
-    (function "F" (sentence (marked 0 0 0) (sVariable "X" empty) (condition (sVariable "X" empty) (sVariable "Y" empty)
-    (condition (calling 3 "F" (sVariable "Y" empty) empty) empty noCondition)) empty noSentence)
-    ∷ [])
-    -- `F { = (<F>); }`: in a bracket
-    ∷ listing (recognition 0 1 [])
-    (function "F" (plain 0 empty (bracket (calling 1 "F" empty empty) empty) noSentence)
-    ∷ [])
-    -- `F { = <F <G>>; } G { = ; }`: `<G>` is another call's argument
-    ∷ listing (recognition 0 1 [])
-    (function "F" (plain 0 empty (calling 0 "F" (calling 1 "G" empty empty) empty) noSentence)
+    -- `F { = [ : = <G>;]; } G { = ; }`: in a block's sentence
+    ∷ falseOf (recognition 0 1 [])
+    (function "F" (plain 0 empty (block (marked 0 0 0) empty (plain 2 empty (calling 1 "G" empty empty) noSentence) empty) noSentence)
     ∷ function "G" (plain 1 empty empty noSentence)
     ∷ [])
+    -- `F { = [ : = [ : = <G>;];]; } G { = ; }`: in a block's sentence inside another block
+    ∷ falseOf (recognition 0 2 [])
+    (function "F" (plain 0 empty (block (marked 0 0 0) empty (plain 2 empty (block (marked 1 0 0) empty
+    (plain 3 empty (calling 2 "G" empty empty) noSentence) empty) noSentence) empty) noSentence)
+    ∷ function "G" (plain 1 empty empty noSentence)
+    ∷ [])
+    -- `F { = [<G> : = ;]; } G { = ; }`: in a block's argument
+    ∷ falseOf (recognition 0 1 [])
+    (function "F" (plain 0 empty (block (marked 0 0 0) (calling 1 "G" empty empty) (plain 2 empty empty noSentence) empty) noSentence)
+    ∷ function "G" (plain 1 empty empty noSentence)
+    ∷ [])
+    -- `F { , <G>: = ; } G { = ; }`: in a condition
+    ∷ falseOf (recognition 0 0 [])
+    (function "F" (sentence (marked 0 0 0) empty (condition (calling 0 "G" empty empty) empty noCondition) empty noSentence)
+    ∷ function "G" (plain 1 empty empty noSentence)
+    ∷ [])
+    -- `F { s.X, s.X: s.Y, <G s.Y>: = ; } G { s.X = ; }`: in a second condition, on what the first gave a value to
+    ∷ falseOf (recognition 0 3 [])
+    (function "F" (sentence (marked 0 0 0) (sVariable "X" empty) (condition (sVariable "X" empty) (sVariable "Y" empty)
+    (condition (calling 3 "G" (sVariable "Y" empty) empty) empty noCondition)) empty noSentence)
+    ∷ function "G" (plain 1 (sVariable "X" empty) empty noSentence)
+    ∷ [])
+    -- `F { = (<G>); } G { = ; }`: in a bracket
+    ∷ falseOf (recognition 0 1 [])
+    (function "F" (plain 0 empty (bracket (calling 1 "G" empty empty) empty) noSentence)
+    ∷ function "G" (plain 1 empty empty noSentence)
+    ∷ [])
+    -- `F { = <G <H>>; } G { = ; } H { = ; }`: `<H>` is another call's argument
+    ∷ falseOf (recognition 0 1 [])
+    (function "F" (plain 0 empty (calling 0 "G" (calling 1 "H" empty empty) empty) noSentence)
+    ∷ function "G" (plain 1 empty empty noSentence)
+    ∷ function "H" (plain 2 empty empty noSentence)
+    ∷ [])
     -- `F { = <G <H>>; } G { 'a' = ; } H { = 'a'; }`: `<G <H>>` is called on what H comes to
-    ∷ listing (recognition 0 0 [])
+    ∷ falseOf (recognition 0 0 [])
     (function "F" (plain 0 empty (calling 0 "G" (calling 1 "H" empty empty) empty) noSentence)
     ∷ function "G" (plain 1 (text "a" empty) empty noSentence)
     ∷ function "H" (plain 2 empty (text "a" empty) noSentence)
     ∷ [])
     -- `F { = <G <H> <H>>; } G { 'ab' = ; }`: H is not defined, so that `<G <H> <H>>` needs two answers
-    ∷ listing (recognition 0 0 [])
+    ∷ falseOf (recognition 0 0 [])
     (function "F" (plain 0 empty (calling 0 "G" (calling 1 "H" empty (calling 2 "H" empty empty)) empty) noSentence)
     ∷ function "G" (plain 1 (text "ab" empty) empty noSentence)
     ∷ [])
-    -- `F { (s.X) = <F (s.X)>; }`: only arguments with brackets match, in the run and in the call
-    ∷ listing (recognition 0 2 [])
-    (function "F" (plain 0 (bracket (sVariable "X" empty) empty) (calling 2 "F" (bracket (sVariable "X" empty) empty) empty) noSentence)
+    -- `F { (s.X) = <G (s.X)>; } G { (s.X) = ; }`: only arguments with brackets match, in the run and in the call
+    ∷ falseOf (recognition 0 2 [])
+    (function "F" (plain 0 (bracket (sVariable "X" empty) empty) (calling 2 "G" (bracket (sVariable "X" empty) empty) empty) noSentence)
+    ∷ function "G" (plain 1 (bracket (sVariable "X" empty) empty) empty noSentence)
     ∷ [])
-    -- `F { Word = <F word>; }`: only identifiers
-    ∷ listing (recognition 0 1 [])
-    (function "F" (plain 0 (identifier "Word" empty) (calling 1 "F" (identifier "word" empty) empty) noSentence)
+    -- `F { Word = <G word>; } G { WORD = ; }`: only identifiers
+    ∷ falseOf (recognition 0 1 [])
+    (function "F" (plain 0 (identifier "Word" empty) (calling 1 "G" (identifier "word" empty) empty) noSentence)
+    ∷ function "G" (plain 1 (identifier "WORD" empty) empty noSentence)
     ∷ [])
-    -- `F { 4294967296 = <F 4294967296>; }`: only numbers, here above 4294967295
-    ∷ listing (recognition 0 1 [])
-    (function "F" (plain 0 (digits "4294967296" empty) (calling 1 "F" (digits "4294967296" empty) empty) noSentence)
+    -- `F { 4294967296 = <G 4294967296>; } G { 4294967296 = ; }`: only numbers, here above 4294967295
+    ∷ falseOf (recognition 0 1 [])
+    (function "F" (plain 0 (digits "4294967296" empty) (calling 1 "G" (digits "4294967296" empty) empty) noSentence)
+    ∷ function "G" (plain 1 (digits "4294967296" empty) empty noSentence)
     ∷ [])
     -- `F { = <G 'a'>; } G { s.X, s.X: 'b' = ; }`: the left side matches, though the condition fails
-    ∷ listing (recognition 0 0 [])
+    ∷ falseOf (recognition 0 0 [])
     (function "F" (plain 0 empty (calling 0 "G" (text "a" empty) empty) noSentence)
     ∷ function "G" (sentence (marked 1 0 0) (sVariable "X" empty)
     (condition (sVariable "X" empty) (text "b" empty) noCondition) empty noSentence)
     ∷ [])
-    -- `F { = <G> .. <G> <F>; } G { = ; }`, with 150 calls of G: `<F>` is reached after 1,055 steps, and not before
-    ∷ listing (recognition 0 150 [])
-    (function "F" (plain 0 empty (callsOf "G" 150 0 (calling 150 "F" empty empty)) noSentence)
+    -- `F { = <G> .. <G>; } G { = ; }`, with 151 calls of G: the last of them is reached after 1,055 steps, and not before
+    ∷ falseOf (recognition 0 150 [])
+    (function "F" (plain 0 empty (callsOf "G" 151 0 empty) noSentence)
     ∷ function "G" (plain 1 empty empty noSentence)
     ∷ [])
     -- ---- dead: the listed sentence is chosen
     -- `F { e.X = <F e.X>; }`: the run does not end
-    ∷ listing (dead 0 0 [])
+    ∷ falseOf (dead 0 0 [])
     (function "F" (plain 0 (eVariable "X" empty) (calling 1 "F" (eVariable "X" empty) empty) noSentence)
     ∷ [])
     -- `F { = s.X; }`: the result ends the run
-    ∷ listing (dead 0 0 [])
+    ∷ falseOf (dead 0 0 [])
     (function "F" (plain 0 empty (sVariable "X" empty) noSentence)
     ∷ [])
     -- `F { 'a' = ; 'b' = ; }`: the second sentence
-    ∷ listing (dead 0 1 [])
+    ∷ falseOf (dead 0 1 [])
     (function "F" (plain 0 (text "a" empty) empty (plain 1 (text "b" empty) empty noSentence))
     ∷ [])
     -- `F { s.X = ; 'a' = ; 'ab' = ; }`: the first finding, of the second sentence, is true, and the second, of the third sentence, is not
-    ∷ listing (dead 0 1 (dead 0 2 []))
+    ∷ falseOf (dead 0 1 (dead 0 2 []))
     (function "F" (plain 0 (sVariable "X" empty) empty (plain 1 (text "a" empty) empty (plain 2 (text "ab" empty) empty noSentence)))
     ∷ [])
-    -- `F { = ; }`: other words between the first and the last
-    ∷ listing (1 ∷ 2 ∷ 4 ∷ 6 ∷ 3 ∷ 2 ∷ 0 ∷ 0 ∷ [])
+    -- `F { = ; }`: severity 2, a span, and other numbers of sentences
+    ∷ falseOf (1 ∷ 2 ∷ 4 ∷ 6 ∷ 3 ∷ 2 ∷ 0 ∷ 0 ∷ [])
     (function "F" (plain 0 empty empty noSentence)
     ∷ [])
     -- `F { = ; } G { = ; }`: the second function's sentence, which only its own runs choose
-    ∷ listing (dead 1 1 [])
+    ∷ falseOf (dead 1 1 [])
     (function "F" (plain 0 empty empty noSentence)
     ∷ function "G" (plain 1 empty empty noSentence)
     ∷ [])
     -- `F { = ; } F { = ; }`: the sentence of the first of two functions of one name
-    ∷ listing (dead 0 0 [])
+    ∷ falseOf (dead 0 0 [])
     (function "F" (plain 0 empty empty noSentence)
     ∷ function "F" (plain 1 empty empty noSentence)
     ∷ [])
     -- `F { e.X, e.X: 'a' = ; 'b' = ; }`: the first sentence matches too, and its condition fails
-    ∷ listing (dead 0 1 [])
+    ∷ falseOf (dead 0 1 [])
     (function "F" (sentence (marked 0 0 0) (eVariable "X" empty) (condition (eVariable "X" empty) (text "a" empty) noCondition) empty
     (plain 1 (text "b" empty) empty noSentence))
     ∷ [])
     -- `F { e.X e.Y, e.X: 'a' = ; }`: the first match of the left side leaves `e.X` empty, so that only a later one passes the condition
-    ∷ listing (dead 0 0 [])
+    ∷ falseOf (dead 0 0 [])
     (function "F" (sentence (marked 0 0 0) (eVariable "X" (eVariable "Y" empty))
     (condition (eVariable "X" empty) (text "a" empty) noCondition) empty noSentence)
     ∷ [])
     -- `F { e.X, e.X: e.Y e.Z, e.Y: 'a' = ; }`: the first match of the first condition leaves `e.Y` empty, so that only a later one passes the second
-    ∷ listing (dead 0 0 [])
+    ∷ falseOf (dead 0 0 [])
     (function "F" (sentence (marked 0 0 0) (eVariable "X" empty) (condition (eVariable "X" empty) (eVariable "Y" (eVariable "Z" empty))
     (condition (eVariable "Y" empty) (text "a" empty) noCondition)) empty noSentence)
     ∷ [])
     -- `F { , <G> <G>: 'ab' = ; }`: G is not defined, so that two answers are needed
-    ∷ listing (dead 0 0 [])
+    ∷ falseOf (dead 0 0 [])
     (function "F" (sentence (marked 0 0 0) empty
     (condition (calling 0 "G" empty (calling 1 "G" empty empty)) (text "ab" empty) noCondition) empty noSentence)
     ∷ [])
     -- `F { (s.X) = ; }`: only arguments with brackets match
-    ∷ listing (dead 0 0 [])
+    ∷ falseOf (dead 0 0 [])
     (function "F" (plain 0 (bracket (sVariable "X" empty) empty) empty noSentence)
     ∷ [])
     -- `F { Word = ; }`: only identifiers
-    ∷ listing (dead 0 0 [])
+    ∷ falseOf (dead 0 0 [])
     (function "F" (plain 0 (identifier "Word" empty) empty noSentence)
     ∷ [])
     -- `F { 4294967296 = ; }`: only numbers, here above 4294967295
-    ∷ listing (dead 0 0 [])
+    ∷ falseOf (dead 0 0 [])
     (function "F" (plain 0 (digits "4294967296" empty) empty noSentence)
     ∷ [])
     -- `F { , <G> .. <G>: = ; } G { = ; }`, with 150 calls of G: chosen after 1,054 steps, and not before
-    ∷ listing (dead 0 0 [])
+    ∷ falseOf (dead 0 0 [])
     (function "F" (sentence (marked 0 0 0) empty (condition (callsOf "G" 150 0 empty) empty noCondition) empty noSentence)
     ∷ function "G" (plain 1 empty empty noSentence)
     ∷ [])
