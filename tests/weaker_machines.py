@@ -1,11 +1,12 @@
 #!/usr/bin/env python3
 """Tries machines that are weaker than that of crates/runs/specs/Machine.antt: the prover must refuse each.
 
-A machine that ends runs early would make the claim over runs (specs/Claim.antt) easier to prove, and say less. So in each of
-these the invariant's proof (proofs/Invariant.antt) is kept in step, such that the claim is still proved of the weaker machine,
-and only what pins the machine is left to refuse it: the runs in specs/Examples.antt, and `ends` of proofs/Ends.antt. An edit
-of crates/runs/must-fail replaces single lines, and these need more; else they are the same. The edits are tried in a copy of
-the crates; what is proved already, in target, is taken along. Words name machines; without any, all are tried."""
+A machine that ends runs early, or leaves out a part of them, would make the claim over runs (specs/Claim.antt) easier to prove,
+and say less. So in each of these the invariant's proof (proofs/Invariant.antt) is kept in step, such that the claim is still
+proved of the weaker machine, and only what pins the machine is left to refuse it: the runs by computation, of which one must
+fail (RUNS), what ends a run (proofs/Ends.antt), and the false listings. An edit of crates/runs/must-fail replaces single lines,
+and these need more; else they are the same. The edits are tried in a copy of the crates; what is proved already, in target, is
+taken along. Words name machines; without any, all are tried."""
 import re
 import shutil
 import subprocess
@@ -16,7 +17,8 @@ from pathlib import Path
 ROOT = Path(__file__).resolve().parent.parent
 MACHINE = "specs/Machine.antt"
 INVARIANT = "proofs/Invariant.antt"
-PINS = {"specs/Examples.antt", "proofs/Ends.antt"}
+RUNS = {"specs/Examples.antt", "specs/TermRuns.antt", "specs/ConditionRuns.antt"}
+PINS = RUNS | {"proofs/Ends.antt", "specs/FalseListings.antt", "specs/Premises.antt"}
 
 CONDITION = "give v (inCondition p env i cs r t k) answers = trying (ways (runMatches (patternOf p) v env) i cs r t) k answers"
 CONDITION_HOLDS = (
@@ -32,7 +34,49 @@ ASKED_HOLDS = """    step-holds (trying (ways (env ∷ es) i (condition q p cs) 
         let kinded : RunKindedValues env = h .0 env (List·Memᴰ·head refl) in
         let alive : Dead i → ⊥ = λ d. not-none env es (h .2 d) in
         let later : TrialHolds (ways es i (condition q p cs) r t) (Takes k) ="""
+BRACKET = "step law (working (tree.Run.bracket q r) env u k answers) = working q env nothing (inBracket u r env k) answers"
+BRACKET_HOLDS = """    step-holds (working (tree.Run.bracket q r) env u k answers) h =
+        (h .0 .0, h .1, λ c f. (h .0 .1, h .1, λ w g. behind (Takes k) u (brackets c nothing) w (h .2 (brackets c w) (fits-bracket f g))))"""
+BLOCK = "= working q env nothing (inBlock (m .at) ss u r env k) answers"
+BLOCK_HOLDS = """    step-holds (working (tree.Run.block m q ss r) env u k answers) h =
+        (h .0 .0, h .1, λ v g. (h .0 .1, h .1, λ a. (h .0 .2, h .1, λ w g'. behind (Takes k) u a w (h .2 (a ⊕ w) (fits-block a g')))))"""
+STEP = "unfoldable pub step : Law → State → State"
+STEP_HOLDS = "    step-holds : (state : State) → Holds state → Holds (step law state)"
+LEFT = "trying (ways (runMatches (patternOf p) v env) (m .at) cs r (sentences env v ss)) k answers"
+LEFT_HOLDS = (
+    "    step-holds (trying (sentences env v (sentence m p cs r ss)) k answers) h ="
+    " (matches-kinded p v env (h .0), h .1 .0, h .1 .1, λ x. (h .0, h .1 .2 x))"
+)
+MACHINE_MATCHES = "use Rattle.matching.specs.Match.{Values, none-bound, valueIn, runMatches}"
+INVARIANT_MATCHES = "use Rattle.matching.specs.Match.{none-bound, valueIn, anyLiteral, runMatches}"
+INVARIANT_STATES = (
+    "use Rattle.runs.specs.Machine.{State, working, called, entered, trying, chosen, finished, stopped,"
+    " give, answered, step, steps, run}"
+)
+NOT_NONE = "-- a list with a first is not empty"
+FIRST_KINDED = """first-kinded : (es : List Env) → EachKinded es → EachKinded (all-or-first false es)
+first-kinded [] h us m = h us m
+first-kinded (e ∷ es) h us m = go (List·Memᴰ·cases-cons m)
+  where
+    go : (us ≡ e) ⊎ List·Memᴰ us [] → RunKindedValues us
+    go (inl q) = h us (List·Memᴰ·head q)
+    go (inr q) = absurd (List·Memᴰ·not-nil q)
+
+"""
 INSIDE = ["inBracket a b c k", "inCall a b c d e k", "inBlock a b c d e k", "inPlace a b c k", "inCondition a b c d e f k"]
+
+
+# the imports and the lemma for the first of some matches
+FIRST = [
+    (MACHINE, MACHINE_MATCHES, MACHINE_MATCHES.replace("runMatches}", "runMatches, all-or-first}") + "\nuse mathlib.Core.Bool.{false}"),
+    (INVARIANT, INVARIANT_MATCHES,
+     INVARIANT_MATCHES.replace("runMatches}", "runMatches, all-or-first}")
+     + """
+use mathlib.Core.Bool.{false}
+use mathlib.Core.List.{List·Memᴰ·cases-cons, List·Memᴰ·not-nil}
+use mathlib.Core.Logic.{_⊎_, inl, inr}"""),
+    (INVARIANT, NOT_NONE, FIRST_KINDED + NOT_NONE),
+]
 
 
 def symbols(line):
@@ -45,13 +89,15 @@ MACHINES = {
     "bracket": (
         "a bracket in a result ends the run",
         [
-            (MACHINE,
-             "step law (working (tree.Run.bracket q r) env u k answers) = working q env nothing (inBracket u r env k) answers",
-             "step law (working (tree.Run.bracket q r) env u k answers) = stopped"),
-            (INVARIANT,
-             """    step-holds (working (tree.Run.bracket q r) env u k answers) h =
-        (h .0 .0, h .1, λ c f. (h .0 .1, h .1, λ w g. behind (Takes k) u (brackets c nothing) w (h .2 (brackets c w) (fits-bracket f g))))""",
-             "    step-holds (working (tree.Run.bracket q r) env u k answers) h = tt"),
+            (MACHINE, BRACKET, "step law (working (tree.Run.bracket q r) env u k answers) = stopped"),
+            (INVARIANT, BRACKET_HOLDS, "    step-holds (working (tree.Run.bracket q r) env u k answers) h = tt"),
+        ],
+    ),
+    "bracket-finishes": (
+        "a bracket in a result finishes the run",
+        [
+            (MACHINE, BRACKET, "step law (working (tree.Run.bracket q r) env u k answers) = finished u"),
+            (INVARIANT, BRACKET_HOLDS, "    step-holds (working (tree.Run.bracket q r) env u k answers) h = tt"),
         ],
     ),
     "second-condition": (
@@ -63,6 +109,28 @@ MACHINES = {
             (INVARIANT, CONDITION_HOLDS,
              CONDITION_HOLDS.replace(" i cs r t", " i noCondition r t")
              + "\n  give-holds v (inCondition p env i (condition qq pp cs) r t k) answers h = tt"),
+        ],
+    ),
+    "later-conditions": (
+        "a call in a second condition is never reached: conditions after the first are left out",
+        [
+            (MACHINE, CONDITION, CONDITION.replace(" v env) i cs r t", " v env) i noCondition r t")),
+            (INVARIANT, CONDITION_HOLDS, CONDITION_HOLDS.replace(", h .1, (λ d.", ", (tt, h .1 .1, h .1 .2), (λ d.")),
+        ],
+    ),
+    "block-in-condition": (
+        "a block in a condition ends the run",
+        [
+            (MACHINE, STEP,
+             "\n".join(["abbrev pub outside : Stack → State → State", "outside over s = s"]
+                       + [f"outside ({k}) s = {'stopped' if k.startswith('inCondition') else 's'}" for k in INSIDE] + ["", STEP])),
+            (MACHINE, BLOCK, BLOCK.replace("= working", "= outside k (working") + ")"),
+            (INVARIANT, INVARIANT_STATES, INVARIANT_STATES.replace("run}", "run, outside}")),
+            (INVARIANT, STEP_HOLDS,
+             "\n".join(["    outside-holds : (k : Stack) (s : State) → Holds s → Holds (outside k s)", "    outside-holds over s h = h"]
+                       + [f"    outside-holds ({k}) s h = {'tt' if k.startswith('inCondition') else 'h'}" for k in INSIDE] + ["", STEP_HOLDS])),
+            (INVARIANT, BLOCK_HOLDS,
+             BLOCK_HOLDS.replace("h =\n        (", "h =\n        outside-holds k (working q env nothing (inBlock (m .at) ss u r env k) answers)\n        (")),
         ],
     ),
     "identifier": (
@@ -89,28 +157,30 @@ MACHINES = {
     ),
     "first-match": (
         "only the first match of a condition's pattern is tried",
-        [
-            (MACHINE, "use Rattle.matching.specs.Match.{Values, none-bound, valueIn, runMatches}",
-             "use Rattle.matching.specs.Match.{Values, none-bound, valueIn, runMatches, all-or-first}\nuse mathlib.Core.Bool.{false}"),
+        FIRST
+        + [
             (MACHINE, CONDITION, CONDITION.replace("(runMatches (patternOf p) v env)", "(all-or-first false (runMatches (patternOf p) v env))")),
-            (INVARIANT, "use Rattle.matching.specs.Match.{none-bound, valueIn, anyLiteral, runMatches}",
-             """use Rattle.matching.specs.Match.{none-bound, valueIn, anyLiteral, runMatches, all-or-first}
-use mathlib.Core.Bool.{false}
-use mathlib.Core.List.{List·Memᴰ·cases-cons, List·Memᴰ·not-nil}
-use mathlib.Core.Logic.{_⊎_, inl, inr}"""),
-            (INVARIANT, "-- a list with a first is not empty",
-             """first-kinded : (es : List Env) → EachKinded es → EachKinded (all-or-first false es)
-first-kinded [] h us m = h us m
-first-kinded (e ∷ es) h us m = go (List·Memᴰ·cases-cons m)
-  where
-    go : (us ≡ e) ⊎ List·Memᴰ us [] → RunKindedValues us
-    go (inl q) = h us (List·Memᴰ·head q)
-    go (inr q) = absurd (List·Memᴰ·not-nil q)
-
--- a list with a first is not empty"""),
             (INVARIANT, CONDITION_HOLDS,
              CONDITION_HOLDS.replace("(matches-kinded p v env (h .0),",
                                      "(first-kinded (runMatches (patternOf p) v env) (matches-kinded p v env (h .0)),")),
+        ],
+    ),
+    "first-left-match": (
+        "only the first match of a left side is tried",
+        FIRST
+        + [
+            (MACHINE, LEFT, LEFT.replace("(runMatches (patternOf p) v env)", "(all-or-first false (runMatches (patternOf p) v env))")),
+            (INVARIANT, "-- ---- the invariant",
+             """none-at-all : (es : List Env) → all-or-first false es ≡ [] → es ≡ []
+none-at-all [] e = e
+none-at-all (env ∷ es) e = absurd (not-none env [] e)
+
+-- ---- the invariant"""),
+            (INVARIANT, LEFT_HOLDS,
+             LEFT_HOLDS.replace("(matches-kinded p v env (h .0),",
+                                "(first-kinded (runMatches (patternOf p) v env) (matches-kinded p v env (h .0)),")
+             .replace("h .1 .1, λ x. (h .0, h .1 .2 x))",
+                      "(λ d. rw (h .1 .1 d) refl), λ x. (h .0, h .1 .2 (λ c. none-at-all (runMatches (patternOf p) v env) (x c))))")),
         ],
     ),
 }
@@ -136,8 +206,8 @@ def refused_by(copy, edits):
     return set(re.findall(r"crates/runs/((?:specs|proofs)/\w+\.antt):[\d:]+ error", said)) or {"nothing that was understood"}
 
 
-def main():
-    wanted = sys.argv[1:] or list(MACHINES)
+def tried(weaker, is_right):
+    """Tries what the words name, or all, and prints which files refuse each; fails where that is not right."""
     failed = 0
     with tempfile.TemporaryDirectory() as folder:
         copy = Path(folder)
@@ -146,15 +216,15 @@ def main():
             if (ROOT / part).is_dir():
                 shutil.copytree(ROOT / part, copy / part)
         subprocess.run(["rt", "check", "runs"], cwd=copy, check=True, stdout=subprocess.DEVNULL)
-        for name in wanted:
-            says, edits = MACHINES[name]
+        for name in sys.argv[1:] or list(weaker):
+            says, edits = weaker[name]
             by = refused_by(copy, edits)
-            good = bool(by) and by <= PINS
+            good = is_right(by)
             failed += not good
             print(f"{name} ({says}): " + (f"refused, as it must be, by {', '.join(sorted(by))}" if good
-                                           else f"NOT AS IT MUST BE: refused by {', '.join(sorted(by)) or 'nothing'}"))
+                                           else f"NOT AS IT MUST BE: refused by {', '.join(sorted(by)) or 'nothing'}"), flush=True)
     return 1 if failed else 0
 
 
 if __name__ == "__main__":
-    sys.exit(main())
+    sys.exit(tried(MACHINES, lambda by: bool(by & RUNS) and by <= PINS))
