@@ -1,18 +1,18 @@
 -- Document 01, "Small laws": "No functions: no findings, 1 round, settled."
 use Prim.Native.Nat.{ℕ, _*_, _≤_, _<_}
-use mathlib.Core.Bool.{Bool, true, false, not}
+use mathlib.Core.Bool.{Bool, true, false, not, _&&_}
 use mathlib.Core.List.{List, [], _++_}
-use mathlib.Core.Path.{_≡_, refl, ap, _∙_}
+use mathlib.Core.Path.{_≡_, refl}
 use native.Mathlib.Omega.{arith}
 use native.Mathlib.Nat.{sub-zero}
-use borrow.Author.Tests.{le-leb, le-ltb, lt-ltb, not-true, not-false}
+use borrow.Author.Tests.{eqb-true, le-leb, le-ltb, lt-ltb, not-true, not-false}
 use lib.ListN.{length, drop, replicate}
-use Rattle.file.specs.Answer.{given}
+use Rattle.file.specs.Answer.{Answer, refused, given}
 use Rattle.file.specs.Below.{every, total}
-use Rattle.file.specs.Sections.{Section, sectionsOf, fileOf}
+use Rattle.file.specs.Sections.{File, sectionsOf, fileOf}
 use Rattle.file.specs.Fields.{fieldsAllowed}
 use Rattle.file.specs.declared.Sections.{Sections}
-use Rattle.file.proofs.SectionLaws.{Told}
+use Rattle.file.proofs.SectionLaws.{Told, sections-file}
 use Rattle.law.specs.Places.{firstSentence, blockFirst, firstCondition, patternAt}
 use Rattle.law.specs.Runs.{usedUp, runsAllowed, blocksAllowed}
 use Rattle.law.specs.Reading.{functionsFrom, treeOf}
@@ -32,7 +32,11 @@ use Rattle.lints.specs.Findings.{findingsOf, listing, formatsOf}
 use Rattle.listing.specs.declared.Turned.the-variants as turned
 use Rattle.listing.specs.declared.Found.the-variants as found
 use Rattle.listing.specs.Outcome.{front, findingsOutcome}
+use Rattle.listing.specs.Code.Gather.{noRecords, emptyFile}
 use Rattle.listing.specs.Promise.{findingsAfter}
+
+false-says : {P : Type 0} → false ≡ true → P
+false-says e = let z : _≡_ {A = ℕ} 0 1 = cc in absurd (omega arith)
 
 -- a file without records is a law without functions
 no-records : (bytes : List ℕ) → sectionsOf bytes ≡ given (fileOf bytes) → fileOf bytes .functions .count ≡ 0 → fileOf bytes .sentences .count ≡ 0
@@ -41,15 +45,29 @@ unfolding
     lawOf fieldsAllowed runsAllowed usedUp blocksAllowed patternsAllowed depthOf treeOf functionsFrom firstSentence blockFirst firstCondition patternAt every total
 no-records bytes cut f s c t = rw (cut, f, s, c, t)
 
--- as the code sees it
-pub empty-law : (bytes : List ℕ) (s : Sections) → Told bytes s → (s .functions ≡ 0) × (s .sentences ≡ 0) × (s .conditions ≡ 0) × (s .terms ≡ 0)
-    → lawOf bytes ≡ given []
-empty-law bytes s told (f, n, c, t) =
-    no-records bytes (told .file) (ap (λ (x : Section). x .count) (told .functions) ∙ f) (ap (λ (x : Section). x .count) (told .sentences) ∙ n)
-    (ap (λ (x : Section). x .count) (told .conditions) ∙ c) (ap (λ (x : Section). x .count) (told .terms) ∙ t)
+both-held : (a b : Bool) → a && b ≡ true → (a ≡ true) × (b ≡ true)
+both-held true b h = (refl, h)
+both-held false b h = false-says h
 
-pub false-says : {P : Type 0} → false ≡ true → P
-false-says e = let z : _≡_ {A = ℕ} 0 1 = cc in absurd (omega arith)
+-- as the code sees it
+pub empty-law : (bytes : List ℕ) → emptyFile (sectionsOf bytes) ≡ true → lawOf bytes ≡ given []
+empty-law bytes = go (sectionsOf bytes) refl
+  where
+    go : (a : Answer File) → sectionsOf bytes ≡ a → emptyFile a ≡ true → lawOf bytes ≡ given []
+    go (refused n) cut h = false-says h
+    go (given file) cut h =
+        let same : file ≡ fileOf bytes = sections-file bytes file cut in
+        let (three, t) = both-held _ _ (rw same at h) in
+        let (two, c) = both-held _ _ three in
+        let (f, s) = both-held _ _ two in
+        no-records bytes (rw same at cut) (eqb-true _ 0 f) (eqb-true _ 0 s) (eqb-true _ 0 c) (eqb-true _ 0 t)
+
+-- where the counts are those of a file
+pub counts-empty : (bytes : List ℕ) (s : Sections) (r : Bool) → Told bytes s → r ≡ noRecords s → r ≡ emptyFile (sectionsOf bytes)
+counts-empty bytes s r told e = rw (told .file, told .counts) e
+
+pub refused-empty : (bytes : List ℕ) (n : ℕ) → sectionsOf bytes ≡ refused n → false ≡ emptyFile (sectionsOf bytes)
+refused-empty bytes n cut = rw cut refl
 
 none-listed : (limit : ℕ) (settings : Settings)
     → listing limit settings [] ≡ given (record { inferred = record { formats = record { arguments = []; results = [] }; rounds = 1; settled = true }; findings = [] })
