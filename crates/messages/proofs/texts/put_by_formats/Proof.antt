@@ -3,7 +3,7 @@ use native.Mathlib.Omega.{arith}
 use Rattle.law.specs.Text.{bytesOf}
 use Rattle.lints.specs.Message.{claimText}
 use mathlib.Core.Path.{refl}
-use Rattle.buffers.proofs.PutLaws.{_then_}
+use Rattle.buffers.proofs.PutLaws.{put-whole, _then_}
 use Rattle.messages.proofs.TextLaws.{shown-near}
 use borrow.Author.Needs.{needs}
 use Rattle.messages.proofs.texts.put_by_formats.Statement.{statement}
@@ -37,5 +37,5 @@ put-by-formats-spec =
     let third = c .before .before .before .before .before .before .put4 in
     let passed = c .before .before .show-format2 in
     λ owner f e. rw e (((call .ensures .1 (record { start = 0; spelled = x .callee .now }) refl, call .kept .1 .0)
-    then (first .ensures, first .kept .1 .0) then (name .ensures, name .kept .1 .0) then (second .ensures, second .kept .1 .0)
-    then (accepted .ensures, accepted .kept .1 .0) then (third .ensures, third .kept .1 .0) then (passed .ensures, passed .kept .1 .0)) .0)))
+    then (put-whole (first .ensures), first .kept .1 .0) then (put-whole (name .ensures), name .kept .1 .0) then (put-whole (second .ensures), second .kept .1 .0)
+    then (accepted .ensures, accepted .kept .1 .0) then (put-whole (third .ensures), third .kept .1 .0) then (passed .ensures, passed .kept .1 .0)) .0)))
