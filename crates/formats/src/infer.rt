@@ -35,7 +35,7 @@ ghost use Rattle.buffers.specs.Written.{written};
 ghost use Rattle.formats.specs.FormatOf.{Results};
 ghost use Rattle.formats.specs.Infer.{Entry, find, arguments, round, roundsFrom};
 ghost use Rattle.formats.specs.Code.Entries.{StoreHolds};
-ghost use Rattle.formats.specs.Code.Slots.{fileNames, functionFolded, position};
+ghost use Rattle.formats.specs.Code.Slots.{fileNames, functionFolded, position, SlotsOf};
 ghost use Rattle.formats.specs.Code.Rows.{formatAt, Knows, partShapes, RowAsked};
 ghost use Rattle.formats.specs.Code.Turns.{RoundAsked, Holding, resultsIn, FormatMade, sentenceShapes, rowsJoined, JoinedIs, formatNumber, TurnIs, ArgumentsIs, RoundIs, RoundsIs};
 
@@ -52,7 +52,8 @@ pub enum Inference {
     Ran(usize, bool),
 }
 
-// The format of a run of term records, every word of it, or false where it has too many shapes.
+// The format of a run of term records, every word of it, or false where it has too many shapes. As in `write_row`, there are results
+// that the store holds.
 pub fn row_format(
     law: &[u8],
     slots: &Slots,
@@ -63,7 +64,7 @@ pub fn row_format(
     known: usize,
     out: &mut [u32],
 ) -> bool
-    requires { ⌜ RowAsked (fileOf (now law)) at (now part) (now store) limit known (now out) 1 (limit + 1) × (length (now out) ≡ limit + 1) ⌝ }
+    requires { ⌜ RowAsked (fileOf (now law)) at (now part) (now store) limit known (now out) 1 (limit + 1) × (length (now out) ≡ limit + 1) × SlotsOf (fileOf (now law)) (now slots) ⌝ }
     ensures { λ r. ⌜ ((t : Results) → Knows (fileOf (now (law .entry))) (now (slots .entry)) (now (store .entry)) limit known t
         → FormatMade limit (partShapes (fileOf (now (law .entry))) t at (now (part .entry))) r (now (out .exit))) ⌝ }
 {

@@ -24,7 +24,7 @@ put-apart-spec =
     (λ c κs.
     let start = c .before .before .before .before .before .before .before in
     let long = lent-length (start .args .limit) (start .pre .0 .asked .small) in
-    (passed-asked (start .pre .0) (start .pre .1) (c .before .wide .ensures .0) (c .before .before .before .argument .ensures) long, long))
+    (passed-asked (start .pre .0) (start .pre .1) (c .before .wide .ensures .0) (c .before .before .before .argument .ensures) long, long, start .pre .0 .asked .places))
     (λ c. let p = c .before .before .before .before .before .before .before .before .before .pre in omega (arith, record-low (p .0) (p .1)))
     (λ c. let p = c .before .before .before .before .before .before .before .before .before .pre in omega (arith, record-low (p .0) (p .1)))
     (λ c κs. search needs)

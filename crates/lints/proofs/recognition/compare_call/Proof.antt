@@ -32,7 +32,7 @@ compare-call-spec =
     let p = c .before .before .before .before .before .before .pre in
     let a = c .before .before .before .before .before .before .args in
     let long = lent-length (a .limit) (p .0 .0 .asked .small) in
-    (argument-asked (p .0 .0) (a .t) (p .0 .1) refl (c .before .before .before .argument .ensures) (c .before .wide .ensures .0) long refl, long))
+    (argument-asked (p .0 .0) (a .t) (p .0 .1) refl (c .before .before .before .argument .ensures) (c .before .wide .ensures .0) long refl, long, p .0 .0 .asked .places))
     (λ c. let the-argument = c .before .before .before .before .before .before .argument in
     let p = c .before .before .before .before .before .before .before .before .before .pre in
     let a = c .before .before .before .before .before .before .before .before .before .args in
