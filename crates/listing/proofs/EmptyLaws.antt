@@ -2,8 +2,9 @@
 use Prim.Native.Nat.{ℕ, _*_, _≤_, _<_}
 use mathlib.Core.Bool.{Bool, true, false, not, _&&_}
 use mathlib.Core.List.{List, [], _++_}
-use mathlib.Core.Path.{_≡_, refl}
+use mathlib.Core.Path.{_≡_, refl, sym, ap, _∙_}
 use native.Mathlib.Omega.{arith}
+use native.Mathlib.Decide.{decLt}
 use native.Mathlib.Nat.{sub-zero}
 use borrow.Author.Tests.{eqb-true, le-leb, le-ltb, lt-ltb, not-true, not-false}
 use lib.ListN.{length, drop, replicate}
@@ -11,6 +12,7 @@ use Rattle.file.specs.Answer.{Answer, refused, given}
 use Rattle.file.specs.Below.{every, total}
 use Rattle.file.specs.Sections.{File, sectionsOf, fileOf}
 use Rattle.file.specs.Fields.{fieldsAllowed}
+use Rattle.file.specs.Code.Counts.{countsOf}
 use Rattle.file.specs.declared.Sections.{Sections}
 use Rattle.file.proofs.SectionLaws.{Told, sections-file}
 use Rattle.law.specs.Places.{firstSentence, blockFirst, firstCondition, patternAt}
@@ -19,6 +21,11 @@ use Rattle.law.specs.Reading.{functionsFrom, treeOf}
 use Rattle.law.specs.Depth.{depthOf}
 use Rattle.law.specs.Variables.{patternsAllowed}
 use Rattle.law.specs.Law.{lawOf}
+use Rattle.law.proofs.Accepted.{law-accepted}
+use Rattle.law.proofs.Allowed.{all-used, block-after}
+use Rattle.law.proofs.Functions.{tree-length}
+use Rattle.law.proofs.Owners.{block-of, sentence-of}
+use Rattle.law.proofs.Tables.{used-sums}
 use Rattle.formats.specs.Infer.{namesOf, allAt, round, roundsFrom, arguments, inferWithin, infer}
 use Rattle.formats.specs.Store.{storeSize, entryWords, storeOf}
 use Rattle.buffers.proofs.WrittenLaws.{written-none}
@@ -61,6 +68,34 @@ empty-law bytes = go (sectionsOf bytes) refl
         let (two, c) = both-held _ _ three in
         let (f, s) = both-held _ _ two in
         no-records bytes (rw same at cut) (eqb-true _ 0 f) (eqb-true _ 0 s) (eqb-true _ 0 c) (eqb-true _ 0 t)
+
+-- and a law without functions has none: its first sentence would stand in a block, which stands in a sentence before it
+module _ (file : File) (runs : runsAllowed file ≡ true) (blocks : blocksAllowed file ≡ true) (none : file .functions .count ≡ 0) where
+  no-sentences : file .sentences .count ≡ 0
+  unfolding firstSentence total
+  no-sentences = go (decLt 0 (file .sentences .count))
+    where
+      go : Dec (0 < file .sentences .count) → file .sentences .count ≡ 0
+      go (no h) = omega (arith, h)
+      go (yes h) =
+          let first : firstSentence file (file .functions .count) ≤ 0 = rw none (omega arith) in
+          let (t, inside, low, high) = block-of file (all-used file runs) 0 first h in
+          let (s, less, from, upTo) = sentence-of file (all-used file runs) t inside in
+          absurd (omega (arith, low, block-after file blocks s less t from upTo (omega (arith, low, high))))
+
+  without-records : noRecords (countsOf file) ≡ true
+  unfolding firstCondition total
+  without-records =
+      let used = used-sums file (all-used file runs) in
+      let conditions : file .conditions .count ≡ 0 = sym (rw no-sentences at (used .conditions)) in
+      let terms : file .terms .count ≡ 0 = sym (rw (no-sentences, conditions) at (used .terms)) in
+      rw (none, no-sentences, conditions, terms) refl
+
+pub law-empty : (bytes : List ℕ) → lawOf bytes ≡ given [] → emptyFile (sectionsOf bytes) ≡ true
+law-empty bytes h =
+    let (ok, tree) = law-accepted bytes [] h in
+    let none : fileOf bytes .functions .count ≡ 0 = sym (tree-length (fileOf bytes)) ∙ ap length (sym tree) in
+    rw (ok .sections) (without-records (fileOf bytes) (ok .runs) (ok .blocks) none)
 
 -- where the counts are those of a file
 pub counts-empty : (bytes : List ℕ) (s : Sections) (r : Bool) → Told bytes s → r ≡ noRecords s → r ≡ emptyFile (sectionsOf bytes)

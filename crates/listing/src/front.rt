@@ -47,8 +47,8 @@ fn no_records(sections: Sections) -> bool
     sections.terms == 0
 }
 
-// Whether bytes are a file that has none of these. Then it is a law without functions (`empty-law` of proofs/EmptyLaws.antt), and no
-// index need be made to see it.
+// Whether bytes are a file that has none of these. Just these are the laws without functions (`empty-law` and `law-empty` of
+// proofs/EmptyLaws.antt), and no index need be made to see it.
 pub fn is_empty(law: &[u8]) -> bool
     ensures { λ r. ⌜ r ≡ emptyFile (sectionsOf (now (law .entry))) ⌝ }
 {
