@@ -7,7 +7,7 @@ ghost use mathlib.Core.List.{[], _∷_};
 ghost use Prim.Native.Nat.{_+_, _≤_};
 ghost use lib.ListN.{length, replicate};
 ghost use Rattle.buffers.specs.Written.{written};
-ghost use Rattle.buffers.specs.Code.Put.{Put, largest};
+ghost use Rattle.buffers.specs.Code.Put.{PutPiece, Put, largest};
 ghost use Rattle.buffers.specs.Decimal.{decimal};
 
 // Every word of the one list into the other.
@@ -45,10 +45,10 @@ fn copy_bytes(piece: &[u8], out: &mut [u8], at: usize)
     }
 }
 
-// Bytes put at a position, where there is room; the position after them in any case.
+// Bytes put at a position, where there is room for them all; else none of them. The position after them in any case.
 pub fn put(piece: &[u8], out: &mut [u8], at: usize) -> usize
     requires { ⌜ at + length (now piece) ≤ largest ⌝ }
-    ensures { λ r. ⌜ Put (now (out .entry)) at (now (piece .entry)) r (now (out .exit)) ⌝ }
+    ensures { λ r. ⌜ PutPiece (now (out .entry)) at (now (piece .entry)) r (now (out .exit)) ⌝ }
 {
     let next = at + piece.len();
     if next <= out.len() {
@@ -60,7 +60,7 @@ pub fn put(piece: &[u8], out: &mut [u8], at: usize) -> usize
 // The same of one byte.
 pub fn put_byte(byte: u8, out: &mut [u8], at: usize) -> usize
     requires { ⌜ at + 1 ≤ largest ⌝ }
-    ensures { λ r. ⌜ Put (now (out .entry)) at (byte ∷ []) r (now (out .exit)) ⌝ }
+    ensures { λ r. ⌜ PutPiece (now (out .entry)) at (byte ∷ []) r (now (out .exit)) ⌝ }
 {
     let next = at + 1;
     if at < out.len() {

@@ -15,7 +15,7 @@ use Rattle.formats.specs.FormatOf.{Results, resultShapes, patternShapes}
 use Rattle.formats.specs.Infer.{Entry, Inferred, Rounds, namesOf, allAt, find, joinResults, joinPatterns, round, roundsFrom, roundLimit, arguments, inferWithin, infer}
 use Rattle.formats.specs.Store.{storeSize}
 use Rattle.formats.specs.Code.Entries.{StoreHolds, startOf}
-use Rattle.formats.specs.Code.Turns.{RoundAsked, Holding, ArgumentsIs, RoundsIs, StartedIs, InferIs}
+use Rattle.formats.specs.Code.Turns.{RoundAsked, Holding, argumentsStop, roundsStop, ArgumentsIs, RoundsIs, StartedIs, InferIs}
 use Rattle.formats.specs.Call.{inferredOutcome, lawOutcome, callOutcome, inferOutcome}
 use Rattle.formats.specs.declared.infer.Inference.{Inference}
 use Rattle.formats.specs.declared.infer.Inference.the-variants.{TooWide, Ran}
@@ -118,35 +118,35 @@ module _ (limit : ℕ) (law : Law) (tail : List ℕ) where
   start = allAt never (namesOf law)
 
   -- a pattern passes the limit on shapes
-  pub started-over : (after : List ℕ) (ok : Bool) → ok ≡ false → ArgumentsIs limit (namesOf law) (arguments limit law start) start tail after ok
+  pub started-over : (after : List ℕ) (ok : Bool) → ok ≡ false → ArgumentsIs limit (namesOf law) (arguments limit law start) (argumentsStop limit law start) start tail after ok
       → StartedIs limit (namesOf law) (infer limit law) tail after TooWide
   started-over after ok e h = go (arguments limit law start) refl h
     where
-      go : (a : Answer (List Entry)) → arguments limit law start ≡ a → ArgumentsIs limit (namesOf law) a start tail after ok
+      go : (a : Answer (List Entry)) → arguments limit law start ≡ a → ArgumentsIs limit (namesOf law) a (argumentsStop limit law start) start tail after ok
           → StartedIs limit (namesOf law) (infer limit law) tail after TooWide
       go (given found) is k = absurd (false-true (sym e ∙ k .1))
-      go (refused n) is k = rw (infer-arguments-over limit law n is) (k .0, start, k .1, refl)
+      go (refused n) is k = rw (infer-arguments-over limit law n is) (argumentsStop limit law start, start, k .0, refl)
 
   -- the argument formats are there
-  pub started-arguments : (after : List ℕ) (ok : Bool) → ok ≡ true → ArgumentsIs limit (namesOf law) (arguments limit law start) start tail after ok
+  pub started-arguments : (after : List ℕ) (ok : Bool) → ok ≡ true → ArgumentsIs limit (namesOf law) (arguments limit law start) (argumentsStop limit law start) start tail after ok
       → (found : List Entry) × (arguments limit law start ≡ given found) × StoreHolds limit (namesOf law) found start tail after
   started-arguments after ok e h = go (arguments limit law start) refl h
     where
-      go : (a : Answer (List Entry)) → arguments limit law start ≡ a → ArgumentsIs limit (namesOf law) a start tail after ok
+      go : (a : Answer (List Entry)) → arguments limit law start ≡ a → ArgumentsIs limit (namesOf law) a (argumentsStop limit law start) start tail after ok
           → (found : List Entry) × (arguments limit law start ≡ given found) × StoreHolds limit (namesOf law) found start tail after
       go (given found) is k = (found, is, k .0)
-      go (refused n) is k = absurd (false-true (sym (k .2) ∙ e))
+      go (refused n) is k = absurd (false-true (sym (k .1) ∙ e))
 
   -- and the rounds
   pub started-rounds : (found : List Entry) (after : List ℕ) (r : Inference) (most : ℕ) → most ≡ roundLimit law → arguments limit law start ≡ given found
-      → RoundsIs limit (namesOf law) (roundsFrom limit most law start 0) found tail after r
+      → RoundsIs limit (namesOf law) (roundsFrom limit most law start 0) (roundsStop limit most law start) found tail after r
       → StartedIs limit (namesOf law) (infer limit law) tail after r
   started-rounds found after r most rounds a h = go (roundsFrom limit (roundLimit law) law start 0) refl (rw rounds at h)
     where
-      go : (b : Answer Rounds) → roundsFrom limit (roundLimit law) law start 0 ≡ b → RoundsIs limit (namesOf law) b found tail after r
+      go : (b : Answer Rounds) → roundsFrom limit (roundLimit law) law start 0 ≡ b → RoundsIs limit (namesOf law) b (roundsStop limit (roundLimit law) law start) found tail after r
           → StartedIs limit (namesOf law) (infer limit law) tail after r
       go (given rounds) is k = rw (infer-given limit law found rounds a is) (k .0, k .1)
-      go (refused n) is k = rw (infer-rounds-over limit law found n a is) (found, k .0, k .1, k .2)
+      go (refused n) is k = rw (infer-rounds-over limit law found n a is) (found, roundsStop limit (roundLimit law) law start, k .0, k .1)
 
 pub holding : {limit : ℕ} {names : List (List ℕ)} {found results : List Entry} {tail store : List ℕ} → StoreHolds limit names found results tail store
     → Holding limit names store

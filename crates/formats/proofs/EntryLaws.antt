@@ -28,6 +28,7 @@ use Rattle.formats.specs.FormatOf.{patternShapes, Results, resultShapes}
 use Rattle.formats.specs.Infer.{Entry, namesOf, find, renew, orNever, allAt, joinResults, joinPatterns, round, Rounds, roundsFrom, roundLimit, arguments, inferWithin, infer}
 use Rattle.formats.specs.Code.Entries.{entryNames, formatIn, put, EachEntry}
 use Rattle.formats.specs.Code.Slots.{position, functionFolded}
+use Rattle.formats.specs.Code.Turns.{argumentsStop, roundStop, roundsStop}
 
 -- ---- names
 
@@ -291,6 +292,33 @@ module _ (limit : ℕ) (file : File) where
   unfolding arguments
   arguments-end es f none-left = rw (functions-end file f none-left)
 
+  -- where they stop: by the same steps
+  pub arguments-stop-next : (names : List (List ℕ)) (es : List Entry) (f after p : ℕ) (g : Format) → f < file .functions .count → after ≡ suc f
+      → entryNames es ≡ names → p ≡ position names (functionFolded file f) → functionPatterns f ≡ given g
+      → argumentsStop limit (functionsAt file f) es ≡ argumentsStop limit (functionsAt file after) (put p (joinFormats (formatIn es p) g) es)
+  unfolding argumentsStop
+  arguments-stop-next names es f after p g inside a same place is =
+      rw (function-reads file f inside, is, a, found-at names es (functionFolded file f) p same place)
+      (ap (λ now. argumentsStop limit (functionsAt file (suc f)) now) (renew-at names es (functionFolded file f) p same place (joinFormats (formatIn es p) g)))
+
+  pub arguments-stop-over : (es : List Entry) (f n : ℕ) → f < file .functions .count → functionPatterns f ≡ refused n
+      → argumentsStop limit (functionsAt file f) es ≡ es
+  unfolding argumentsStop
+  arguments-stop-over es f n inside over = rw (function-reads file f inside, over)
+
+  pub round-stop-next : (names : List (List ℕ)) (es : List Entry) (f after p : ℕ) (g : Format) → f < file .functions .count → after ≡ suc f
+      → entryNames es ≡ names → p ≡ position names (functionFolded file f) → functionResults es f ≡ given g
+      → roundStop limit (functionsAt file f) es ≡ roundStop limit (functionsAt file after) (put p (joinFormats (formatIn es p) g) es)
+  unfolding roundStop
+  round-stop-next names es f after p g inside a same place is =
+      rw (function-reads file f inside, is, a, found-at names es (functionFolded file f) p same place)
+      (ap (λ now. roundStop limit (functionsAt file (suc f)) now) (renew-at names es (functionFolded file f) p same place (joinFormats (formatIn es p) g)))
+
+  pub round-stop-over : (es : List Entry) (f n : ℕ) → f < file .functions .count → functionResults es f ≡ refused n
+      → roundStop limit (functionsAt file f) es ≡ es
+  unfolding roundStop
+  round-stop-over es f n inside over = rw (function-reads file f inside, over)
+
 -- ---- rounds
 
 module _ (limit : ℕ) (law : Law) where
@@ -322,6 +350,18 @@ module _ (limit : ℕ) (law : Law) where
       → roundsFrom limit left law es done ≡ given (record { results = es; rounds = done; settled = false })
   unfolding roundsFrom
   rounds-end left es done l = rw l
+
+  -- where they stop: by the same steps
+  pub rounds-stop-next : (left : ℕ) (es next : List Entry) (left-after : ℕ) → left ≡ suc left-after → round limit law es false ≡ given (next, true)
+      → roundsStop limit left law es ≡ roundsStop limit left-after law next
+  unfolding roundsStop
+  rounds-stop-next left es next left-after l is = rw (l, is)
+
+  pub rounds-stop-over : (left : ℕ) (es : List Entry) (n : ℕ) → 0 < left → round limit law es false ≡ refused n → roundsStop limit left law es ≡ roundStop limit law es
+  unfolding roundsStop
+  rounds-stop-over left es n some-left over =
+      let l : left ≡ suc (left - 1) = omega arith in
+      rw (l, over)
 
   -- the whole: the arguments, then the rounds
   pub infer-given : (found : List Entry) (r : Rounds) → arguments limit law (allAt never (namesOf law)) ≡ given found

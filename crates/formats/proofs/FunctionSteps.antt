@@ -22,10 +22,10 @@ use Rattle.formats.specs.Infer.{Entry, find, arguments, round}
 use Rattle.formats.specs.Code.Entries.{formatIn, put, StoreHolds}
 use Rattle.formats.specs.Code.Slots.{fileNames, functionFolded, position}
 use Rattle.formats.specs.Code.Rows.{formatAt}
-use Rattle.formats.specs.Code.Turns.{RoundAsked, Holding, resultsIn, rowsJoined, formatNumber, turnOf, TurnIs, ArgumentsIs, RoundIs}
+use Rattle.formats.specs.Code.Turns.{RoundAsked, Holding, resultsIn, rowsJoined, formatNumber, turnOf, TurnIs, argumentsStop, roundStop, ArgumentsIs, RoundIs}
 use Rattle.formats.specs.declared.infer.Turn.{Turn}
 use Rattle.formats.specs.declared.infer.Turn.the-variants.{Over, Changed, Same}
-use Rattle.formats.proofs.EntryLaws.{format-encodable, functionResults, functionPatterns, arguments-next, arguments-over, arguments-end, round-next, round-over, round-end}
+use Rattle.formats.proofs.EntryLaws.{format-encodable, functionResults, functionPatterns, arguments-next, arguments-over, arguments-end, arguments-stop-next, arguments-stop-over, round-next, round-over, round-end, round-stop-next, round-stop-over}
 use Rattle.formats.proofs.SlotLaws.{function-placed}
 use Rattle.formats.proofs.StateLaws.{whole-length, read-argument-format, read-result-format, write-argument, write-result}
 use Rattle.formats.proofs.SentenceLaws.{results-said}
@@ -82,6 +82,7 @@ pub record ArgumentsLeft (limit : ℕ) (file : File) (found results : List Entry
   pub entries : List Entry
   pub holds : StoreHolds limit (fileNames file) entries results tail store
   pub left : arguments limit (treeOf file) found ≡ arguments limit (functionsAt file f) entries
+  pub stops : argumentsStop limit (treeOf file) found ≡ argumentsStop limit (functionsAt file f) entries
 
 -- so for all entries that the store held at the start
 abbrev pub ArgumentsFrom : ℕ → File → List ℕ → ℕ → List ℕ → Type 0
@@ -91,7 +92,7 @@ ArgumentsFrom limit file start f store =
 
 -- before the first function
 pub arguments-start : (limit : ℕ) (file : File) (store : List ℕ) → ArgumentsFrom limit file store 0 store
-arguments-start limit file store found results tail h = record { entries = found; holds = h; left = rw (tree-functions file) }
+arguments-start limit file store found results tail h = record { entries = found; holds = h; left = rw (tree-functions file); stops = rw (tree-functions file) }
 
 module _ {limit : ℕ} {file : File} {start store : List ℕ} {f : ℕ} (from : ArgumentsFrom limit file start f store) where
   -- the store still holds formats
@@ -106,7 +107,7 @@ module _ {limit : ℕ} {file : File} {start store : List ℕ} {f : ℕ} (from : 
 
   -- after the last function
   pub arguments-all : file .functions .count ≤ f → (found results : List Entry) (tail : List ℕ) → StoreHolds limit (fileNames file) found results tail start
-      → ArgumentsIs limit (fileNames file) (arguments limit (treeOf file) found) results tail store true
+      → ArgumentsIs limit (fileNames file) (arguments limit (treeOf file) found) (argumentsStop limit (treeOf file) found) results tail store true
   arguments-all done found results tail h =
       let now = from found results tail h in
       rw (now .left ∙ arguments-end limit file (now .entries) f done) (now .holds, refl)
@@ -115,7 +116,7 @@ module _ {limit : ℕ} {file : File} {start store : List ℕ} {f : ℕ} (from : 
     -- a pattern of the next function does not fit
     pub arguments-refused : r ≡ Over → f < file .functions .count
         → (found results : List Entry) (tail : List ℕ) → StoreHolds limit (fileNames file) found results tail start
-        → ArgumentsIs limit (fileNames file) (arguments limit (treeOf file) found) results tail next false
+        → ArgumentsIs limit (fileNames file) (arguments limit (treeOf file) found) (argumentsStop limit (treeOf file) found) results tail next false
     arguments-refused over inside found results tail h = go (functionPatterns limit file f) refl turn
       where
         now : ArgumentsLeft limit file found results tail f store
@@ -123,12 +124,13 @@ module _ {limit : ℕ} {file : File} {start store : List ℕ} {f : ℕ} (from : 
 
         go : (joined : Answer Format) → functionPatterns limit file f ≡ joined
             → TurnIs limit joined (2 * placeOf file f) store next r
-            → ArgumentsIs limit (fileNames file) (arguments limit (treeOf file) found) results tail next false
+            → ArgumentsIs limit (fileNames file) (arguments limit (treeOf file) found) (argumentsStop limit (treeOf file) found) results tail next false
         go (given g) is (e, t) =
             let old : Format = readFormat (formatAt limit store (2 * placeOf file f)) in
             absurd (never-over (sameFormat (joinFormats old g) old) (sym t ∙ over))
         go (refused n) is (e, t) =
-            rw (now .left ∙ arguments-over limit file (now .entries) f n inside is) (now .entries, rw e (now .holds), refl)
+            rw (now .left ∙ arguments-over limit file (now .entries) f n inside is, now .stops ∙ arguments-stop-over limit file (now .entries) f n inside is)
+            (rw e (now .holds), refl)
 
     -- they fit: they are joined to the format of its name
     pub arguments-more : (r ≡ Over → ⊥) → f < file .functions .count → limit ≤ 64 → ArgumentsFrom limit file start (f + 1) next
@@ -158,6 +160,10 @@ module _ {limit : ℕ} {file : File} {start store : List ℕ} {f : ℕ} (from : 
                   now .left
                   ∙ arguments-next limit file (fileNames file) es f (f + 1) (placeOf file f) g inside (omega arith)
                   (now .holds .entries .argumentNames) refl is;
+              stops =
+                  now .stops
+                  ∙ arguments-stop-next limit file (fileNames file) es f (f + 1) (placeOf file f) g inside (omega arith)
+                  (now .holds .entries .argumentNames) refl is;
             }
 
 -- ---- a round
@@ -167,6 +173,7 @@ pub record RoundLeft (limit : ℕ) (file : File) (found results : List Entry) (t
   pub entries : List Entry
   pub holds : StoreHolds limit (fileNames file) found entries tail store
   pub left : round limit (treeOf file) results false ≡ round limit (functionsAt file f) entries changed
+  pub stops : roundStop limit (treeOf file) results ≡ roundStop limit (functionsAt file f) entries
 
 -- so for all entries that the store held at the start
 abbrev pub RoundFrom : ℕ → File → List ℕ → ℕ → List ℕ → Bool → Type 0
@@ -176,7 +183,7 @@ RoundFrom limit file start f store changed =
 
 -- before the first function
 pub round-start : (limit : ℕ) (file : File) (store : List ℕ) → RoundFrom limit file store 0 store false
-round-start limit file store found results tail h = record { entries = results; holds = h; left = rw (tree-functions file) }
+round-start limit file store found results tail h = record { entries = results; holds = h; left = rw (tree-functions file); stops = rw (tree-functions file) }
 
 -- what a turn that is not over makes of the mark that a format changed
 abbrev pub Marked : Turn → Bool → Bool → Type 0
@@ -209,7 +216,7 @@ module _ {limit : ℕ} {file : File} {start store : List ℕ} {f : ℕ} {changed
   -- after the last function
   pub round-all : (r : Turn) → r ≡ turnOf (not changed) → file .functions .count ≤ f
       → (found results : List Entry) (tail : List ℕ) → StoreHolds limit (fileNames file) found results tail start
-      → RoundIs limit (fileNames file) (round limit (treeOf file) results false) found tail store r
+      → RoundIs limit (fileNames file) (round limit (treeOf file) results false) (roundStop limit (treeOf file) results) found tail store r
   round-all r is done found results tail h =
       let now = from found results tail h in
       rw (now .left ∙ round-end limit file (now .entries) f changed done) (now .holds, is)
@@ -218,7 +225,7 @@ module _ {limit : ℕ} {file : File} {start store : List ℕ} {f : ℕ} {changed
     -- a result of the next function does not fit
     pub round-refused : r ≡ Over → f < file .functions .count → limit ≤ 64
         → (found results : List Entry) (tail : List ℕ) → StoreHolds limit (fileNames file) found results tail start
-        → RoundIs limit (fileNames file) (round limit (treeOf file) results false) found tail next Over
+        → RoundIs limit (fileNames file) (round limit (treeOf file) results false) (roundStop limit (treeOf file) results) found tail next Over
     round-refused over inside few found results tail h =
         go (functionResults limit file (now .entries) f) refl (rw (results-said (now .holds) (omega arith)) at turn)
       where
@@ -227,12 +234,13 @@ module _ {limit : ℕ} {file : File} {start store : List ℕ} {f : ℕ} {changed
 
         go : (joined : Answer Format) → functionResults limit file (now .entries) f ≡ joined
             → TurnIs limit joined (2 * placeOf file f + 1) store next r
-            → RoundIs limit (fileNames file) (round limit (treeOf file) results false) found tail next Over
+            → RoundIs limit (fileNames file) (round limit (treeOf file) results false) (roundStop limit (treeOf file) results) found tail next Over
         go (given g) is (e, t) =
             let old : Format = readFormat (formatAt limit store (2 * placeOf file f + 1)) in
             absurd (never-over (sameFormat (joinFormats old g) old) (sym t ∙ over))
         go (refused n) is (e, t) =
-            rw (now .left ∙ round-over limit file (now .entries) f changed n inside is) (now .entries, rw e (now .holds), refl)
+            rw (now .left ∙ round-over limit file (now .entries) f changed n inside is, now .stops ∙ round-stop-over limit file (now .entries) f n inside is)
+            (rw e (now .holds), refl)
 
     -- they fit: they are joined to the format of its name
     pub round-more : (after : Bool) → Marked r changed after → f < file .functions .count → limit ≤ 64 → RoundFrom limit file start (f + 1) next after
@@ -266,4 +274,8 @@ module _ {limit : ℕ} {file : File} {start store : List ℕ} {f : ℕ} {changed
                   ∙ round-next limit file (fileNames file) es f (f + 1) (placeOf file f) changed g inside (omega arith)
                   (now .holds .entries .resultNames) refl is
                   ∙ rw mark;
+              stops =
+                  now .stops
+                  ∙ round-stop-next limit file (fileNames file) es f (f + 1) (placeOf file f) g inside (omega arith)
+                  (now .holds .entries .resultNames) refl is;
             }

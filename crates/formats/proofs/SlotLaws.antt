@@ -8,7 +8,7 @@ use native.Mathlib.Omega.{arith}
 use native.Mathlib.Decide.{decLt}
 use native.Mathlib.Nat.{sub-zero, zero-add}
 use native.Mathlib.Numerals.{add-one}
-use lib.ListN.{length, getD, set, take, drop}
+use lib.ListN.{length, getD, set, take, drop, replicate}
 use lib.Seq.{getD-set-same, getD-set-other}
 use Rattle.names.specs.Name.{folded, sameBytes, orderBytes}
 use Rattle.names.specs.declared.Order.{Order}
@@ -23,7 +23,7 @@ use Rattle.law.specs.Reading.{functionName, functionsFrom, treeOf, sentencesFro
 use Rattle.law.proofs.IndexLaws.{zero-offset}
 use Rattle.law.proofs.Functions.{tree-length}
 use Rattle.formats.specs.Infer.{insertName, namesOf}
-use Rattle.formats.specs.Code.Slots.{position, functionFolded, callFolded, fileNames, isAmong, namesFrom, lessCount, namesAt, newly, FilledTo, NamedFrom, Places, SlotsUpTo, CalleeSlot}
+use Rattle.formats.specs.Code.Slots.{position, functionFolded, callFolded, fileNames, isAmong, namesFrom, lessCount, namesAt, newly, FilledTo, NamedFrom, Places, KeptFrom, Unused, SlotsUpTo, CalleeSlot}
 
 -- ---- sorted names
 
@@ -233,6 +233,16 @@ filled-next xs n value v filled l e = λ i k. go i k (decLt i n)
         let q : i ≡ n = omega arith in
         rw q (getD-set-same xs n v 0 l ∙ e)
 
+-- zeros, and past them
+getD-zeros : (n i : ℕ) → _≡_ {A = ℕ} (getD (replicate n 0) i 0) 0
+getD-zeros zero i = refl
+getD-zeros (suc n) zero = refl
+getD-zeros (suc n) (suc i) = getD-zeros n i
+
+-- what is kept past a byte that is written
+pub kept-next : (before xs : List ℕ) (n v m : ℕ) → KeptFrom before xs m → n < m → KeptFrom before (set xs n v) m
+kept-next before xs n v m kept l j h = getD-set-other xs n j v 0 (λ q. omega arith) ∙ kept j h
+
 -- ---- the names of a file's functions
 
 -- the names from a function on are sorted
@@ -301,9 +311,14 @@ module _ (file : File) where
   -- ---- the search for a name
 
   module _ (from : ℕ) (name : List ℕ) where
-    -- the search is at the function f: the name is among those from `from` on if it is among those from f on
+    -- the search is at the function f: the name is among those from `from` on if it is among those from f on, and no function before f has it
     abbrev pub SearchAt : ℕ → Type 0
-    SearchAt f = (f ≤ file .functions .count) × (isAmong (namesAt file from) name ≡ isAmong (namesAt file f) name)
+    SearchAt f =
+        (f ≤ file .functions .count) × (isAmong (namesAt file from) name ≡ isAmong (namesAt file f) name) × (from ≤ f)
+        × ((g : ℕ) → from ≤ g → g < f → sameBytes (functionFolded file g) name ≡ false)
+
+    pub named-start : from ≤ file .functions .count → SearchAt from
+    named-start h = (h, refl, omega arith, λ g a b. absurd (omega arith))
 
     -- the function f has the name
     pub named-here : (f : ℕ) (spelled : List ℕ) (t : Bool) → SearchAt f → f < file .functions .count → spelled ≡ functionName file f .spelled
@@ -312,6 +327,8 @@ module _ (file : File) where
         let same : sameBytes (functionFolded file f) name ≡ true = cc in
         record {
           inside = s .0;
+          behind = s .2;
+          first = s .3;
           found = λ _. (same-sound _ _ same, s .1 ∙ rw (listed-read f name l, same));
           missing = λ k. absurd (omega arith);
         }
@@ -321,13 +338,22 @@ module _ (file : File) where
         → t ≡ sameBytes (folded spelled) name → t ≡ false → SearchAt (f + 1)
     named-next f spelled t s l e q h =
         let other : sameBytes (functionFolded file f) name ≡ false = cc in
-        (omega arith, s .1 ∙ rw (listed-read f name l, other))
+        (omega arith, s .1 ∙ rw (listed-read f name l, other), omega (arith, s .2), λ g a b. before g a b (decLt g f))
+      where
+        before : (g : ℕ) → from ≤ g → g < f + 1 → Dec (g < f) → sameBytes (functionFolded file g) name ≡ false
+        before g a b (yes k) = s .3 g a k
+        before g a b (no k) =
+            let here : g ≡ f = omega arith in
+            let other : sameBytes (functionFolded file f) name ≡ false = cc in
+            rw here other
 
     -- no function is left
     pub named-end : (f : ℕ) → SearchAt f → file .functions .count ≤ f → NamedFrom file from name f
     unfolding isAmong
     named-end f s l = record {
       inside = s .0;
+      behind = s .2;
+      first = s .3;
       found = λ k. absurd (omega arith);
       missing = λ _. s .1 ∙ rw (names-end f l);
     }
@@ -423,17 +449,22 @@ module _ (file : File) where
   call-name-read t start len text name e a b q = rw (q, e, a, b)
 
   -- the number of names is written after the places of the functions' names
-  pub slots-start : (slots : List ℕ) (n : ℕ) → file .functions .count ≤ 64 → length slots ≡ 577 → Places file slots → n ≡ length (fileNames file)
-      → SlotsUpTo file (set slots 576 n) 0
-  slots-start slots n b len p e = record {
+  pub slots-start : (slots : List ℕ) (n : ℕ) → file .functions .count ≤ 64 → length slots ≡ 577 → Places file slots
+      → KeptFrom (replicate 577 0) slots (file .functions .count) → n ≡ length (fileNames file) → SlotsUpTo file (set slots 576 n) 0
+  slots-start slots n b len p k e = record {
     functions = λ f l. getD-set-other slots 576 f n 0 (λ q. omega arith) ∙ p f l;
     count = getD-set-same slots 576 n 0 (omega arith) ∙ e;
     calls = λ i l. absurd (omega arith);
+    others = λ j u. getD-set-other slots 576 j n 0 (u .noCount) ∙ k j (u .past) ∙ getD-zeros 577 j;
   }
 
   -- the kind of a term record, as it is read
   pub kind-read : (t kind : ℕ) → kind ≡ wordAt (file .terms .records) (24 * t + 0) → wordAt (file .terms .records) (24 * t) ≡ kind
   kind-read t kind e = sym (e ∙ zero-offset (file .terms .records) (24 * t))
+
+  -- a slot that no call among some term records has, none of fewer has
+  unused-less : (t j : ℕ) → Unused file (t + 1) j → Unused file t j
+  unused-less t j u = record { past = u .past; noCall = λ i k call. u .noCall i (omega arith) call; noCount = u .noCount }
 
   -- a term that is no call has no slot
   pub slots-pass : (slots : List ℕ) (t kind : ℕ) → SlotsUpTo file slots t → kind ≡ wordAt (file .terms .records) (24 * t + 0) → (kind ≡ 7 → ⊥)
@@ -442,6 +473,7 @@ module _ (file : File) where
     functions = s .functions;
     count = s .count;
     calls = λ i k call. go i k call (decLt i t);
+    others = λ j u. s .others j (unused-less t j u);
   }
     where
       go : (i : ℕ) → i < t + 1 → wordAt (file .terms .records) (24 * i) ≡ 7 → Dec (i < t)
@@ -453,11 +485,12 @@ module _ (file : File) where
 
   -- one more call is written
   pub slots-next : (slots : List ℕ) (t r : ℕ) → file .functions .count ≤ 64 → file .terms .count ≤ 512 → length slots ≡ 577 → SlotsUpTo file slots t
-      → t < file .terms .count → CalleeSlot file t r → SlotsUpTo file (set slots (64 + t) (getD slots r 0)) (t + 1)
-  slots-next slots t r fb tb len s l c = record {
+      → t < file .terms .count → wordAt (file .terms .records) (24 * t) ≡ 7 → CalleeSlot file t r → SlotsUpTo file (set slots (64 + t) (getD slots r 0)) (t + 1)
+  slots-next slots t r fb tb len s l call c = record {
     functions = λ f k. getD-set-other slots (64 + t) f _ 0 (λ q. omega arith) ∙ s .functions f k;
     count = getD-set-other slots (64 + t) 576 _ 0 (λ q. omega arith) ∙ s .count;
     calls = λ i k kind. go i k kind (decLt i t);
+    others = λ j u. getD-set-other slots (64 + t) j _ 0 (u .noCall t (omega arith) call) ∙ s .others j (unused-less t j u);
   }
     where
       go : (i : ℕ) → i < t + 1 → wordAt (file .terms .records) (24 * i) ≡ 7 → Dec (i < t)

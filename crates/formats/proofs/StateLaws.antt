@@ -5,6 +5,7 @@ use mathlib.Core.List.{List, [], _∷_, _++_, append-assoc, append-nil}
 use mathlib.Core.Option.{none, some}
 use mathlib.Core.Path.{_≡_, refl, sym, ap, _∙_}
 use native.Mathlib.Omega.{arith}
+use borrow.Author.Tests.{lt-ltb, le-ltb}
 use native.Mathlib.Nat.{zero-mul, zero-add, sub-zero, add-assoc, mul-le-mul-right}
 use lib.ListN.{length, take, drop, getD, set, replicate, length-append, length-replicate, replicate-append-replicate}
 use lib.Seq.{take-at, drop-at, drop-drop, drop-append-add, take-append-add, set-at}
@@ -18,7 +19,7 @@ use Rattle.formats.specs.Infer.{Entry, find, allAt}
 use Rattle.formats.specs.Store.{entryWords, storeSize, storeOf}
 use Rattle.formats.specs.Code.Entries.{rowWords, startOf, entryNames, formatIn, put, EachEntry, Storable, StoreHolds}
 use Rattle.formats.specs.Code.Slots.{position, callFolded, fileNames, SlotsOf}
-use Rattle.formats.specs.Code.Rows.{formatAt, Knows}
+use Rattle.formats.specs.Code.Rows.{formatAt, Knows, storedAt}
 use Rattle.formats.proofs.EntryLaws.{names-length, names-put, names-all-at, put-encodable, all-at-encodable, format-encodable, find-some, find-none}
 
 -- ---- a row of formats
@@ -396,6 +397,14 @@ pub start-holds : (limit k : ℕ) (names : List (List ℕ)) (tail : List ℕ) �
 start-holds limit k names tail few e = record { entries = start-storable limit names few; words = rw (start-all limit k names e) }
 
 -- ---- what the store says of calls
+
+-- whatever it holds, there are results that it says: those at the places of names
+pub results-known : (file : File) (slots store : List ℕ) (limit count : ℕ) → SlotsOf file slots
+    → Knows file slots store limit count (λ name. storedAt store limit count (position (fileNames file) name))
+results-known file slots store limit count places = record {
+  known = λ t inside call there. rw (← places .calls t inside call, lt-ltb (getD slots (64 + t) 0) count there) refl;
+  unknown = λ t inside call past. rw (← places .calls t inside call, le-ltb (getD slots (64 + t) 0) count past) refl;
+}
 
 -- by the places of the names of calls, the store's results are those of the entries
 pub store-knows : (file : File) (slots : List ℕ) {limit : ℕ} {arguments results : List Entry} {tail store : List ℕ} (count : ℕ) → SlotsOf file slots

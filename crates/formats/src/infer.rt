@@ -35,9 +35,9 @@ ghost use Rattle.buffers.specs.Written.{written};
 ghost use Rattle.formats.specs.FormatOf.{Results};
 ghost use Rattle.formats.specs.Infer.{Entry, find, arguments, round, roundsFrom};
 ghost use Rattle.formats.specs.Code.Entries.{StoreHolds};
-ghost use Rattle.formats.specs.Code.Slots.{fileNames, functionFolded, position};
+ghost use Rattle.formats.specs.Code.Slots.{fileNames, functionFolded, position, SlotsOf};
 ghost use Rattle.formats.specs.Code.Rows.{formatAt, Knows, partShapes, RowAsked};
-ghost use Rattle.formats.specs.Code.Turns.{RoundAsked, Holding, resultsIn, FormatMade, sentenceShapes, rowsJoined, JoinedIs, formatNumber, TurnIs, ArgumentsIs, RoundIs, RoundsIs};
+ghost use Rattle.formats.specs.Code.Turns.{RoundAsked, Holding, resultsIn, FormatMade, sentenceShapes, rowsJoined, JoinedIs, formatNumber, TurnIs, argumentsStop, roundStop, roundsStop, ArgumentsIs, RoundIs, RoundsIs};
 
 // A function's turn: a row passes the limit on shapes, its name's format changed, or it is as it was.
 pub enum Turn {
@@ -52,7 +52,8 @@ pub enum Inference {
     Ran(usize, bool),
 }
 
-// The format of a run of term records, every word of it, or false where it has too many shapes.
+// The format of a run of term records, every word of it, or false where it has too many shapes. As in `write_row`, there are results
+// that the store holds.
 pub fn row_format(
     law: &[u8],
     slots: &Slots,
@@ -63,7 +64,7 @@ pub fn row_format(
     known: usize,
     out: &mut [u32],
 ) -> bool
-    requires { ⌜ RowAsked (fileOf (now law)) at (now part) (now store) limit known (now out) 1 (limit + 1) × (length (now out) ≡ limit + 1) ⌝ }
+    requires { ⌜ RowAsked (fileOf (now law)) at (now part) (now store) limit known (now out) 1 (limit + 1) × (length (now out) ≡ limit + 1) × SlotsOf (fileOf (now law)) (now slots) ⌝ }
     ensures { λ r. ⌜ ((t : Results) → Knows (fileOf (now (law .entry))) (now (slots .entry)) (now (store .entry)) limit known t
         → FormatMade limit (partShapes (fileOf (now (law .entry))) t at (now (part .entry))) r (now (out .exit))) ⌝ }
 {
@@ -287,7 +288,8 @@ fn format_number(patterns: bool, place: usize) -> usize
     if patterns { 2 * place } else { 2 * place + 1 }
 }
 
-// The argument formats: each function's patterns, in file order. False where a pattern's format passes the limit on shapes.
+// The argument formats: each function's patterns, in file order. False where a pattern's format passes the limit on shapes; the store then
+// holds what the functions before it left. What a store holds before, `Holding` has.
 pub fn infer_arguments(
     law: &[u8],
     index: &Index,
@@ -299,7 +301,8 @@ pub fn infer_arguments(
 ) -> bool
     requires { ⌜ RoundAsked (now law) (now index) (now slots) limit count × Holding limit (fileNames (fileOf (now law))) (now store) × (length (now joined) ≡ limit + 1) ⌝ }
     ensures { λ r. ⌜ ((found results : List Entry) (tail : List ℕ) → StoreHolds limit (fileNames (fileOf (now (law .entry)))) found results tail (now (store .entry))
-        → ArgumentsIs limit (fileNames (fileOf (now (law .entry)))) (arguments limit (treeOf (fileOf (now (law .entry)))) found) results tail (now (store .exit)) r) ⌝ }
+        → ArgumentsIs limit (fileNames (fileOf (now (law .entry)))) (arguments limit (treeOf (fileOf (now (law .entry)))) found)
+        (argumentsStop limit (treeOf (fileOf (now (law .entry)))) found) results tail (now (store .exit)) r) ⌝ }
 {
     let most = functions(index);
     let mut f = 0;
@@ -324,7 +327,8 @@ fn infer_round(
 ) -> Turn
     requires { ⌜ RoundAsked (now law) (now index) (now slots) limit count × Holding limit (fileNames (fileOf (now law))) (now store) × (length (now joined) ≡ limit + 1) ⌝ }
     ensures { λ r. ⌜ ((found results : List Entry) (tail : List ℕ) → StoreHolds limit (fileNames (fileOf (now (law .entry)))) found results tail (now (store .entry))
-        → RoundIs limit (fileNames (fileOf (now (law .entry)))) (round limit (treeOf (fileOf (now (law .entry)))) results false) found tail (now (store .exit)) r) ⌝ }
+        → RoundIs limit (fileNames (fileOf (now (law .entry)))) (round limit (treeOf (fileOf (now (law .entry)))) results false)
+        (roundStop limit (treeOf (fileOf (now (law .entry)))) results) found tail (now (store .exit)) r) ⌝ }
 {
     let most = functions(index);
     let mut changed = false;
@@ -344,7 +348,7 @@ fn infer_round(
     if changed { Turn::Changed } else { Turn::Same }
 }
 
-// Rounds, at most so many; one that changes nothing is the last.
+// Rounds, at most so many; one that changes nothing is the last, and one in which a row passes the limit on shapes.
 pub fn infer_rounds(
     law: &[u8],
     index: &Index,
@@ -357,7 +361,8 @@ pub fn infer_rounds(
 ) -> Inference
     requires { ⌜ RoundAsked (now law) (now index) (now slots) limit count × Holding limit (fileNames (fileOf (now law))) (now store) × (length (now joined) ≡ limit + 1) ⌝ }
     ensures { λ r. ⌜ ((found results : List Entry) (tail : List ℕ) → StoreHolds limit (fileNames (fileOf (now (law .entry)))) found results tail (now (store .entry))
-        → RoundsIs limit (fileNames (fileOf (now (law .entry)))) (roundsFrom limit most (treeOf (fileOf (now (law .entry)))) results 0) found tail (now (store .exit)) r) ⌝ }
+        → RoundsIs limit (fileNames (fileOf (now (law .entry)))) (roundsFrom limit most (treeOf (fileOf (now (law .entry)))) results 0)
+        (roundsStop limit most (treeOf (fileOf (now (law .entry)))) results) found tail (now (store .exit)) r) ⌝ }
 {
     let mut done = 0;
     while done < most {

@@ -25,6 +25,7 @@ ghost use Rattle.shapes.specs.Format.{end, item, group};
 ghost use Rattle.shapes.specs.Words.{bracketWord};
 ghost use Rattle.buffers.specs.Written.{written};
 ghost use Rattle.formats.specs.FormatOf.{Results};
+ghost use Rattle.formats.specs.Code.Slots.{SlotsOf};
 ghost use Rattle.formats.specs.Code.Rows.{Knows, RowIs, Between, LeafKind, LeavesAre, Stored, storedAt, symbolStep, stepOf, calleeShapes, partShapes, firstShapes, RowAsked};
 
 // What a term record adds to a row: a shape of one word, an open end, a bracket, or what the store has for a call.
@@ -171,7 +172,7 @@ fn write_bracket(
     to: usize,
     most: usize,
 ) -> Row
-    requires { ⌜ RowAsked (fileOf (now law)) at (now part) (now store) limit count (now out) to most × (24 ≤ length (now part)) ⌝ }
+    requires { ⌜ RowAsked (fileOf (now law)) at (now part) (now store) limit count (now out) to most × (24 ≤ length (now part)) × SlotsOf (fileOf (now law)) (now slots) ⌝ }
     ensures { λ r. ⌜ Between to most r × ((t : Results) → Knows (fileOf (now (law .entry))) (now (slots .entry)) (now (store .entry)) limit count t
         → RowIs (group (partShapes (fileOf (now (law .entry))) t (at + 1) (contents 24 endOf (now (part .entry)))) (end false))
         (now (out .entry)) (now (out .exit)) to most r) ⌝ }
@@ -205,7 +206,7 @@ fn write_first(
     to: usize,
     most: usize,
 ) -> Row
-    requires { ⌜ RowAsked (fileOf (now law)) at (now part) (now store) limit count (now out) to most × (24 ≤ length (now part)) ⌝ }
+    requires { ⌜ RowAsked (fileOf (now law)) at (now part) (now store) limit count (now out) to most × (24 ≤ length (now part)) × SlotsOf (fileOf (now law)) (now slots) ⌝ }
     ensures { λ r. ⌜ Between to most r × ((t : Results) → Knows (fileOf (now (law .entry))) (now (slots .entry)) (now (store .entry)) limit count t
         → RowIs (firstShapes (fileOf (now (law .entry))) t at (now (part .entry))) (now (out .entry)) (now (out .exit)) to most r) ⌝ }
 {
@@ -218,7 +219,8 @@ fn write_first(
 }
 
 // The shapes of a run of term records or of the rest of one, its first record number `at`, written from a position on and at most up to another.
-// The store has the results of the first `count` names; a call of another name, a block or an e. variable ends the row open.
+// The store has the results of the first `count` names; a call of another name, a block or an e. variable ends the row open. There are results
+// that these are (`results-known` of proofs/StateLaws.antt).
 pub fn write_row(
     law: &[u8],
     part: &[u8],
@@ -231,7 +233,7 @@ pub fn write_row(
     to: usize,
     most: usize,
 ) -> Row
-    requires { ⌜ RowAsked (fileOf (now law)) at (now part) (now store) limit count (now out) to most ⌝ }
+    requires { ⌜ RowAsked (fileOf (now law)) at (now part) (now store) limit count (now out) to most × SlotsOf (fileOf (now law)) (now slots) ⌝ }
     ensures { λ r. ⌜ Between to most r × ((t : Results) → Knows (fileOf (now (law .entry))) (now (slots .entry)) (now (store .entry)) limit count t
         → RowIs (partShapes (fileOf (now (law .entry))) t at (now (part .entry))) (now (out .entry)) (now (out .exit)) to most r) ⌝ }
 {

@@ -19,7 +19,7 @@ ghost use Rattle.file.specs.Word.{wordAt};
 ghost use Rattle.file.specs.Sections.{fileOf};
 ghost use Rattle.file.specs.Fields.{fieldsAllowed};
 ghost use Rattle.law.specs.Code.Index.{Indexed};
-ghost use Rattle.formats.specs.Code.Slots.{position, functionFolded, fileNames, SlotsOf, lessCount, newly, NamedFrom, Weights, Places, SlotsUpTo, CalleeSlot};
+ghost use Rattle.formats.specs.Code.Slots.{position, functionFolded, fileNames, SlotsOf, lessCount, newly, NamedFrom, Weights, Places, KeptFrom, SlotsUpTo, CalleeSlot};
 
 // The first function from `from` on that has a name; the number of functions where none has it.
 fn first_named(law: &[u8], index: &Index, name: &[u8], from: usize) -> usize
@@ -106,7 +106,8 @@ fn place(law: &[u8], index: &Index, weights: &[u8; 64], f: usize) -> u8
 // Writes the place of the name of each function.
 fn fill_functions(law: &[u8], index: &Index, weights: &[u8; 64], slots: &mut Slots)
     requires { ⌜ Indexed (now law) (now index) × (fieldsAllowed (fileOf (now law)) ≡ true) × Weights (fileOf (now law)) (now weights) × (length (now slots) ≡ 577) ⌝ }
-    ensures { λ _. ⌜ (length (now (slots .exit)) ≡ 577) × Places (fileOf (now (law .entry))) (now (slots .exit)) ⌝ }
+    ensures { λ _. ⌜ (length (now (slots .exit)) ≡ 577) × Places (fileOf (now (law .entry))) (now (slots .exit))
+        × KeptFrom (now (slots .entry)) (now (slots .exit)) (fileOf (now (law .entry)) .functions .count) ⌝ }
 {
     let count = functions(index);
     let mut f = 0;
@@ -133,7 +134,7 @@ fn callee_slot(law: &[u8], index: &Index, t: usize) -> usize
 }
 
 // Writes the place of the name of each call, where those of the functions and the number of names are written. The slots of
-// other terms are not read.
+// other terms stay 0.
 fn fill_calls(law: &[u8], index: &Index, slots: &mut Slots)
     requires { ⌜ Indexed (now law) (now index) × (fieldsAllowed (fileOf (now law)) ≡ true) × (length (now slots) ≡ 577) × SlotsUpTo (fileOf (now law)) (now slots) 0 ⌝ }
     ensures { λ _. ⌜ SlotsUpTo (fileOf (now (law .entry))) (now (slots .exit)) (fileOf (now (law .entry)) .terms .count) ⌝ }

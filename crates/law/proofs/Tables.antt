@@ -2,11 +2,11 @@
 use Prim.Native.Nat.{ℕ, _+_, _*_, _-_, _≤_, _<_}
 use mathlib.Core.List.{List, _++_}
 use mathlib.Core.Bool.{Bool, true, false, _&&_}
-use mathlib.Core.Path.{_≡_, refl, _∙_}
+use mathlib.Core.Path.{_≡_, refl, sym, ap, _∙_}
 use native.Mathlib.Omega.{arith}
 use native.Mathlib.Decide.{decLt}
 use native.Mathlib.Nat.{add-zero, mul-le-mul-left, mul-suc, mod-eq-of-lt}
-use lib.ListN.{length, getD, set, drop}
+use lib.ListN.{length, getD, set, take, drop, take-append-drop}
 use lib.Seq.{getD-set-same, getD-set-other, getD-append-add, getD-drop, sets, sets-eq}
 use lib.Dec.{eqb}
 use borrow.Author.Tests.{eqb-true, ne-eqb}
@@ -22,7 +22,7 @@ use Rattle.file.proofs.Parts.{cutOut, functionsPart, sentencesPart, conditionsP
 use Rattle.law.specs.Places.{sentencesOf, patternSize, conditionsOf, resultSize, conditionResultSize, conditionPatternSize, blockSize, firstSentence, blockFirst, firstCondition, sentenceRecords, conditionRecords, patternAt}
 use Rattle.law.specs.Runs.{usedUp}
 use Rattle.law.specs.Code.Index.{functionsStart, sentencesStart, conditionsStart, termsStart, IndexOf, Indexed}
-use Rattle.law.specs.Code.Filling.{Table, wordSum, pairSum, blockWord, blockSum, asWord, TablesOf, header}
+use Rattle.law.specs.Code.Filling.{Table, wordSum, pairSum, blockWord, blockSum, asWord, TablesOf, header, Placed}
 
 -- a record that stands before the last ends within the records' bytes
 pub record-fits : (size i count n : ℕ) → i < count → size * count ≤ n → size * i + size ≤ n
@@ -229,11 +229,25 @@ index-made file tables limits h t =
 pub header-written : (s : Sections) (xs : List ℕ) → length xs ≡ 972 → sets xs 0 (header s) ≡ header s ++ drop 8 xs
 header-written s xs h = sets-eq (header s) xs 0 (omega arith)
 
--- what a header and tables are together, where the sections are used up
-pub indexed-made : (bytes : List ℕ) (s : Sections) (tables index : List ℕ) → sectionsOf bytes ≡ given (fileOf bytes) → countsOf (fileOf bytes) ≡ s
-    → usedUp (fileOf bytes) ≡ true → TablesOf (fileOf bytes) tables → index ≡ header s ++ drop 8 tables → Indexed bytes index
-indexed-made bytes s tables index h e u t q = record {
-  sections = h;
-  used = u;
-  words = rw (q, ← e) (index-made (fileOf bytes) tables (sections-limits bytes (fileOf bytes) h) u t);
+-- a header before tables
+pub placed-made : (file : File) (s : Sections) (tables index : List ℕ) → countsOf file ≡ s → TablesOf file tables → index ≡ header s ++ drop 8 tables → Placed file index
+placed-made file s tables index e t q = record {
+  begins = ap (take 8) q ∙ ap header (sym e);
+  tables = rw q (record {
+    firstSentences = λ f l. past-header s tables (8 + f) (omega arith) ∙ t .firstSentences f l;
+    firstConditions = λ n l. past-header s tables (73 + n) (omega arith) ∙ t .firstConditions n l;
+    conditionTerms = λ c l. past-header s tables (202 + c) (omega arith) ∙ t .conditionTerms c l;
+    sentenceTerms = λ n l. past-header s tables (331 + n) (omega arith) ∙ t .sentenceTerms n l;
+    blocks = λ n l. past-header s tables (460 + n) (omega arith) ∙ t .blocks n l;
+  });
 }
+
+-- the file's index, where the sections are used up
+pub placed-indexed : (bytes index : List ℕ) → sectionsOf bytes ≡ given (fileOf bytes) → usedUp (fileOf bytes) ≡ true → Placed (fileOf bytes) index → Indexed bytes index
+placed-indexed bytes index h u p =
+    let split : header (countsOf (fileOf bytes)) ++ drop 8 index ≡ index = ap (λ front. front ++ drop 8 index) (sym (p .begins)) ∙ take-append-drop 8 index in
+    record {
+      sections = h;
+      used = u;
+      words = rw split at (index-made (fileOf bytes) index (sections-limits bytes (fileOf bytes) h) u (p .tables));
+    }

@@ -4,7 +4,7 @@ use file::Sections;
 use file::word_at;
 ghost use mathlib.Core.List.{_++_};
 ghost use mathlib.Core.Path.{_≡_};
-ghost use mathlib.Core.Bool.{true, _&&_};
+ghost use mathlib.Core.Bool.{_&&_};
 ghost use Prim.Native.Nat.{_+_, _*_, _≤_, _<_};
 ghost use lib.ListN.{length, drop};
 ghost use lib.Dec.{eqb};
@@ -12,8 +12,7 @@ ghost use Rattle.file.specs.Answer.{given};
 ghost use Rattle.file.specs.Sections.{sectionsOf, fileOf};
 ghost use Rattle.file.specs.Code.Counts.{countsOf, Limits, fileLength};
 ghost use Rattle.law.specs.Runs.{usedUp};
-ghost use Rattle.law.specs.Code.Index.{Indexed};
-ghost use Rattle.law.specs.Code.Filling.{Table, wordSum, pairSum, blockWord, blockSum, asWord, TablesOf, header};
+ghost use Rattle.law.specs.Code.Filling.{Table, wordSum, pairSum, blockWord, blockSum, asWord, TablesOf, header, Placed};
 
 // An array's length is known only where it is made, so the functions below ask for it and say it again.
 
@@ -151,10 +150,10 @@ fn fill_header(index: &mut Index, sections: Sections)
 }
 
 // Fills the index of a file that is cut into its sections, and answers whether sections 3 to 5 are used up exactly.
-// Sums past 65,535 are cut in the index, and then they are not.
+// Sums past 65,535 are cut in the index, and then they are not. Where they are, it is the file's index (`placed-indexed` of proofs/Tables.antt).
 pub fn place_records(law: &[u8], sections: Sections, index: &mut Index) -> bool
     requires { ⌜ (sectionsOf (now law) ≡ given (fileOf (now law))) × (countsOf (fileOf (now law)) ≡ sections) × (length (now index) ≡ 972) ⌝ }
-    ensures { λ r. ⌜ (r ≡ usedUp (fileOf (now (law .entry)))) × (r ≡ true → Indexed (now (law .entry)) (now (index .exit))) ⌝ }
+    ensures { λ r. ⌜ (r ≡ usedUp (fileOf (now (law .entry)))) × Placed (fileOf (now (law .entry))) (now (index .exit)) ⌝ }
 {
     let exact = fill_tables(index, law, sections);
     fill_header(index, sections);

@@ -7,7 +7,7 @@ use mathlib.Core.Path.{_≡_, refl, sym, ap, _∙_}
 use native.Mathlib.Omega.{arith}
 use native.Mathlib.Nat.{zero-add, add-sub-cancel-left}
 use lib.Seq.{take-at}
-use lib.ListN.{length, take, drop, getD, length-take, length-drop}
+use lib.ListN.{length, take, drop, getD}
 use lib.Dec.{eqb, ltb}
 use borrow.Author.Tests.{lt-ltb, le-ltb, eq-eqb, ne-eqb, eqb-true, eqb-false}
 use Rattle.names.specs.Name.{folded, sameBytes}
@@ -273,9 +273,6 @@ module _ {bytes index slots store : List ℕ} {limit : ℕ} (p : Prepared bytes 
 
     pub accepted-few : 2 * place * (limit + 1) + (limit + 1) ≤ 8320
     accepted-few = omega (arith, number-inside (p .holding .holds .entries) (2 * place) (omega arith), p .asked .small)
-
-    pub accepted-length : length (take (2 * place * (limit + 1) + (limit + 1) - 2 * place * (limit + 1)) (drop (2 * place * (limit + 1)) store)) ≡ limit + 1
-    accepted-length = simp (length-take, length-drop) (omega (arith, accepted-inside))
 
     module _ {words : List ℕ} (rest : List ℕ) {ok : Bool} (made : FormatMade limit (passed (formatsIn (fileOf bytes) limit store) (callAt (fileOf bytes) t)) ok words) (good : ok ≡ true)
         {r literal : Bool} (test : r ≡ disjointFormats (readFormat (take (limit + 1) (words ++ rest))) (readFormat (take (2 * place * (limit + 1) + (limit + 1) - 2 * place * (limit + 1)) (drop (2 * place * (limit + 1)) store))))

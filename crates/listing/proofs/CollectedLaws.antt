@@ -31,12 +31,12 @@ use Rattle.lints.specs.Recognition.{argumentsOver}
 use Rattle.lints.specs.Levels.{Settings, shown, listingWords}
 use Rattle.lints.specs.Findings.{findingsOf, formatsOf, Listing, listing}
 use Rattle.lints.specs.Code.Records.{Prepared, formatsIn}
-use Rattle.findings.specs.Code.Events.{Tally, Over, Full, Upto, sinkOf, collect}
+use Rattle.findings.specs.Code.Events.{Tally, Over, Full, Upto, Sink, sinkOf, collect}
 use Rattle.findings.specs.Code.All.{allEvents}
 use Rattle.listing.specs.declared.gather.Gathered.{Gathered}
 use Rattle.listing.specs.declared.gather.Gathered.the-variants as gathered
 use Rattle.listing.specs.Outcome.{storeAfter}
-use Rattle.listing.specs.Code.Gather.{Prepares, StoreFilled, Fitted, GatheredIs, GatherIs, shownIn, Collected}
+use Rattle.listing.specs.Code.Gather.{Prepares, StoreFilled, Fitted, GatheredIs, bufferAfter, GatherIs, shownIn, Collected}
 use Rattle.runs.proofs.NoFalse.{listing-parts}
 use Rattle.listing.proofs.PromiseLaws.{words-length, start-taken}
 use Rattle.listing.proofs.GatherLaws.{Wide, Narrow, comes-to}
@@ -101,6 +101,12 @@ module _ {limit rounds : ℕ} {settled : Bool} (room : ℕ) (settings : Settings
       comes-to limit settings room law (f .made) out (sinkOf tally now) (f .inferred)
       (rw (said p s (f .made) (drop (storeSize limit) store) store (f .inferred) (f .words)) at e)
 
+  -- the buffer, by what was inferred
+  placed : now ≡ bufferAfter limit settings room law out (infer limit law)
+  placed =
+      rw (f .inferred)
+      (ap (λ (t : Sink). t .words) (rw (said p s (f .made) (drop (storeSize limit) store) store (f .inferred) (f .words)) at e))
+
   -- the store is as it was
   kept : Narrow limit settings room law (f .made) out (sinkOf tally now) → store ≡ storeAfter limit store (listing limit settings law)
   kept n = rw (n .says) (f .words)
@@ -111,7 +117,7 @@ module _ {limit rounds : ℕ} {settled : Bool} (room : ℕ) (settings : Settings
     where
       go : Wide limit settings law (sinkOf tally now) ⊎ Narrow limit settings room law (f .made) out (sinkOf tally now)
           → GatherIs limit settings room bytes store after out now gathered.TooWide
-      go (inl w) = record { store = rw (w .says) words; gathered = rw (w .says) (refl, refl) }
+      go (inl w) = record { store = rw (w .says) words; gathered = rw (w .says) (refl, refl); buffer = placed }
       go (inr n) = absurd (fits (decLe (8 * length fs) room))
         where
           fits : Dec (8 * length fs ≤ room) → ⊥
@@ -131,6 +137,7 @@ module _ {limit rounds : ℕ} {settled : Bool} (room : ℕ) (settings : Settings
           placed = λ l m. absurd (full-upto (length fs) (sym is ∙ n .left .counted l));
           over = λ l. refl;
         });
+        buffer = placed;
       }
 
   pub gather-upto : (count : ℕ) → tally ≡ Upto count → GatherIs limit settings room bytes store store out now (gathered.Upto count rounds settled)
@@ -146,6 +153,7 @@ module _ {limit rounds : ℕ} {settled : Bool} (room : ℕ) (settings : Settings
           placed = n .left .placed;
           over = λ l. absurd (full-upto count (sym (n .left .over l) ∙ is));
         });
+        buffer = placed;
       }
 
 -- ---- formats first
@@ -178,6 +186,7 @@ module _ {limit : ℕ} (room : ℕ) (settings : Settings) {bytes index before sl
       go (refused n) e k = record {
         store = rw (listing-over limit settings tree n e, ten n e) (k .0);
         gathered = rw (listing-over limit settings tree n e) (ten n e, refl);
+        buffer = rw e refl;
       }
 
   module _ (rounds : ℕ) (settled : Bool) (is : r ≡ Ran rounds settled) where
@@ -225,7 +234,7 @@ module _ {limit : ℕ} (room : ℕ) (settings : Settings) {bytes index before sl
     -- and then its findings are gathered
     pub gather-both : (end start now : List ℕ) (g : Gathered) → GatherIs limit settings room bytes after end start now g
         → GatherIs limit settings room bytes before end start now g
-    gather-both end start now g k = record { store = k .store ∙ same-past (listing limit settings tree) (k .gathered); gathered = k .gathered }
+    gather-both end start now g k = record { store = k .store ∙ same-past (listing limit settings tree) (k .gathered); gathered = k .gathered; buffer = k .buffer }
       where
         same-past : (a : Answer Listing) → GatheredIs settings room a start now g → storeAfter limit after a ≡ storeAfter limit before a
         same-past (refused n) q = rw (q .0, past)

@@ -7,16 +7,15 @@ use law::Check;
 use law::Index;
 use law::read_law;
 use lints::levels::settings_allowed;
-ghost use mathlib.Core.Bool.{true};
-ghost use mathlib.Core.List.{List, []};
+ghost use mathlib.Core.List.{List};
 ghost use mathlib.Core.Path.{_≡_};
 ghost use Prim.Native.Nat.{ℕ, _≤_};
 ghost use lib.ListN.{length};
-ghost use Rattle.file.specs.Answer.{given};
+ghost use Rattle.file.specs.Sections.{sectionsOf};
 ghost use Rattle.law.specs.Law.{lawOf};
 ghost use Rattle.formats.specs.Store.{storeSize};
-ghost use Rattle.lints.specs.Levels.{settingsFrom};
-ghost use Rattle.listing.specs.Code.Gather.{FrontIs};
+ghost use Rattle.lints.specs.Levels.{settingsFrom, settingsAllowed};
+ghost use Rattle.listing.specs.Code.Gather.{noRecords, emptyFile, FrontIs, IndexLeft};
 
 // A refusal, or a law that is ready. `FrontIs` of specs/Code/Gather.antt says what either means.
 pub enum Front {
@@ -34,7 +33,7 @@ pub fn store_words(limit: usize) -> usize
 
 // Are there no functions, sentences, conditions and terms?
 fn no_records(sections: Sections) -> bool
-    ensures { λ r. ⌜ (r ≡ true → (sections .functions ≡ 0) × (sections .sentences ≡ 0) × (sections .conditions ≡ 0) × (sections .terms ≡ 0)) ⌝ }
+    ensures { λ r. ⌜ r ≡ noRecords sections ⌝ }
 {
     if sections.functions != 0 {
         return false;
@@ -48,9 +47,10 @@ fn no_records(sections: Sections) -> bool
     sections.terms == 0
 }
 
-// Whether a file has none of these. Then it is a law without functions, and no index need be made to see it.
+// Whether bytes are a file that has none of these. Just these are the laws without functions (`empty-law` and `law-empty` of
+// proofs/EmptyLaws.antt), and no index need be made to see it.
 pub fn is_empty(law: &[u8]) -> bool
-    ensures { λ r. ⌜ (r ≡ true → lawOf (now (law .entry)) ≡ given []) ⌝ }
+    ensures { λ r. ⌜ r ≡ emptyFile (sectionsOf (now (law .entry))) ⌝ }
 {
     match sections_of(law) {
         Cut::Refused(_) => false,
@@ -58,7 +58,7 @@ pub fn is_empty(law: &[u8]) -> bool
     }
 }
 
-// Checks settings, a file, and that so many words are a store. The index of a law that is ready is filled.
+// Checks settings, a file, and that so many words are a store. The index of a law is filled.
 pub fn check_front(
     mode: u32,
     overrides: &[u32],
@@ -68,7 +68,8 @@ pub fn check_front(
     index: &mut Index,
 ) -> Front
     requires { ⌜ (length (now index) ≡ 972) × (limit ≤ 64) ⌝ }
-    ensures { λ r. ⌜ ((store : List ℕ) → length store ≡ words → FrontIs limit (settingsFrom mode (now (overrides .entry))) (now (law .entry)) store r (now (index .exit))) ⌝ }
+    ensures { λ r. ⌜ ((store : List ℕ) → length store ≡ words → FrontIs limit (settingsFrom mode (now (overrides .entry))) (now (law .entry)) store r (now (index .exit)))
+        × IndexLeft (settingsAllowed (settingsFrom mode (now (overrides .entry)))) (lawOf (now (law .entry))) (now (law .entry)) (now (index .entry)) (now (index .exit)) ⌝ }
 {
     if !settings_allowed(mode, overrides) {
         return Front::Refused(Turned::Settings);

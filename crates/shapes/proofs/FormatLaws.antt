@@ -1,14 +1,14 @@
 -- Laws of whole formats' words (specs/Words.antt): reading them, what a join writes, and that formats are the same exactly where their words are.
 use Prim.Native.Nat.{ℕ, zero, suc, _+_, _-_, _%_, _≤_, _<_, min}
 use mathlib.Core.Bool.{Bool, true, false, cond}
-use mathlib.Core.List.{List}
+use mathlib.Core.List.{List, [], _∷_}
 use mathlib.Core.Logic.{_↔_}
 use mathlib.Core.Path.{_≡_, refl, sym, ap, _∙_}
 use native.Mathlib.Omega.{arith}
 use native.Mathlib.Decide.{decLt}
 use native.Mathlib.Nat.{zero-add}
 use lib.ListN.{length, take, drop, getD, set, replicate, length-drop, length-replicate}
-use lib.Seq.{take-all}
+use lib.Seq.{take-all, take-nil}
 use lib.Dec.{leb}
 use Rattle.shapes.specs.Format.{Shapes, Format, never, of, size, isOpen}
 use Rattle.shapes.specs.Join.{joinRows, joinFormats}
@@ -57,6 +57,25 @@ pub read-row : (s : List ℕ) (t : Bool) (e : ℕ) (o : Bool) → 1 ≤ length s
     → readFormat s ≡ of (shapesIn o (take (e - 1) (drop 1 s)))
 unfolding readFormat rowEnd
 read-row s t e o l p q r v = rw (← p, q, r, v, row-within (getD s 0 0 % 256) s l)
+
+-- the same, of any words
+pub read-shapes : (s : List ℕ) (t : Bool) (o : Bool) (words : List ℕ) → t ≡ leb 512 (getD s 0 0) → t ≡ false → o ≡ leb 256 (getD s 0 0)
+    → words ≡ take (getD s 0 0 % 256) (drop 1 s) → readFormat s ≡ of (shapesIn o words)
+unfolding readFormat
+read-shapes s t o words p q v w = rw (← p, q, v, w)
+
+-- where there are none, and where they end at the last word at most
+pub header-none : (s : List ℕ) → length s < 1 → 0 ≡ getD s 0 0
+header-none [] h = refl
+header-none (w ∷ s) h = absurd (omega arith)
+
+pub shapes-of-none : (s : List ℕ) → length s < 1 → s ≡ take (getD s 0 0 % 256) (drop 1 s)
+shapes-of-none [] h = sym (take-nil (0 % 256))
+shapes-of-none (w ∷ s) h = absurd (omega arith)
+
+pub shapes-of-some : (s : List ℕ) (e : ℕ) → 1 ≤ length s → e ≡ rowEnd s → take (e - 1) (drop 1 s) ≡ take (getD s 0 0 % 256) (drop 1 s)
+unfolding rowEnd
+shapes-of-some s e l r = rw r (row-within (getD s 0 0 % 256) s l)
 
 -- ---- disjointness
 

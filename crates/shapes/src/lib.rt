@@ -7,8 +7,8 @@ use buffers::clear_words;
 use buffers::copy_words;
 ghost use mathlib.Core.Path.{_≡_};
 ghost use mathlib.Core.Bool.{true, false, cond};
-ghost use Prim.Native.Nat.{_+_, _≤_, _<_};
-ghost use lib.ListN.{length};
+ghost use Prim.Native.Nat.{_+_, _%_, _≤_, _<_};
+ghost use lib.ListN.{length, take, drop, getD};
 ghost use lib.Dec.{leb};
 ghost use Rattle.shapes.specs.Format.{end, size};
 ghost use Rattle.shapes.specs.Join.{joinRows, joinFormats};
@@ -211,22 +211,40 @@ pub fn row_end(f: &[u32]) -> usize
     if n < f.len() { n } else { f.len() }
 }
 
-// Is no expression in both formats?
+// The header of a format's words; 0 where there are none.
+fn header_of(f: &[u32]) -> u32
+    ensures { λ r. ⌜ r ≡ getD (now (f .entry)) 0 0 ⌝ }
+{
+    if f.len() < 1 {
+        return 0;
+    }
+    f[0]
+}
+
+// The shapes of a format's words; none where there are no words.
+fn shapes_of(f: &[u32]) -> &[u32]
+    ensures { λ r. ⌜ now r ≡ take (getD (now (f .entry)) 0 0 % 256) (drop 1 (now (f .entry))) ⌝ }
+{
+    if f.len() < 1 {
+        return f;
+    }
+    let e = row_end(f);
+    &f[1..e]
+}
+
+// Is no expression in both formats? No words are the empty format.
 pub fn disjoint_formats(a: &[u32], b: &[u32]) -> bool
-    requires { ⌜ (1 ≤ length (now a)) × (1 ≤ length (now b)) ⌝ }
     ensures { λ r. ⌜ r ≡ disjointFormats (readFormat (now (a .entry))) (readFormat (now (b .entry))) ⌝ }
 {
-    let x = a[0];
-    let y = b[0];
+    let x = header_of(a);
+    let y = header_of(b);
     if is_never(x) {
         return true;
     }
     if is_never(y) {
         return true;
     }
-    let ae = row_end(a);
-    let be = row_end(b);
-    disjoint_rows(&a[1..ae], row_open(x), &b[1..be], row_open(y))
+    disjoint_rows(shapes_of(a), row_open(x), shapes_of(b), row_open(y))
 }
 
 // Are these the same words?

@@ -2,6 +2,7 @@
 --   f          the place of the name of function f among the law's sorted folded names
 --   64 + t     the place of the name of the call at term record t; the number of names where no function has it
 --   576        the number of names
+-- Every other slot is 0.
 use Prim.Native.Nat.{ℕ, zero, suc, _+_, _*_, _-_, _≤_, _<_}
 use mathlib.Core.List.{List, [], _∷_}
 use mathlib.Core.Bool.{Bool, true, false, cond, _||_}
@@ -32,10 +33,17 @@ module _ (file : File) where
   abbrev pub fileNames : List (List ℕ)
   fileNames = namesOf (treeOf file)
 
+  -- a slot of no function, of no call among the first n term records, and not that of the number of names
+  pub record Unused (n j : ℕ) : Type 0 where
+    pub past : file .functions .count ≤ j
+    pub noCall : (t : ℕ) → t < n → wordAt (file .terms .records) (24 * t) ≡ 7 → j ≡ 64 + t → ⊥
+    pub noCount : j ≡ 576 → ⊥
+
   pub record SlotsOf (slots : List ℕ) : Type 0 where
     pub functions : (f : ℕ) → f < file .functions .count → getD slots f 0 ≡ position fileNames (functionFolded f)
     pub calls : (t : ℕ) → t < file .terms .count → wordAt (file .terms .records) (24 * t) ≡ 7 → getD slots (64 + t) 0 ≡ position fileNames (callFolded t)
     pub count : getD slots 576 0 ≡ length fileNames
+    pub others : (j : ℕ) → Unused (file .terms .count) j → getD slots j 0 ≡ 0
 
 -- ---- what the functions that fill the slots promise
 
@@ -53,6 +61,10 @@ namesFrom name (suc left) f = insertName (name f) (namesFrom name left (suc f))
 abbrev pub FilledTo : List ℕ → ℕ → (ℕ → ℕ) → Type 0
 FilledTo xs n value = (i : ℕ) → i < n → getD xs i 0 ≡ value i
 
+-- from n on the bytes are as they were
+abbrev pub KeptFrom : List ℕ → List ℕ → ℕ → Type 0
+KeptFrom before after n = (j : ℕ) → n ≤ j → getD after j 0 ≡ getD before j 0
+
 -- 1 for less, else 0
 abbrev pub lessCount : Order → ℕ
 lessCount Less = 1
@@ -68,9 +80,11 @@ module _ (file : File) where
   abbrev pub newly : ℕ → ℕ → ℕ
   newly f n = cond (isAmong (namesAt (f + 1)) (functionFolded file f)) 0 n
 
-  -- r is a function that has a name, where a function from `from` on has it; else r is the number of functions
+  -- r is the first function from `from` on that has a name; the number of functions where none has it
   pub record NamedFrom (from : ℕ) (name : List ℕ) (r : ℕ) : Type 0 where
     pub inside : r ≤ file .functions .count
+    pub behind : from ≤ r
+    pub first : (f : ℕ) → from ≤ f → f < r → sameBytes (functionFolded file f) name ≡ false
     pub found : r < file .functions .count → (functionFolded file r ≡ name) × (isAmong (namesAt from) name ≡ true)
     pub missing : file .functions .count ≤ r → isAmong (namesAt from) name ≡ false
 
@@ -87,6 +101,7 @@ module _ (file : File) where
     pub functions : Places slots
     pub count : getD slots 576 0 ≡ length (fileNames file)
     pub calls : (t : ℕ) → t < n → wordAt (file .terms .records) (24 * t) ≡ 7 → getD slots (64 + t) 0 ≡ position (fileNames file) (callFolded file t)
+    pub others : (j : ℕ) → Unused file n j → getD slots j 0 ≡ 0
 
   -- the slot r has the place of the name of the call at the term record t
   pub record CalleeSlot (t r : ℕ) : Type 0 where

@@ -1,22 +1,23 @@
 -- What the functions that infer formats promise, between a row of shapes and the whole call.
-use Prim.Native.Nat.{ℕ, _+_, _*_, _≤_, _<_}
-use mathlib.Core.Bool.{Bool, true, false, not}
+use Prim.Native.Nat.{ℕ, zero, suc, _+_, _*_, _≤_, _<_}
+use mathlib.Core.Bool.{Bool, true, false, not, cond}
 use mathlib.Core.List.{List, [], _∷_, _++_}
 use mathlib.Core.Path.{_≡_}
 use lib.ListN.{length, drop, replicate}
+use Rattle.names.specs.Name.{folded}
 use Rattle.file.specs.Answer.{Answer, refused, given}
 use Rattle.file.specs.Sections.{File, fileOf}
-use Rattle.law.specs.Tree.{Sentences}
+use Rattle.law.specs.Tree.{Sentences, Law}
 use Rattle.law.specs.Places.{patternAt, patternPart, resultAt, resultPart}
 use Rattle.law.specs.Reading.{runOf, own}
 use Rattle.law.specs.Code.Index.{Indexed, Readable}
-use Rattle.shapes.specs.Format.{Shapes, Format, of, size}
+use Rattle.shapes.specs.Format.{Shapes, Format, never, of, size}
 use Rattle.shapes.specs.Join.{joinFormats}
 use Rattle.shapes.specs.Same.{sameFormat}
 use Rattle.shapes.specs.Words.{formatWords, Encodable, readFormat}
 use Rattle.buffers.specs.Written.{written}
 use Rattle.formats.specs.FormatOf.{patternShapes, Results, resultShapes}
-use Rattle.formats.specs.Infer.{Entry, joinResults, joinPatterns, Rounds, Inferred}
+use Rattle.formats.specs.Infer.{Entry, find, renew, orNever, joinResults, joinPatterns, round, Rounds, Inferred}
 use Rattle.formats.specs.Store.{storeSize, storeWords}
 use Rattle.formats.specs.Code.Entries.{StoreHolds}
 use Rattle.formats.specs.Code.Slots.{SlotsOf, fileNames}
@@ -90,20 +91,46 @@ TurnIs limit (given g) k before after r =
     × (r ≡ turnOf (sameFormat (joinFormats (readFormat (formatAt limit before k)) g) (readFormat (formatAt limit before k))))
 TurnIs limit (refused n) k before after r = (after ≡ before) × (r ≡ Over)
 
--- the argument formats after all functions' turns; where a pattern is over the limit, the store still holds formats and its tail is as it was
-abbrev pub ArgumentsIs : ℕ → List (List ℕ) → Answer (List Entry) → List Entry → List ℕ → List ℕ → Bool → Type 0
-ArgumentsIs limit names (given next) results tail after ok = StoreHolds limit names next results tail after × (ok ≡ true)
-ArgumentsIs limit names (refused n) results tail after ok = (found : List Entry) × StoreHolds limit names found results tail after × (ok ≡ false)
+-- where a refusal stops inference: the entries that the turns before it leave
+abbrev pub orStop : Answer Format → List Entry → (Format → List Entry) → List Entry
+orStop (refused n) es next = es
+orStop (given g) es next = next g
 
--- the result formats after a round, and whether one changed
-abbrev pub RoundIs : ℕ → List (List ℕ) → Answer (List Entry × Bool) → List Entry → List ℕ → List ℕ → Turn → Type 0
-RoundIs limit names (given next) arguments tail after r = StoreHolds limit names arguments (next .0) tail after × (r ≡ turnOf (not (next .1)))
-RoundIs limit names (refused n) arguments tail after r = (found : List Entry) × StoreHolds limit names arguments found tail after × (r ≡ Over)
+unfoldable pub argumentsStop : ℕ → Law → List Entry → List Entry
+argumentsStop limit [] es = es
+argumentsStop limit (f ∷ fs) es =
+    let n : List ℕ = folded (f .name .spelled) in
+    orStop (joinPatterns limit never (f .sentences)) es (λ g. argumentsStop limit fs (renew n (joinFormats (orNever (find es n)) g) es))
 
--- the result formats after the rounds, their number and whether the last was quiet
-abbrev pub RoundsIs : ℕ → List (List ℕ) → Answer Rounds → List Entry → List ℕ → List ℕ → Inference → Type 0
-RoundsIs limit names (given r) arguments tail after i = StoreHolds limit names arguments (r .results) tail after × (i ≡ Ran (r .rounds) (r .settled))
-RoundsIs limit names (refused n) arguments tail after i = (found : List Entry) × StoreHolds limit names arguments found tail after × (i ≡ TooWide)
+unfoldable pub roundStop : ℕ → Law → List Entry → List Entry
+roundStop limit [] es = es
+roundStop limit (f ∷ fs) es =
+    let n : List ℕ = folded (f .name .spelled) in
+    orStop (joinResults limit (find es) never (f .sentences)) es (λ g. roundStop limit fs (renew n (joinFormats (orNever (find es n)) g) es))
+
+-- by a round's answer: the round that is refused, or a round that changes nothing, is the last
+abbrev pub orLast : Answer (List Entry × Bool) → List Entry → (List Entry → List Entry) → List Entry
+orLast (refused n) stop next = stop
+orLast (given made) stop next = cond (made .1) (next (made .0)) (made .0)
+
+unfoldable pub roundsStop : ℕ → ℕ → Law → List Entry → List Entry
+roundsStop limit zero law es = es
+roundsStop limit (suc left) law es = orLast (round limit law es false) (roundStop limit law es) (λ next. roundsStop limit left law next)
+
+-- the argument formats after all functions' turns; where a pattern is over the limit, those where it stops
+abbrev pub ArgumentsIs : ℕ → List (List ℕ) → Answer (List Entry) → List Entry → List Entry → List ℕ → List ℕ → Bool → Type 0
+ArgumentsIs limit names (given next) stop results tail after ok = StoreHolds limit names next results tail after × (ok ≡ true)
+ArgumentsIs limit names (refused n) stop results tail after ok = StoreHolds limit names stop results tail after × (ok ≡ false)
+
+-- the result formats after a round, and whether one changed; where a result is over the limit, those where it stops
+abbrev pub RoundIs : ℕ → List (List ℕ) → Answer (List Entry × Bool) → List Entry → List Entry → List ℕ → List ℕ → Turn → Type 0
+RoundIs limit names (given next) stop arguments tail after r = StoreHolds limit names arguments (next .0) tail after × (r ≡ turnOf (not (next .1)))
+RoundIs limit names (refused n) stop arguments tail after r = StoreHolds limit names arguments stop tail after × (r ≡ Over)
+
+-- the result formats after the rounds, their number and whether the last was quiet; where a result is over the limit, those where it stops
+abbrev pub RoundsIs : ℕ → List (List ℕ) → Answer Rounds → List Entry → List Entry → List ℕ → List ℕ → Inference → Type 0
+RoundsIs limit names (given r) stop arguments tail after i = StoreHolds limit names arguments (r .results) tail after × (i ≡ Ran (r .rounds) (r .settled))
+RoundsIs limit names (refused n) stop arguments tail after i = StoreHolds limit names arguments stop tail after × (i ≡ TooWide)
 
 -- the formats after the arguments and the rounds, in a store that held never
 abbrev pub StartedIs : ℕ → List (List ℕ) → Answer Inferred → List ℕ → List ℕ → Inference → Type 0

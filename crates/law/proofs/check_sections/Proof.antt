@@ -1,6 +1,7 @@
 -- One law for each refusal (proofs/Verdict.antt), with the tests that led there.
 use mathlib.Core.Path.{sym, _∙_}
 use borrow.Author.Tests.{not-true, not-false}
+use Rattle.law.proofs.Tables.{placed-indexed}
 use Rattle.law.proofs.Verdict as verdict
 use borrow.Author.Needs.{needs}
 use Rattle.law.proofs.check_sections.Statement.{statement}
@@ -16,13 +17,15 @@ check-sections-spec =
     verdict.refused-filled (start .args .law .now) _ _ (verdict.fields-refused (start .args .law .now) (start .pre .0) (sym (c .before .fields-allowed .ensures) ∙ not-true _ (c .if1 .taken))))
     (λ c κs. search needs)
     (λ c κs.
+    let start = c .before .before .before .before .before .before .before in
     let the-place-records = c .before .before .place-records in
     let the-fields-allowed = c .before .before .before .before .before .fields-allowed in
     let the-if1 = c .before .before .before .before .if1 in
-    (the-place-records .ensures .1 (c .before .if2 .taken), sym (the-fields-allowed .ensures) ∙ not-false _ (the-if1 .left)))
+    (placed-indexed (start .args .law .now) _ (start .pre .0) (sym (the-place-records .ensures .0) ∙ c .before .if2 .taken) (the-place-records .ensures .1), sym (the-fields-allowed .ensures) ∙ not-false _ (the-if1 .left)))
     (λ c.
+    let start = c .before .before .before .before .before .before .before .before in
     let the-place-records = c .before .before .before .place-records in
-    (c .check-placed .ensures, λ _. the-place-records .ensures .1 (c .before .before .if2 .taken)))
+    (c .check-placed .ensures, λ _. placed-indexed (start .args .law .now) _ (start .pre .0) (sym (the-place-records .ensures .0) ∙ c .before .before .if2 .taken) (the-place-records .ensures .1)))
     (λ c.
     let start = c .before .before .before .before .before .before in
     let the-fields-allowed = c .before .before .before .before .fields-allowed in

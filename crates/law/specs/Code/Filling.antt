@@ -3,11 +3,12 @@ use Prim.Native.Nat.{ℕ, _+_, _*_, _≤_, _<_, _%_}
 use mathlib.Core.List.{List, [], _∷_}
 use mathlib.Core.Bool.{cond}
 use mathlib.Core.Path.{_≡_}
-use lib.ListN.{getD}
+use lib.ListN.{take, getD}
 use lib.Dec.{eqb}
 use Rattle.file.specs.Word.{wordAt}
 use Rattle.file.specs.Below.{total}
 use Rattle.file.specs.Sections.{File}
+use Rattle.file.specs.Code.Counts.{countsOf}
 use Rattle.file.specs.declared.Sections.{Sections}
 use Rattle.law.specs.Places.{firstSentence, firstCondition, conditionRecords, sentenceRecords, blockFirst}
 
@@ -55,3 +56,8 @@ header s =
     ∷ s .conditions
     ∷ s .terms
     ∷ []
+
+-- the words that an index is filled with: its header, and the tables
+pub record Placed (file : File) (index : List ℕ) : Type 0 where
+  pub begins : take 8 index ≡ header (countsOf file)
+  pub tables : TablesOf file index

@@ -17,12 +17,12 @@ text-spec =
     let start = c .before .before .before .before .before .before .before .before .before .before .before in
     let settings = settingsFrom (start .args .mode) (start .args .overrides .now) in
     let front = c .before .before .before .before .before .check-front in
-    front-ready 64 settings (start .args .law .now) (start .args .store .now) _ _ (front .ensures _ refl) (c .before .before .before .enum-told .given .1))
+    front-ready 64 settings (start .args .law .now) (start .args .store .now) _ _ (front .ensures .0 _ refl) (c .before .before .before .enum-told .given .1))
     (λ c.
     let start = c .before .before .before .before .before .before .before .before .before in
     let settings = settingsFrom (start .args .mode) (start .args .overrides .now) in
     let front = c .before .before .before .check-front in
-    text-turned 64 settings (start .args .law .now) (start .args .store .now) _ _ (front .ensures _ refl) _ _ _ (c .before .why .given .1))
+    text-turned 64 settings (start .args .law .now) (start .args .store .now) _ _ (front .ensures .0 _ refl) _ _ _ (c .before .why .given .1))
     (λ c. search needs)
     (λ c. search needs)
     (λ c. let the-enum-told = c .before .before .before .before .before .before .before .before .enum-told in
@@ -30,4 +30,4 @@ text-spec =
     let settings = settingsFrom (start .args .mode) (start .args .overrides .now) in
     let front = c .before .before .before .before .before .before .before .before .before .before .check-front in
     let ready = c .before .before .before .before .text-ready in
-    text-goes 64 settings (start .args .law .now) (start .args .store .now) _ _ (front .ensures _ refl) _ _ _ _ (ready .result) (the-enum-told .given .1) (ready .ensures)))
+    text-goes 64 settings (start .args .law .now) (start .args .store .now) _ _ (front .ensures .0 _ refl) _ _ _ _ (ready .result) (the-enum-told .given .1) (ready .ensures)))

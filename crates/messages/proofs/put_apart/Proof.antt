@@ -46,7 +46,7 @@ put-apart-spec =
     let argument-read = c .before .before .before in
     let entry = start argument-read in
     let long = lent-length (entry .args .limit) (entry .pre .0 .asked .small) in
-    (passed-asked (entry .pre .0) (entry .pre .1) (c .before .wide .ensures .0) (argument-read .argument .ensures) long, long))
+    (passed-asked (entry .pre .0) (entry .pre .1) (c .before .wide .ensures .0) (argument-read .argument .ensures) long, long, entry .pre .0 .asked .places))
     (λ c. let p = start (after-argument (c .before)) .pre in omega (arith, record-low (p .0) (p .1)))
     (λ c. let p = start (after-argument (c .before)) .pre in omega (arith, record-low (p .0) (p .1)))
     (λ c κs. search needs)

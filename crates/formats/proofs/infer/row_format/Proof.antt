@@ -14,7 +14,7 @@ row-format-spec =
     (tie.spec
     (λ c κs. search needs)
     (λ c. search needs)
-    (λ c κs. let p = c .before .before .before .before .before .before .before .before .before .pre in row-cleared (p .0) (c .before .before .before .clear-words .kept .0) refl)
+    (λ c κs. let p = c .before .before .before .before .before .before .before .before .before .pre in (row-cleared (p .0) (c .before .before .before .clear-words .kept .0) refl, p .2))
     (λ c. search needs)
     (λ c. search needs)
     (λ c. let the-write-row = c .before .before .before .before .before .write-row in

@@ -24,7 +24,7 @@ sentence-format-spec =
     let a = start .args in
     let asked = start .pre .0 in
     let here = pattern-here (fileOf (a .law .now)) (asked .readable) (start .pre .2) (c .before .before .pattern-at .ensures) (c .before .pattern .ensures) in
-    (row-asked asked here (stored-none (a .store .now) (a .limit) (asked .small)) (start .pre .3) refl, start .pre .3))
+    (row-asked asked here (stored-none (a .store .now) (a .limit) (asked .small)) (start .pre .3) refl, start .pre .3, asked .places))
     (λ c. search needs)
     (λ c.
     let begins = c .before .before .before .before .before in
@@ -39,7 +39,7 @@ sentence-format-spec =
     let a = start .args in
     let asked = start .pre .0 in
     let here = result-here (fileOf (a .law .now)) (asked .readable) (start .pre .2) (c .before .before .result-at .ensures) (c .before .result .ensures) in
-    (row-asked asked here (holding-stored (a .count) (start .pre .1) (asked .names) (asked .small)) (start .pre .3) refl, start .pre .3))
+    (row-asked asked here (holding-stored (a .count) (start .pre .1) (asked .names) (asked .small)) (start .pre .3) refl, start .pre .3, asked .places))
     (λ c. search needs)
     (λ c.
     let begins = c .before .before .before .before .before in

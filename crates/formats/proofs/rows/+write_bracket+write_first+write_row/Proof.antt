@@ -94,7 +94,7 @@ pub +write-bracket+write-first+write-row-spec : {M : Type 1} → statement M
     let the-end = c .before .before .end-of in
     let part = start .args .part .now in (
       omega (arith, inside-falls part (the-end .result) (length part) (start .pre .1 .1) (the-end .ensures .0) refl, start .pre .0),
-      laws.asked-inside (start .pre .1 .0) (start .pre .1 .1) (the-end .ensures .0) (c .before .before .before .if1 .left),
+      (laws.asked-inside (start .pre .1 .0) (start .pre .1 .1) (the-end .ensures .0) (c .before .before .before .if1 .left), start .pre .1 .2),
     ))
     (λ c. search needs)
     (λ c. search needs)
@@ -212,7 +212,7 @@ pub +write-bracket+write-first+write-row-spec : {M : Type 1} → statement M
     )
     (write-row-at t)
     write-row.Post
-    (λ c κs. let asked = c .before .before .before .before .before .pre .1 in
+    (λ c κs. let asked = c .before .before .before .before .before .pre .1 .0 in
     (asked .begins, asked .room))
     (λ c. omega (arith, c .before .before .write-leaves .ensures .0))
     (λ c. c .before .before .write-leaves .ensures .0)
@@ -220,21 +220,21 @@ pub +write-bracket+write-first+write-row-spec : {M : Type 1} → statement M
     (λ c. search needs)
     (λ c. let start = c .before .before .before .before .before .before .before .before .before in
     let leaves = c .before .before .before .write-leaves in
-    let onward = leaves .ensures .2 _ (start .args .at) (start .args .store .now) (start .args .limit) (start .args .count) (start .pre .1) in
+    let onward = leaves .ensures .2 _ (start .args .at) (start .args .store .now) (start .args .limit) (start .args .count) (start .pre .1 .0) in
     omega (arith, laws.asked-place (onward .asked)))
     (λ c. omega (arith, c .before .before .before .write-leaves .ensures .1))
     (λ c. c .before .before .before .before .write-leaves .kept .1 .0)
     (λ c. let start = c .before .before .before .before .before .before .before .before .before .before in
     let leaves = c .before .before .before .before .write-leaves in
-    let onward = leaves .ensures .2 _ (start .args .at) (start .args .store .now) (start .args .limit) (start .args .count) (start .pre .1) in
+    let onward = leaves .ensures .2 _ (start .args .at) (start .args .store .now) (start .args .limit) (start .args .count) (start .pre .1 .0) in
     let asked = onward .asked in (
       (omega arith, asked .begins),
       λ results knows. onward .goes results _ _ (laws.row-none _ results _ (leftOf (leaves .result) (start .args .part .now)) (leaves .last .1 .0) (start .args .to + leaves .result) (start .args .most) (c .if1 .taken) (asked .begins) (asked .room)),
     ))
     (λ c κs. let start = c .before .before .before .before .before .before .before .before .before .before .before in
     let leaves = c .before .before .before .before .before .write-leaves in
-    let onward = leaves .ensures .2 _ (start .args .at) (start .args .store .now) (start .args .limit) (start .args .count) (start .pre .1) in
-    (omega (arith, laws.left-length (leaves .result) (start .args .part .now), start .pre .0), (onward .asked, c .before .if1 .left)))
+    let onward = leaves .ensures .2 _ (start .args .at) (start .args .store .now) (start .args .limit) (start .args .count) (start .pre .1 .0) in
+    (omega (arith, laws.left-length (leaves .result) (start .args .part .now), start .pre .0), (onward .asked, c .before .if1 .left, start .pre .1 .1)))
     (λ c. search needs)
     (λ c. search needs)
     (λ c. let the-write-leaves = c .before .before .before .before .before .before .before .before .before .before .write-leaves in
@@ -242,7 +242,7 @@ pub +write-bracket+write-first+write-row-spec : {M : Type 1} → statement M
     (λ c. let the-if1 = c .before .before .before .before .before .before .if1 in
     let start = c .before .before .before .before .before .before .before .before .before .before .before .before .before .before .before .before in
     let leaves = c .before .before .before .before .before .before .before .before .before .before .write-leaves in
-    let onward = leaves .ensures .2 _ (start .args .at) (start .args .store .now) (start .args .limit) (start .args .count) (start .pre .1) in
+    let onward = leaves .ensures .2 _ (start .args .at) (start .args .store .now) (start .args .limit) (start .args .count) (start .pre .1 .0) in
     (tt, λ results knows. onward .goes results _ _ (laws.row-first-over (onward .asked) (the-if1 .left) results (c .enum-told .given .1) (c .before .before .before .before .write-first .ensures .1 results knows))))
     (λ c. let the-write-first = c .before .before .before .before .before .before .write-first in
     let the-write-leaves = c .before .before .before .before .before .before .before .before .before .before .before .before .write-leaves in
@@ -250,7 +250,7 @@ pub +write-bracket+write-first+write-row-spec : {M : Type 1} → statement M
     (λ c. let the-if1 = c .before .before .before .before .before .before .before .before .if1 in
     let start = c .before .before .before .before .before .before .before .before .before .before .before .before .before .before .before .before .before .before in
     let leaves = c .before .before .before .before .before .before .before .before .before .before .before .before .write-leaves in
-    let onward = leaves .ensures .2 _ (start .args .at) (start .args .store .now) (start .args .limit) (start .args .count) (start .pre .1) in
+    let onward = leaves .ensures .2 _ (start .args .at) (start .args .store .now) (start .args .limit) (start .args .count) (start .pre .1 .0) in
     let first = c .before .before .before .before .before .before .write-first in
     let ends = c .before .before .first .given .1 in
     let between = laws.ends-between ends (first .ensures .0) in (
@@ -264,25 +264,25 @@ pub +write-bracket+write-first+write-row-spec : {M : Type 1} → statement M
     (λ c. let the-if1 = c .before .before .before .before .before .before .before .before .before .before .if1 in
     let start = c .before .before .before .before .before .before .before .before .before .before .before .before .before .before .before .before .before .before .before .before in
     let leaves = c .before .before .before .before .before .before .before .before .before .before .before .before .before .before .write-leaves in
-    let onward = leaves .ensures .2 _ (start .args .at) (start .args .store .now) (start .args .limit) (start .args .count) (start .pre .1) in
+    let onward = leaves .ensures .2 _ (start .args .at) (start .args .store .now) (start .args .limit) (start .args .count) (start .pre .1 .0) in
     omega (arith, laws.asked-small (onward .asked) (the-if1 .left)))
     (λ c κs. search needs)
     (λ c. search needs)
     (λ c. let the-if1 = c .before .before .before .before .before .before .before .before .before .before .before .if1 in
     let start = c .before .before .before .before .before .before .before .before .before .before .before .before .before .before .before .before .before .before .before .before .before in
     let leaves = c .before .before .before .before .before .before .before .before .before .before .before .before .before .before .before .write-leaves in
-    let onward = leaves .ensures .2 _ (start .args .at) (start .args .store .now) (start .args .limit) (start .args .count) (start .pre .1) in
+    let onward = leaves .ensures .2 _ (start .args .at) (start .args .store .now) (start .args .limit) (start .args .count) (start .pre .1 .0) in
     omega (arith, laws.rest-small (onward .asked) (the-if1 .left) (c .word-at .ensures)))
     (λ c κs. let the-first = c .before .before .before .before .before .before .first in
     let start = c .before .before .before .before .before .before .before .before .before .before .before .before .before .before .before .before .before .before .before .before .before .before in
     let leaves = c .before .before .before .before .before .before .before .before .before .before .before .before .before .before .before .before .write-leaves in
-    let onward = leaves .ensures .2 _ (start .args .at) (start .args .store .now) (start .args .limit) (start .args .count) (start .pre .1) in
+    let onward = leaves .ensures .2 _ (start .args .at) (start .args .store .now) (start .args .limit) (start .args .count) (start .pre .1 .0) in
     let the-end = c .before .before .before .end-of in
     let first = c .before .before .before .before .before .before .before .before .before .before .write-first in
     let some = c .before .before .before .before .before .before .before .before .before .before .before .before .if1 .left in
     let left = leftOf (leaves .result) (start .args .part .now) in (
       omega (arith, after-falls left (the-end .result) (length left) some (the-end .ensures .0) refl, laws.left-length (leaves .result) (start .args .part .now), start .pre .0),
-      laws.asked-rest (onward .asked) some (the-end .ensures .0) (c .before .word-at .ensures) (laws.ends-between (the-first .given .1) (first .ensures .0) .1) (first .kept .1 .1 .1 .1 .1 .1 .1 .0),
+      (laws.asked-rest (onward .asked) some (the-end .ensures .0) (c .before .word-at .ensures) (laws.ends-between (the-first .given .1) (first .ensures .0) .1) (first .kept .1 .1 .1 .1 .1 .1 .1 .0), start .pre .1 .1),
     ))
     (λ c. let the-write-first = c .before .before .before .before .before .before .before .before .before .before .before .before .before .write-first in
     let the-write-leaves = c .before .before .before .before .before .before .before .before .before .before .before .before .before .before .before .before .before .before .before .write-leaves in
@@ -292,7 +292,7 @@ pub +write-bracket+write-first+write-row-spec : {M : Type 1} → statement M
     let the-end-of = c .before .before .before .before .before .before .end-of in
     let start = c .before .before .before .before .before .before .before .before .before .before .before .before .before .before .before .before .before .before .before .before .before .before .before .before .before in
     let leaves = c .before .before .before .before .before .before .before .before .before .before .before .before .before .before .before .before .before .before .before .write-leaves in
-    let onward = leaves .ensures .2 _ (start .args .at) (start .args .store .now) (start .args .limit) (start .args .count) (start .pre .1) in
+    let onward = leaves .ensures .2 _ (start .args .at) (start .args .store .now) (start .args .limit) (start .args .count) (start .pre .1 .0) in
     let first = c .before .before .before .before .before .before .before .before .before .before .before .before .before .write-first in
     let rest = c .before .before .write-row in
     let ends = c .before .before .before .before .before .before .before .before .before .first .given .1 in (

@@ -27,7 +27,7 @@ passed c =
     ⊎-elim
     (λ w.
     rw (w .3)
-    (length-set (the-loop .slots) _ _ ∙ the-loop .inv .2, slots-next _ (the-loop .slots) (the-loop .t) _ (functions-limit _ _ (start .pre .0)) (terms-limit _ _ (start .pre .0)) (the-loop .inv .2) (the-loop .inv .3) (omega arith) (w .1 .ensures)))
+    (length-set (the-loop .slots) _ _ ∙ the-loop .inv .2, slots-next _ (the-loop .slots) (the-loop .t) _ (functions-limit _ _ (start .pre .0)) (terms-limit _ _ (start .pre .0)) (the-loop .inv .2) (the-loop .inv .3) (omega arith) (kind-read (fileOf (start .args .law .now)) _ _ (c .before .term-word .ensures) ∙ w .0 .taken) (w .1 .ensures)))
     (λ w. rw (w .1) (the-loop .inv .2, slots-pass _ (the-loop .slots) (the-loop .t) _ (the-loop .inv .3) (c .before .term-word .ensures) (w .0 .left)))
     (c .if1 .came)
 

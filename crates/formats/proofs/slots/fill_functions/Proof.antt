@@ -1,18 +1,19 @@
--- The invariant: the places of the names of the functions passed are written.
+-- The invariant: the places of the names of the functions passed are written, and the slots past the functions are as they were.
 use Prim.Native.Nat.{_-_, _≤_}
-use mathlib.Core.Path.{_≡_, _∙_}
+use mathlib.Core.Path.{_≡_, refl, _∙_}
 use native.Mathlib.Omega.{arith}
 use lib.ListN.{length, length-set}
 use Rattle.file.specs.Sections.{fileOf}
 use Rattle.law.proofs.IndexLaws.{functions-limit}
-use Rattle.formats.specs.Code.Slots.{position, functionFolded, fileNames, FilledTo}
-use Rattle.formats.proofs.SlotLaws.{filled-next}
+use Rattle.formats.specs.Code.Slots.{position, functionFolded, fileNames, FilledTo, KeptFrom}
+use Rattle.formats.proofs.SlotLaws.{filled-next, kept-next}
 use Rattle.formats.proofs.slots.fill_functions.Statement.{statement}
 use Rattle.formats.proofs.slots.fill_functions.Tie as tie
 
 abbrev Inv-loop : tie.InvT-loop
 Inv-loop law index weights slots₀ count f₀ slots f =
     (count ≡ fileOf law .functions .count) × (f ≤ count) × (length slots ≡ 577) × FilledTo slots f (λ i. position (fileNames (fileOf law)) (functionFolded (fileOf law) i))
+    × KeptFrom slots₀ slots (fileOf law .functions .count)
 
 abbrev μ-loop : tie.MeasureT-loop
 μ-loop law index weights slots₀ count f₀ slots f = count - f
@@ -26,7 +27,7 @@ fill-functions-spec =
     (λ c κs. tt)
     (λ c.
     let start = c .before .before in
-    (c .functions .ensures ∙ start .pre .0 .words .functions, omega arith, start .pre .3, λ i l. absurd (omega arith)))
+    (c .functions .ensures ∙ start .pre .0 .words .functions, omega arith, start .pre .3, λ i l. absurd (omega arith), λ j h. refl))
     (λ c κs. let p = c .before .before .before .before .pre in (p .0, p .1, p .2, omega arith))
     (λ c. let the-pre = c .before .before .before .before .before .pre in
     omega (arith, functions-limit _ _ (the-pre .0)))
@@ -38,5 +39,6 @@ fill-functions-spec =
       omega arith,
       length-set (l .slots) _ _ ∙ l .inv .2,
       filled-next (l .slots) (l .f) _ _ (l .inv .3) (omega (arith, functions-limit _ _ (the-pre .0))) (c .place .ensures),
+      kept-next (c .before .before .before .before .before .args .slots .now) (l .slots) (l .f) _ _ (l .inv .4) (omega arith),
     ))
-    (λ c. let l = c .before .loop in (l .inv .2, λ i k. l .inv .3 i (omega arith))))
+    (λ c. let l = c .before .loop in (l .inv .2, λ i k. l .inv .3 i (omega arith), l .inv .4)))

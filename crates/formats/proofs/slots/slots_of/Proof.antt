@@ -16,5 +16,5 @@ slots-of-spec =
     (λ c. search needs)
     (λ c κs. let p = c .before .before .before .before .before .before .before .pre in
     let f = c .before .fill-functions .ensures in
-    (p .0, p .1, length-set (c .before .fill-functions .last .1 .1 .1 .0) 576 _ ∙ f .0, slots-start _ (c .before .fill-functions .last .1 .1 .1 .0) _ (functions-limit _ _ (p .0)) (f .0) (f .1) (c .before .before .before .before .fill-weights .ensures .0)))
+    (p .0, p .1, length-set (c .before .fill-functions .last .1 .1 .1 .0) 576 _ ∙ f .0, slots-start _ (c .before .fill-functions .last .1 .1 .1 .0) _ (functions-limit _ _ (p .0)) (f .0) (f .1) (f .2) (c .before .before .before .before .fill-weights .ensures .0)))
     (λ c. search needs))

@@ -1,7 +1,6 @@
 -- Tables, then the header before them; what is known of the counts comes from the sections.
-use mathlib.Core.Path.{sym, _∙_}
 use Rattle.file.proofs.Parts.{counts-known}
-use Rattle.law.proofs.Tables.{indexed-made}
+use Rattle.law.proofs.Tables.{placed-made}
 use Rattle.law.proofs.index.place_records.Statement.{statement}
 use Rattle.law.proofs.index.place_records.Tie as tie
 
@@ -17,4 +16,4 @@ place-records-spec = tie.close (tie.spec
     (λ c.
     let p = c .before .before .before .before .before .pre in
     let t = c .before .before .fill-tables .ensures in
-    (t .0, λ u. indexed-made _ _ _ _ (p .0) (p .1) (sym (t .0) ∙ u) (t .2) (c .fill-header .ensures))))
+    (t .0, placed-made _ _ _ _ (p .1) (t .2) (c .fill-header .ensures))))

@@ -7,7 +7,7 @@ use borrow.Author.Needs.{needs}
 use borrow.Author.Tests.{not-true, not-false}
 use Rattle.law.proofs.IndexLaws.{terms-limit}
 use Rattle.formats.proofs.TurnLaws.{lent-length, back-inside, back-length}
-use Rattle.lints.proofs.RecognitionLaws.{argument-asked, argument-made, compared-wide, accepted-inside, accepted-few, accepted-length, compared-apart, compared-literal, compared-silent}
+use Rattle.lints.proofs.RecognitionLaws.{argument-asked, argument-made, compared-wide, accepted-inside, accepted-few, compared-apart, compared-literal, compared-silent}
 use Rattle.lints.proofs.recognition.compare_call.Statement.{statement}
 use Rattle.lints.proofs.recognition.compare_call.Tie as tie
 
@@ -32,7 +32,7 @@ compare-call-spec =
     let p = c .before .before .before .before .before .before .pre in
     let a = c .before .before .before .before .before .before .args in
     let long = lent-length (a .limit) (p .0 .0 .asked .small) in
-    (argument-asked (p .0 .0) (a .t) (p .0 .1) refl (c .before .before .before .argument .ensures) (c .before .wide .ensures .0) long refl, long))
+    (argument-asked (p .0 .0) (a .t) (p .0 .1) refl (c .before .before .before .argument .ensures) (c .before .wide .ensures .0) long refl, long, p .0 .0 .asked .places))
     (λ c. let the-argument = c .before .before .before .before .before .before .argument in
     let p = c .before .before .before .before .before .before .before .before .before .pre in
     let a = c .before .before .before .before .before .before .before .before .before .args in
@@ -65,10 +65,7 @@ compare-call-spec =
     let p = c .before .before .before .before .before .before .before .before .before .before .pre in
     let a = c .before .before .before .before .before .before .before .before .before .before .args in
     accepted-inside (p .0 .0) (a .t) (p .1 .0) (p .1 .1))
-    (λ c κs.
-    let p = c .before .before .before .before .before .before .before .before .before .before .before .pre in
-    let a = c .before .before .before .before .before .before .before .before .before .before .before .args in
-    (omega (arith, back-length (p .0 .0 .asked .small) (c .before .before .before .before .row-format .last .1 .1 .1 .1 .1 .1 .1 .0) (drop (a .limit + 1) (replicate 65 0)) (c .before .before .before .before .row-format .kept .1 .1 .1 .1 .1 .1 .1 .0)), omega (arith, accepted-length (p .0 .0) (a .t) (p .1 .0) (p .1 .1))))
+    (λ c κs. search needs)
     (λ c. let the-argument = c .before .before .before .before .before .before .before .before .before .before .argument in
     let the-wide = c .before .before .before .before .before .before .before .before .wide in
     let the-row-format = c .before .before .before .before .before .before .row-format in

@@ -1,7 +1,7 @@
 -- The counts are those of the file's sections.
 use borrow.Author.Needs.{needs}
-use Rattle.file.proofs.SectionLaws.{cut-whole}
-use Rattle.listing.proofs.EmptyLaws.{empty-law, false-says}
+use Rattle.file.proofs.SectionLaws.{cut-whole, cut-refused}
+use Rattle.listing.proofs.EmptyLaws.{refused-empty, counts-empty}
 use Rattle.listing.proofs.front.is_empty.Statement.{statement}
 use Rattle.listing.proofs.front.is_empty.Tie as tie
 
@@ -13,8 +13,8 @@ is-empty-spec =
     (λ c. search needs)
     (λ c. search needs)
     (λ c κs. search needs)
-    (λ c. false-says)
+    (λ c. refused-empty (c .before .before .before .before .args .law .now) _ (cut-refused _ _ _ (c .before .before .sections-of .ensures) (c .enum-told .given .1)))
     (λ c.
     let start = c .before .before .before .before .before .before in
     let the-sections-of = c .before .before .before .before .sections-of in
-    λ yes. empty-law (start .args .law .now) _ (cut-whole (start .args .law .now) _ _ (the-sections-of .ensures) (c .before .before .sections .given .1)) (c .no-records .ensures yes)))
+    counts-empty (start .args .law .now) _ _ (cut-whole (start .args .law .now) _ _ (the-sections-of .ensures) (c .before .before .sections .given .1)) (c .no-records .ensures)))
