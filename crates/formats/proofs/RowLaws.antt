@@ -3,14 +3,15 @@
 use Prim.Native.Nat.{ℕ, zero, suc, _+_, _*_, _-_, _%_, _≤_, _<_}
 use mathlib.Core.Bool.{Bool, true, false, cond}
 use mathlib.Core.List.{List, [], _∷_, _++_, append-nil, append-assoc}
+use mathlib.Core.Logic.{_⊎_, inl, inr}
 use mathlib.Core.Option.{Option, none, some}
 use mathlib.Core.Path.{_≡_, refl, sym, ap, _∙_}
 use native.Mathlib.Omega.{arith}
 use native.Mathlib.Nat.{add-zero, add-assoc}
 use native.Mathlib.Numerals.{add-one}
 use native.Mathlib.Decide.{decLe, decLt}
-use lib.ListN.{length, take, drop, getD, set, replicate, length-take, length-drop, length-set}
-use lib.Seq.{length-take-le, take-suc, take-all, take-take, take-at, getD-take, getD-drop, drop-drop}
+use lib.ListN.{length, take, drop, getD, set, replicate, length-append, length-take, length-drop, length-set, List·getD-append}
+use lib.Seq.{length-take-le, take-suc, take-all, take-take, take-at, getD-take, getD-drop, getD-append-add, drop-drop}
 use lib.Dec.{leb}
 use borrow.Author.Tests.{le-leb, lt-leb, lt-ltb, le-ltb}
 use Rattle.names.specs.Name.{folded}
@@ -34,7 +35,7 @@ use Rattle.shapes.proofs.WordLaws.{words-length, format-words-length, read-writ
 use Rattle.buffers.proofs.WrittenLaws.{written-none, written-more, written-one, written-front, written-length}
 use Rattle.formats.specs.FormatOf.{variableShapes, patternShapes, chain, extend, Results, resultShapes}
 use Rattle.formats.specs.Code.Slots.{callFolded}
-use Rattle.formats.specs.Code.Rows.{formatAt, Knows, RowIs, Between, Stored, storedAt, stepOf, calleeShapes, stepShapes, partShapes, firstShapes, RowAsked, LeafKind, leftOf, Onward, LeavesAre}
+use Rattle.formats.specs.Code.Rows.{formatAt, Knows, KeptOutside, RowIs, Between, Stored, storedAt, stepOf, calleeShapes, stepShapes, partShapes, firstShapes, RowAsked, LeafKind, leftOf, Onward, LeavesAre}
 use Rattle.formats.specs.declared.Row.{Row}
 use Rattle.formats.specs.declared.Row.the-variants.{Over, Ends}
 use Rattle.formats.specs.declared.rows.Step as steps
@@ -57,13 +58,35 @@ copied-more store from out to i h k =
 
 -- ---- a row, written or over
 
+-- words that are written change no others
+written-outside : (old : List ℕ) (at : ℕ) (new : List ℕ) (most : ℕ) → at + length new ≤ length old → at + length new ≤ most → KeptOutside at most old (written old at new)
+unfolding written
+written-outside old at new most h k = go
+  where
+    front : length (take at old ++ new) ≡ at + length new
+    front = length-append (take at old) new ∙ ap (λ n. n + length new) (length-take-le at old (omega arith))
+
+    go : KeptOutside at most old (written old at new)
+    go j (inl l) =
+        List·getD-append (take at old ++ new) (drop (at + length new) old) 0 j (omega (arith, front))
+        ∙ List·getD-append (take at old) new 0 j (omega (arith, length-take-le at old (omega arith)))
+        ∙ getD-take at old j 0 l
+    go j (inr l) =
+        let there : j ≡ length (take at old ++ new) + (j - (at + length new)) = omega (arith, front, k) in
+        let back : at + length new + (j - (at + length new)) ≡ j = omega (arith, k) in
+        ap (λ n. getD (written old at new) n 0) there
+        ∙ getD-append-add (take at old ++ new) (drop (at + length new) old) (j - (at + length new)) 0
+        ∙ getD-drop (at + length new) old (j - (at + length new)) 0
+        ∙ ap (λ n. getD old n 0) back
+
 module _ (shapes : Shapes) (before after : List ℕ) (from most : ℕ) where
   -- shapes that pass the room
-  pub row-over : most < from + size shapes → length after ≡ length before → RowIs shapes before after from most Over
-  row-over h k = record {
+  pub row-over : most < from + size shapes → length after ≡ length before → KeptOutside from most before after → RowIs shapes before after from most Over
+  row-over h k others = record {
     fits = λ l. absurd (omega arith);
     over = λ l. refl;
     kept = k;
+    outside = others;
   }
 
   -- shapes that are written
@@ -73,6 +96,7 @@ module _ (shapes : Shapes) (before after : List ℕ) (from most : ℕ) where
     fits = λ l. (rw (e, p), w);
     over = λ l. absurd (omega arith);
     kept = rw w (written-length before from (shapeWords shapes) (omega (arith, words-length shapes)));
+    outside = rw w (written-outside before from (shapeWords shapes) most (omega (arith, words-length shapes)) (omega (arith, words-length shapes)));
   }
 
   -- a row that is over passes the room
@@ -100,6 +124,11 @@ module _ (shapes : Shapes) (before after : List ℕ) (from most : ℕ) where
   pub ends-words : (n : ℕ) (o : Bool) → RowIs shapes before after from most (Ends n o) → after ≡ written before from (shapeWords shapes)
   ends-words n o r = r .fits (ends-fits n o r) .1
 
+-- what is outside is so too where less is inside
+further : (j from later most : ℕ) → from ≤ later → (j < from) ⊎ (most ≤ j) → (j < later) ⊎ (most ≤ j)
+further j from later most h (inl l) = inl (omega arith)
+further j from later most h (inr l) = inr l
+
 -- an end: nothing is written
 pub row-end : (o : Bool) (before : List ℕ) (from most : ℕ) → from ≤ most → most ≤ length before → RowIs (end o) before before from most (Ends from o)
 unfolding size isOpen shapeWords
@@ -115,18 +144,19 @@ row-leaf word before from most h l k =
 
 pub leaf-over : (word : ℕ) (before : List ℕ) (from most : ℕ) → most ≤ from → RowIs (item (leafAt word) (end false)) before before from most Over
 unfolding size
-leaf-over word before from most h = row-over (item (leafAt word) (end false)) before before from most (omega arith) refl
+leaf-over word before from most h = row-over (item (leafAt word) (end false)) before before from most (omega arith) refl (λ j o. refl)
 
 -- a bracket: no room for its word, no room for what is inside, and its word in front of what is inside
 pub group-none : (inside : Shapes) (before : List ℕ) (from most : ℕ) → most ≤ from → RowIs (group inside (end false)) before before from most Over
 unfolding size
-group-none inside before from most h = row-over (group inside (end false)) before before from most (omega arith) refl
+group-none inside before from most h = row-over (group inside (end false)) before before from most (omega arith) refl (λ j o. refl)
 
 pub group-over : (inside : Shapes) (before after : List ℕ) (from most : ℕ) → RowIs inside before after (from + 1) most Over
     → RowIs (group inside (end false)) before after from most Over
 unfolding size
 group-over inside before after from most r =
     row-over (group inside (end false)) before after from most (omega (arith, over-passes inside before after (from + 1) most r)) (r .kept)
+    (λ j o. r .outside j (further j from (from + 1) most (omega arith) o))
 
 pub group-written : (inside : Shapes) (before after : List ℕ) (from most n word : ℕ) (o : Bool) → RowIs inside before after (from + 1) most (Ends n o)
     → most ≤ length before → word ≡ bracketWord (n - (from + 1)) o → RowIs (group inside (end false)) before (set after from word) from most (Ends n false)
@@ -188,7 +218,7 @@ module _ (f g : Shapes) (before middle : List ℕ) (from most : ℕ) where
   -- where the first row is over, both are
   pub both-over : RowIs f before middle from most Over → RowIs (chain f g) before middle from most Over
   both-over r =
-      row-over (chain f g) before middle from most (omega (arith, over-passes f before middle from most r, chain-more f g)) (r .kept)
+      row-over (chain f g) before middle from most (omega (arith, over-passes f before middle from most r, chain-more f g)) (r .kept) (r .outside)
 
   -- where the first row ends open, that is all
   pub both-open : (n : ℕ) (o : Bool) → o ≡ true → RowIs f before middle from most (Ends n o) → RowIs (chain f g) before middle from most (Ends n true)
@@ -210,6 +240,7 @@ module _ (f g : Shapes) (before middle : List ℕ) (from most : ℕ) where
         );
         over = λ l. s .over (omega arith);
         kept = s .kept ∙ r .kept;
+        outside = λ j p. s .outside j (further j from n most (omega arith) p) ∙ r .outside j p;
       }
 
 -- ---- what the store has for a call
@@ -310,7 +341,7 @@ module _ (store : List ℕ) (limit count place : ℕ) where
       pub row-callee-over : getD store ((2 * place + 1) * (limit + 1)) 0 < 512 → most - from < getD store ((2 * place + 1) * (limit + 1)) 0 % 256
           → RowIs (calleeShapes (storedAt store limit count place)) before before from most Over
       row-callee-over h l =
-          row-over (calleeShapes (storedAt store limit count place)) before before from most (omega (arith, callee-shapes h .number)) refl
+          row-over (calleeShapes (storedAt store limit count place)) before before from most (omega (arith, callee-shapes h .number)) refl (λ j o. refl)
 
       pub row-callee : (after : List ℕ) → getD store ((2 * place + 1) * (limit + 1)) 0 < 512
           → getD store ((2 * place + 1) * (limit + 1)) 0 % 256 ≤ most - from

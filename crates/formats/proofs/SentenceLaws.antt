@@ -119,7 +119,7 @@ module _ {limit : ℕ} {f : Shapes} {ok : Bool} {words : List ℕ} (made : Forma
     where
       go : Dec (size f ≤ limit) → size f ≤ limit
       go (yes p) = p
-      go (no p) = let q : ok ≡ false = made .over (omega arith) in let z : _≡_ {A = ℕ} 0 1 = cc in absurd (omega arith)
+      go (no p) = let q : ok ≡ false = made .over (omega arith) .0 in let z : _≡_ {A = ℕ} 0 1 = cc in absurd (omega arith)
 
   -- one that is not has more
   pub made-passes : ok ≡ false → limit < size f

@@ -327,7 +327,7 @@ module _ (file : File) where
         let same : sameBytes (functionFolded file f) name ≡ true = cc in
         record {
           inside = s .0;
-          behind = s .2;
+          notBefore = s .2;
           first = s .3;
           found = λ _. (same-sound _ _ same, s .1 ∙ rw (listed-read f name l, same));
           missing = λ k. absurd (omega arith);
@@ -352,7 +352,7 @@ module _ (file : File) where
     unfolding isAmong
     named-end f s l = record {
       inside = s .0;
-      behind = s .2;
+      notBefore = s .2;
       first = s .3;
       found = λ k. absurd (omega arith);
       missing = λ _. s .1 ∙ rw (names-end f l);

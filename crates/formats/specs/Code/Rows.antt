@@ -2,6 +2,7 @@
 use Prim.Native.Nat.{ℕ, _+_, _*_, _-_, _≤_, _<_}
 use mathlib.Core.Bool.{true, false, cond}
 use mathlib.Core.List.{List}
+use mathlib.Core.Logic.{_⊎_}
 use mathlib.Core.Option.{Option, none, some}
 use mathlib.Core.Path.{_≡_}
 use lib.ListN.{length, take, drop, getD}
@@ -39,11 +40,16 @@ pub record Knows (file : File) (slots store : List ℕ) (limit count : ℕ) (res
   pub unknown : (t : ℕ) → t < file .terms .count → wordAt (file .terms .records) (24 * t) ≡ 7 → count ≤ getD slots (64 + t) 0
       → results (callFolded file t) ≡ none
 
+-- words that are as they were before a position and from another on
+abbrev pub KeptOutside : ℕ → ℕ → List ℕ → List ℕ → Type 0
+KeptOutside from most before after = (j : ℕ) → (j < from) ⊎ (most ≤ j) → getD after j 0 ≡ getD before j 0
+
 -- shapes written from a position on, where they end at most at a position; else the row is over
 pub record RowIs (shapes : Shapes) (before after : List ℕ) (at most : ℕ) (row : Row) : Type 0 where
   pub fits : at + size shapes ≤ most → (row ≡ Ends (at + size shapes) (isOpen shapes)) × (after ≡ written before at (shapeWords shapes))
   pub over : most < at + size shapes → row ≡ Over
   pub kept : length after ≡ length before
+  pub outside : KeptOutside at most before after
 
 -- where a row may end, whatever the results are
 abbrev pub Between : ℕ → ℕ → Row → Type 0

@@ -83,7 +83,7 @@ module _ (file : File) where
   -- r is the first function from `from` on that has a name; the number of functions where none has it
   pub record NamedFrom (from : ℕ) (name : List ℕ) (r : ℕ) : Type 0 where
     pub inside : r ≤ file .functions .count
-    pub behind : from ≤ r
+    pub notBefore : from ≤ r
     pub first : (f : ℕ) → from ≤ f → f < r → sameBytes (functionFolded file f) name ≡ false
     pub found : r < file .functions .count → (functionFolded file r ≡ name) × (isAmong (namesAt from) name ≡ true)
     pub missing : file .functions .count ≤ r → isAmong (namesAt from) name ≡ false

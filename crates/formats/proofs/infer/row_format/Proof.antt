@@ -27,7 +27,7 @@ row-format-spec =
     (λ c. let the-args = c .before .before .before .before .before .before .before .before .before .before .before .before .before .before .args in
     let the-clear-words = c .before .before .before .before .before .before .before .before .clear-words in
     let p = c .before .before .before .before .before .before .before .before .before .before .before .before .before .before .pre in
-    λ t knows. made-over (the-args .limit) _ _ _ (the-clear-words .kept .0 ∙ p .1) refl (c .enum-told .given .1) (c .before .before .before .before .write-row .ensures .1 t knows))
+    λ t knows. made-over (the-args .limit) _ _ _ (the-clear-words .ensures ∙ ap (λ n. replicate n 0) (p .1)) refl (c .enum-told .given .1) (c .before .before .before .before .write-row .ensures .1 t knows))
     (λ c. let the-write-row = c .before .before .before .before .before .before .write-row in
     let the-clear-words = c .before .before .before .before .before .before .before .before .before .before .clear-words in
     length-set (the-write-row .last .1 .1 .1 .1 .1 .1 .1 .0) _ _ ∙ the-write-row .kept .1 .1 .1 .1 .1 .1 .1 .0 ∙ the-clear-words .kept .0)
