@@ -48,8 +48,7 @@ finds-lists after room lint subject (j, below, lint-is, subject-is) = (
 
 lists-finds : (after : After) (lint subject : ℕ) → claim.Lists (take (endOf after) (after .words)) lint subject → Finds after lint subject
 lists-finds after lint subject (j, inside, lint-is, subject-is) =
-    let short = length-take (endOf after) (after .words) in
-    (
+    let short = length-take (endOf after) (after .words) in (
       j,
       omega (arith, inside, short),
       sym (getD-take (endOf after) (after .words) (8 * j) 0 (omega (arith, inside, short))) ∙ lint-is,
@@ -134,6 +133,7 @@ module _ (settings : Settings) (bytes store words answer : List ℕ) where
         other n s is =
             let number : exit .number ≡ suc n = ap (λ (a : After). a .number) is in
             absurd (omega (arith, number, none))
+
         go : Case settings bytes store → endOf (seen exit) ≤ length (exit .findings)
         go (no-settings h) = other 13 store (rows .settings-refused h)
         go (no-law n h e) = absurd (never-both law n (sym e ∙ law-is))
@@ -147,14 +147,14 @@ module _ (settings : Settings) (bytes store words answer : List ℕ) where
 
     pub loaded : Loaded settings bytes store words answer (seen exit)
     loaded = record {
-          refuses = rows;
-          findings-refused = λ law l h more. sees-listed law l h ∙ full law l (h .is) more;
-          lists = λ law l h room. sees-listed law l h ∙ fits law l (h .is) room;
-          never-recognised = λ law s subject finds name v k left c. claims law s .recognition subject name v k left (reached law (called subject name v k left) c)
+      refuses = rows;
+      findings-refused = λ law l h more. sees-listed law l h ∙ full law l (h .is) more;
+      lists = λ law l h room. sees-listed law l h ∙ fits law l (h .is) room;
+      never-recognised = λ law s subject finds name v k left c. claims law s .recognition subject name v k left (reached law (called subject name v k left) c)
           (finds-lists (seen exit) (room law (s .read) (s .listed)) 2 subject finds);
-          never-chosen = λ law s subject finds own r env k left c. claims law s .dead subject r env k left (reached law (chosen subject r env k left) c)
+      never-chosen = λ law s subject finds own r env k left c. claims law s .dead subject r env k left (reached law (chosen subject r env k left) c)
           (own, finds-lists (seen exit) (room law (s .read) (s .listed)) 1 subject finds);
-        }
+    }
 
   -- ---- the exported contract
 
@@ -171,7 +171,7 @@ module _ (settings : Settings) (bytes store words answer : List ℕ) where
     unfolding findingsOutcome
     exported = record {
       outcome = ap exitOf (by-rows settings bytes store words answer (seen exit) seenBy (λ n. refl) over (loaded .refuses)
-      (λ law l h. listed-seen law l h (leb (8 * length (l .findings)) (length words)) refl));
+          (λ law l h. listed-seen law l h (leb (8 * length (l .findings)) (length words)) refl));
       no-false-finding = λ law read number one plain.
           let s : Settled bytes (seen exit) law = record { read = read; listed = number; one = one; plain = plain } in
           record {

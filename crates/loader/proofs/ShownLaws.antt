@@ -19,7 +19,7 @@ use Rattle.listing.specs.Outcome.{front, findingAt, textFront, textOutcome}
 use Rattle.listing.proofs.TellLaws.{none-at}
 use Rattle.bilzarko.specs.Exported.{TextExit, textExit}
 use Rattle.loader.specs.Rows.{After, returned, cleared, filled, Lists}
-use Rattle.loader.specs.Shown.{Stands, Shown}
+use Rattle.loader.specs.Shown.{At, Shown}
 use Rattle.loader.proofs.RowLaws.{front-taken, refuses, by-rows}
 
 abbrev seen : TextExit → After
@@ -35,19 +35,12 @@ unfolding findingAt
 some-at [] f later = refl
 some-at (g ∷ earlier) f later = some-at earlier f later
 
-pub record Split (fs : List Finding) (position : ℕ) : Type 0 where
-  pub earlier : List Finding
-  pub finding : Finding
-  pub later : List Finding
-  pub is : fs ≡ earlier ++ finding ∷ later
-  pub number : length earlier ≡ position
-
-split : (fs : List Finding) (position : ℕ) → position < length fs → Split fs position
+split : (fs : List Finding) (position : ℕ) → position < length fs → (f : Finding) × At fs position f
 split [] position h = absurd (omega (arith, h))
-split (f ∷ fs) zero h = record { earlier = []; finding = f; later = fs; is = refl; number = refl }
+split (f ∷ fs) zero h = (f, record { earlier = []; later = fs; is = refl; number = refl })
 split (f ∷ fs) (suc position) h =
-    let s = split fs position (omega (arith, h)) in
-    record { earlier = f ∷ s .earlier; finding = s .finding; later = s .later; is = ap (λ gs. f ∷ gs) (s .is); number = ap suc (s .number) }
+    let (g, at) = split fs position (omega (arith, h)) in
+    (g, record { earlier = f ∷ at .earlier; later = at .later; is = ap (λ gs. f ∷ gs) (at .is); number = ap suc (at .number) })
 
 -- ---- the rows
 
@@ -58,27 +51,27 @@ module _ (settings : Settings) (bytes store : List ℕ) (position : ℕ) (text :
   over : (law : Law) → listing 64 settings law ≡ refused 10 → seenBy (given law) ≡ returned 10 (cleared store) text (answer ∷ [])
   over law e = rw e refl
 
-  full : (law : Law) (l : Listing) → listing 64 settings law ≡ given l → 256 < length (l .findings)
-      → seenBy (given law) ≡ returned 11 (filled l store) text (answer ∷ [])
-  full law l e more = rw (e, lt-ltb 256 (length (l .findings)) more) refl
+  module _ (law : Law) (l : Listing) (e : listing 64 settings law ≡ given l) where
+    full : 256 < length (l .findings) → seenBy (given law) ≡ returned 11 (filled l store) text (answer ∷ [])
+    full more = rw (e, lt-ltb 256 (length (l .findings)) more) refl
 
-  module _ (law : Law) (l : Listing) (e : listing 64 settings law ≡ given l) (places : length (l .findings) ≤ 256) where
-    past : length (l .findings) ≤ position → seenBy (given law) ≡ returned 12 (filled l store) text (answer ∷ [])
-    past h = rw (e, le-ltb 256 (length (l .findings)) places, none-at (l .findings) position h) refl
+    module _ (places : length (l .findings) ≤ 256) where
+      past : length (l .findings) ≤ position → seenBy (given law) ≡ returned 12 (filled l store) text (answer ∷ [])
+      past h = rw (e, le-ltb 256 (length (l .findings)) places, none-at (l .findings) position h) refl
 
-    module _ (earlier : List Finding) (f : Finding) (later : List Finding) (is : l .findings ≡ earlier ++ f ∷ later) (number : length earlier ≡ position) where
-      here : findingAt (l .findings) position ≡ some f
-      here = rw (is, ← number) (some-at earlier f later)
+      module _ (f : Finding) (at : At (l .findings) position f) where
+        here : findingAt (l .findings) position ≡ some f
+        here = rw (at .is, ← at .number) (some-at (at .earlier) f (at .later))
 
-      short : length text < length (message f) → seenBy (given law) ≡ returned 13 (filled l store) text (answer ∷ [])
-      short h = rw (e, le-ltb 256 (length (l .findings)) places, here, lt-leb (length (message f)) (length text) h) refl
+        short : length text < length (message f) → seenBy (given law) ≡ returned 13 (filled l store) text (answer ∷ [])
+        short h = rw (e, le-ltb 256 (length (l .findings)) places, here, lt-leb (length (message f)) (length text) h) refl
 
-      fits : length (message f) ≤ length text
-          → seenBy (given law) ≡ returned 0 (filled l store) (message f ++ drop (length (message f)) text) (length (message f) ∷ [])
-      unfolding written
-      fits h =
-          let same : 0 + length (message f) ≡ length (message f) = omega arith in
-          rw (e, le-ltb 256 (length (l .findings)) places, here, le-leb (length (message f)) (length text) h, same) refl
+        fits : length (message f) ≤ length text
+            → seenBy (given law) ≡ returned 0 (filled l store) (message f ++ drop (length (message f)) text) (length (message f) ∷ [])
+        unfolding written
+        fits h =
+            let same : 0 + length (message f) ≡ length (message f) = omega arith in
+            rw (e, le-ltb 256 (length (l .findings)) places, here, le-leb (length (message f)) (length text) h, same) refl
 
   -- ---- from the exported contract
 
@@ -95,12 +88,39 @@ module _ (settings : Settings) (bytes store : List ℕ) (position : ℕ) (text :
       refuses = refuses settings bytes store text (answer ∷ []) (seen exit) seenBy (λ n. refl) over sees;
       findings-refused = λ law l h more. sees-listed law l h ∙ full law l (h .is) more;
       position-refused = λ law l h places p. sees-listed law l h ∙ past law l (h .is) places p;
-      text-refused = λ law l f s h. sees-listed law l (s .lists) ∙ short law l (s .lists .is) (s .places) (s .earlier) f (s .later) (s .is) (s .number) h;
-      writes = λ law l f s h. sees-listed law l (s .lists) ∙ fits law l (s .lists .is) (s .places) (s .earlier) f (s .later) (s .is) (s .number) h;
+      text-refused = λ law l h places f at less. sees-listed law l h ∙ short law l (h .is) places f at less;
+      writes = λ law l h places f at room. sees-listed law l h ∙ fits law l (h .is) places f at room;
     }
 
   -- ---- the exported contract
 
-  module _ (exit : TextExit) (shown : Shown settings bytes store position text (answer ∷ []) (seen exit)) (law : Law) (l : Listing) (h : Lists settings bytes store law l) where
-    told-seen : length (l .findings) ≤ 256 → Split (l .findings) position → (b : Bool) → seen exit ≡ seenBy (given law)
-    told-seen places s b = ?told
+  module _ (exit : TextExit) (shown : Shown settings bytes store position text (answer ∷ []) (seen exit)) where
+    module _ (law : Law) (l : Listing) (h : Lists settings bytes store law l) where
+      by-text : length (l .findings) ≤ 256 → (f : Finding) → At (l .findings) position f → (b : Bool) → leb (length (message f)) (length text) ≡ b
+          → seen exit ≡ seenBy (given law)
+      by-text places f at true e =
+          let room = leb-true (length (message f)) (length text) e in
+          shown .writes law l h places f at room ∙ sym (fits law l (h .is) places f at room)
+      by-text places f at false e =
+          let less = leb-false (length (message f)) (length text) e in
+          shown .text-refused law l h places f at less ∙ sym (short law l (h .is) places f at less)
+
+      by-position : length (l .findings) ≤ 256 → (b : Bool) → ltb position (length (l .findings)) ≡ b → seen exit ≡ seenBy (given law)
+      by-position places true e =
+          let (f, at) = split (l .findings) position (ltb-true position (length (l .findings)) e) in
+          by-text places f at (leb (length (message f)) (length text)) refl
+      by-position places false e =
+          let none = ltb-false position (length (l .findings)) e in
+          shown .position-refused law l h places none ∙ sym (past law l (h .is) places none)
+
+      by-places : (b : Bool) → ltb 256 (length (l .findings)) ≡ b → seen exit ≡ seenBy (given law)
+      by-places true e =
+          let more = ltb-true 256 (length (l .findings)) e in
+          shown .findings-refused law l h more ∙ sym (full law l (h .is) more)
+      by-places false e = by-position (ltb-false 256 (length (l .findings)) e) (ltb position (length (l .findings))) refl
+
+    pub exported : exit ≡ textExit answer (textOutcome 64 settings bytes store position text)
+    unfolding textOutcome
+    exported =
+        ap exitOf (by-rows settings bytes store text (answer ∷ []) (seen exit) seenBy (λ n. refl) over (shown .refuses)
+        (λ law l h. by-places law l h (ltb 256 (length (l .findings))) refl))

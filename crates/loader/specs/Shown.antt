@@ -11,23 +11,21 @@ use Rattle.lints.specs.Findings.{Listing}
 use Rattle.lints.specs.Message.{message}
 use Rattle.loader.specs.Rows.{After, returned, filled, Lists, Refuses}
 
--- a finding stands at a position of a listing that the text call has places for
-pub record Stands (settings : Settings) (bytes store : List ℕ) (position : ℕ) (law : Law) (l : Listing) (finding : Finding) : Type 0 where
-  pub lists : Lists settings bytes store law l
-  pub places : length (l .findings) ≤ 256
+-- a finding stands at a position, from 0
+pub record At (findings : List Finding) (position : ℕ) (finding : Finding) : Type 0 where
   pub earlier : List Finding
   pub later : List Finding
-  pub is : l .findings ≡ earlier ++ finding ∷ later
+  pub is : findings ≡ earlier ++ finding ∷ later
   pub number : length earlier ≡ position
 
--- `text` and `answer` are what the lent bytes and the answer's word held before the call
+-- the text call has places for 256 findings; `text` and `answer` are what the lent bytes and the answer's word held before the call
 pub record Shown (settings : Settings) (bytes store : List ℕ) (position : ℕ) (text answer : List ℕ) (after : After) : Type 0 where
   pub refuses : Refuses settings bytes store text answer after
   pub findings-refused : (law : Law) (l : Listing) → Lists settings bytes store law l → 256 < length (l .findings)
       → after ≡ returned 11 (filled l store) text answer
   pub position-refused : (law : Law) (l : Listing) → Lists settings bytes store law l → length (l .findings) ≤ 256 → length (l .findings) ≤ position
       → after ≡ returned 12 (filled l store) text answer
-  pub text-refused : (law : Law) (l : Listing) (f : Finding) → Stands settings bytes store position law l f → length text < length (message f)
-      → after ≡ returned 13 (filled l store) text answer
-  pub writes : (law : Law) (l : Listing) (f : Finding) → Stands settings bytes store position law l f → length (message f) ≤ length text
-      → after ≡ returned 0 (filled l store) (message f ++ drop (length (message f)) text) (length (message f) ∷ [])
+  pub text-refused : (law : Law) (l : Listing) → Lists settings bytes store law l → length (l .findings) ≤ 256 → (f : Finding) → At (l .findings) position f
+      → length text < length (message f) → after ≡ returned 13 (filled l store) text answer
+  pub writes : (law : Law) (l : Listing) → Lists settings bytes store law l → length (l .findings) ≤ 256 → (f : Finding) → At (l .findings) position f
+      → length (message f) ≤ length text → after ≡ returned 0 (filled l store) (message f ++ drop (length (message f)) text) (length (message f) ∷ [])

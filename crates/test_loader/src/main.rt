@@ -71,7 +71,14 @@ fn load_law(mode: u32, overrides: &[u32], law: &[u8], lent_store: usize, lent_wo
     let mut store = [WORD; STORE];
     let mut words = [WORD; WORDS];
     let mut answer = [WORD as u64; 3];
-    let number = load(mode, overrides, law, &mut store[..lent_store], &mut words[..lent_words], &mut answer);
+    let number = load(
+        mode,
+        overrides,
+        law,
+        &mut store[..lent_store],
+        &mut words[..lent_words],
+        &mut answer,
+    );
     print_number(b"  findings call: ", number as u64);
     print_number(b"; ", answer[0]);
     print_number(b" ", answer[1]);
@@ -81,13 +88,28 @@ fn load_law(mode: u32, overrides: &[u32], law: &[u8], lent_store: usize, lent_wo
 }
 
 // Makes the text call with so many bytes, and answers how many it wrote: none where it is refused.
-fn show_text(mode: u32, overrides: &[u32], law: &[u8], lent_store: usize, position: usize, lent_text: usize) -> usize
+fn show_text(
+    mode: u32,
+    overrides: &[u32],
+    law: &[u8],
+    lent_store: usize,
+    position: usize,
+    lent_text: usize,
+) -> usize
     requires { ⌜ (lent_store ≤ 8324) × (lent_text ≤ 144) ⌝ }
 {
     let mut store = [WORD; STORE];
     let mut text = [BYTE; TEXT];
     let mut answer = WORD as u64;
-    let number = show(mode, overrides, law, &mut store[..lent_store], position, &mut text[..lent_text], &mut answer);
+    let number = show(
+        mode,
+        overrides,
+        law,
+        &mut store[..lent_store],
+        position,
+        &mut text[..lent_text],
+        &mut answer,
+    );
     print_number(b"\n  text call: ", number as u64);
     print_number(b"; ", answer);
     io::write_all(STDOUT_FILENO, b"\n    ");
@@ -100,7 +122,11 @@ fn show_text(mode: u32, overrides: &[u32], law: &[u8], lent_store: usize, positi
 fn one_less(bytes: usize) -> usize
     ensures { λ r. ⌜ r ≤ 144 ⌝ }
 {
-    if 0 < bytes && bytes <= TEXT { bytes - 1 } else { 0 }
+    if 0 < bytes && bytes <= TEXT {
+        bytes - 1
+    } else {
+        0
+    }
 }
 
 // Makes the text call, then with one byte too few, and says whether there is a text.
@@ -145,7 +171,13 @@ fn answer_case() -> bool {
     if !found.whole {
         return false;
     }
-    load_law(mode, &overrides[..count], &space[..end], lent_store, lent_words);
+    load_law(
+        mode,
+        &overrides[..count],
+        &space[..end],
+        lent_store,
+        lent_words,
+    );
     show_all(mode, &overrides[..count], &space[..end], lent_store);
     io::write_all(STDOUT_FILENO, b"\n");
     true
