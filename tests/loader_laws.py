@@ -11,6 +11,7 @@ from pathlib import Path
 from edge_laws import Reader, encoded, records, word
 from listing_model import STORE
 from refusal_laws import CLASSIC, EXAMPLE, FILES, FOUR, OVER_ARGUMENT, OVER_PATTERN, STRICT, Asked
+from store_laws import growing, times
 
 WORDS, TEXT, MORE = 56, 144, 4
 KEPT, KEPT_BYTE = 99999, "#"
@@ -27,7 +28,7 @@ def words_after(written, lent):
 def store_after(asked):
     written = asked.listing.store if asked.listing else [0] * STORE if asked.number == 10 else []
     after = written + [KEPT] * (STORE + MORE - len(written))
-    return "\n  store" + words_after(after[:8], 8) + words_after(after[STORE - 4:], 8)
+    return "\n  store" + words_after(after[:8], 8) + words_after(after[STORE - 8:], 8 + MORE) + "\n"
 
 
 def returned(answer, kept):
@@ -37,27 +38,28 @@ def returned(answer, kept):
 
 
 def text_call(asked, lent):
+    """The lines of a text call, and the text that it wrote."""
     asked.text = lent
     answer, text = asked.told()
-    return f"\n  text call: {returned(answer, KEPT)}\n    {text:{KEPT_BYTE}<{TEXT}}" + store_after(asked), len(text)
+    return f"  text call: {returned(answer, KEPT)}\n    {text:{KEPT_BYTE}<{lent}}" + store_after(asked), text
 
 
-def case(label, source, *, found, mode=STRICT, overrides=(), store=STORE + MORE, words=WORDS, refused=None):
+def case(label, source, *, found, mode=STRICT, overrides=(), refused=None):
     functions = Reader(source).functions() if isinstance(source, str) else None
     data = source if functions is None else encoded(records(functions, spans=True))
-    asked = Asked(functions, mode, overrides, store, words, TEXT, 0, refused)
+    asked = Asked(functions, mode, overrides, STORE + MORE, WORDS, TEXT, 0, refused)
     answer, listed = asked.found()
     assert answer == found, (label, answer)
     lines = f"{label}\n  findings call: {returned(answer, f'{KEPT} {KEPT} {KEPT}')}" + words_after(listed, WORDS) + store_after(asked)
-    length = 1
-    while length:
-        more, length = text_call(asked, TEXT)
+    text = None
+    while text != "":
+        more, text = text_call(asked, TEXT)
         lines += more
-        if length:
-            lines += text_call(asked, length - 1)[0]
+        if text:
+            lines += text_call(asked, len(text) - 1)[0]
         asked.position += 1
-    numbers = [mode, len(overrides), *[256 * lint + level for lint, level in overrides], store, words, len(data)]
-    cases.append((label, b"".join(map(word, numbers)) + data, lines + "\n"))
+    numbers = [mode, len(overrides), *[256 * lint + level for lint, level in overrides], len(data)]
+    cases.append((label, b"".join(map(word, numbers)) + data, lines))
 
 
 def main():
@@ -65,14 +67,14 @@ def main():
     case("each lint", FOUR, found="4 2 1")
     case("each lint, classic, lint 1 hidden, lint 2 at 0", FOUR, mode=CLASSIC, overrides=[(1, 3), (2, 0)], found="2 2 1")
     case("formats of each shape", "F { ('a' (1 e.X)) s.A t.B Name = <F (e.X) 'b' s.C 1 e.Y>; }", found="1 2 1")
-    case("store and words exactly full", EXAMPLE, store=STORE, words=16, found="2 2 1")
+    case("not settled", growing(5), found="0 5 0")
     case("no functions", "", found="0 1 1")
+    case("seven findings, as many as fit", "F { = " + times(7, "<Numb> ") + "; }", found="7 2 1")
+    case("eight findings", "F { = " + times(8, "<Numb> ") + "; }", found="refused 11")
     case("mode 2", EXAMPLE, mode=2, found="refused 14")
     case("a law that is cut off", FILES[2], refused=2, found="refused 2")
-    case("a store one word short", EXAMPLE, store=STORE - 1, found="refused 15")
     case("65 shapes in a pattern", OVER_PATTERN, found="refused 10")
     case("65 shapes in an argument", OVER_ARGUMENT, found="refused 10")
-    case("words one short", EXAMPLE, words=15, found="refused 11")
     folder = Path(__file__).resolve().parent.parent / "crates" / "test_loader"
     folder.joinpath("stdin").write_bytes(b"".join(label.encode("ascii") + b"\n" + data for label, data, _ in cases))
     folder.joinpath("stdout").write_bytes("".join(lines for _, _, lines in cases).encode("ascii"))
