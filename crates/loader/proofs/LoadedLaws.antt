@@ -22,8 +22,8 @@ use Rattle.runs.specs.Machine.{State, called, chosen}
 use Rattle.listing.specs.Outcome.{front, findingsFront, findingsOutcome}
 use Rattle.listing.proofs.PromiseLaws.{words-length}
 use Rattle.bilzarko.specs.Exported.{FindingsExit, findingsExit, FindingsExported}
-use Rattle.loader.specs.Rows.{After, returned, cleared, filled, Lists, Refuses}
-use Rattle.loader.specs.Loaded.{listedIn, counted, Settled, Comes, Finds, Loaded}
+use Rattle.loader.specs.Rows.{After, returned, cleared, filled, Listed, Refuses}
+use Rattle.loader.specs.Loaded.{listedIn, counted, Claimed, Comes, Finds, Loaded}
 use Rattle.loader.proofs.RowLaws.{Case, no-settings, no-law, no-store, no-formats, listed, case-of, front-taken, refuses, by-rows}
 
 abbrev seen : FindingsExit → After
@@ -102,10 +102,10 @@ module _ (settings : Settings) (bytes store words answer : List ℕ) where
     unfolding findingsOutcome
     sees = ap seen (exported .outcome)
 
-    sees-listed : (law : Law) (l : Listing) → Lists settings bytes store law l → seen exit ≡ seenBy (given law)
+    sees-listed : (law : Law) (l : Listing) → Listed settings bytes store law l → seen exit ≡ seenBy (given law)
     sees-listed law l h = sees ∙ ap seenBy (front-taken settings bytes store law (h .taken))
 
-    listed-room : (law : Law) (l : Listing) → Lists settings bytes store law l → exit .number ≡ 0 → (b : Bool)
+    listed-room : (law : Law) (l : Listing) → Listed settings bytes store law l → exit .number ≡ 0 → (b : Bool)
         → leb (8 * length (l .findings)) (length words) ≡ b → endOf (seen exit) ≤ length (exit .findings)
     listed-room law l h none true e =
         let is = sees-listed law l h ∙ fits law l (h .is) (leb-true (8 * length (l .findings)) (length words) e) in
@@ -142,8 +142,8 @@ module _ (settings : Settings) (bytes store words answer : List ℕ) where
         go (listed read l h) = listed-room read l h none (leb (8 * length (l .findings)) (length words)) refl
 
     -- demand 3, of the words before the last finding's end
-    claims : (law : Law) → Settled bytes (seen exit) law → NoFalseFinding law (take (endOf (seen exit)) (exit .findings))
-    claims law s = exported .no-false-finding law (s .read) (s .listed) (s .one) (s .plain)
+    claims : (law : Law) → Claimed bytes (seen exit) law → NoFalseFinding law (take (endOf (seen exit)) (exit .findings))
+    claims law s = exported .no-false-finding law (s .read) (s .listed) (s .settled) (s .plain)
 
     pub loaded : Loaded settings bytes store words answer (seen exit)
     loaded = record {
@@ -159,7 +159,7 @@ module _ (settings : Settings) (bytes store words answer : List ℕ) where
   -- ---- the exported contract
 
   module _ (exit : FindingsExit) (loaded : Loaded settings bytes store words answer (seen exit)) where
-    listed-seen : (law : Law) (l : Listing) → Lists settings bytes store law l → (b : Bool) → leb (8 * length (l .findings)) (length words) ≡ b → seen exit ≡ seenBy (given law)
+    listed-seen : (law : Law) (l : Listing) → Listed settings bytes store law l → (b : Bool) → leb (8 * length (l .findings)) (length words) ≡ b → seen exit ≡ seenBy (given law)
     listed-seen law l h true e =
         let room = leb-true (8 * length (l .findings)) (length words) e in
         loaded .lists law l h room ∙ sym (fits law l (h .is) room)
@@ -173,7 +173,7 @@ module _ (settings : Settings) (bytes store words answer : List ℕ) where
       outcome = ap exitOf (by-rows settings bytes store words answer (seen exit) seenBy (λ n. refl) over (loaded .refuses)
           (λ law l h. listed-seen law l h (leb (8 * length (l .findings)) (length words)) refl));
       no-false-finding = λ law read number one plain.
-          let s : Settled bytes (seen exit) law = record { read = read; listed = number; one = one; plain = plain } in
+          let s : Claimed bytes (seen exit) law = record { read = read; listed = number; settled = one; plain = plain } in
           record {
             recognition = λ m f v k left r lists. loaded .never-recognised law s m (lists-finds (seen exit) 2 m lists) f v k left (comes law (called m f v k left) r);
             dead = λ i r env k left c lists. loaded .never-chosen law s i (lists-finds (seen exit) 1 i (lists .1)) (lists .0) r env k left (comes law (chosen i r env k left) c);

@@ -15,7 +15,7 @@ use Rattle.lints.specs.Recognition.{argumentsOver}
 use Rattle.lints.specs.Levels.{Settings, settingsAllowed, shown}
 use Rattle.lints.specs.Findings.{Listing, findingsOf, formatsOf, listing}
 use Rattle.listing.specs.Outcome.{front}
-use Rattle.loader.specs.Rows.{After, returned, cleared, Taken, Lists, Refuses}
+use Rattle.loader.specs.Rows.{After, returned, cleared, Taken, Listed, Refuses}
 
 -- 10 is the only refusal of a listing
 listing-ten : (settings : Settings) (law : Law) (n : ℕ) → listing 64 settings law ≡ refused n → n ≡ 10
@@ -33,7 +33,7 @@ module _ (settings : Settings) (bytes store : List ℕ) where
     no-law : (n : ℕ) → settingsAllowed settings ≡ true → lawOf bytes ≡ refused n → Case
     no-store : (law : Law) → settingsAllowed settings ≡ true → lawOf bytes ≡ given law → length store < 8320 → Case
     no-formats : (law : Law) (n : ℕ) → Taken settings bytes store law → listing 64 settings law ≡ refused n → Case
-    listed : (law : Law) (l : Listing) → Lists settings bytes store law l → Case
+    listed : (law : Law) (l : Listing) → Listed settings bytes store law l → Case
 
   by-listing : (law : Law) → Taken settings bytes store law → (a : Answer Listing) → listing 64 settings law ≡ a → Case
   by-listing law t (refused n) e = no-formats law n t e
@@ -85,7 +85,7 @@ module _ (settings : Settings) (bytes store words answer : List ℕ) (after : Af
   }
 
   -- the rows leave one outcome
-  pub by-rows : Refuses settings bytes store words answer after → ((law : Law) (l : Listing) → Lists settings bytes store law l → after ≡ seen (given law))
+  pub by-rows : Refuses settings bytes store words answer after → ((law : Law) (l : Listing) → Listed settings bytes store law l → after ≡ seen (given law))
       → after ≡ seen (front 64 settings bytes store)
   by-rows rows rest = go (case-of settings bytes store)
     where

@@ -18,7 +18,7 @@ use Rattle.lints.specs.Message.{message}
 use Rattle.listing.specs.Outcome.{front, findingAt, textFront, textOutcome}
 use Rattle.listing.proofs.TellLaws.{none-at}
 use Rattle.bilzarko.specs.Exported.{TextExit, textExit}
-use Rattle.loader.specs.Rows.{After, returned, cleared, filled, Lists}
+use Rattle.loader.specs.Rows.{After, returned, cleared, filled, Listed}
 use Rattle.loader.specs.Shown.{At, Shown}
 use Rattle.loader.proofs.RowLaws.{front-taken, refuses, by-rows}
 
@@ -80,7 +80,7 @@ module _ (settings : Settings) (bytes store : List ℕ) (position : ℕ) (text :
     unfolding textOutcome
     sees = ap seen exported
 
-    sees-listed : (law : Law) (l : Listing) → Lists settings bytes store law l → seen exit ≡ seenBy (given law)
+    sees-listed : (law : Law) (l : Listing) → Listed settings bytes store law l → seen exit ≡ seenBy (given law)
     sees-listed law l h = sees ∙ ap seenBy (front-taken settings bytes store law (h .taken))
 
     pub shown : Shown settings bytes store position text (answer ∷ []) (seen exit)
@@ -95,7 +95,7 @@ module _ (settings : Settings) (bytes store : List ℕ) (position : ℕ) (text :
   -- ---- the exported contract
 
   module _ (exit : TextExit) (shown : Shown settings bytes store position text (answer ∷ []) (seen exit)) where
-    module _ (law : Law) (l : Listing) (h : Lists settings bytes store law l) where
+    module _ (law : Law) (l : Listing) (h : Listed settings bytes store law l) where
       by-text : length (l .findings) ≤ 256 → (f : Finding) → At (l .findings) position f → (b : Bool) → leb (length (message f)) (length text) ≡ b
           → seen exit ≡ seenBy (given law)
       by-text places f at true e =

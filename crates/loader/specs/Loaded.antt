@@ -16,7 +16,7 @@ use Rattle.lints.specs.Findings.{Listing}
 use Rattle.runs.specs.Machine.{Env, Stack, State, called, chosen, run}
 use Rattle.runs.specs.Numbers.{noNeedlessZeros}
 use Rattle.runs.specs.Claim.{Recognises, OfFunction}
-use Rattle.loader.specs.Rows.{After, returned, filled, Lists, Refuses}
+use Rattle.loader.specs.Rows.{After, returned, filled, Listed, Refuses}
 
 -- the words with those of a listing before them, and the answer's three words
 abbrev pub listedIn : Settings → Listing → List ℕ → List ℕ
@@ -27,11 +27,11 @@ counted l = length (l .findings) ∷ l .inferred .rounds ∷ cond (l .inferred .
 
 -- ---- demand 3, by what a caller sees
 
--- 0 was returned, settled is 1, and no number of the law has a needless leading zero
-pub record Settled (bytes : List ℕ) (after : After) (law : Law) : Type 0 where
+-- its premises: 0 was returned, settled is 1, and no number of the law has a needless leading zero
+pub record Claimed (bytes : List ℕ) (after : After) (law : Law) : Type 0 where
   pub read : lawOf bytes ≡ given law
   pub listed : after .number ≡ 0
-  pub one : getD (after .answer) 2 0 ≡ 1
+  pub settled : getD (after .answer) 2 0 ≡ 1
   pub plain : noNeedlessZeros law ≡ true
 
 -- a run of a function of the law comes to a state
@@ -52,14 +52,14 @@ Finds after lint subject =
 
 pub record Loaded (settings : Settings) (bytes store words answer : List ℕ) (after : After) : Type 0 where
   pub refuses : Refuses settings bytes store words answer after
-  pub findings-refused : (law : Law) (l : Listing) → Lists settings bytes store law l → length words < 8 * length (l .findings)
+  pub findings-refused : (law : Law) (l : Listing) → Listed settings bytes store law l → length words < 8 * length (l .findings)
       → after ≡ returned 11 (filled l store) words answer
-  pub lists : (law : Law) (l : Listing) → Lists settings bytes store law l → 8 * length (l .findings) ≤ length words
+  pub lists : (law : Law) (l : Listing) → Listed settings bytes store law l → 8 * length (l .findings) ≤ length words
       → after ≡ returned 0 (filled l store) (listedIn settings l words) (counted l)
   -- no sentence of a function matches where a call of it that is listed under lint 2 is reached
-  pub never-recognised : (law : Law) → Settled bytes after law → (subject : ℕ) → Finds after 2 subject
+  pub never-recognised : (law : Law) → Claimed bytes after law → (subject : ℕ) → Finds after 2 subject
       → (name : List ℕ) (v : Expression) (k : Stack) (left : List Expression) → Comes law (called subject name v k left)
       → (ss : Sentences) → definition law name ≡ some ss → Recognises ss v → ⊥
   -- no function's sentence is chosen that is listed under lint 1
-  pub never-chosen : (law : Law) → Settled bytes after law → (subject : ℕ) → Finds after 1 subject → OfFunction law subject
+  pub never-chosen : (law : Law) → Claimed bytes after law → (subject : ℕ) → Finds after 1 subject → OfFunction law subject
       → (r : Run) (env : Env) (k : Stack) (left : List Expression) → Comes law (chosen subject r env k left) → ⊥

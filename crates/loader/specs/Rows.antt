@@ -1,5 +1,5 @@
--- What a caller relies on, said anew: the table of docs/SPECIFICATION.md, 12.3, row by row, and by no definition of the crates `listing` and `bilzarko`.
--- A contract there that promises less, or asks for something, leaves the contracts of this crate without a proof. Here are the rows that both calls share.
+-- What a caller relies on, in other words: the table of docs/SPECIFICATION.md, 12.3, row by row, and by no definition of the crates `listing` and
+-- `bilzarko`. A contract there that promises less, or asks for something, leaves this crate's contracts without a proof. These rows both calls share.
 -- docs/SPECIFICATION.md, 12.3, 12.5.
 use Prim.Native.Nat.{ℕ, _≤_, _<_}
 use mathlib.Core.Bool.{true, false}
@@ -39,12 +39,12 @@ pub record Taken (settings : Settings) (bytes store : List ℕ) (law : Law) : Ty
   pub read : lawOf bytes ≡ given law
   pub room : 8320 ≤ length store
 
--- nor does 10
-pub record Lists (settings : Settings) (bytes store : List ℕ) (law : Law) (l : Listing) : Type 0 where
+-- nor does 10: there is a listing
+pub record Listed (settings : Settings) (bytes store : List ℕ) (law : Law) (l : Listing) : Type 0 where
   pub taken : Taken settings bytes store law
   pub is : listing 64 settings law ≡ given l
 
--- `store`, `words` and `answer` are what the lent words held before the call
+-- `store`, `words` and `answer` are what the lent words held before the call; `listing` refuses with 10 alone
 pub record Refuses (settings : Settings) (bytes store words answer : List ℕ) (after : After) : Type 0 where
   pub settings-refused : settingsAllowed settings ≡ false → after ≡ returned 14 store words answer
   pub law-refused : (n : ℕ) → settingsAllowed settings ≡ true → lawOf bytes ≡ refused n → after ≡ returned n store words answer
