@@ -9,10 +9,10 @@ import sys
 
 from weaker_machines import INVARIANT, tried
 
-CLAIM = "specs/Claim.antt"
-TABLE = "specs/FalseListings.antt"
-HOLDS = "proofs/FindingsHold.antt"
-NO_FALSE = "proofs/NoFalse.antt"
+CLAIM = "runs/specs/Claim.antt"
+TABLE = "runs/specs/FalseListings.antt"
+HOLDS = "runs/proofs/FindingsHold.antt"
+NO_FALSE = "runs/proofs/NoFalse.antt"
 
 RECOGNISES = (
     "Recognises (sentence m p cs r ss) v = (some-in (runMatches (patternOf p) v none-bound) ≡ true) ⊎ Recognises ss v"
@@ -149,4 +149,4 @@ first-in (d ∷ ds) f m = List·Memᴰ·head refl
 
 
 if __name__ == "__main__":
-    sys.exit(tried(CLAIMS, lambda by: TABLE in by and by <= {TABLE, "specs/Premises.antt"}))
+    sys.exit(tried("runs", CLAIMS, lambda by: TABLE in by and by <= {TABLE, "runs/specs/Premises.antt"}))

@@ -15,10 +15,10 @@ import tempfile
 from pathlib import Path
 
 ROOT = Path(__file__).resolve().parent.parent
-MACHINE = "specs/Machine.antt"
-INVARIANT = "proofs/Invariant.antt"
-RUNS = {"specs/Examples.antt", "specs/TermRuns.antt", "specs/ConditionRuns.antt"}
-PINS = RUNS | {"proofs/Ends.antt", "specs/FalseListings.antt", "specs/Premises.antt"}
+MACHINE = "runs/specs/Machine.antt"
+INVARIANT = "runs/proofs/Invariant.antt"
+RUNS = {"runs/specs/Examples.antt", "runs/specs/TermRuns.antt", "runs/specs/ConditionRuns.antt"}
+PINS = RUNS | {"runs/proofs/Ends.antt", "runs/specs/FalseListings.antt", "runs/specs/Premises.antt"}
 
 CONDITION = "give v (inCondition p env i cs r t k) answers = trying (ways (runMatches (patternOf p) v env) i cs r t) k answers"
 CONDITION_HOLDS = (
@@ -186,45 +186,45 @@ none-at-all (env ∷ es) e = absurd (not-none env [] e)
 }
 
 
-def refused_by(copy, edits):
-    """The files in which the prover finds errors after these edits; none where the crate is still proved."""
-    crate = copy / "crates" / "runs"
-    kept = {name: (crate / name).read_text() for name, _, _ in edits}
+def refused_by(copy, name, edits):
+    """The files in which the prover finds errors after these edits, as it checks a crate, each with the first line; none where that is proved."""
+    crates = copy / "crates"
+    kept = {file: (crates / file).read_text() for file, _, _ in edits}
     try:
-        for name, old, new in edits:
-            text = (crate / name).read_text()
+        for file, old, new in edits:
+            text = (crates / file).read_text()
             if text.count(old) != 1:
-                raise SystemExit(f"{name} has this {text.count(old)} times: {old}")
-            (crate / name).write_text(text.replace(old, new))
-        got = subprocess.run(["rt", "dev", "runs"], cwd=copy, capture_output=True, text=True)
+                raise SystemExit(f"{file} has this {text.count(old)} times: {old}")
+            (crates / file).write_text(text.replace(old, new))
+        got = subprocess.run(["rt", "dev", name], cwd=copy, capture_output=True, text=True)
     finally:
-        for name, text in kept.items():
-            (crate / name).write_text(text)
-    said = got.stdout + got.stderr
+        for file, text in kept.items():
+            (crates / file).write_text(text)
     if got.returncode == 0:
-        return set()
-    return set(re.findall(r"crates/runs/((?:specs|proofs)/\w+\.antt):[\d:]+ error", said)) or {"nothing that was understood"}
+        return {}
+    found = re.findall(r"crates/(\w+/(?:src|specs|proofs)/[\w/]+\.\w+):(\d+):\d+: error", got.stdout + got.stderr)
+    return dict(reversed(found)) or {"nothing that was understood": 0}
 
 
-def tried(weaker, is_right):
-    """Tries what the words name, or all, and prints which files refuse each; fails where that is not right."""
+def tried(name, weaker, is_right):
+    """Tries what the words name, or all, over one crate, and prints which files refuse each; fails where that is not right."""
     failed = 0
     with tempfile.TemporaryDirectory() as folder:
-        copy = Path(folder)
+        copy = Path(folder).resolve()
         shutil.copy(ROOT / "crates.txt", copy)
         for part in ("crates", "target"):
             if (ROOT / part).is_dir():
                 shutil.copytree(ROOT / part, copy / part)
-        subprocess.run(["rt", "check", "runs"], cwd=copy, check=True, stdout=subprocess.DEVNULL)
-        for name in sys.argv[1:] or list(weaker):
-            says, edits = weaker[name]
-            by = refused_by(copy, edits)
-            good = is_right(by)
+        subprocess.run(["rt", "check", name], cwd=copy, check=True, stdout=subprocess.DEVNULL)
+        for case in sys.argv[1:] or list(weaker):
+            says, edits = weaker[case]
+            by = refused_by(copy, name, edits)
+            good = is_right(by.keys())
             failed += not good
-            print(f"{name} ({says}): " + (f"refused, as it must be, by {', '.join(sorted(by))}" if good
-                                           else f"NOT AS IT MUST BE: refused by {', '.join(sorted(by)) or 'nothing'}"), flush=True)
+            places = ", ".join(f"{file}:{line}" for file, line in sorted(by.items())) or "nothing"
+            print(f"{case} ({says}): {'refused, as it must be,' if good else 'NOT AS IT MUST BE: refused'} by {places}", flush=True)
     return 1 if failed else 0
 
 
 if __name__ == "__main__":
-    sys.exit(tried(MACHINES, lambda by: bool(by & RUNS) and by <= PINS))
+    sys.exit(tried("runs", MACHINES, lambda by: bool(by & RUNS) and by <= PINS))

@@ -40,15 +40,15 @@ use Rattle.law.proofs.Allowed.{accepted-readable}
 -- ---- 10 is the only refusal of inference
 
 -- an answer that is given, or refused with 10
-abbrev OnlyTen : {A : Type 0} → Answer A → Type 0
+abbrev pub OnlyTen : {A : Type 0} → Answer A → Type 0
 OnlyTen (given a) = Unit {0}
 OnlyTen (refused n) = n ≡ 10
 
-only-then : {A B : Type 0} (a : Answer A) (next : A → Answer B) → OnlyTen a → ((x : A) → OnlyTen (next x)) → OnlyTen (a >>= next)
+pub only-then : {A B : Type 0} (a : Answer A) (next : A → Answer B) → OnlyTen a → ((x : A) → OnlyTen (next x)) → OnlyTen (a >>= next)
 only-then (given x) next h k = k x
 only-then (refused n) next h k = h
 
-only-pass : {A : Type 0} (b : Bool) (next : Answer A) → OnlyTen next → OnlyTen (refuseIf 10 b >> next)
+pub only-pass : {A : Type 0} (b : Bool) (next : Answer A) → OnlyTen next → OnlyTen (refuseIf 10 b >> next)
 only-pass true next h = refl
 only-pass false next h = h
 
@@ -98,7 +98,7 @@ rounds-ten limit (suc left) law es done =
     next-ten es₁ true again = again es₁
     next-ten es₁ false again = tt
 
-infer-ten : (limit : ℕ) (law : Law) → OnlyTen (infer limit law)
+pub infer-ten : (limit : ℕ) (law : Law) → OnlyTen (infer limit law)
 unfolding infer inferWithin
 infer-ten limit law =
     only-then (arguments limit law (allAt never (namesOf law)))

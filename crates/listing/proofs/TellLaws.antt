@@ -28,7 +28,7 @@ none [] h = refl
 none (x ∷ part) h = absurd (omega (arith, h))
 
 -- no finding at a position past the last
-none-at : (fs : List Finding) (p : ℕ) → length fs ≤ p → findingAt fs p ≡ option.none
+pub none-at : (fs : List Finding) (p : ℕ) → length fs ≤ p → findingAt fs p ≡ option.none
 unfolding findingAt
 none-at [] p h = refl
 none-at (f ∷ fs) zero h = absurd (omega (arith, h))

@@ -1,0 +1,3 @@
+pub mod Rows
+pub mod Loaded
+pub mod Shown

@@ -1,0 +1,40 @@
+// The exported calls as a loader and an editor use them. These contracts say in full what a caller relies on, in words of their own: where a contract of
+// `bilzarko` or `listing` promises less, or asks for something, they are not proved.
+use bilzarko::bilzarko_findings;
+use bilzarko::bilzarko_text;
+ghost use mathlib.Core.List.{[], _∷_};
+ghost use Rattle.lints.specs.Levels.{settingsFrom};
+ghost use Rattle.loader.specs.Rows.{returned};
+ghost use Rattle.loader.specs.Loaded.{Loaded};
+ghost use Rattle.loader.specs.Shown.{Shown};
+
+// Lists the findings of a law that is loaded. It returns 0 or a refusal's number.
+pub fn load(
+    mode: u32,
+    overrides: &[u32],
+    law: &[u8],
+    store: &mut [u32],
+    words: &mut [u32],
+    answer: &mut [u64; 3],
+) -> u32
+    ensures { λ r. ⌜ Loaded (settingsFrom mode (now (overrides .entry))) (now (law .entry)) (now (store .entry)) (now (words .entry)) (now (answer .entry))
+        (returned r (now (store .exit)) (now (words .exit)) (now (answer .exit))) ⌝ }
+{
+    bilzarko_findings(mode, overrides, law, store, words, answer)
+}
+
+// Writes the text of the finding that an editor shows. It returns 0 or a refusal's number.
+pub fn show(
+    mode: u32,
+    overrides: &[u32],
+    law: &[u8],
+    store: &mut [u32],
+    position: usize,
+    text: &mut [u8],
+    answer: &mut u64,
+) -> u32
+    ensures { λ r. ⌜ Shown (settingsFrom mode (now (overrides .entry))) (now (law .entry)) (now (store .entry)) position (now (text .entry)) (now (answer .entry) ∷ [])
+        (returned r (now (store .exit)) (now (text .exit)) (now (answer .exit) ∷ [])) ⌝ }
+{
+    bilzarko_text(mode, overrides, law, store, position, text, answer)
+}

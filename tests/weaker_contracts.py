@@ -1,0 +1,146 @@
+#!/usr/bin/env python3
+"""Tries contracts of the exported calls that promise less, or ask for something: the crate `loader` must refuse each.
+
+A weaker contract is easier to prove. So in each of these the proofs of crates/bilzarko are kept in step, such that it is still
+proved, and only what pins it is left to refuse it: the contracts of crates/loader, which say the same in other words. Edits of
+crates/loader/must-fail cannot reach crates/bilzarko; else these are the same. They are tried in a copy of the crates; what
+is proved already, in target, is taken along. Words name contracts; without any, all are tried."""
+import sys
+
+from weaker_machines import tried
+
+CODE = "bilzarko/src/lib.rt"
+EXPORTED = "bilzarko/specs/Exported.antt"
+LAWS = "bilzarko/proofs/ExportLaws.antt"
+TEXT_PROOF = "bilzarko/proofs/bilzarko_text/Proof.antt"
+PINS = {"loader/proofs/LoadedLaws.antt", "loader/proofs/ShownLaws.antt", "loader/proofs/load/Proof.antt", "loader/proofs/show/Proof.antt"}
+
+# ---- demand 3
+
+PREMISES = "→ getD (after .answer) 2 0 ≡ 1 → noNeedlessZeros law ≡ true"
+WORDS = "(take (8 * getD (after .answer) 0 0) (after .findings))"
+CLAIM = f"→ NoFalseFinding law {WORDS}"
+USED = "use Rattle.runs.specs.Claim.{NoFalseFinding}"
+CLAIMED_FOR = "no-false-finding = λ law law-is none one zeros."
+CLAIMED = "(settled-by-word settled (rw (← word-is) one)) zeros;"
+CLAIMED_WHOLE = f"""{CLAIMED_FOR}
+        promise .no-false-finding law (record {{ findings = count; rounds = rounds; settled = settled }}) law-is (rw is refl) {CLAIMED}"""
+
+# ---- the outcome
+
+OUTCOME = "outcome : after ≡ findingsExit answer (findingsOutcome limit settings bytes store words)"
+REFUSED = "outcome = rw (← promise .outcome, is, number-is) refl;"
+LISTED = "outcome = rw (← promise .outcome, is, word-is) refl;"
+NUMBER_SOME = "absurd (turned-number-some why (rw (← number-is) none))"
+
+TEXT_RECORD = "(record { number = r; store = now (store .exit); text = now (text .exit); answer = now (answer .exit) })"
+TEXT_IS = ("(textExit (now (answer .entry)) (textOutcome 64 (settingsFrom mode (now (overrides .entry))) (now (law .entry))"
+           " (now (store .entry)) position (now (text .entry))))")
+TEXT_SAID = f"""_≡_ {{A = TextExit}} {TEXT_RECORD}
+        {TEXT_IS}"""
+TEXT_REFUSED = ("text-refused (at-start .args .answer .now) (at-call .text .ensures) (at-why .why .given .0 .0) (at-why .why .given .1)"
+                " (c .turned-number .ensures)")
+TEXT_WRITTEN = ("text-written (at-start .args .answer .now) (at-call .text .ensures) (at-bytes .bytes .given .0 .0)"
+                " (at-bytes .bytes .given .1)")
+
+
+def said(name, type_of, fields, left_out, nothing, where):
+    """A definition: what an exit says where a field counts only after refusals, or only where there is none."""
+    kept = {field: f"e .{field}" for field in fields}
+    ways = (f"(e .{left_out})", nothing) if where == "refused" else (nothing, f"(e .{left_out})")
+    kept[left_out] = f"cond (eqb (e .number) 0) {' '.join(ways)}"
+    return f"""abbrev pub {name} : {type_of} → {type_of}
+{name} e = record {{ number = e .number; {'; '.join(f'{field} = {text}' for field, text in kept.items())} }}
+
+"""
+
+
+def findings_unsaid(field, where):
+    definition = said("said", "FindingsExit", ("store", "findings", "answer"), field, "[]", where)
+    return [
+        (EXPORTED, "use lib.ListN.{take, getD}", "use lib.ListN.{take, getD}\nuse lib.Dec.{eqb}"),
+        (EXPORTED, "-- `bytes` is the law;", definition + "-- `bytes` is the law;"),
+        (EXPORTED, OUTCOME, OUTCOME.replace("after ≡ ", "said after ≡ said (") + ")"),
+    ] + ([(LAWS, LISTED, LISTED.replace(", word-is", ""))] if (field, where) == ("answer", "listed") else [])
+
+
+def text_unsaid(field, where):
+    definition = said("said", "TextExit", ("store", "text", "answer"), field, "0" if field == "answer" else "[]", where)
+    return [
+        (EXPORTED, "use lib.ListN.{take, getD}", "use lib.ListN.{take, getD}\nuse lib.Dec.{eqb}"),
+        (EXPORTED, "-- the answer is the number of bytes written", definition + "-- the answer is the number of bytes written"),
+        (CODE, "{FindingsExported, TextExit, textExit}", "{FindingsExported, TextExit, textExit, said}"),
+        (CODE, TEXT_RECORD, f"(said {TEXT_RECORD})"),
+        (CODE, TEXT_IS, f"(said {TEXT_IS})"),
+        (TEXT_PROOF, "use borrow.Author.Needs.{needs}", "use borrow.Author.Needs.{needs}\nuse mathlib.Core.Path.{ap}\n"
+         "use Rattle.bilzarko.specs.Exported.{said}"),
+        (TEXT_PROOF, TEXT_REFUSED, f"ap said ({TEXT_REFUSED})"),
+        (TEXT_PROOF, TEXT_WRITTEN, f"ap said ({TEXT_WRITTEN})"),
+    ]
+
+
+def asking(call):
+    """The mode must be 1."""
+    return [(CODE, f"    ensures {{ λ r. ⌜ {call}", f"    requires {{ ⌜ mode ≡ 1 ⌝ }}\n    ensures {{ λ r. ⌜ {call}")]
+
+
+CONTRACTS = {
+    "no-demand-3": (
+        "demand 3 is taken off",
+        [(EXPORTED, CLAIM, "→ Unit {0}"), (LAWS, CLAIMED_WHOLE, CLAIMED_FOR + " tt;")],
+    ),
+    "demand-3-empty": (
+        "demand 3 of empty listings alone",
+        [
+            (EXPORTED, PREMISES, PREMISES + " → getD (after .answer) 0 0 ≡ 0"),
+            (LAWS, CLAIMED_FOR, CLAIMED_FOR.replace("zeros.", "zeros empty.")),
+        ],
+    ),
+    "demand-3-lint-1": (
+        "demand 3 of lint 1 alone",
+        [
+            (EXPORTED, USED, USED.replace("NoFalseFinding", "OfFunction, Lists, NeverChosen")),
+            (EXPORTED, CLAIM, f"→ NeverChosen law (λ i. OfFunction law i × Lists {WORDS} 1 i)"),
+            (LAWS, CLAIMED, CLAIMED.replace(";", " .dead;")),
+        ],
+    ),
+    "demand-3-lint-2": (
+        "demand 3 of lint 2 alone",
+        [
+            (EXPORTED, USED, USED.replace("NoFalseFinding", "Lists, NeverRecognised")),
+            (EXPORTED, CLAIM, f"→ NeverRecognised law (Lists {WORDS} 2)"),
+            (LAWS, CLAIMED, CLAIMED.replace(";", " .recognition;")),
+        ],
+    ),
+    "findings-refusals-alone": (
+        "the findings call's outcome is said of refusals alone",
+        [
+            (EXPORTED, OUTCOME, OUTCOME.replace("after ≡", "(after .number ≡ 0 → ⊥) → after ≡")),
+            (LAWS, REFUSED, REFUSED.replace("rw", "λ some. rw")),
+            (LAWS, LISTED, "outcome = λ some. absurd (some refl);"),
+        ],
+    ),
+    "findings-listings-alone": (
+        "the findings call's outcome is said of listings alone",
+        [
+            (EXPORTED, OUTCOME, OUTCOME.replace("after ≡", "after .number ≡ 0 → after ≡")),
+            (LAWS, REFUSED, f"outcome = λ none. {NUMBER_SOME};"),
+            (LAWS, LISTED, LISTED.replace("rw", "λ none. rw")),
+        ],
+    ),
+    "findings-asks": ("the findings call asks for strict mode", asking("FindingsExported")),
+    "text-asks": ("the text call asks for strict mode", asking("_≡_ {A = TextExit}")),
+    "text-nothing": (
+        "the text call promises nothing",
+        [(CODE, TEXT_SAID, "Unit {0}"), (TEXT_PROOF, TEXT_REFUSED, "tt"), (TEXT_PROOF, TEXT_WRITTEN, "tt")],
+    ),
+}
+for where, when in (("refused", "after a refusal"), ("listed", "where there is none")):
+    for field in ("store", "findings", "answer"):
+        CONTRACTS[f"findings-{field}-{where}"] = (f"the findings call leaves its {field} unsaid {when}", findings_unsaid(field, where))
+    for field in ("store", "text", "answer"):
+        CONTRACTS[f"text-{field}-{where}"] = (f"the text call leaves its {field} unsaid {when}", text_unsaid(field, where))
+
+
+if __name__ == "__main__":
+    sys.exit(tried("loader", CONTRACTS, lambda by: bool(by) and by <= PINS))
