@@ -50,7 +50,8 @@ def case(label, source, *, found, mode=STRICT, overrides=(), refused=None):
     asked = Asked(functions, mode, overrides, STORE + MORE, WORDS, TEXT, 0, refused)
     answer, listed = asked.found()
     assert answer == found, (label, answer)
-    lines = f"{label}\n  findings call: {returned(answer, f'{KEPT} {KEPT} {KEPT}')}" + words_after(listed, WORDS) + store_after(asked)
+    lines = f"{label}\n  findings call: {returned(answer, f'{KEPT} {KEPT} {KEPT}')}"
+    lines += words_after(listed, WORDS) + store_after(asked)
     text = None
     while text != "":
         more, text = text_call(asked, TEXT)

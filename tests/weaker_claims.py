@@ -3,14 +3,16 @@
 
 A claim over fewer runs, calls, sentences or findings is easier to prove, and says less. So in each of these the proofs are kept in
 step, such that the weaker claim is proved, and so is the lemma by which a run refutes a listing (`shown` in
-specs/FalseListings.antt). What is left to refuse it is the table there: a listing that is false in just the way that the weaker
-claim leaves out. The examples in specs/Premises.antt may refuse it too. Words name claims; without any, all are tried."""
+specs/Refuting.antt). What is left to refuse it is the table of specs/FalseListings.antt: a listing that is false in just the way
+that the weaker claim leaves out. The examples in specs/Premises.antt may refuse it too. Words name claims; without any, all are
+tried."""
 import sys
 
 from weaker_machines import INVARIANT, tried
 
 CLAIM = "runs/specs/Claim.antt"
 TABLE = "runs/specs/FalseListings.antt"
+REFUTING = "runs/specs/Refuting.antt"
 HOLDS = "runs/proofs/FindingsHold.antt"
 NO_FALSE = "runs/proofs/NoFalse.antt"
 
@@ -40,9 +42,9 @@ def fewer(name, definition, changed, run):
         (CLAIM, COMES, COMES.replace("run law function argument answers steps", run("function", "argument", "answers", "steps"))),
         (INVARIANT, USES + "Reached", USES + f"{name}, Reached"),
         (INVARIANT, REACHED_HOLDS, holds),
-        (TABLE, USES + "Reached", USES + f"{name}, Reached"),
-        (TABLE, SHOWN_BY, SHOWN_BY.replace("run law f v answers n", run("f", "v", "answers", "n"))),
-        (TABLE, SHOWN, SHOWN.replace("run law f v answers n", run("f", "v", "answers", "n"))),
+        (REFUTING, USES + "Reached", USES + f"{name}, Reached"),
+        (REFUTING, SHOWN_BY, SHOWN_BY.replace("run law f v answers n", run("f", "v", "answers", "n"))),
+        (REFUTING, SHOWN, SHOWN.replace("run law f v answers n", run("f", "v", "answers", "n"))),
     ]
 
 

@@ -13,7 +13,7 @@ CODE = "bilzarko/src/lib.rt"
 EXPORTED = "bilzarko/specs/Exported.antt"
 LAWS = "bilzarko/proofs/ExportLaws.antt"
 TEXT_PROOF = "bilzarko/proofs/bilzarko_text/Proof.antt"
-PINS = {"loader/proofs/LoadedLaws.antt", "loader/proofs/ShownLaws.antt", "loader/proofs/load/Proof.antt", "loader/proofs/show/Proof.antt"}
+PINS = {"loader/proofs/" + name for name in ("LoadedLaws.antt", "ShownLaws.antt", "load/Proof.antt", "show/Proof.antt")}
 
 # ---- demand 3
 
@@ -135,7 +135,7 @@ CONTRACTS = {
         [(CODE, TEXT_SAID, "Unit {0}"), (TEXT_PROOF, TEXT_REFUSED, "tt"), (TEXT_PROOF, TEXT_WRITTEN, "tt")],
     ),
 }
-for where, when in (("refused", "after a refusal"), ("listed", "where there is none")):
+for where, when in (("refused", "after a refusal"), ("listed", "where it is not refused")):
     for field in ("store", "findings", "answer"):
         CONTRACTS[f"findings-{field}-{where}"] = (f"the findings call leaves its {field} unsaid {when}", findings_unsaid(field, where))
     for field in ("store", "text", "answer"):

@@ -187,7 +187,7 @@ none-at-all (env ∷ es) e = absurd (not-none env [] e)
 
 
 def refused_by(copy, name, edits):
-    """The files in which the prover finds errors after these edits, as it checks a crate, each with the first line; none where that is proved."""
+    """The files in which the prover finds errors after these edits, each with the first line; none where the crate is proved."""
     crates = copy / "crates"
     kept = {file: (crates / file).read_text() for file, _, _ in edits}
     try:

@@ -98,9 +98,12 @@ def attempts(copy, name, edits):
 
 
 def crates():
-    """The crates of crates.txt, lowest first, each with those below it."""
+    """The crates of crates.txt, lowest first, each with all below it."""
     lines = [line.split("#")[0].split(":") for line in (ROOT / "crates.txt").read_text().split("\n")]
-    return {line[0].strip(): line[1].split() for line in lines if len(line) == 2}
+    found = {}
+    for name, below in [line for line in lines if len(line) == 2]:
+        found[name.strip()] = {lower for one in below.split() for lower in {one} | found.get(one, set())}
+    return found
 
 
 def take(copy, parts):

@@ -1,7 +1,7 @@
 -- What a loader relies on, and the contract of `bilzarko_findings`: each follows from the other.
 use Prim.Native.Nat.{ℕ, suc, _+_, _*_, _≤_, _<_}
-use mathlib.Core.Bool.{Bool, true, false, cond}
-use mathlib.Core.List.{List, [], _∷_, _++_}
+use mathlib.Core.Bool.{Bool, true, false}
+use mathlib.Core.List.{List}
 use mathlib.Core.Path.{_≡_, refl, sym, _∙_, ap}
 use native.Mathlib.Omega.{arith}
 use borrow.Author.Tests.{lt-leb, le-leb, leb-true, leb-false}
@@ -15,7 +15,6 @@ use Rattle.law.specs.Law.{lawOf}
 use Rattle.buffers.specs.Written.{written}
 use Rattle.lints.specs.Levels.{Settings, listingWords}
 use Rattle.lints.specs.Findings.{Listing, listing}
-use Rattle.runs.specs.Numbers.{noNeedlessZeros}
 use Rattle.runs.specs.Claim as claim
 use Rattle.runs.specs.Claim.{NoFalseFinding}
 use Rattle.runs.specs.Machine.{State, called, chosen}

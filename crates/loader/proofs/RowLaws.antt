@@ -1,5 +1,5 @@
 -- The rows that both calls share, and `front`.
-use Prim.Native.Nat.{ℕ, _<_, _≤_}
+use Prim.Native.Nat.{ℕ, _<_}
 use mathlib.Core.Bool.{Bool, true, false}
 use mathlib.Core.List.{List}
 use mathlib.Core.Path.{_≡_, refl, sym, _∙_, ap}
@@ -10,7 +10,7 @@ use Rattle.file.specs.Answer.{Answer, refused, given, refuseIf, _>>=_, _>>_}
 use Rattle.law.specs.Tree.{Law}
 use Rattle.law.specs.Law.{lawOf}
 use Rattle.formats.specs.Infer.{Inferred, infer}
-use Rattle.formats.proofs.CallLaws.{OnlyTen, only-then, only-pass, infer-ten}
+use Rattle.formats.proofs.CallLaws.{only-then, only-pass, infer-ten}
 use Rattle.lints.specs.Recognition.{argumentsOver}
 use Rattle.lints.specs.Levels.{Settings, settingsAllowed, shown}
 use Rattle.lints.specs.Findings.{Listing, findingsOf, formatsOf, listing}

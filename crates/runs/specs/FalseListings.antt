@@ -6,20 +6,20 @@ use Prim.Native.Nat.{ℕ, zero, suc}
 use Prim.Native.String.{String}
 use mathlib.Core.List.{List, [], _∷_, List·Memᴰ, List·Memᴰ·head, List·Memᴰ·tail}
 use mathlib.Core.Logic.{inl, inr}
-use mathlib.Core.Option.{Option, none, some}
-use mathlib.Core.Path.{_≡_, refl}
+use mathlib.Core.Path.{refl}
 use native.Mathlib.Omega.{arith}
 use Rattle.names.specs.Name.{sameBytes}
 use Rattle.law.specs.Tree.{Run, empty, bracket, block, Sentences, noSentence, sentence, noCondition, condition, Function, Law}
 use Rattle.law.specs.Definition.{definition}
-use Rattle.law.specs.Expression.{Expression, nothing}
+use Rattle.law.specs.Expression.{nothing}
 use Rattle.law.specs.Examples.{bytesOf, marked}
 use Rattle.matching.specs.Pattern.{patternOf}
 use Rattle.matching.specs.Match.{valueIn, splits, sameTerms, after, choices, matches}
 use Rattle.matching.specs.Literal.{literalTerms, changed}
 use Rattle.matching.specs.Examples.{characters, text, eVariable, sVariable, digits}
-use Rattle.runs.specs.Machine.{State, working, called, entered, trying, chosen, finished, stopped, give, answered, step, steps, run}
-use Rattle.runs.specs.Claim.{Reached, Recognises, OfFunction, Lists, NoFalseFinding}
+use Rattle.runs.specs.Machine.{give, answered, step, steps, run}
+use Rattle.runs.specs.Claim.{NoFalseFinding}
+use Rattle.runs.specs.Refuting.{shown}
 use Rattle.runs.specs.Examples.{expressed, said, function, plain, calling, identifier}
 
 pub record FalseListing : Type 0 where
@@ -242,34 +242,6 @@ falseListings =
 abbrev pub AllRefuted : List FalseListing → Type 0
 AllRefuted [] = Unit {0}
 AllRefuted (l ∷ ls) = (NoFalseFinding (l .law) (l .words) → ⊥) × AllRefuted ls
-
--- where a name is defined, some sentence of it matches
-abbrev Recognised : Option Sentences → Expression → Type 0
-Recognised none v = ⊥
-Recognised (some ss) v = Recognises ss v
-
--- a finding is false in this state: of a call that is reached, or of a sentence that is chosen
-abbrev IsFalse : Law → List ℕ → State → Type 0
-IsFalse law words (working r env u k left) = ⊥
-IsFalse law words (called m f v k left) = Lists words 2 m × Recognised (definition law f) v
-IsFalse law words (entered n ss env v k left) = ⊥
-IsFalse law words (trying t k left) = ⊥
-IsFalse law words (chosen i r env k left) = OfFunction law i × Lists words 1 i
-IsFalse law words (finished v) = ⊥
-IsFalse law words stopped = ⊥
-
-refuted : (law : Law) (words : List ℕ) (state : State) → Reached law state → IsFalse law words state → NoFalseFinding law words → ⊥
-refuted law words (called m f v k left) reached (listed, found) claim = go (definition law f) refl found
-  where
-    go : (o : Option Sentences) → definition law f ≡ o → Recognised o v → ⊥
-    go (some ss) e h = claim .recognition m f v k left reached listed ss e h
-refuted law words (chosen i r env k left) reached h claim = claim .dead i r env k left reached h
-
--- by a run of a function of the law, on an expression, with answers, after so many steps
-shown : {law : Law} {words : List ℕ} {f : Function} → List·Memᴰ f law → (v : Expression) (answers : List Expression) (n : ℕ)
-    → IsFalse law words (run law f v answers n) → NoFalseFinding law words → ⊥
-shown {law} {words} {f} in-law v answers n =
-    refuted law words (run law f v answers n) (record { function = f; of-law = in-law; argument = v; answers = answers; steps = n; comes = refl })
 
 abbrev ofFirst : {f : Function} {fs : Law} → List·Memᴰ f (f ∷ fs)
 ofFirst = List·Memᴰ·head refl
