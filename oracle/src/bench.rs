@@ -7,6 +7,7 @@ use std::hint::black_box;
 use std::process::ExitCode;
 use std::time::Instant;
 
+use refal_ast::Program;
 use refal_semantics::check_program_with_levels;
 
 use crate::compare::compared;
@@ -115,35 +116,40 @@ fn time(seed: u64, number: u64, buffers: &mut Buffers) -> Option<Time> {
     let law = generate::law(&mut random);
     let encoded = encode(&law.program, law.layout, &mut random);
     let remarks = compared(&law.program, &encoded)?;
+    Some(Time {
+        number,
+        terms: encoded.terms.len(),
+        bracketed: remarks.bracketed > 0,
+        ratios: vec![ratio(&law.program, &encoded.bytes, SECONDS, buffers)?],
+    })
+}
+
+/// The least time of the findings call over the least of the Rust, in turns of both that take so many seconds.
+pub fn ratio(program: &Program, bytes: &[u8], seconds: f64, buffers: &mut Buffers) -> Option<f64> {
     let settings = Settings::strict();
     let (ours, levels) = (settings.ours(), settings.levels());
     let (mut least_ours, mut least_rust) = (f64::MAX, f64::MAX);
     let (mut turns, began) = (0, Instant::now());
-    while turns < TURNS || began.elapsed().as_secs_f64() < SECONDS {
+    while turns < TURNS || began.elapsed().as_secs_f64() < seconds {
         turns += 1;
         let start = Instant::now();
         let answer = bilzarko::findings(
             &ours,
-            black_box(&encoded.bytes),
+            black_box(bytes),
             &mut buffers.store,
             &mut buffers.words,
         );
         least_ours = least_ours.min(start.elapsed().as_secs_f64());
-        black_box(&answer).ok()?;
+        black_box(&answer).as_ref().ok()?;
         let start = Instant::now();
         drop(black_box(check_program_with_levels(
-            black_box(&law.program),
+            black_box(program),
             settings.mode(),
             &levels,
         )));
         least_rust = least_rust.min(start.elapsed().as_secs_f64());
     }
-    Some(Time {
-        number,
-        terms: encoded.terms.len(),
-        bracketed: remarks.bracketed > 0,
-        ratios: vec![least_ours / least_rust],
-    })
+    Some(least_ours / least_rust)
 }
 
 fn row(name: &str, times: Vec<&Time>) -> String {

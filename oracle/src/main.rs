@@ -32,6 +32,7 @@ mod records;
 mod reduce;
 mod refal;
 mod rounds;
+mod rows;
 mod run_counts;
 mod run_laws;
 mod runs;
@@ -63,6 +64,7 @@ const USAGE: &str = "usage:
   oracle law NOTATION         one law, such as 'F { s.A = <F 1>; }'
   oracle quick                a few seconds of all these
   oracle bench LAWS SEED      how long both take
+  oracle rows                 how long both take for rows as long as the limits allow
   oracle families             how long the findings call takes where a plain search takes for ever
   oracle stack LAWS SEED      how much stack the two calls take
   oracle sample               writes the stored sample of the Rust's answers
@@ -88,6 +90,7 @@ fn main() -> ExitCode {
         (Some("quick"), []) => quick(),
         (Some("small"), []) => small::run(),
         (Some("law"), []) if arguments.len() == 2 => small::show(&arguments[1]),
+        (Some("rows"), []) if arguments.len() == 1 => rows::run(),
         (Some("families"), []) if arguments.len() == 1 => families::run(),
         (Some("families"), []) if arguments[1] == worker::SERVES => worker::serve(),
         (Some("sample"), []) if arguments.len() < 3 => sample(arguments.get(1)),
