@@ -1,0 +1,6 @@
+pub mod Unique
+pub mod Machine
+pub mod Sound
+pub mod Reading
+pub mod StackLaws
+pub mod KindLaws
