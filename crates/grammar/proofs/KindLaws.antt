@@ -7,12 +7,13 @@ use native.Mathlib.Omega.{arith}
 use native.Mathlib.Numerals.{add-one}
 use lib.ListN.{length, drop, getD, drop-of-length-le}
 use lib.Seq.{drop-cons}
+use borrow.Author.Tests.{ne-eqb}
 use Rattle.law.specs.Tree.{symbolKind, termKind, expressionKind}
 use Rattle.tokens.specs.Token.{leftBrace, rightBrace, leftBracket, rightBracket, leftAngle, rightAngle, comma, colon, equals, semicolon, dollarEntry, dollarExtern, identifier, number, variable, quoted, Token, sign, atom, Placed}
 use Rattle.tokens.specs.Code.TokenKind.{tokenKind}
 use Rattle.tokens.specs.Code.Arrays.{kindsOf}
-use Rattle.grammar.specs.Accept.{Opened, openOf, move, perform, mayEnd, accepts}
-use Rattle.grammar.specs.Code.Machine.{stackOf, stepped, StepDone, modeEnds, kindMove, acceptsKinds}
+use Rattle.grammar.specs.Accept.{Opened, openOf, otherMove, move, perform, mayEnd, accepts}
+use Rattle.grammar.specs.Code.Machine.{stackOf, stepped, StepDone, modeEnds, braceMove, separatorMove, kindMove, acceptsKinds}
 use Rattle.grammar.specs.declared.table.Mode.{Mode}
 use Rattle.grammar.specs.declared.table.Mode.the-variants.{AtText, AfterEntry, AfterName, AtExtern, InExtern, InPattern, InCondition, InResult, AfterSemicolon, ConditionCall, ResultCall}
 use Rattle.grammar.specs.declared.table.Move.{Move}
@@ -39,6 +40,18 @@ kind-move (atom (variable termKind w)) m = refl
 kind-move (atom (variable expressionKind w)) m = refl
 kind-move (atom (quoted w)) m = refl
 
+-- a kind that is not told apart
+module _ (k : ℕ) (m : Mode) where
+  pub no-brace : (k ≡ 123 → ⊥) → (k ≡ 125 → ⊥) → (k ≡ 69 → ⊥) → (k ≡ 88 → ⊥) → otherMove m ≡ braceMove k m
+  no-brace a b c d = rw (ne-eqb k 123 a, ne-eqb k 125 b, ne-eqb k 69 c, ne-eqb k 88 d)
+
+  pub no-separator : (k ≡ 44 → ⊥) → (k ≡ 58 → ⊥) → (k ≡ 61 → ⊥) → (k ≡ 59 → ⊥) → braceMove k m ≡ separatorMove k m
+  no-separator a b c d = rw (ne-eqb k 44 a, ne-eqb k 58 b, ne-eqb k 61 c, ne-eqb k 59 d)
+
+  pub no-bracket : (k ≡ 1 → ⊥) → (k ≡ 40 → ⊥) → (k ≡ 41 → ⊥) → (k ≡ 60 → ⊥) → (k ≡ 62 → ⊥) → separatorMove k m ≡ kindMove k m
+  no-bracket a b c d e = rw (ne-eqb k 1 a, ne-eqb k 40 b, ne-eqb k 41 c, ne-eqb k 60 d, ne-eqb k 62 e)
+
+-- the machine over kinds is the machine over tokens
 pub kinds-accepted : (ts : List Placed) (m : Mode) (st : List Opened) → acceptsKinds m st (kindsOf ts) ≡ accepts m st ts
 kinds-accepted [] m st = refl
 kinds-accepted (p ∷ ps) m st =
@@ -79,18 +92,19 @@ module _ {ks : List ℕ} {i : ℕ} {m : Mode} {depth : ℕ} {stack : List ℕ} (
       → acceptsKinds AtText [] ks ≡ stepped r after (λ n rest. acceptsKinds n rest (drop (suc i) ks))
   one l r after d = h .left ∙ rw (drop-cons ks i 0 l) (d .same (λ n rest. acceptsKinds n rest (drop (suc i) ks)))
 
-  pub left-refused : {k : Move} {after : List ℕ} → i < length ks → k ≡ kindMove (getD ks i 0) m → StepDone k (stackOf depth stack) Refused after depth
+  pub left-refused : {k : Move} {r : Step} {after : List ℕ} → i < length ks → k ≡ kindMove (getD ks i 0) m → StepDone k (stackOf depth stack) r after depth → r ≡ Refused
       → false ≡ acceptsKinds AtText [] ks
-  left-refused {after = after} l e d = sym (one l Refused after (rw e at d))
+  left-refused {after = after} l e d is = sym (one l Refused after (rw (e, is) at d))
 
-  pub left-next : {k : Move} {n : Mode} {e : ℕ} {after : List ℕ} → i < length ks → length after ≡ 4096 → k ≡ kindMove (getD ks i 0) m
-      → StepDone k (stackOf depth stack) (On n e) after depth → Left ks (i + 1) n e after
-  left-next {n = n} {e = e} {after = after} l long q d =
+  pub left-next : {k : Move} {r : Step} {n : Mode} {e : ℕ} {after : List ℕ} → i < length ks → length after ≡ 4096 → k ≡ kindMove (getD ks i 0) m
+      → StepDone k (stackOf depth stack) r after depth → r ≡ On n e → Left ks (i + 1) n e after
+  left-next {n = n} {e = e} {after = after} l long q d is =
+      let step : StepDone (kindMove (getD ks i 0) m) (stackOf depth stack) (On n e) after depth = rw (q, is) at d in
       record {
         inside = omega arith;
-        low = omega (arith, d .bound, h .low);
+        low = omega (arith, step .bound, h .low);
         long = long;
-        left = rw (add-one i) (one l (On n e) after (rw q at d));
+        left = rw (add-one i) (one l (On n e) after step);
       }
 
   pub left-open : length ks ≤ i → (depth ≡ 0 → ⊥) → false ≡ acceptsKinds AtText [] ks

@@ -1,18 +1,16 @@
--- The reader's phrase of a text is the grammar's, and there is one.
+-- A text of the grammar has one phrase, `written-once`; `phraseOf` finds it, `written-found`, and finds nothing else, `found-written`.
 use Prim.Native.Nat.{ℕ}
 use mathlib.Core.List.{List, []}
 use mathlib.Core.Bool.{Bool, true, false, cond}
 use mathlib.Core.Option.{Option, none, some, Option·some-injective, Option·none-ne-some}
 use mathlib.Core.Path.{_≡_, refl, sym, ap, _∙_}
-use native.Mathlib.Omega.{arith}
-use lib.ListN.{length}
-use Rattle.tokens.specs.Token.{Piece, piecesBytes, placed}
-use Rattle.tokens.specs.Lex.{lexFrom, lex}
-use Rattle.tokens.proofs.Lexing.{lex-complete, Split, lex-sound, lexed-once}
+use Rattle.tokens.specs.Token.{Piece, placed}
+use Rattle.tokens.specs.Lex.{lex}
+use Rattle.tokens.proofs.Lexing.{Split, lexed-found, found-lexed, lexed-once}
 use Rattle.grammar.specs.Grammar.{Text, Written}
 use Rattle.grammar.specs.Parse.{phrase}
 use Rattle.grammar.specs.Accept.{accepts}
-use Rattle.grammar.specs.Read.{tokensOf, phraseIn, phraseOf}
+use Rattle.grammar.specs.Read.{phraseIn, phraseOf}
 use Rattle.grammar.proofs.Unique.{text-read, spelled-once}
 use Rattle.grammar.proofs.Machine.{text-taken}
 use Rattle.grammar.proofs.Sound.{accepted-spells}
@@ -26,21 +24,21 @@ written-once bytes x y w v =
 
 -- it is found
 pub written-found : (bytes : List ℕ) (x : Text) → Written bytes x → phraseOf bytes ≡ some x
-unfolding phraseOf lex
+unfolding phraseOf
 written-found bytes x w =
-    let lexes : lexFrom (length bytes) bytes ≡ some (w .pieces) = rw (← w .whole) (lex-complete (w .pieces) (length (piecesBytes (w .pieces))) (w .lexed) (omega arith)) in
+    let lexes : lex bytes ≡ some (w .pieces) = rw (← w .whole) (lexed-found (w .pieces) (w .lexed)) in
     rw (lexes, ← w .spelled, text-taken x (w .allowed), text-read x)
 
 -- and nothing else is
 pub found-written : (bytes : List ℕ) (x : Text) → phraseOf bytes ≡ some x → Written bytes x
-unfolding phraseOf lex
-found-written bytes x h = go (lexFrom (length bytes) bytes) refl h
+unfolding phraseOf
+found-written bytes x h = go (lex bytes) refl h
   where
-    test : (ps : List Piece) → Split bytes ps → (b : Bool) → accepts AtText [] (tokensOf ps) ≡ b → cond b (some (phrase (tokensOf ps))) none ≡ some x → Written bytes x
+    test : (ps : List Piece) → Split bytes ps → (b : Bool) → accepts AtText [] (placed 0 ps) ≡ b → cond b (some (phrase (placed 0 ps))) none ≡ some x → Written bytes x
     test ps s false e k = absurd (Option·none-ne-some x k)
     test ps s true e k =
-        let (y, spells, allowed) = accepted-spells (tokensOf ps) e in
-        let found : y ≡ x = sym (text-read y) ∙ ap phrase spells ∙ Option·some-injective (phrase (tokensOf ps)) x k in
+        let (y, spells, allowed) = accepted-spells (placed 0 ps) e in
+        let found : y ≡ x = sym (text-read y) ∙ ap phrase spells ∙ Option·some-injective (phrase (placed 0 ps)) x k in
         record {
           pieces = ps;
           lexed = s .lexed;
@@ -49,6 +47,6 @@ found-written bytes x h = go (lexFrom (length bytes) bytes) refl h
           spelled = rw (← found) spells;
         }
 
-    go : (o : Option (List Piece)) → lexFrom (length bytes) bytes ≡ o → phraseIn o ≡ some x → Written bytes x
+    go : (o : Option (List Piece)) → lex bytes ≡ o → phraseIn o ≡ some x → Written bytes x
     go none e k = absurd (Option·none-ne-some x k)
-    go (some ps) e k = test ps (lex-sound (length bytes) bytes ps e) (accepts AtText [] (tokensOf ps)) refl k
+    go (some ps) e k = test ps (found-lexed bytes ps e) (accepts AtText [] (placed 0 ps)) refl k

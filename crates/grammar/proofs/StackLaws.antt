@@ -2,17 +2,17 @@
 use Prim.Native.Nat.{ℕ, zero, suc, _+_, _-_, _≤_, _<_}
 use mathlib.Core.List.{List, [], _∷_}
 use mathlib.Core.Bool.{Bool, false}
-use mathlib.Core.Option.{some}
 use mathlib.Core.Path.{_≡_, refl}
 use native.Mathlib.Omega.{arith}
 use native.Mathlib.Numerals.{add-one}
 use lib.ListN.{length, getD, set}
 use lib.Seq.{getD-set-same, getD-set-other}
-use Rattle.grammar.specs.Accept.{Opened, bracketOpen, callOpen, openOf, closedBy}
+use Rattle.grammar.specs.Accept.{Opened, bracketOpen, callOpen, openOf, closedBy, perform}
 use Rattle.grammar.specs.Code.Machine.{stackOf, StepDone}
 use Rattle.grammar.specs.declared.table.Mode.{Mode}
 use Rattle.grammar.specs.declared.table.Move.{Move}
 use Rattle.grammar.specs.declared.table.Move.the-variants.{Refuse, Stay, Leave, Open, Close}
+use Rattle.grammar.specs.declared.Step.{Step}
 use Rattle.grammar.specs.declared.Step.the-variants.{Refused, On}
 
 -- a place that is not used
@@ -38,8 +38,8 @@ open-some zero h = absurd (h refl)
 open-some (suc n) h = refl
 
 module _ (s : List ℕ) {m : Move} {d : ℕ} where
-  pub done-stop : m ≡ Refuse → StepDone m (stackOf d s) Refused s d
-  done-stop e = record { same = λ then. rw e; bound = omega arith }
+  pub done-refuse : m ≡ Refuse → StepDone m (stackOf d s) Refused s d
+  done-refuse e = record { same = λ then. rw e; bound = omega arith }
 
   pub done-stay : {n : Mode} → m ≡ Stay n → StepDone m (stackOf d s) (On n d) s d
   done-stay e = record { same = λ then. rw e; bound = omega arith }
@@ -47,30 +47,39 @@ module _ (s : List ℕ) {m : Move} {d : ℕ} where
   pub done-inside : {n : Mode} → m ≡ Leave n → (d ≡ 0 → ⊥) → StepDone m (stackOf d s) Refused s d
   done-inside e h = record { same = λ then. rw (e, stack-top d s h); bound = omega arith }
 
-  pub done-mark : {n : Mode} → m ≡ Leave n → d ≡ 0 → StepDone m (stackOf d s) (On n 0) s d
+  pub done-leave : {n : Mode} → m ≡ Leave n → d ≡ 0 → StepDone m (stackOf d s) (On n 0) s d
   unfolding stackOf
-  done-mark e h = record { same = λ then. rw (e, h); bound = omega arith }
+  done-leave e h = record { same = λ then. rw (e, h); bound = omega arith }
 
-  pub done-push : {n : Mode} {o : ℕ} → m ≡ Open o n → d < length s → StepDone m (stackOf d s) (On n (d + 1)) (set s d o) d
-  done-push {o = o} e h = record { same = λ then. rw (e, stack-push d s o h); bound = omega arith }
+  pub done-open : {n : Mode} {o : ℕ} → m ≡ Open o n → d < length s → StepDone m (stackOf d s) (On n (d + 1)) (set s d o) d
+  done-open {o = o} e h = record { same = λ then. rw (e, stack-push d s o h); bound = omega arith }
 
-  pub done-empty : {n : Mode} {o : ℕ} → m ≡ Close o n → d ≡ 0 → StepDone m (stackOf d s) Refused s d
+  pub done-close : {n : Mode} {o : ℕ} {r : Step} → m ≡ Close o n → StepDone (Close o n) (stackOf d s) r s d → StepDone m (stackOf d s) r s d
+  done-close e h = rw e h
+
+nothing-closed : (f : List Opened → Bool) (q : Opened) → closedBy q [] f ≡ false
+nothing-closed f bracketOpen = refl
+nothing-closed f callOpen = refl
+
+-- what closes
+module _ (s : List ℕ) (n : Mode) (o : ℕ) {d : ℕ} where
+  pub close-nothing : d ≡ 0 → StepDone (Close o n) (stackOf d s) Refused s d
   unfolding stackOf
-  done-empty {n = n} {o = o} e h = record { same = λ then. rw (e, h) (nothing-popped (then n) (openOf o)); bound = omega arith }
-    where
-      nothing-popped : (f : List Opened → Bool) (q : Opened) → closedBy q [] f ≡ false
-      nothing-popped f bracketOpen = refl
-      nothing-popped f callOpen = refl
+  close-nothing h = record { same = λ then. rw h (nothing-closed (then n) (openOf o)); bound = omega arith }
 
-  module _ {n : Mode} {o : ℕ} (e : m ≡ Close o n) (some : d ≡ 0 → ⊥) where
-    pub done-round : o ≡ 0 → getD s (d - 1) 0 ≡ 0 → StepDone m (stackOf d s) (On n (d - 1)) s d
-    done-round h k = record { same = λ then. rw (e, stack-top d s some, open-none o h, open-none (getD s (d - 1) 0) k); bound = omega arith }
+  module _ {top : ℕ} (some-open : d ≡ 0 → ⊥) (e : top ≡ getD s (d - 1) 0) where
+    opened : {x y : Opened} → openOf o ≡ x → openOf top ≡ y → (then : Mode → List Opened → Bool)
+        → perform (Close o n) (stackOf d s) then ≡ closedBy x (y ∷ stackOf (d - 1) s) (then n)
+    opened p q then = rw (stack-top d s some-open, ← e, p, q)
 
-    pub done-not-round : o ≡ 0 → (getD s (d - 1) 0 ≡ 0 → ⊥) → StepDone m (stackOf d s) Refused s d
-    done-not-round h k = record { same = λ then. rw (e, stack-top d s some, open-none o h, open-some (getD s (d - 1) 0) k); bound = omega arith }
+    pub close-bracket : o ≡ 0 → top ≡ 0 → StepDone (Close o n) (stackOf d s) (On n (d - 1)) s d
+    close-bracket h k = record { same = λ then. opened (open-none o h) (open-none top k) then; bound = omega arith }
 
-    pub done-angle : (o ≡ 0 → ⊥) → (getD s (d - 1) 0 ≡ 0 → ⊥) → StepDone m (stackOf d s) (On n (d - 1)) s d
-    done-angle h k = record { same = λ then. rw (e, stack-top d s some, open-some o h, open-some (getD s (d - 1) 0) k); bound = omega arith }
+    pub bracket-mismatch : o ≡ 0 → (top ≡ 0 → ⊥) → StepDone (Close o n) (stackOf d s) Refused s d
+    bracket-mismatch h k = record { same = λ then. opened (open-none o h) (open-some top k) then; bound = omega arith }
 
-    pub done-not-angle : (o ≡ 0 → ⊥) → getD s (d - 1) 0 ≡ 0 → StepDone m (stackOf d s) Refused s d
-    done-not-angle h k = record { same = λ then. rw (e, stack-top d s some, open-some o h, open-none (getD s (d - 1) 0) k); bound = omega arith }
+    pub close-call : (o ≡ 0 → ⊥) → (top ≡ 0 → ⊥) → StepDone (Close o n) (stackOf d s) (On n (d - 1)) s d
+    close-call h k = record { same = λ then. opened (open-some o h) (open-some top k) then; bound = omega arith }
+
+    pub call-mismatch : (o ≡ 0 → ⊥) → top ≡ 0 → StepDone (Close o n) (stackOf d s) Refused s d
+    call-mismatch h k = record { same = λ then. opened (open-some o h) (open-none top k) then; bound = omega arith }

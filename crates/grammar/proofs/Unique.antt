@@ -5,7 +5,7 @@ use mathlib.Core.Bool.{Bool, true, false}
 use mathlib.Core.Path.{_≡_, refl, sym, ap, _∙_}
 use Rattle.tokens.specs.Token.{Sign, rightBrace, rightBracket, rightAngle, comma, colon, equals, semicolon, Atom, identifier, Placed}
 use Rattle.grammar.specs.Grammar.{signAt, Identifier, Terms, nothing, atomic, bracket, call, Conditions, noCondition, condition, Sentence, Sentences, last, lastClosed, more, Names, lastName, moreNames, Text, done, extern, function, entry, spellTerms, spellConditions, spellSentence, spellSentences, spellNames, spellText}
-use Rattle.grammar.specs.Parse.{_⊕_, Rows, end, row, front, bracketed, angled, rowsFrom, other, role, conditioned, withCondition, Body, plain, closesBody, braceNext, place, bodyAfter, readText, readTail, readNames, readBody, phrase}
+use Rattle.grammar.specs.Parse.{_⊕_, Rows, end, row, front, bracketBefore, callBefore, rowsFrom, other, role, conditioned, withCondition, Body, plain, closesBody, braceNext, braceAt, bodyAfter, readText, readTail, readNames, readBody, phrase}
 
 pub plus-nothing : (t : Terms) → t ⊕ nothing ≡ t
 plus-nothing nothing = refl
@@ -22,12 +22,12 @@ front-atomic at a rest (end t) = refl
 front-atomic at a rest (row t x g rows) = refl
 
 front-bracket : (l : ℕ) (inside : Terms) (r : ℕ) (rest : Terms) (rows : Rows)
-    → bracketed l (front inside (row nothing r rightBracket (front rest rows))) ≡ front (bracket l inside r rest) rows
+    → bracketBefore l (front inside (row nothing r rightBracket (front rest rows))) ≡ front (bracket l inside r rest) rows
 front-bracket l inside r rest (end t) = rw (plus-nothing inside)
 front-bracket l inside r rest (row t x g rows) = rw (plus-nothing inside)
 
 front-call : (l : ℕ) (f : Identifier) (inside : Terms) (r : ℕ) (rest : Terms) (rows : Rows)
-    → angled l (front (atomic (f .start) (identifier (f .spelled)) nothing) (front inside (row nothing r rightAngle (front rest rows)))) ≡ front (call l f inside r rest) rows
+    → callBefore l (front (atomic (f .start) (identifier (f .spelled)) nothing) (front inside (row nothing r rightAngle (front rest rows)))) ≡ front (call l f inside r rest) rows
 front-call l f inside r rest (end t) = rw (plus-nothing inside)
 front-call l f inside r rest (row t x g rows) = rw (plus-nothing inside)
 
@@ -69,7 +69,7 @@ body-last p (condition k a d q cs) e r c after =
 
 -- a sentence before `;`
 abbrev bodyMore : Sentence → ℕ → Bool → Rows → Body
-bodyMore x c true rows = (lastClosed x c, place rows, readTail rows)
+bodyMore x c true rows = (lastClosed x c, braceAt rows, readTail rows)
 bodyMore x c false rows = (more x c (readBody rows .0), readBody rows .1, readBody rows .2)
 
 more-condition : (p : Terms) (k : ℕ) (a : Terms) (d : ℕ) (x : Sentence) (c : ℕ) (shut : Bool) (rows : Rows)
@@ -82,7 +82,7 @@ more-plain : (p : Terms) (e : ℕ) (r : Terms) (c : ℕ) (rows : Rows)
 unfolding readBody
 more-plain p e r c rows = go (braceNext rows)
   where
-    go : (b : Bool) → bodyAfter other p e r c other b (readBody rows) (readText rows) (place rows) (readTail rows) ≡ bodyMore (plain p e r) c b rows
+    go : (b : Bool) → bodyAfter other p e r c other b (readBody rows) (readText rows) (braceAt rows) (readTail rows) ≡ bodyMore (plain p e r) c b rows
     go true = refl
     go false = refl
 

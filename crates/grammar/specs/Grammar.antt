@@ -1,28 +1,31 @@
--- The grammar of a text, without the reader: phrases, and the tokens that spell each of them. A token stands at a byte of the text.
--- Document 02, R-1: "Taken: functions with one or more sentences, `$ENTRY` before a function, `$EXTERN` lists, s., t. and e. variables, single-quoted runs [..],
--- identifiers, decimal numbers, brackets, calls, conditions [..]. Patterns hold no calls; a text may hold no function. A function's last semicolon may be missing."
+-- The grammar of a law typed as text, without a reader: phrases, and the tokens that spell each of them.
+-- Document 02, R-1: "Taken: functions with one or more sentences, `$ENTRY` before a function, `$EXTERN` lists, s., t. and e. variables, single-quoted runs of one or
+-- more characters, none `'` or backslash, identifiers, decimal numbers, brackets, calls, conditions, and `/* */` comments, which do not nest. Patterns hold no calls; a
+-- text may hold no function. A function's last semicolon may be missing." Tokens are those of the lexical grammar (`Rattle.tokens`, specs/Token.antt).
 --
 --   text       = { extern | [ "$ENTRY" ] function }
---   extern     = "$EXTERN" names
---   names      = identifier { "," identifier } ";"
+--   extern     = "$EXTERN" identifier { "," identifier } ";"
 --   function   = identifier "{" sentence { ";" sentence } [ ";" ] "}"
---   sentence   = terms { "," terms ":" terms } "=" terms
---   terms      = { atom | "(" terms ")" | "<" identifier terms ">" }
+--   sentence   = pattern { "," result ":" pattern } "=" result
+--   result     = { atom | "(" result ")" | "<" identifier result ">" }
+--   pattern    = { atom | "(" pattern ")" }
+--   atom       = identifier | number | variable | quoted
 --
--- where the first terms of a sentence and those after ":" hold no "<".
+-- Patterns and results are both `Terms`; that a pattern holds no call is asked by `textAllowed`.
 use Prim.Native.Nat.{ℕ}
 use mathlib.Core.List.{List, [], _∷_}
 use mathlib.Core.Bool.{Bool, true, false, _&&_}
 use mathlib.Core.Path.{_≡_}
 use Rattle.tokens.specs.Token.{Sign, leftBrace, rightBrace, leftBracket, rightBracket, leftAngle, rightAngle, comma, colon, equals, semicolon, dollarEntry, dollarExtern, Atom, identifier, sign, atom, Piece, piecesBytes, Lexed, Placed, placed}
 
+-- a sign, an atom and an identifier at a byte
 abbrev pub signAt : ℕ → Sign → Placed
 signAt at g = record { start = at; what = sign g }
 
 abbrev pub atomAt : ℕ → Atom → Placed
 atomAt at a = record { start = at; what = atom a }
 
--- an identifier and where it starts
+-- an identifier by its bytes, and where it starts
 pub record Identifier : Type 0 where
   pub start : ℕ
   pub spelled : List ℕ
@@ -30,9 +33,9 @@ pub record Identifier : Type 0 where
 abbrev pub identifierAt : Identifier → Placed
 identifierAt i = atomAt (i .start) (identifier (i .spelled))
 
--- ---- phrases. The numbers say where signs stand
+-- ---- phrases; the numbers say at which bytes signs stand
 
--- terms in a row, "contents then rest"
+-- terms in a row: an atom or a bracket or a call, and then the rest
 pub data Terms : Type 0 where
   nothing : Terms
   atomic : ℕ → Atom → Terms → Terms
@@ -41,6 +44,7 @@ pub data Terms : Type 0 where
   -- `<`, name, argument, `>`, rest
   call : ℕ → Identifier → Terms → ℕ → Terms → Terms
 
+-- the conditions of a sentence
 pub data Conditions : Type 0 where
   noCondition : Conditions
   -- `,`, result, `:`, pattern, the conditions after it
@@ -71,13 +75,14 @@ pub data Names : Type 0 where
   lastName : Identifier → ℕ → Names
   moreNames : Identifier → ℕ → Names → Names
 
+-- a text: an `$EXTERN` list or a function, with or without `$ENTRY`, and then the rest
 pub data Text : Type 0 where
   done : Text
   extern : ℕ → Names → Text → Text
   function : Function → Text → Text
   entry : ℕ → Function → Text → Text
 
--- ---- the tokens that spell a phrase, before these tokens
+-- ---- the tokens that spell a phrase, in front of those after it; each clause is a rule of the grammar
 
 abbrev pub spellTerms : Terms → List Placed → List Placed
 spellTerms nothing after = after

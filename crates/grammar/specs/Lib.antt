@@ -3,3 +3,4 @@ pub mod Parse
 pub mod Accept
 pub mod Read
 pub mod Code
+pub mod Examples

@@ -1,4 +1,5 @@
--- The phrase of a text, if it is one of the grammar. `proofs/Reading` shows: `phraseOf bytes ≡ some text` exactly where `Written bytes text`.
+-- The phrase of a text, where the grammar has one: `phraseOf bytes ≡ some text` exactly where `Written bytes text`, `written-found` and `found-written` of
+-- proofs/Reading.antt.
 use Prim.Native.Nat.{ℕ}
 use mathlib.Core.List.{List, []}
 use mathlib.Core.Bool.{cond}
@@ -10,12 +11,15 @@ use Rattle.grammar.specs.Parse.{phrase}
 use Rattle.grammar.specs.Accept.{accepts}
 use Rattle.grammar.specs.declared.table.Mode.the-variants.{AtText}
 
-abbrev pub tokensOf : List Piece → List Placed
-tokensOf ps = placed 0 ps
+-- the phrase of tokens that the machine accepts
+abbrev pub phraseOfTokens : List Placed → Option Text
+phraseOfTokens ts = cond (accepts AtText [] ts) (some (phrase ts)) none
 
+-- the phrase of a text's pieces
 abbrev pub phraseIn : Option (List Piece) → Option Text
 phraseIn none = none
-phraseIn (some ps) = cond (accepts AtText [] (tokensOf ps)) (some (phrase (tokensOf ps))) none
+phraseIn (some ps) = phraseOfTokens (placed 0 ps)
 
+-- the phrase of a text; none outside the grammar
 unfoldable pub phraseOf : List ℕ → Option Text
 phraseOf bytes = phraseIn (lex bytes)

@@ -17,6 +17,27 @@ enum Step {
     On(Mode, usize),
 }
 
+// What is open last is closed, where it is what `o` says; then on to a mode.
+fn close(o: u8, n: Mode, depth: usize, stack: &[u8; 4096]) -> Step
+    requires { ⌜ (depth < 4096) × (length (now stack) ≡ 4096) ⌝ }
+    ensures { λ r. ⌜ StepDone (Move.Close o n) (stackOf depth (now (stack .entry))) r (now (stack .entry)) depth ⌝ }
+{
+    if depth == 0 {
+        return Step::Refused;
+    }
+    let top = stack[depth - 1];
+    if o == 0 {
+        if top == 0 {
+            return Step::On(n, depth - 1);
+        }
+        return Step::Refused;
+    }
+    if top == 0 {
+        return Step::Refused;
+    }
+    Step::On(n, depth - 1)
+}
+
 // A move, on a stack of which so many places are used.
 fn perform(m: Move, depth: usize, stack: &mut [u8; 4096]) -> Step
     requires { ⌜ (depth < 4096) × (length (now stack) ≡ 4096) ⌝ }
@@ -35,22 +56,7 @@ fn perform(m: Move, depth: usize, stack: &mut [u8; 4096]) -> Step
             stack[depth] = o;
             Step::On(n, depth + 1)
         }
-        Move::Close(o, n) => {
-            if depth == 0 {
-                return Step::Refused;
-            }
-            let top = depth - 1;
-            if o == 0 {
-                if stack[top] != 0 {
-                    return Step::Refused;
-                }
-                return Step::On(n, top);
-            }
-            if stack[top] == 0 {
-                return Step::Refused;
-            }
-            Step::On(n, top)
-        }
+        Move::Close(o, n) => close(o, n, depth, stack),
     }
 }
 

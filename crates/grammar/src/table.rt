@@ -2,7 +2,7 @@
 ghost use mathlib.Core.Path.{_≡_};
 ghost use Rattle.tokens.specs.Token.{comma, leftBracket, rightBracket, leftAngle, rightAngle, leftBrace, rightBrace, colon, equals, semicolon, dollarEntry, dollarExtern};
 ghost use Rattle.grammar.specs.Accept.{byMode, atNames, inLists, inTerms, signMove, identifierMove, otherMove};
-ghost use Rattle.grammar.specs.Code.Machine.{kindMove, modeEnds};
+ghost use Rattle.grammar.specs.Code.Machine.{braceMove, separatorMove, kindMove, modeEnds};
 
 // Where the machine stands in a text.
 pub enum Mode {
@@ -305,50 +305,64 @@ fn other_move(mode: Mode) -> Move
     )
 }
 
-// The move of a token of this kind: a sign's own byte, `E` and `X` for `$ENTRY` and `$EXTERN`, 1 for an identifier, and else another atom.
+// The move of a brace, of `$ENTRY` or of `$EXTERN`, by their kind; else that of another atom.
+fn brace_move(kind: u8, mode: Mode) -> Move
+    ensures { λ r. ⌜ r ≡ braceMove kind mode ⌝ }
+{
+    if kind == b'{' {
+        return left_brace_move(mode);
+    }
+    if kind == b'}' {
+        return right_brace_move(mode);
+    }
+    if kind == b'E' {
+        return entry_move(mode);
+    }
+    if kind == b'X' {
+        return extern_move(mode);
+    }
+    other_move(mode)
+}
+
+// The move of `,`, `:`, `=` or `;`, by their kind; else as above.
+fn separator_move(kind: u8, mode: Mode) -> Move
+    ensures { λ r. ⌜ r ≡ separatorMove kind mode ⌝ }
+{
+    if kind == b',' {
+        return comma_move(mode);
+    }
+    if kind == b':' {
+        return colon_move(mode);
+    }
+    if kind == b'=' {
+        return equals_move(mode);
+    }
+    if kind == b';' {
+        return semicolon_move(mode);
+    }
+    brace_move(kind, mode)
+}
+
+// The move of a token of this kind (tokens/specs/Code/TokenKind.antt).
 pub fn move_of(kind: u8, mode: Mode) -> Move
     ensures { λ r. ⌜ r ≡ kindMove kind mode ⌝ }
 {
     if kind == 1 {
         return identifier_move(mode);
     }
-    if kind == 44 {
-        return comma_move(mode);
-    }
-    if kind == 40 {
+    if kind == b'(' {
         return left_bracket_move(mode);
     }
-    if kind == 41 {
+    if kind == b')' {
         return right_bracket_move(mode);
     }
-    if kind == 60 {
+    if kind == b'<' {
         return left_angle_move(mode);
     }
-    if kind == 62 {
+    if kind == b'>' {
         return right_angle_move(mode);
     }
-    if kind == 123 {
-        return left_brace_move(mode);
-    }
-    if kind == 125 {
-        return right_brace_move(mode);
-    }
-    if kind == 58 {
-        return colon_move(mode);
-    }
-    if kind == 61 {
-        return equals_move(mode);
-    }
-    if kind == 59 {
-        return semicolon_move(mode);
-    }
-    if kind == 69 {
-        return entry_move(mode);
-    }
-    if kind == 88 {
-        return extern_move(mode);
-    }
-    other_move(mode)
+    separator_move(kind, mode)
 }
 
 // May a text end here?

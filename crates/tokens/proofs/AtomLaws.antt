@@ -50,18 +50,18 @@ module _ {p : ℕ → Bool} {s : List ℕ} {at i : ℕ} (h : LeadingTo p s at i)
 
 -- ---- an index after a point
 
-pub index-past : (s : List ℕ) (at : ℕ) → length s ≤ at → at ≤ length s → (0 ≡ length (indexAfter (drop at s))) × ((_≡_ {A = ℕ} 0 0 → ⊥) → at + 1 + 0 ≤ length s)
+pub index-past : (s : List ℕ) (at : ℕ) → length s ≤ at → (0 ≡ length (indexAfter (drop at s))) × ((_≡_ {A = ℕ} 0 0 → ⊥) → at + 1 + 0 ≤ length s)
 unfolding indexAfter
-index-past s at h k = (rw (drop-of-length-le s {i = at} h), λ d. absurd (d refl))
+index-past s at h = (rw (drop-of-length-le s {i = at} h), λ d. absurd (d refl))
 
 pub index-no-point : (s : List ℕ) (at : ℕ) → at < length s → (getD s at 0 ≡ 46 → ⊥) → (0 ≡ length (indexAfter (drop at s))) × ((_≡_ {A = ℕ} 0 0 → ⊥) → at + 1 + 0 ≤ length s)
 unfolding indexAfter
 index-no-point s at h d = (rw (drop-cons s at 0 h, ne-eqb (getD s at 0) 46 d), λ z. absurd (z refl))
 
-pub index-point : (s : List ℕ) (at e : ℕ) → at < length s → getD s at 0 ≡ 46 → e ≡ at + 1 + length (leading nameByte (drop (at + 1) s)) → e ≤ length s
+pub index-point : (s : List ℕ) (at : ℕ) {e : ℕ} → at < length s → getD s at 0 ≡ 46 → e ≡ at + 1 + length (leading nameByte (drop (at + 1) s)) → e ≤ length s
     → (e - (at + 1) ≡ length (indexAfter (drop at s))) × ((e - (at + 1) ≡ 0 → ⊥) → at + 1 + (e - (at + 1)) ≤ length s)
 unfolding indexAfter
-index-point s at e h d p q =
+index-point s at h d p q =
     let found : length (indexAfter (drop at s)) ≡ length (leading nameByte (drop (at + 1) s)) = rw (drop-cons s at 0 h, eq-eqb (getD s at 0) 46 d, add-one) in
     (rw found (omega arith), λ z. omega arith)
 
@@ -78,10 +78,10 @@ leading-part p s at e h q =
     let size : e - at ≡ suc n = rw (← add-one at) (omega arith) in
     rw (size, drop-cons s at 0 h) (ap (_∷_ (getD s at 0)) (leading-take p (drop (suc at) s)))
 
-pub number-found : (s : List ℕ) (at e : ℕ) → at < length s → digitByte (getD s at 0) ≡ true → e ≡ at + 1 + length (leading digitByte (drop (at + 1) s))
+pub number-found : (s : List ℕ) (at : ℕ) {e : ℕ} → at < length s → digitByte (getD s at 0) ≡ true → e ≡ at + 1 + length (leading digitByte (drop (at + 1) s))
     → next (drop at s) ≡ some (token (atom (atomIn s at (Number e))))
 unfolding everyByte
-number-found s at e h d q =
+number-found s at {e = e} h d q =
     let first : next (drop at s) ≡ some (token (atom (number (getD s at 0 ∷ leading digitByte (drop (suc at) s))))) =
     rw (drop-cons s at 0 h) (number-next (getD s at 0) [] (drop (suc at) s) (both (digitByte (getD s at 0)) true d refl)) in
     first ∙ ap (λ z. some (token (atom (number z)))) (leading-part digitByte s at e h q)
@@ -108,16 +108,16 @@ identifier-found s at e h d w q =
     first ∙ ap (λ z. some (token (atom (identifier z)))) (leading-part nameByte s at e h q)
 
 -- where the letter begins no variable
-pub identifier-plain : (s : List ℕ) (at e k : ℕ) → at < length s → letterByte (getD s at 0) ≡ true → k ≡ kindCode (variableKind (getD s at 0)) → k ≡ 0
+pub identifier-plain : (s : List ℕ) (at : ℕ) {e k : ℕ} → at < length s → letterByte (getD s at 0) ≡ true → k ≡ kindCode (variableKind (getD s at 0)) → k ≡ 0
     → e ≡ at + 1 + length (leading nameByte (drop (at + 1) s))
     → next (drop at s) ≡ some (token (atom (atomIn s at (Identifier e))))
-identifier-plain s at e k h d p z q = identifier-found s at e h d (rw (no-kind (variableKind (getD s at 0)) (sym p ∙ z))) q
+identifier-plain s at {e = e} h d p z q = identifier-found s at e h d (rw (no-kind (variableKind (getD s at 0)) (sym p ∙ z))) q
 
 -- where no index follows
-pub identifier-short : (s : List ℕ) (at e n : ℕ) → at < length s → letterByte (getD s at 0) ≡ true → n ≡ length (indexAfter (drop (at + 1) s)) → n ≡ 0
+pub identifier-short : (s : List ℕ) (at : ℕ) {e n : ℕ} → at < length s → letterByte (getD s at 0) ≡ true → n ≡ length (indexAfter (drop (at + 1) s)) → n ≡ 0
     → e ≡ at + 1 + length (leading nameByte (drop (at + 1) s))
     → next (drop at s) ≡ some (token (atom (atomIn s at (Identifier e))))
-identifier-short s at e n h d p z q =
+identifier-short s at {e = e} h d p z q =
     let none : indexAfter (drop (suc at) s) ≡ [] = no-index (indexAfter (drop (suc at) s)) (rw (add-one at) at (sym p ∙ z)) in
     identifier-found s at e h d (rw none (either (variableKind (getD s at 0)))) q
   where
@@ -136,10 +136,10 @@ index-part r x i h =
     rw (← whole) (take-append-seam (x ∷ i) (drop (length (46 ∷ x ∷ i)) r))
 
 -- a variable
-pub variable-found : (s : List ℕ) (at k n : ℕ) → at < length s → letterByte (getD s at 0) ≡ true → k ≡ kindCode (variableKind (getD s at 0)) → (k ≡ 0 → ⊥)
+pub variable-found : (s : List ℕ) (at : ℕ) {k n : ℕ} → at < length s → letterByte (getD s at 0) ≡ true → k ≡ kindCode (variableKind (getD s at 0)) → (k ≡ 0 → ⊥)
     → n ≡ length (indexAfter (drop (at + 1) s)) → (n ≡ 0 → ⊥)
     → next (drop at s) ≡ some (token (atom (atomIn s at (Variable k (at + 1 + 1 + n)))))
-variable-found s at k n h d p kz q nz = rw (drop-cons s at 0 h) (go (variableKind (getD s at 0)) (indexAfter (drop (suc at) s)) refl refl (rw (add-one at) at q))
+variable-found s at {k = k} {n = n} h d p kz q nz = rw (drop-cons s at 0 h) (go (variableKind (getD s at 0)) (indexAfter (drop (suc at) s)) refl refl (rw (add-one at) at q))
   where
     go : (o : Option Kind) (i : List ℕ) → variableKind (getD s at 0) ≡ o → indexAfter (drop (suc at) s) ≡ i → n ≡ length (indexAfter (drop (suc at) s))
         → next (getD s at 0 ∷ drop (suc at) s) ≡ some (token (atom (atomIn s at (Variable k (at + 1 + 1 + n)))))
@@ -152,8 +152,8 @@ variable-found s at k n h d p kz q nz = rw (drop-cons s at 0 h) (go (variableKin
         rw (same, size, past, index-part (drop (suc at) s) x i f) (variable-next (getD s at 0) t x i (drop (suc at) s) d e f)
 
 -- a kind of variable by its number
-pub kind-numbered : (s : List ℕ) (at k : ℕ) → k ≡ kindCode (variableKind (getD s at 0)) → (k ≡ 0 → ⊥) → kindNumber (kindNumbered k) ≡ k
-kind-numbered s at k p d = go (variableKind (getD s at 0)) p
+pub kind-numbered : (s : List ℕ) (at : ℕ) {k : ℕ} → k ≡ kindCode (variableKind (getD s at 0)) → (k ≡ 0 → ⊥) → kindNumber (kindNumbered k) ≡ k
+kind-numbered s at {k = k} p d = go (variableKind (getD s at 0)) p
   where
     go : (o : Option Kind) → k ≡ kindCode o → kindNumber (kindNumbered k) ≡ k
     go none e = absurd (d e)

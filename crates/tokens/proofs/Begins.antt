@@ -6,7 +6,6 @@ use mathlib.Core.Logic.{_⊎_, inl, inr}
 use mathlib.Core.Path.{_≡_, refl, ap}
 use native.Mathlib.Omega.{arith}
 use native.Mathlib.Numerals.{add-one}
-use native.Mathlib.Nat.{add-zero, add-assoc}
 use lib.ListN.{length, drop, length-append}
 use lib.Dec.{eqb}
 use borrow.Author.Tests.{eqb-true, eq-eqb}
@@ -111,15 +110,3 @@ begins-next (c ∷ s) zero a r = go (eqb a c)
     go true = refl
     go false = refl
 begins-next (c ∷ s) (suc at) a r = rw (add-one (suc at)) (rw (add-one at) at (begins-next s at a r))
-
-pub begins-split : (s : List ℕ) (at : ℕ) (x y : List ℕ) → begins (x ++ y) (drop at s) ≡ begins x (drop at s) && begins y (drop (at + length x) s)
-unfolding begins
-begins-split s at [] y = rw (add-zero at)
-begins-split s at (a ∷ x) y =
-    let one : 1 + length x ≡ suc (length x) = omega arith in
-    rw (begins-next s at a (x ++ y), begins-split s (at + 1) x y, begins-next s at a x, add-assoc at 1 (length x), one)
-    (go (begins (a ∷ []) (drop at s)) (begins x (drop (at + 1) s)) (begins y (drop (at + suc (length x)) s)))
-  where
-    go : (p q r : Bool) → p && (q && r) ≡ (p && q) && r
-    go true q r = refl
-    go false q r = refl

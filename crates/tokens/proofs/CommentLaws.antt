@@ -16,11 +16,13 @@ use Rattle.file.specs.Fields.{scalarAllowed}
 use Rattle.file.proofs.Below.{both, second-fails}
 use Rattle.tokens.specs.Token.{utf8, charactersBytes, comment, apart, unclosed, pieceBytes}
 use Rattle.tokens.specs.Lex.{begins, characterIn, charactersTo, atClose, guess, checked, next}
-use Rattle.tokens.specs.Code.Found.{foundAt}
+use Rattle.tokens.specs.Code.Found.{CharacterAt, foundAt}
 use Rattle.tokens.proofs.Utf8.{utf8-one, first-byte}
 use Rattle.tokens.proofs.Begins.{begins-found}
 use Rattle.tokens.proofs.NextPiece.{comment-next}
 use Rattle.tokens.proofs.Passed.{bytes-one, Passed, passed-start, passed-next, passed-bad, passed-over, passed-all}
+use Rattle.tokens.specs.declared.characters.Character.{Character}
+use Rattle.tokens.specs.declared.characters.Character.the-variants.{Broken, Whole}
 use Rattle.tokens.specs.declared.pieces.Found.the-variants.{Nothing, Between}
 
 eqb-turn : (a b : ℕ) → eqb a b ≡ eqb b a
@@ -44,7 +46,7 @@ close-same (a ∷ b ∷ s) = rw (eqb-turn 42 a, eqb-turn 47 b) (go (eqb a 42) (e
     go true false = refl
     go false y = refl
 
-pub comment-fails : (r : List ℕ) → everyByte scalarAllowed (charactersTo atClose (suc (length r)) r) && begins (charactersBytes (charactersTo atClose (suc (length r)) r) ++ (42 ∷ 47 ∷ [])) r ≡ false
+comment-fails : (r : List ℕ) → everyByte scalarAllowed (charactersTo atClose (suc (length r)) r) && begins (charactersBytes (charactersTo atClose (suc (length r)) r) ++ (42 ∷ 47 ∷ [])) r ≡ false
     → next (47 ∷ 42 ∷ r) ≡ none
 unfolding next guess begins
 comment-fails r h = go (charactersTo atClose (suc (length r)) r) h
@@ -58,7 +60,7 @@ comment-fails r h = go (charactersTo atClose (suc (length r)) r) h
     go cs e = rw (test (everyByte scalarAllowed cs) (unclosed cs) (begins (charactersBytes cs ++ (42 ∷ 47 ∷ [])) r) e)
 
 -- a slash and no star
-pub slash-fails : (r : List ℕ) → begins (42 ∷ []) r ≡ false → next (47 ∷ r) ≡ none
+slash-fails : (r : List ℕ) → begins (42 ∷ []) r ≡ false → next (47 ∷ r) ≡ none
 unfolding next guess begins
 slash-fails r h = go (charactersTo atClose (length r) (drop 1 r)) r h
   where
@@ -71,7 +73,7 @@ slash-fails r h = go (charactersTo atClose (length r) (drop 1 r)) r h
     go cs (d ∷ r) e = rw (test (everyByte scalarAllowed cs && unclosed cs) (eqb 42 d) (begins (charactersBytes cs ++ (42 ∷ 47 ∷ [])) r) e)
 
 -- the characters before the first `*/` hold none
-pub unclosed-found : (k : ℕ) (s cs rest : List ℕ) → charactersTo atClose k s ≡ cs → charactersBytes cs ++ rest ≡ s → unclosed cs ≡ true
+unclosed-found : (k : ℕ) (s cs rest : List ℕ) → charactersTo atClose k s ≡ cs → charactersBytes cs ++ rest ≡ s → unclosed cs ≡ true
 unfolding unclosed charactersTo
 unclosed-found zero s cs rest e b = rw (← e) refl
 unclosed-found (suc k) s [] rest e b = refl
@@ -109,56 +111,87 @@ unclosed-found (suc k) s (c ∷ cs) rest e b = go (atClose s) refl e (λ t p q. 
         rw (← b, bytes-one c cs, append-assoc (utf8 c) (charactersBytes cs) rest) (sym (drop-append-seam (utf8 c) (charactersBytes cs ++ rest))) in
         both (apart c cs) (unclosed cs) (far cs n b) (ih (drop (length (utf8 c)) s) later past)
 
-abbrev pub Commenting : List ℕ → ℕ → ℕ → Type 0
-Commenting s at i = Passed atClose scalarAllowed (suc (length (drop (at + 2) s))) s (at + 2) i
-
-pub comment-start : (s : List ℕ) (at : ℕ) → at + 2 ≤ length s → Commenting s at (at + 2)
-comment-start s at l = passed-start atClose scalarAllowed (suc (length (drop (at + 2) s))) s (at + 2) l (omega (arith, length-drop (at + 2) s))
-
 comment-here : (s : List ℕ) (at : ℕ) → at < length s → getD s at 0 ≡ 47 → drop at s ≡ 47 ∷ drop (at + 1) s
 comment-here s at l e = drop-cons s at 0 l ∙ rw (e, add-one at)
-
-pub comment-none : (s : List ℕ) (at : ℕ) (t : Bool) → at < length s → getD s at 0 ≡ 47 → t ≡ begins (42 ∷ []) (drop (at + 1) s) → t ≡ false → Nothing ≡ foundAt at (next (drop at s))
-comment-none s at t l e q f = rw (comment-here s at l e, slash-fails (drop (at + 1) s) (sym q ∙ f))
 
 star-here : (s : List ℕ) (at : ℕ) → begins (42 ∷ []) (drop at s) ≡ true → drop at s ≡ 42 ∷ drop (at + 1) s
 star-here s at h = sym (begins-found (42 ∷ []) (drop at s) h) ∙ ap (_∷_ 42) (drop-drop 1 at s)
 
-pub star-inside : (s : List ℕ) (at : ℕ) (t : Bool) → t ≡ begins (42 ∷ []) (drop (at + 1) s) → t ≡ true → at + 2 ≤ length s
-star-inside s at t q f =
-    omega (arith, ap length (star-here s (at + 1) (sym q ∙ f)), length-drop (at + 1) s, length-drop (at + 1 + 1) s)
+-- no star after the slash
+pub comment-none : (s : List ℕ) (at : ℕ) {t : Bool} → at < length s → getD s at 0 ≡ 47 → t ≡ begins (42 ∷ []) (drop (at + 1) s) → t ≡ false → Nothing ≡ foundAt at (next (drop at s))
+comment-none s at l e q f = rw (comment-here s at l e, slash-fails (drop (at + 1) s) (sym q ∙ f))
 
-module _ {s : List ℕ} {at i : ℕ} {t : Bool} (l : at < length s) (e : getD s at 0 ≡ 47) (q : t ≡ begins (42 ∷ []) (drop (at + 1) s)) (y : t ≡ true) (h : Commenting s at i) where
+-- the loop over the characters of a comment whose slash stands at byte `at`
+pub record Commenting (s : List ℕ) (at i : ℕ) : Type 0 where
+  pub small : length s ≤ 4096
+  pub inside : at < length s
+  pub slash : getD s at 0 ≡ 47
+  pub star : begins (42 ∷ []) (drop (at + 1) s) ≡ true
+  pub passed : Passed atClose scalarAllowed (suc (length (drop (at + 2) s))) s (at + 2) i
+
+pub comment-start : (s : List ℕ) (at : ℕ) {t : Bool} → (length s ≤ 4096) × (at < length s) × (getD s at 0 ≡ 47) → t ≡ begins (42 ∷ []) (drop (at + 1) s) → t ≡ true
+    → Commenting s at (at + 2)
+comment-start s at h q f =
+    record {
+      small = h .0;
+      inside = h .1;
+      slash = h .2;
+      star = sym q ∙ f;
+      passed = passed-start atClose scalarAllowed (suc (length (drop (at + 2) s))) s (at + 2) within (omega (arith, length-drop (at + 2) s));
+    }
+  where
+    within : at + 2 ≤ length s
+    within = omega (arith, ap length (star-here s (at + 1) (sym q ∙ f)), length-drop (at + 1) s, length-drop (at + 1 + 1) s)
+
+module _ {s : List ℕ} {at i : ℕ} (h : Commenting s at i) where
   opened : drop at s ≡ 47 ∷ 42 ∷ drop (at + 2) s
-  opened = comment-here s at l e ∙ ap (_∷_ 47) (star-here s (at + 1) (sym q ∙ y) ∙ ap (λ z. 42 ∷ drop z s) (add-assoc at 1 1))
+  opened = comment-here s at (h .inside) (h .slash) ∙ ap (_∷_ 47) (star-here s (at + 1) (h .star) ∙ ap (λ z. 42 ∷ drop z s) (add-assoc at 1 1))
 
   not-found : next (47 ∷ 42 ∷ drop (at + 2) s) ≡ none → Nothing ≡ foundAt at (next (drop at s))
   not-found f = rw (opened, f)
 
+  -- the text ends before `*/`
   pub comment-over : length s ≤ i → Nothing ≡ foundAt at (next (drop at s))
-  comment-over k = not-found (comment-fails (drop (at + 2) s) (passed-over h 42 (47 ∷ []) k))
+  comment-over k = not-found (comment-fails (drop (at + 2) s) (passed-over (h .passed) 42 (47 ∷ []) k))
 
   goes : (u : Bool) → u ≡ begins (42 ∷ 47 ∷ []) (drop i s) → u ≡ false → atClose (drop i s) ≡ false
   goes u v n = sym (close-same (drop i s)) ∙ sym v ∙ n
 
-  pub comment-bad : (u : Bool) → i < length s → u ≡ begins (42 ∷ 47 ∷ []) (drop i s) → u ≡ false → scalarAllowed (characterIn (drop i s)) && begins (utf8 (characterIn (drop i s))) (drop i s) ≡ false
+  -- no character stands here
+  pub comment-broken : {u : Bool} {r : Character} → i < length s → u ≡ begins (42 ∷ 47 ∷ []) (drop i s) → u ≡ false → CharacterAt (drop i s) r → r ≡ Broken
       → Nothing ≡ foundAt at (next (drop at s))
-  comment-bad u k v n f = not-found (comment-fails (drop (at + 2) s) (passed-bad h (42 ∷ 47 ∷ []) k (goes u v n) f))
+  comment-broken {u = u} k v n f e = not-found (comment-fails (drop (at + 2) s) (passed-bad (h .passed) (42 ∷ 47 ∷ []) k (goes u v n) (rw e at f)))
 
-  pub comment-more : (u : Bool) (c w : ℕ) → i < length s → u ≡ begins (42 ∷ 47 ∷ []) (drop i s) → u ≡ false → c ≡ characterIn (drop i s) → scalarAllowed c ≡ true → begins (utf8 c) (drop i s) ≡ true
-      → w ≡ length (utf8 c) → Commenting s at (i + w)
-  comment-more u c w k v n q a b z = passed-next h c w k (goes u v n) q a b z
+  -- a character more
+  pub comment-more : {u : Bool} {r : Character} {c w : ℕ} → i < length s → u ≡ begins (42 ∷ 47 ∷ []) (drop i s) → u ≡ false → CharacterAt (drop i s) r → r ≡ Whole c w
+      → Commenting s at (i + w)
+  comment-more {u = u} {c = c} {w = w} k v n f e =
+      let q = rw e at f in
+      record {
+        small = h .small;
+        inside = h .inside;
+        slash = h .slash;
+        star = h .star;
+        passed = passed-next (h .passed) c w k (goes u v n) (q .0) (q .1) (q .2) (q .3);
+      }
 
-  pub comment-found : (u : Bool) → u ≡ begins (42 ∷ 47 ∷ []) (drop i s) → u ≡ true → Between (i + 2) ≡ foundAt at (next (drop at s))
-  comment-found u v n =
+  -- which ends in the text, past its start
+  pub comment-within : {u : Bool} {r : Character} {c w : ℕ} → i < length s → u ≡ begins (42 ∷ 47 ∷ []) (drop i s) → u ≡ false → CharacterAt (drop i s) r → r ≡ Whole c w
+      → (i + w ≤ length s) × (1 ≤ w) × (length s ≤ 4096)
+  comment-within k v n f e =
+      let q = rw e at f in
+      (comment-more k v n f e .passed .inside, q .4, h .small)
+
+  -- `*/`
+  pub comment-found : {u : Bool} → u ≡ begins (42 ∷ 47 ∷ []) (drop i s) → u ≡ true → Between (i + 2) ≡ foundAt at (next (drop at s))
+  comment-found v n =
+      let cs : List ℕ = h .passed .found in
+      let after : List ℕ = drop 2 (drop i s) in
       let stops : atClose (drop i s) ≡ true = sym (close-same (drop i s)) ∙ sym v ∙ n in
-      let none : unclosed (h .found) ≡ true = unclosed-found (suc (length (drop (at + 2) s))) (drop (at + 2) s) (h .found) (drop i s) (passed-all h stops) (h .bytes) in
-      let rest : drop i s ≡ 42 ∷ 47 ∷ drop 2 (drop i s) = sym (begins-found (42 ∷ 47 ∷ []) (drop i s) (sym v ∙ n)) in
-      let whole : drop at s ≡ pieceBytes (comment (h .found)) ++ drop 2 (drop i s) =
-      opened ∙ ap (λ x. 47 ∷ 42 ∷ x) (sym (h .bytes) ∙ ap (λ x. charactersBytes (h .found) ++ x) rest ∙ sym (append-assoc (charactersBytes (h .found)) (42 ∷ 47 ∷ []) (drop 2 (drop i s)))) in
-      let took : next (drop at s) ≡ some (comment (h .found)) = rw whole (comment-next (h .found) (drop 2 (drop i s)) (both (everyByte scalarAllowed (h .found)) (unclosed (h .found)) (h .every) none)) in
-      let size : i + 2 ≡ at + length (pieceBytes (comment (h .found))) = omega (arith, h .place, length-append (charactersBytes (h .found)) (42 ∷ 47 ∷ [])) in
+      let no-close : unclosed cs ≡ true = unclosed-found (suc (length (drop (at + 2) s))) (drop (at + 2) s) cs (drop i s) (passed-all (h .passed) stops) (h .passed .bytes) in
+      let rest : drop i s ≡ 42 ∷ 47 ∷ after = sym (begins-found (42 ∷ 47 ∷ []) (drop i s) (sym v ∙ n)) in
+      let whole : drop at s ≡ pieceBytes (comment cs) ++ after =
+      opened ∙ ap (λ x. 47 ∷ 42 ∷ x) (sym (h .passed .bytes) ∙ ap (λ x. charactersBytes cs ++ x) rest ∙ sym (append-assoc (charactersBytes cs) (42 ∷ 47 ∷ []) after)) in
+      let took : next (drop at s) ≡ some (comment cs) = rw whole (comment-next cs after (both (everyByte scalarAllowed cs) (unclosed cs) (h .passed .every) no-close)) in
+      let size : i + 2 ≡ at + length (pieceBytes (comment cs)) = omega (arith, h .passed .place, length-append (charactersBytes cs) (42 ∷ 47 ∷ [])) in
       rw (took, size)
-
-  pub comment-closed : (u : Bool) → u ≡ begins (42 ∷ 47 ∷ []) (drop i s) → u ≡ true → i + 2 ≤ length s
-  comment-closed u v n = omega (arith, h .inside, ap length (begins-found (42 ∷ 47 ∷ []) (drop i s) (sym v ∙ n)), length-drop i s)

@@ -12,7 +12,7 @@ use Rattle.tokens.specs.Token.{Token, tokenBytes, Piece, blank, comment,
 use Rattle.tokens.specs.Lex.{guess, next, pieceBefore, lexFrom, lex}
 use Rattle.tokens.specs.Code.TokenKind.{tokenKind}
 use Rattle.tokens.specs.Code.Found.{foundAt}
-use Rattle.tokens.specs.Code.Arrays.{kindsOf, startsOf, endsOf, Holds, Lexes}
+use Rattle.tokens.specs.Code.Arrays.{kindsOf, startsOf, endsOf, Long, Holds, Lexes}
 use Rattle.tokens.proofs.NextPiece.{next-sound, next-whole}
 use Rattle.tokens.proofs.Lexing.{piece-some, lex-end}
 use Rattle.tokens.specs.declared.pieces.Found.{Found}
@@ -41,33 +41,33 @@ endIn (Tokened k e) = e
 differ : {A : Type 0} (m n : ℕ) → m ≡ n → (m ≡ n → ⊥) → A
 differ m n e d = absurd (d e)
 
-pub bad-none : (at : ℕ) (o : Option Piece) → Nothing ≡ foundAt at o → o ≡ none
+nothing-none : (at : ℕ) (o : Option Piece) → Nothing ≡ foundAt at o → o ≡ none
 unfolding code
-bad-none at none h = refl
-bad-none at (some (blank b)) h = differ 0 1 (ap code h) (λ e. omega arith)
-bad-none at (some (comment cs)) h = differ 0 1 (ap code h) (λ e. omega arith)
-bad-none at (some (token t)) h = differ 0 2 (ap code h) (λ e. omega arith)
+nothing-none at none h = refl
+nothing-none at (some (blank b)) h = differ 0 1 (ap code h) (λ e. omega arith)
+nothing-none at (some (comment cs)) h = differ 0 1 (ap code h) (λ e. omega arith)
+nothing-none at (some (token t)) h = differ 0 2 (ap code h) (λ e. omega arith)
 
-pub record Skipped (at e : ℕ) (o : Option Piece) : Type 0 where
+record Skipped (at e : ℕ) (o : Option Piece) : Type 0 where
   pub piece : Piece
   pub is : o ≡ some piece
   pub ends : e ≡ at + length (pieceBytes piece)
   pub silent : (a : ℕ) → placed a (piece ∷ []) ≡ []
 
-pub skip-some : (at e : ℕ) (o : Option Piece) → Between e ≡ foundAt at o → Skipped at e o
+between-some : (at e : ℕ) (o : Option Piece) → Between e ≡ foundAt at o → Skipped at e o
 unfolding code endIn placed
-skip-some at e none h = differ 1 0 (ap code h) (λ e. omega arith)
-skip-some at e (some (blank b)) h = record { piece = blank b; is = refl; ends = ap endIn h; silent = λ a. refl }
-skip-some at e (some (comment cs)) h = record { piece = comment cs; is = refl; ends = ap endIn h; silent = λ a. refl }
-skip-some at e (some (token t)) h = differ 1 2 (ap code h) (λ e. omega arith)
+between-some at e none h = differ 1 0 (ap code h) (λ e. omega arith)
+between-some at e (some (blank b)) h = record { piece = blank b; is = refl; ends = ap endIn h; silent = λ a. refl }
+between-some at e (some (comment cs)) h = record { piece = comment cs; is = refl; ends = ap endIn h; silent = λ a. refl }
+between-some at e (some (token t)) h = differ 1 2 (ap code h) (λ e. omega arith)
 
-pub record Tokens (at k e : ℕ) (o : Option Piece) : Type 0 where
+record TokenHere (at k e : ℕ) (o : Option Piece) : Type 0 where
   pub what : Token
   pub is : o ≡ some (token what)
   pub kind : k ≡ tokenKind what
   pub ends : e ≡ at + length (tokenBytes what)
 
-pub token-some : (at k e : ℕ) (o : Option Piece) → Tokened k e ≡ foundAt at o → Tokens at k e o
+token-some : (at k e : ℕ) (o : Option Piece) → Tokened k e ≡ foundAt at o → TokenHere at k e o
 unfolding code endIn kindIn
 token-some at k e none h = differ 2 0 (ap code h) (λ e. omega arith)
 token-some at k e (some (blank b)) h = differ 2 1 (ap code h) (λ e. omega arith)
@@ -97,7 +97,7 @@ lex-none k c s h = go (next (c ∷ s)) h
     go (some q) e = absurd (Option·none-ne-some q (sym e))
 
 -- pieces before others
-abbrev pub allBefore : List Piece → Option (List Piece) → Option (List Piece)
+abbrev allBefore : List Piece → Option (List Piece) → Option (List Piece)
 allBefore ps none = none
 allBefore ps (some qs) = some (ps ++ qs)
 
@@ -152,30 +152,29 @@ single a t = refl
 
 -- ---- the loop
 
+-- the pieces up to byte `at` are found, with n tokens, and the bytes from there on decide
 pub record Lexing (s : List ℕ) (at n : ℕ) (kinds starts ends : List ℕ) : Type 0 where
   pub pieces : List Piece
   pub fuel : ℕ
+  pub short : length s ≤ 4096
   pub inside : at ≤ length s
-  pub small : n ≤ at
-  pub long : length kinds ≡ 4096
-  pub long2 : length starts ≡ 4096
-  pub long3 : length ends ≡ 4096
+  pub few : n ≤ at
+  pub long : Long kinds starts ends
   pub enough : length s ≤ at + fuel
   pub place : at ≡ length (piecesBytes pieces)
   pub left : lex s ≡ allBefore pieces (lexFrom fuel (drop at s))
   pub holds : Holds n kinds starts ends (placed 0 pieces)
 
-pub lexing-start : (s kinds starts ends : List ℕ) → length kinds ≡ 4096 → length starts ≡ 4096 → length ends ≡ 4096 → Lexing s 0 0 kinds starts ends
+pub lexing-start : (s kinds starts ends : List ℕ) → length s ≤ 4096 → Long kinds starts ends → Lexing s 0 0 kinds starts ends
 unfolding piecesBytes lex placed
-lexing-start s kinds starts ends a b c =
+lexing-start s kinds starts ends k long =
     record {
       pieces = [];
       fuel = length s;
+      short = k;
       inside = omega arith;
-      small = omega arith;
-      long = a;
-      long2 = b;
-      long3 = c;
+      few = omega arith;
+      long = long;
       enough = omega arith;
       place = refl;
       left = sym (none-before (lexFrom (length s) s));
@@ -183,37 +182,40 @@ lexing-start s kinds starts ends a b c =
     }
 
 module _ {s : List ℕ} {at n : ℕ} {kinds starts ends : List ℕ} (h : Lexing s at n kinds starts ends) where
-  pub lexing-end : length s ≤ 4096 → length s ≤ at → Lexes s n kinds starts ends
-  lexing-end k l =
+  -- all bytes are read
+  pub lexing-end : length s ≤ at → Lexes s n kinds starts ends
+  lexing-end l =
       record {
         pieces = h .pieces;
         found = h .left ∙ rw (drop-of-length-le s {i = at} l, lex-end (h .fuel)) (ap some (append-nil (h .pieces)));
-        small = omega (arith, h .small, h .inside);
+        small = omega (arith, h .few, h .inside, h .short);
         holds = h .holds;
       }
 
-  pub lexing-bad : at < length s → Nothing ≡ foundAt at (next (drop at s)) → lex s ≡ none
-  lexing-bad l e = h .left ∙ go (h .fuel) refl
+  -- no piece stands here
+  pub lexing-nothing : {r : Found} → at < length s → r ≡ foundAt at (next (drop at s)) → r ≡ Nothing → lex s ≡ none
+  lexing-nothing l e is = h .left ∙ go (h .fuel) refl
     where
       go : (k : ℕ) → h .fuel ≡ k → allBefore (h .pieces) (lexFrom (h .fuel) (drop at s)) ≡ none
       go zero z = let x : ⊥ = omega (arith, h .enough) in absurd x
       go (suc k) z =
-          let none-next : next (getD s at 0 ∷ drop (suc at) s) ≡ none = rw (drop-cons s at 0 l) at (bad-none at (next (drop at s)) e) in
+          let none-next : next (getD s at 0 ∷ drop (suc at) s) ≡ none = rw (drop-cons s at 0 l) at (nothing-none at (next (drop at s)) (sym is ∙ e)) in
           rw (z, drop-cons s at 0 l, lex-none k (getD s at 0) (drop (suc at) s) none-next)
 
-  -- one piece more
-  one : (p : Piece) (e : ℕ) → at < length s → next (drop at s) ≡ some p → e ≡ at + length (pieceBytes p) → (e ≤ length s) × (at + 1 ≤ e)
-  one p e l q z =
+  -- a piece ends in the text, past its start
+  within : (p : Piece) (e : ℕ) → at < length s → next (drop at s) ≡ some p → e ≡ at + length (pieceBytes p) → (e ≤ length s) × (at + 1 ≤ e)
+  within p e l q z =
       let some-bytes : 1 ≤ length (pieceBytes p) = piece-some p (next-sound (drop at s) p q .allowed) in
       let whole : length (pieceBytes p ++ drop (length (pieceBytes p)) (drop at s)) ≡ length (drop at s) = ap length (next-whole (drop at s) p q) in
       (omega (arith, length-append (pieceBytes p) (drop (length (pieceBytes p)) (drop at s)), length-drop at s), omega arith)
 
+  -- one piece more
   more : (p : Piece) (e m : ℕ) (ks ss es : List ℕ) → at < length s → next (drop at s) ≡ some p → e ≡ at + length (pieceBytes p) → m ≤ n + 1
-      → length ks ≡ 4096 → length ss ≡ 4096 → length es ≡ 4096 → Holds m ks ss es (placed 0 (h .pieces ++ (p ∷ []))) → Lexing s e m ks ss es
-  more p e m ks ss es l q z o a b c hold = go (h .fuel) refl
+      → Long ks ss es → Holds m ks ss es (placed 0 (h .pieces ++ (p ∷ []))) → Lexing s e m ks ss es
+  more p e m ks ss es l q z o long hold = go (h .fuel) refl
     where
       size : (e ≤ length s) × (at + 1 ≤ e)
-      size = one p e l q z
+      size = within p e l q z
 
       go : (k : ℕ) → h .fuel ≡ k → Lexing s e m ks ss es
       go zero y = let x : ⊥ = omega (arith, h .enough) in absurd x
@@ -221,11 +223,10 @@ module _ {s : List ℕ} {at n : ℕ} {kinds starts ends : List ℕ} (h : Lexing 
           record {
             pieces = h .pieces ++ (p ∷ []);
             fuel = k;
+            short = h .short;
             inside = size .0;
-            small = omega (arith, h .small, size .1);
-            long = a;
-            long2 = b;
-            long3 = c;
+            few = omega (arith, h .few, size .1);
+            long = long;
             enough = omega (arith, h .enough, size .1);
             place = rw (bytes-more (h .pieces) p) (omega (arith, h .place, length-append (piecesBytes (h .pieces)) (pieceBytes p)));
             left =
@@ -234,50 +235,67 @@ module _ {s : List ℕ} {at n : ℕ} {kinds starts ends : List ℕ} (h : Lexing 
             holds = hold;
           }
 
-  pub lexing-skip : (e : ℕ) → at < length s → Between e ≡ foundAt at (next (drop at s)) → Lexing s e n kinds starts ends
-  lexing-skip e l q = go (skip-some at e (next (drop at s)) q)
-    where
-      go : Skipped at e (next (drop at s)) → Lexing s e n kinds starts ends
-      go x =
-          let same : placed 0 (h .pieces ++ (x .piece ∷ [])) ≡ placed 0 (h .pieces) =
-          placed-more 0 (h .pieces) (x .piece) ∙ ap (λ z. placed 0 (h .pieces) ++ z) (x .silent (0 + length (piecesBytes (h .pieces)))) ∙ append-nil (placed 0 (h .pieces)) in
-          more (x .piece) e n kinds starts ends l (x .is) (x .ends) (omega arith) (h .long) (h .long2) (h .long3) (rw same (h .holds))
+  -- a blank or a comment
+  module _ {r : Found} {e : ℕ} (l : at < length s) (q : r ≡ foundAt at (next (drop at s))) (is : r ≡ Between e) where
+    skipped : Skipped at e (next (drop at s))
+    skipped = between-some at e (next (drop at s)) (sym is ∙ q)
 
-  pub lexing-skip-on : (e : ℕ) → at < length s → Between e ≡ foundAt at (next (drop at s)) → (e ≤ length s) × (at + 1 ≤ e)
-  lexing-skip-on e l q = let x : Skipped at e (next (drop at s)) = skip-some at e (next (drop at s)) q in one (x .piece) e l (x .is) (x .ends)
+    pub lexing-between : Lexing s e n kinds starts ends
+    lexing-between = go skipped
+      where
+        go : Skipped at e (next (drop at s)) → Lexing s e n kinds starts ends
+        go x =
+            let same : placed 0 (h .pieces ++ (x .piece ∷ [])) ≡ placed 0 (h .pieces) =
+            placed-more 0 (h .pieces) (x .piece) ∙ ap (λ z. placed 0 (h .pieces) ++ z) (x .silent (0 + length (piecesBytes (h .pieces)))) ∙ append-nil (placed 0 (h .pieces)) in
+            more (x .piece) e n kinds starts ends l (x .is) (x .ends) (omega arith) (h .long) (rw same (h .holds))
 
-  pub lexing-token-on : (k e : ℕ) → at < length s → Tokened k e ≡ foundAt at (next (drop at s)) → (e ≤ length s) × (at + 1 ≤ e)
-  lexing-token-on k e l q = let x : Tokens at k e (next (drop at s)) = token-some at k e (next (drop at s)) q in one (token (x .what)) e l (x .is) (x .ends)
+    pub between-within : (e ≤ length s) × (at + 1 ≤ e)
+    between-within = let x : Skipped at e (next (drop at s)) = skipped in within (x .piece) e l (x .is) (x .ends)
 
-  pub lexing-token : (k e st en : ℕ) → length s ≤ 4096 → at < length s → Tokened k e ≡ foundAt at (next (drop at s)) → st ≡ at → en ≡ e
-      → Lexing s e (n + 1) (set kinds n k) (set starts n st) (set ends n en)
-  lexing-token k e st en u l q st-at en-e = go (token-some at k e (next (drop at s)) q)
-    where
-      small-n : n < 4096
-      small-n = omega (arith, h .small)
+  -- a token, for which there is a place
+  pub lexing-room : at < length s → (n < 4096) × (at < 4096)
+  lexing-room l = (omega (arith, h .few, h .short), omega (arith, h .short))
 
-      go : Tokens at k e (next (drop at s)) → Lexing s e (n + 1) (set kinds n k) (set starts n st) (set ends n en)
-      go x =
-          more (token (x .what)) e (n + 1) (set kinds n k) (set starts n st) (set ends n en) l (x .is) (x .ends) (omega arith)
-          (length-set kinds n k ∙ h .long) (length-set starts n st ∙ h .long2) (length-set ends n en ∙ h .long3) (rw same held)
-        where
-          p : Placed
-          p = record { start = at; what = x .what }
+  module _ {r : Found} {k e : ℕ} (l : at < length s) (q : r ≡ foundAt at (next (drop at s))) (is : r ≡ Tokened k e) where
+    token-here : TokenHere at k e (next (drop at s))
+    token-here = token-some at k e (next (drop at s)) (sym is ∙ q)
 
-          here : 0 + length (piecesBytes (h .pieces)) ≡ at
-          here = omega (arith, h .place)
+    pub token-within : (e ≤ length s) × (at + 1 ≤ e) × (length s ≤ 4096)
+    token-within =
+        let x : TokenHere at k e (next (drop at s)) = token-here in
+        let size : (e ≤ length s) × (at + 1 ≤ e) = within (token (x .what)) e l (x .is) (x .ends) in
+        (size .0, size .1, h .short)
 
-          same : placed 0 (h .pieces ++ (token (x .what) ∷ [])) ≡ placed 0 (h .pieces) ++ (p ∷ [])
-          same = placed-more 0 (h .pieces) (token (x .what)) ∙ ap (λ z. placed 0 (h .pieces) ++ z) (ap (λ a. placed a (token (x .what) ∷ [])) here ∙ single at (x .what))
+    pub lexing-token : {st en : ℕ} → st ≡ at → en ≡ e → Lexing s e (n + 1) (set kinds n k) (set starts n st) (set ends n en)
+    lexing-token {st = st} {en = en} st-at en-e = go token-here
+      where
+        room : n < 4096
+        room = lexing-room l .0
 
-          ts : List Placed
-          ts = placed 0 (h .pieces)
+        go : TokenHere at k e (next (drop at s)) → Lexing s e (n + 1) (set kinds n k) (set starts n st) (set ends n en)
+        go x =
+            more (token (x .what)) e (n + 1) (set kinds n k) (set starts n st) (set ends n en) l (x .is) (x .ends) (omega arith)
+            (length-set kinds n k ∙ h .long .0, length-set starts n st ∙ h .long .1, length-set ends n en ∙ h .long .2) (rw same held)
+          where
+            p : Placed
+            p = record { start = at; what = x .what }
 
-          held : Holds (n + 1) (set kinds n k) (set starts n st) (set ends n en) (ts ++ (p ∷ []))
-          held =
-              record {
-                count = omega (arith, h .holds .count, length-append ts (p ∷ []));
-                kinded = rw (add-one n, take-suc-set kinds n k (omega (arith, h .long)), h .holds .kinded, x .kind) (sym (kinds-more ts p));
-                started = rw (add-one n, take-suc-set starts n st (omega (arith, h .long2)), h .holds .started, st-at) (sym (starts-more ts p));
-                ended = rw (add-one n, take-suc-set ends n en (omega (arith, h .long3)), h .holds .ended, en-e, x .ends) (sym (ends-more ts p));
-              }
+            start-at : 0 + length (piecesBytes (h .pieces)) ≡ at
+            start-at = omega (arith, h .place)
+
+            same : placed 0 (h .pieces ++ (token (x .what) ∷ [])) ≡ placed 0 (h .pieces) ++ (p ∷ [])
+            same =
+                placed-more 0 (h .pieces) (token (x .what))
+                ∙ ap (λ z. placed 0 (h .pieces) ++ z) (ap (λ a. placed a (token (x .what) ∷ [])) start-at ∙ single at (x .what))
+
+            ts : List Placed
+            ts = placed 0 (h .pieces)
+
+            held : Holds (n + 1) (set kinds n k) (set starts n st) (set ends n en) (ts ++ (p ∷ []))
+            held =
+                record {
+                  count = omega (arith, h .holds .count, length-append ts (p ∷ []));
+                  kinded = rw (add-one n, take-suc-set kinds n k (omega (arith, room, h .long .0)), h .holds .kinded, x .kind) (sym (kinds-more ts p));
+                  started = rw (add-one n, take-suc-set starts n st (omega (arith, room, h .long .1)), h .holds .started, st-at) (sym (starts-more ts p));
+                  ended = rw (add-one n, take-suc-set ends n en (omega (arith, room, h .long .2)), h .holds .ended, en-e, x .ends) (sym (ends-more ts p));
+                }

@@ -1,4 +1,4 @@
--- The lexer finds the pieces of a text, and nothing else: `lex-complete`, `lex-sound`. So a text has its pieces in one way, `lexed-once`.
+-- The lexer finds the pieces of a text, `lexed-found`, and nothing else, `found-lexed`. So a text has its pieces in one way, `lexed-once`.
 use Prim.Native.Nat.{ℕ, zero, suc, _≤_}
 use mathlib.Core.List.{List, [], _∷_, _++_}
 use mathlib.Core.Bool.{true, false≢true}
@@ -8,7 +8,7 @@ use native.Mathlib.Omega.{arith}
 use lib.ListN.{length, drop, length-append}
 use lib.Seq.{drop-append-seam}
 use Rattle.tokens.specs.Token.{Sign, leftBrace, rightBrace, leftBracket, rightBracket, leftAngle, rightAngle, comma, colon, equals, semicolon, dollarEntry, dollarExtern, signBytes, Atom, identifier, number, variable, quoted, atomAllowed, atomBytes, sign, atom, Piece, blank, comment, token, pieceAllowed, pieceBytes, piecesBytes, Lexed}
-use Rattle.tokens.specs.Lex.{guess, next, pieceBefore, lexFrom}
+use Rattle.tokens.specs.Lex.{guess, next, pieceBefore, lexFrom, lex}
 use Rattle.tokens.proofs.NextPiece.{next-sound, next-whole, piece-next, next-stands}
 
 -- ---- all pieces of a text
@@ -46,7 +46,7 @@ unfolding lexFrom
 lex-end zero = refl
 lex-end (suc k) = refl
 
-pub lex-step : (k : ℕ) (s : List ℕ) (p : Piece) (ps : List Piece) → next s ≡ some p → lexFrom k (drop (length (pieceBytes p)) s) ≡ some ps → lexFrom (suc k) s ≡ some (p ∷ ps)
+lex-step : (k : ℕ) (s : List ℕ) (p : Piece) (ps : List Piece) → next s ≡ some p → lexFrom k (drop (length (pieceBytes p)) s) ≡ some ps → lexFrom (suc k) s ≡ some (p ∷ ps)
 unfolding lexFrom next guess
 lex-step k [] p ps h e = absurd (Option·none-ne-some p h)
 lex-step k (c ∷ s) p ps h e = go (next (c ∷ s)) h
@@ -56,7 +56,7 @@ lex-step k (c ∷ s) p ps h e = go (next (c ∷ s)) h
     go none h = absurd (Option·none-ne-some p h)
     go (some q) h = rw (Option·some-injective q p h, e)
 
-pub lex-complete : (ps : List Piece) (k : ℕ) → Lexed ps → length (piecesBytes ps) ≤ k → lexFrom k (piecesBytes ps) ≡ some ps
+lex-complete : (ps : List Piece) (k : ℕ) → Lexed ps → length (piecesBytes ps) ≤ k → lexFrom k (piecesBytes ps) ≡ some ps
 unfolding piecesBytes
 lex-complete [] k h l = lex-end k
 lex-complete (p ∷ ps) zero h l =
@@ -67,7 +67,7 @@ lex-complete (p ∷ ps) (suc k) h l =
     (rw (drop-append-seam (pieceBytes p) (piecesBytes ps))
     (lex-complete ps k (h .2) (omega (arith, piece-some p (h .0), length-append (pieceBytes p) (piecesBytes ps)))))
 
--- the pieces of some bytes
+-- these bytes are made of these pieces
 pub record Split (s : List ℕ) (ps : List Piece) : Type 0 where
   pub whole : piecesBytes ps ≡ s
   pub lexed : Lexed ps
@@ -85,7 +85,7 @@ split-more s p ps h rest =
       lexed = (next-sound s p h .allowed, rw whole (next-stands s p h), rest .lexed);
     }
 
-pub lex-sound : (k : ℕ) (s : List ℕ) (ps : List Piece) → lexFrom k s ≡ some ps → Split s ps
+lex-sound : (k : ℕ) (s : List ℕ) (ps : List Piece) → lexFrom k s ≡ some ps → Split s ps
 unfolding lexFrom
 lex-sound zero [] ps h = split-none ps h
 lex-sound zero (c ∷ s) ps h = absurd (Option·none-ne-some ps h)
@@ -103,9 +103,18 @@ lex-sound (suc k) (c ∷ s) ps h = go (next (c ∷ s)) refl (λ r qs q. lex-soun
     go (some p) e ih h =
         later p e (lexFrom k (drop (length (pieceBytes p)) (c ∷ s))) refl (λ qs q. ih (drop (length (pieceBytes p)) (c ∷ s)) qs q) h
 
+-- ---- the lexer
+
+-- what is made of pieces is found
+pub lexed-found : (ps : List Piece) → Lexed ps → lex (piecesBytes ps) ≡ some ps
+unfolding lex
+lexed-found ps h = lex-complete ps (length (piecesBytes ps)) h (omega arith)
+
+-- what is found are the pieces of the text
+pub found-lexed : (s : List ℕ) (ps : List Piece) → lex s ≡ some ps → Split s ps
+unfolding lex
+found-lexed s ps h = lex-sound (length s) s ps h
+
 -- a text has its pieces in one way
 pub lexed-once : (ps qs : List Piece) → Lexed ps → Lexed qs → piecesBytes ps ≡ piecesBytes qs → ps ≡ qs
-lexed-once ps qs h k e =
-    Option·some-injective ps qs
-    (sym (lex-complete ps (length (piecesBytes ps)) h (omega arith))
-    ∙ (rw e (lex-complete qs (length (piecesBytes qs)) k (omega arith))))
+lexed-once ps qs h k e = Option·some-injective ps qs (sym (lexed-found ps h) ∙ rw e (lexed-found qs k))

@@ -5,15 +5,17 @@ use mathlib.Core.Bool.{Bool, true, false, cond, true≢false, false≢true}
 use mathlib.Core.Option.{none, some}
 use mathlib.Core.Path.{_≡_, refl, sym, _∙_}
 use native.Mathlib.Omega.{arith}
-use lib.ListN.{length, take, drop, getD, length-drop}
+use native.Mathlib.Numerals.{add-one}
+use native.Mathlib.Nat.{add-zero}
+use lib.ListN.{length, take, drop, getD, drop-of-length-le, length-drop}
 use lib.Seq.{drop-cons, length-take-le}
 use lib.Dec.{eqb}
-use borrow.Author.Tests.{eqb-true, ne-eqb}
+use borrow.Author.Tests.{eqb-true, eq-eqb, ne-eqb}
 use Rattle.names.specs.Name.{digitByte, letterByte}
 use Rattle.tokens.specs.Token.{leftBrace, rightBrace, leftBracket, rightBracket, leftAngle, rightAngle, comma, colon, equals, semicolon, dollarEntry, dollarExtern, signBytes, sign, atom, space, tab, lineFeed, carriageReturn, token}
 use Rattle.tokens.specs.Lex.{begins, signPiece, guess, checked, next}
 use Rattle.tokens.specs.Code.Found.{atomIn, EndsIn, lexemeFound, foundAt, oneOf, blanks, signs}
-use Rattle.tokens.proofs.Begins.{begins-found, begins-split}
+use Rattle.tokens.proofs.Begins.{begins-found}
 use Rattle.tokens.proofs.NextPiece.{sign-next, blank-next}
 use Rattle.tokens.specs.declared.atoms.Lexeme.{Lexeme}
 use Rattle.tokens.specs.declared.atoms.Lexeme.the-variants.{Identifier, Number, Variable}
@@ -63,11 +65,12 @@ module _ (at : ℕ) (r : List ℕ) where
       one-of (λ n. Between (at + 1) ≡ foundAt at (next (n ∷ r))) blanks c h
       (rw (blank-next space r), (rw (blank-next lineFeed r), (rw (blank-next tab r), (rw (blank-next carriageReturn r), tt))))
 
-pub sign-here : (s : List ℕ) (at c : ℕ) (t : Bool) → at < length s → c ≡ getD s at 0 → t ≡ oneOf signs c → t ≡ true → Tokened c (at + 1) ≡ foundAt at (next (drop at s))
-sign-here s at c t l e q h = rw (drop-cons s at 0 l, ← e) (sign-each at (drop (suc at) s) c (sym q ∙ h))
+module _ (s : List ℕ) (at : ℕ) {t : Bool} (l : at < length s) where
+  pub sign-here : t ≡ oneOf signs (getD s at 0) → t ≡ true → Tokened (getD s at 0) (at + 1) ≡ foundAt at (next (drop at s))
+  sign-here q h = rw (drop-cons s at 0 l) (sign-each at (drop (suc at) s) (getD s at 0) (sym q ∙ h))
 
-pub blank-here : (s : List ℕ) (at c : ℕ) (t : Bool) → at < length s → c ≡ getD s at 0 → t ≡ oneOf blanks c → t ≡ true → Between (at + 1) ≡ foundAt at (next (drop at s))
-blank-here s at c t l e q h = rw (drop-cons s at 0 l, ← e) (blank-each at (drop (suc at) s) c (sym q ∙ h))
+  pub blank-here : t ≡ oneOf blanks (getD s at 0) → t ≡ true → Between (at + 1) ≡ foundAt at (next (drop at s))
+  blank-here q h = rw (drop-cons s at 0 l) (blank-each at (drop (suc at) s) (getD s at 0) (sym q ∙ h))
 
 -- no piece begins with another byte
 nothing-found : (c : ℕ) (r : List ℕ) → digitByte c ≡ false → letterByte c ≡ false → oneOf blanks c ≡ false → eqb c 39 ≡ false → eqb c 47 ≡ false → eqb c 36 ≡ false
@@ -98,57 +101,104 @@ nothing-found c r d l hb q m w hs =
       g 9 (omega arith),
     )
 
-pub bad-here : (s : List ℕ) (at c : ℕ) (td tl tb ts : Bool) → at < length s → c ≡ getD s at 0 → td ≡ digitByte c → td ≡ false → tl ≡ letterByte c → tl ≡ false → tb ≡ oneOf blanks c → tb ≡ false
-    → (c ≡ 39 → ⊥) → (c ≡ 47 → ⊥) → (c ≡ 36 → ⊥) → ts ≡ oneOf signs c → ts ≡ false → Nothing ≡ foundAt at (next (drop at s))
-bad-here s at c td tl tb ts l e d d2 k k2 b b2 q m w g g2 =
-    let f : next (c ∷ drop (suc at) s) ≡ none =
-    nothing-found c (drop (suc at) s) (sym d ∙ d2) (sym k ∙ k2) (sym b ∙ b2) (ne-eqb c 39 q) (ne-eqb c 47 m) (ne-eqb c 36 w) (sym g ∙ g2) in
-    rw (drop-cons s at 0 l, ← e, f)
+pub nothing-here : (s : List ℕ) (at : ℕ) {td tl tb ts : Bool} → at < length s → td ≡ digitByte (getD s at 0) → td ≡ false → tl ≡ letterByte (getD s at 0) → tl ≡ false
+    → tb ≡ oneOf blanks (getD s at 0) → tb ≡ false → (getD s at 0 ≡ 39 → ⊥) → (getD s at 0 ≡ 47 → ⊥) → (getD s at 0 ≡ 36 → ⊥) → ts ≡ oneOf signs (getD s at 0) → ts ≡ false
+    → Nothing ≡ foundAt at (next (drop at s))
+nothing-here s at l d nd k nk b nb q m w g ng =
+    let c : ℕ = getD s at 0 in
+    let none-next : next (c ∷ drop (suc at) s) ≡ none =
+    nothing-found c (drop (suc at) s) (sym d ∙ nd) (sym k ∙ nk) (sym b ∙ nb) (ne-eqb c 39 q) (ne-eqb c 47 m) (ne-eqb c 36 w) (sym g ∙ ng) in
+    rw (drop-cons s at 0 l, none-next)
 
--- ---- words
+-- ---- loops over bytes that are looked for
 
-pub both-parts : (s : List ℕ) (at : ℕ) (x y : List ℕ) (p q : Bool) → p ≡ begins x (drop at s) → p ≡ true → q ≡ begins y (drop (at + length x) s) → q ≡ begins (x ++ y) (drop at s)
-both-parts s at x y p q e h f = f ∙ sym (begins-split s at x y ∙ rw (← e, h))
+-- the bytes from i on decide whether one is among them
+pub record Among (ns : List ℕ) (c i : ℕ) : Type 0 where
+  pub inside : i ≤ length ns
+  pub left : oneOf ns c ≡ oneOf (drop i ns) c
 
-pub first-part : (s : List ℕ) (at : ℕ) (x y : List ℕ) (p : Bool) → p ≡ begins x (drop at s) → p ≡ false → p ≡ begins (x ++ y) (drop at s)
-first-part s at x y p e h = h ∙ sym (begins-split s at x y ∙ rw (← e, h))
+pub among-start : (ns : List ℕ) (c : ℕ) → Among ns c 0
+among-start ns c = record { inside = omega arith; left = refl }
 
-pub entry-found : (s : List ℕ) (at : ℕ) (t : Bool) → t ≡ begins (signBytes dollarEntry) (drop at s) → t ≡ true → Tokened 69 (at + 6) ≡ foundAt at (next (drop at s))
-entry-found s at t e h =
-    let whole : signBytes dollarEntry ++ drop 6 (drop at s) ≡ drop at s = begins-found (signBytes dollarEntry) (drop at s) (sym e ∙ h) in
-    let took : next (drop at s) ≡ some (token (sign dollarEntry)) = rw (← whole) (sign-next dollarEntry (drop 6 (drop at s))) in
-    rw took
+module _ {ns : List ℕ} {c i : ℕ} (h : Among ns c i) where
+  pub among-found : i < length ns → c ≡ getD ns i 0 → true ≡ oneOf ns c
+  among-found l e = sym (h .left ∙ rw (drop-cons ns i 0 l, eq-eqb c (getD ns i 0) e))
 
-pub extern-found : (s : List ℕ) (at : ℕ) (t : Bool) → t ≡ begins (signBytes dollarExtern) (drop at s) → t ≡ true → Tokened 88 (at + 7) ≡ foundAt at (next (drop at s))
-extern-found s at t e h =
-    let whole : signBytes dollarExtern ++ drop 7 (drop at s) ≡ drop at s = begins-found (signBytes dollarExtern) (drop at s) (sym e ∙ h) in
-    let took : next (drop at s) ≡ some (token (sign dollarExtern)) = rw (← whole) (sign-next dollarExtern (drop 7 (drop at s))) in
-    rw took
+  pub among-next : i < length ns → (c ≡ getD ns i 0 → ⊥) → Among ns c (i + 1)
+  among-next l d = record { inside = omega arith; left = h .left ∙ rw (drop-cons ns i 0 l, ne-eqb c (getD ns i 0) d, add-one i) }
 
-dollar-none : (r : List ℕ) → begins (signBytes dollarEntry) (36 ∷ r) ≡ false → begins (signBytes dollarExtern) (36 ∷ r) ≡ false → next (36 ∷ r) ≡ none
+  pub among-end : length ns ≤ i → false ≡ oneOf ns c
+  among-end l = sym (h .left ∙ rw (drop-of-length-le ns {i = i} l))
+
+-- the bytes from i on decide whether they stand at a byte
+pub record Standing (bs s : List ℕ) (at i : ℕ) : Type 0 where
+  pub inside : at + i ≤ length s
+  pub left : begins bs (drop at s) ≡ begins (drop i bs) (drop (at + i) s)
+
+pub standing-start : (bs s : List ℕ) (at : ℕ) → at ≤ length s → Standing bs s at 0
+standing-start bs s at h = record { inside = omega arith; left = rw (add-zero at) }
+
+module _ {bs s : List ℕ} {at i : ℕ} (h : Standing bs s at i) where
+  pub standing-past : i < length bs → length s - at ≤ i → false ≡ begins bs (drop at s)
+  unfolding begins
+  standing-past l k = sym (h .left ∙ rw (drop-cons bs i 0 l, drop-of-length-le s {i = at + i} (omega arith)))
+
+  pub standing-differs : i < length bs → at + i < length s → (getD bs i 0 ≡ getD s (at + i) 0 → ⊥) → false ≡ begins bs (drop at s)
+  unfolding begins
+  standing-differs l k d = sym (h .left ∙ rw (drop-cons bs i 0 l, drop-cons s (at + i) 0 k, ne-eqb (getD bs i 0) (getD s (at + i) 0) d))
+
+  pub standing-next : i < length bs → at + i < length s → getD bs i 0 ≡ getD s (at + i) 0 → Standing bs s at (i + 1)
+  unfolding begins
+  standing-next l k e =
+      let more : suc (at + i) ≡ at + suc i = omega arith in
+      record {
+        inside = omega arith;
+        left = h .left ∙ rw (drop-cons bs i 0 l, drop-cons s (at + i) 0 k, eq-eqb (getD bs i 0) (getD s (at + i) 0) e, add-one i, more);
+      }
+
+  pub standing-end : length bs ≤ i → true ≡ begins bs (drop at s)
+  unfolding begins
+  standing-end l = sym (h .left ∙ rw (drop-of-length-le bs {i = i} l))
+
+-- ---- `$ENTRY` and `$EXTERN`
+
+module _ (s : List ℕ) (at : ℕ) {t : Bool} where
+  pub entry-found : t ≡ begins (signBytes dollarEntry) (drop at s) → t ≡ true → Tokened 69 (at + 6) ≡ foundAt at (next (drop at s))
+  entry-found e h =
+      let whole : signBytes dollarEntry ++ drop 6 (drop at s) ≡ drop at s = begins-found (signBytes dollarEntry) (drop at s) (sym e ∙ h) in
+      let took : next (drop at s) ≡ some (token (sign dollarEntry)) = rw (← whole) (sign-next dollarEntry (drop 6 (drop at s))) in
+      rw took
+
+  pub extern-found : t ≡ begins (signBytes dollarExtern) (drop at s) → t ≡ true → Tokened 88 (at + 7) ≡ foundAt at (next (drop at s))
+  extern-found e h =
+      let whole : signBytes dollarExtern ++ drop 7 (drop at s) ≡ drop at s = begins-found (signBytes dollarExtern) (drop at s) (sym e ∙ h) in
+      let took : next (drop at s) ≡ some (token (sign dollarExtern)) = rw (← whole) (sign-next dollarExtern (drop 7 (drop at s))) in
+      rw took
+
+neither : (r : List ℕ) → begins (signBytes dollarEntry) (36 ∷ r) ≡ false → begins (signBytes dollarExtern) (36 ∷ r) ≡ false → next (36 ∷ r) ≡ none
 unfolding next guess
-dollar-none r e f = go (eqb (getD r 1 0) 78)
+neither r e f = go (eqb (getD r 1 0) 78)
   where
     go : (b : Bool) → checked (36 ∷ r) (cond b (signPiece dollarEntry) (signPiece dollarExtern)) ≡ none
     go true = rw e
     go false = rw f
 
-pub dollar-bad : (s : List ℕ) (at : ℕ) (t u : Bool) → at < length s → getD s at 0 ≡ 36 → t ≡ begins (signBytes dollarEntry) (drop at s) → t ≡ false → u ≡ begins (signBytes dollarExtern) (drop at s) → u ≡ false
-    → Nothing ≡ foundAt at (next (drop at s))
-dollar-bad s at t u l c e h f k =
+pub dollar-none : (s : List ℕ) (at : ℕ) {t u : Bool} → at < length s → getD s at 0 ≡ 36 → t ≡ begins (signBytes dollarEntry) (drop at s) → t ≡ false
+    → u ≡ begins (signBytes dollarExtern) (drop at s) → u ≡ false → Nothing ≡ foundAt at (next (drop at s))
+dollar-none s at l c e h f k =
     let whole : drop at s ≡ 36 ∷ drop (suc at) s = drop-cons s at 0 l ∙ rw c in
-    let n : next (36 ∷ drop (suc at) s) ≡ none = dollar-none (drop (suc at) s) (rw whole at (sym e ∙ h)) (rw whole at (sym f ∙ k)) in
-    rw (whole, n)
+    let none-next : next (36 ∷ drop (suc at) s) ≡ none = neither (drop (suc at) s) (rw whole at (sym e ∙ h)) (rw whole at (sym f ∙ k)) in
+    rw (whole, none-next)
 
--- ---- words, numbers and variables
+-- ---- identifiers, numbers and variables
 
 part-size : (s : List ℕ) (at e : ℕ) → at ≤ e → e ≤ length s → at + length (take (e - at) (drop at s)) ≡ e
 part-size s at e l k = rw (length-take-le (e - at) (drop at s) (omega (arith, length-drop at s))) (omega arith)
 
-pub lexeme-found : (s : List ℕ) (at : ℕ) (x : Lexeme) (r : Found) → next (drop at s) ≡ some (token (atom (atomIn s at x))) → EndsIn (length s) at x → r ≡ lexemeFound x
+pub lexeme-found : (s : List ℕ) (at : ℕ) (x : Lexeme) {r : Found} → next (drop at s) ≡ some (token (atom (atomIn s at x))) → EndsIn (length s) at x → r ≡ lexemeFound x
     → r ≡ foundAt at (next (drop at s))
-lexeme-found s at (Identifier e) r n i q = q ∙ sym (rw (n, part-size s at e (omega (arith, i .0)) (i .1)))
-lexeme-found s at (Number e) r n i q = q ∙ sym (rw (n, part-size s at e (omega (arith, i .0)) (i .1)))
-lexeme-found s at (Variable k e) r n i q =
+lexeme-found s at (Identifier e) n i q = q ∙ sym (rw (n, part-size s at e (omega (arith, i .0)) (i .1)))
+lexeme-found s at (Number e) n i q = q ∙ sym (rw (n, part-size s at e (omega (arith, i .0)) (i .1)))
+lexeme-found s at (Variable k e) n i q =
     let size : at + suc (suc (length (take (e - (at + 2)) (drop (at + 2) s)))) ≡ e = omega (arith, part-size s (at + 2) e (i .1) (i .2)) in
     q ∙ sym (rw (n, i .0, size))

@@ -4,9 +4,10 @@ use file::wide;
 ghost use Prim.Native.Nat.{_-_, _<_, _≤_};
 ghost use mathlib.Core.Path.{_≡_};
 ghost use mathlib.Core.List.{[], _∷_};
-ghost use lib.ListN.{drop, getD};
+ghost use lib.ListN.{length, drop, getD};
+ghost use Rattle.tokens.specs.Token.{utf8};
 ghost use Rattle.tokens.specs.Lex.{characterIn, begins};
-ghost use Rattle.tokens.specs.Code.Found.{CharacterAt, widthAt};
+ghost use Rattle.tokens.specs.Code.Found.{CharacterAt};
 
 // A character with the number of its bytes, or bytes that are none.
 pub enum Character {
@@ -56,7 +57,7 @@ fn guess_character(text: &[u8], at: usize) -> u32
 }
 
 // Does this byte stand here?
-pub fn one_at(text: &[u8], at: usize, a: u32) -> bool
+fn one_at(text: &[u8], at: usize, a: u32) -> bool
     ensures { λ r. ⌜ r ≡ begins (a ∷ []) (drop at (now (text .entry))) ⌝ }
 {
     if at >= text.len() {
@@ -66,7 +67,7 @@ pub fn one_at(text: &[u8], at: usize, a: u32) -> bool
 }
 
 // Do these two bytes stand here?
-pub fn two_at(text: &[u8], at: usize, a: u32, b: u32) -> bool
+fn two_at(text: &[u8], at: usize, a: u32, b: u32) -> bool
     requires { ⌜ at ≤ 4106 ⌝ }
     ensures { λ r. ⌜ r ≡ begins (a ∷ b ∷ []) (drop at (now (text .entry))) ⌝ }
 {
@@ -74,7 +75,7 @@ pub fn two_at(text: &[u8], at: usize, a: u32, b: u32) -> bool
 }
 
 // Do these three?
-pub fn three_at(text: &[u8], at: usize, a: u32, b: u32, c: u32) -> bool
+fn three_at(text: &[u8], at: usize, a: u32, b: u32, c: u32) -> bool
     requires { ⌜ at ≤ 4105 ⌝ }
     ensures { λ r. ⌜ r ≡ begins (a ∷ b ∷ c ∷ []) (drop at (now (text .entry))) ⌝ }
 {
@@ -82,47 +83,51 @@ pub fn three_at(text: &[u8], at: usize, a: u32, b: u32, c: u32) -> bool
 }
 
 // Do these four?
-pub fn four_at(text: &[u8], at: usize, a: u32, b: u32, c: u32, d: u32) -> bool
+fn four_at(text: &[u8], at: usize, a: u32, b: u32, c: u32, d: u32) -> bool
     requires { ⌜ at ≤ 4104 ⌝ }
     ensures { λ r. ⌜ r ≡ begins (a ∷ b ∷ c ∷ d ∷ []) (drop at (now (text .entry))) ⌝ }
 {
     one_at(text, at, a) && three_at(text, at + 1, b, c, d)
 }
 
-// The number of a character's bytes where they stand here, else 0.
-fn width_at(text: &[u8], at: usize, c: u32) -> usize
+// Do the bytes of this character stand here?
+fn stands(text: &[u8], at: usize, c: u32) -> bool
     requires { ⌜ (at ≤ 4096) × (c ≤ 0x10FFFF) ⌝ }
-    ensures { λ r. ⌜ r ≡ widthAt (drop at (now (text .entry))) c ⌝ }
+    ensures { λ r. ⌜ r ≡ begins (utf8 c) (drop at (now (text .entry))) ⌝ }
 {
     if c < 0x80 {
-        if one_at(text, at, c) {
-            return 1;
-        }
-        return 0;
+        return one_at(text, at, c);
     }
     if c < 0x800 {
-        if two_at(text, at, 0xC0 + c / 64, 0x80 + c % 64) {
-            return 2;
-        }
-        return 0;
+        return two_at(text, at, 0xC0 + c / 64, 0x80 + c % 64);
     }
     if c < 0x10000 {
-        if three_at(text, at, 0xE0 + c / 4096, 0x80 + c / 64 % 64, 0x80 + c % 64) {
-            return 3;
-        }
-        return 0;
+        return three_at(text, at, 0xE0 + c / 4096, 0x80 + c / 64 % 64, 0x80 + c % 64);
     }
-    if four_at(
+    four_at(
         text,
         at,
         0xF0 + c / 262144,
         0x80 + c / 4096 % 64,
         0x80 + c / 64 % 64,
         0x80 + c % 64,
-    ) {
-        return 4;
+    )
+}
+
+// The number of a character's bytes.
+fn width(c: u32) -> usize
+    ensures { λ r. ⌜ r ≡ length (utf8 c) ⌝ }
+{
+    if c < 0x80 {
+        return 1;
     }
-    0
+    if c < 0x800 {
+        return 2;
+    }
+    if c < 0x10000 {
+        return 3;
+    }
+    4
 }
 
 // The character at a byte.
@@ -134,9 +139,8 @@ pub fn character_at(text: &[u8], at: usize) -> Character
     if !scalar_allowed(c) {
         return Character::Broken;
     }
-    let w = width_at(text, at, c);
-    if w == 0 {
+    if !stands(text, at, c) {
         return Character::Broken;
     }
-    Character::Whole(c, w)
+    Character::Whole(c, width(c))
 }

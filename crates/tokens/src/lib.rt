@@ -4,7 +4,7 @@ use crate::pieces::next_piece;
 ghost use Prim.Native.Nat.{_≤_};
 ghost use mathlib.Core.Path.{_≡_};
 ghost use lib.ListN.{length};
-ghost use Rattle.tokens.specs.Code.Arrays.{LexedAs};
+ghost use Rattle.tokens.specs.Code.Arrays.{Long, LexedAs};
 
 mod atoms;
 pub mod characters;
@@ -31,8 +31,8 @@ pub fn lex_text(
     starts: &mut [u16; 4096],
     ends: &mut [u16; 4096],
 ) -> Tokens
-    requires { ⌜ (length (now text) ≤ 4096) × (length (now kinds) ≡ 4096) × (length (now starts) ≡ 4096) × (length (now ends) ≡ 4096) ⌝ }
-    ensures { λ r. ⌜ (length (now (kinds .exit)) ≡ 4096) × (length (now (starts .exit)) ≡ 4096) × (length (now (ends .exit)) ≡ 4096)
+    requires { ⌜ (length (now text) ≤ 4096) × Long (now kinds) (now starts) (now ends) ⌝ }
+    ensures { λ r. ⌜ Long (now (kinds .exit)) (now (starts .exit)) (now (ends .exit))
         × LexedAs (now (text .entry)) r (now (kinds .exit)) (now (starts .exit)) (now (ends .exit)) ⌝ }
 {
     let mut at = 0;

@@ -1,8 +1,9 @@
+-- Rests on the invariant `Lexing`, that the bytes left from `at` on decide, and on one law of it for each piece that is found.
 use Prim.Native.Nat.{_-_}
 use native.Mathlib.Omega.{arith}
 use lib.ListN.{length}
 use borrow.Author.Needs.{needs}
-use Rattle.tokens.proofs.LexLaws.{Lexing, lexing-start, lexing-end, lexing-bad, lexing-skip, lexing-skip-on, lexing-token-on, lexing-token}
+use Rattle.tokens.proofs.LexLaws.{Lexing, lexing-start, lexing-end, lexing-nothing, lexing-between, between-within, lexing-room, token-within, lexing-token}
 use Rattle.tokens.proofs.lex_text.Statement.{statement}
 use Rattle.tokens.proofs.lex_text.Tie as tie
 
@@ -12,28 +13,48 @@ Inv-loop text kinds₀ starts₀ ends₀ at₀ n₀ kinds starts ends at n = Lex
 abbrev μ-loop : tie.MeasureT-loop
 μ-loop text kinds₀ starts₀ ends₀ at₀ n₀ kinds starts ends at n = length text - at
 
+-- the loop, from where a piece is found
+abbrev the-loop : tie.After-next-piece Inv-loop μ-loop → tie.At-loop Inv-loop μ-loop
+the-loop c = c .before .before
+
+-- where it was found, from where it is known to be a blank or a comment, or a token
+abbrev skipping : tie.After-known-told Inv-loop μ-loop → tie.After-next-piece Inv-loop μ-loop
+skipping c = c .before .before .before
+
+abbrev taking : tie.After-known-told2 Inv-loop μ-loop → tie.After-next-piece Inv-loop μ-loop
+taking c = c .before .before .before
+
 pub lex-text-spec : {M : Type 1} → statement M
 lex-text-spec =
     tie.close
     (tie.spec
     Inv-loop
     μ-loop
-    (λ c. lexing-start (c .before .args .text .now) (c .before .args .kinds .now) (c .before .args .starts .now) (c .before .args .ends .now) (c .before .pre .1) (c .before .pre .2) (c .before .pre .3))
-    (λ c κs. (c .before .before .before .pre .0, omega arith))
+    (λ c. let x = c .before .args in lexing-start (x .text .now) (x .kinds .now) (x .starts .now) (x .ends .now) (c .before .pre .0) (c .before .pre .1))
+    (λ c κs. (c .before .loop .inv .short, omega arith))
     (λ c. search needs)
-    (λ c. ((c .before .before .before .before .loop .inv) .long, (c .before .before .before .before .loop .inv) .long2, (c .before .before .before .before .loop .inv) .long3, lexing-bad (c .before .before .before .before .loop .inv) (omega arith) (rw (c .enum-told .given .1) at (c .before .before .next-piece .ensures))))
+    (λ c.
+    let piece = c .before .before in
+    let inv = the-loop piece .loop .inv in
+    (inv .long, lexing-nothing inv (omega arith) (piece .next-piece .ensures) (c .enum-told .given .1)))
     (λ c. search needs)
-    (λ c. let k = lexing-skip-on (c .before .before .before .before .before .loop .inv) _ (omega arith) (rw (c .before .e .given .1) at (c .before .before .before .next-piece .ensures)) in omega (arith, k .0, k .1))
-    (λ c. lexing-skip (c .before .before .before .before .before .loop .inv) _ (omega arith) (rw (c .before .e .given .1) at (c .before .before .before .next-piece .ensures)))
+    (λ c. omega (arith, between-within (the-loop (skipping c) .loop .inv) (omega arith) (skipping c .next-piece .ensures) (c .before .e .given .1)))
+    (λ c. lexing-between (the-loop (skipping c) .loop .inv) (omega arith) (skipping c .next-piece .ensures) (c .before .e .given .1))
     (λ c. search needs)
-    (λ c. omega (arith, (c .before .before .before .before .before .loop .inv) .small, (c .before .before .before .before .before .loop .inv) .long, c .before .before .before .before .before .before .before .pre .0))
-    (λ c κs. omega (arith, c .before .before .before .before .before .before .before .pre .0))
-    (λ c. omega (arith, (c .before .before .before .before .before .before .loop .inv) .small, (c .before .before .before .before .before .before .loop .inv) .long, c .before .before .before .before .before .before .before .before .pre .0))
-    (λ c. omega (arith, (c .before .before .before .before .before .before .loop .inv) .small, (c .before .before .before .before .before .before .loop .inv) .long2, c .before .before .before .before .before .before .before .before .pre .0))
-    (λ c κs. let k = lexing-token-on (c .before .before .before .before .before .before .loop .inv) _ _ (omega arith) (rw (c .before .before .k .given .1) at (c .before .before .before .before .next-piece .ensures)) in omega (arith, c .before .before .before .before .before .before .before .before .pre .0, k .0))
-    (λ c. omega (arith, (c .before .before .before .before .before .before .before .loop .inv) .small, (c .before .before .before .before .before .before .before .loop .inv) .long, c .before .before .before .before .before .before .before .before .before .pre .0))
-    (λ c. omega (arith, (c .before .before .before .before .before .before .before .loop .inv) .small, (c .before .before .before .before .before .before .before .loop .inv) .long3, c .before .before .before .before .before .before .before .before .before .pre .0))
-    (λ c. omega (arith, (c .before .before .before .before .before .before .before .loop .inv) .small, c .before .before .before .before .before .before .before .before .before .pre .0))
-    (λ c. let k = lexing-token-on (c .before .before .before .before .before .before .before .loop .inv) _ _ (omega arith) (rw (c .before .before .before .k .given .1) at (c .before .before .before .before .before .next-piece .ensures)) in omega (arith, k .0, k .1))
-    (λ c. lexing-token (c .before .before .before .before .before .before .before .loop .inv) _ _ _ _ (c .before .before .before .before .before .before .before .before .before .pre .0) (omega arith) (rw (c .before .before .before .k .given .1) at (c .before .before .before .before .before .next-piece .ensures)) (c .before .short .ensures) (c .short2 .ensures))
-    (λ c. ((c .before .loop .inv) .long, (c .before .loop .inv) .long2, (c .before .loop .inv) .long3, lexing-end (c .before .loop .inv) (c .before .before .before .pre .0) (c .loop-test .left))))
+    (λ c. lexing-room (the-loop (taking c) .loop .inv) (omega arith) .0)
+    (λ c κs. omega (arith, lexing-room (the-loop (taking c) .loop .inv) (omega arith) .1))
+    (λ c. omega (arith, lexing-room (the-loop (taking (c .before)) .loop .inv) (omega arith) .0))
+    (λ c. lexing-room (the-loop (taking (c .before)) .loop .inv) (omega arith) .0)
+    (λ c κs.
+    let known = c .before in
+    omega (arith, token-within (the-loop (taking known) .loop .inv) (omega arith) (taking known .next-piece .ensures) (known .before .k .given .1)))
+    (λ c. omega (arith, lexing-room (the-loop (taking (c .before .before)) .loop .inv) (omega arith) .0))
+    (λ c. lexing-room (the-loop (taking (c .before .before)) .loop .inv) (omega arith) .0)
+    (λ c. omega (arith, lexing-room (the-loop (taking (c .before .before)) .loop .inv) (omega arith) .0))
+    (λ c.
+    let known = c .before .before in
+    omega (arith, token-within (the-loop (taking known) .loop .inv) (omega arith) (taking known .next-piece .ensures) (known .before .k .given .1)))
+    (λ c.
+    let known = c .before .before in
+    lexing-token (the-loop (taking known) .loop .inv) (omega arith) (taking known .next-piece .ensures) (known .before .k .given .1) (c .before .short .ensures) (c .short2 .ensures))
+    (λ c. let inv = c .before .loop .inv in (inv .long, lexing-end inv (c .loop-test .left))))

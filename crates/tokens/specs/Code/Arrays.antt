@@ -22,6 +22,10 @@ abbrev pub endsOf : List Placed → List ℕ
 endsOf [] = []
 endsOf (p ∷ ps) = (p .start + length (tokenBytes (p .what))) ∷ endsOf ps
 
+-- arrays of 4,096 places: a token has at least one byte
+abbrev pub Long : (kinds starts ends : List ℕ) → Type 0
+Long kinds starts ends = (length kinds ≡ 4096) × (length starts ≡ 4096) × (length ends ≡ 4096)
+
 -- the first n places of the arrays hold these tokens
 pub record Holds (n : ℕ) (kinds starts ends : List ℕ) (ts : List Placed) : Type 0 where
   pub count : n ≡ length ts

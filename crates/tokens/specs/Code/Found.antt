@@ -25,10 +25,6 @@ abbrev pub CharacterAt : List ℕ → Character → Type 0
 CharacterAt s Broken = scalarAllowed (characterIn s) && begins (utf8 (characterIn s)) s ≡ false
 CharacterAt s (Whole c w) = (c ≡ characterIn s) × (scalarAllowed c ≡ true) × (begins (utf8 c) s ≡ true) × (w ≡ length (utf8 c)) × (1 ≤ w)
 
--- the number of a character's bytes where some bytes begin with them, else 0
-abbrev pub widthAt : List ℕ → ℕ → ℕ
-widthAt s c = cond (begins (utf8 c) s) (length (utf8 c)) 0
-
 -- ---- identifiers, numbers and variables
 
 -- a kind of variable, 0 for none

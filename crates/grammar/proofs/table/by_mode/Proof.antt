@@ -1,3 +1,4 @@
+-- Each case computes.
 use borrow.Author.Needs.{needs}
 use Rattle.grammar.proofs.table.by_mode.Statement.{statement}
 use Rattle.grammar.proofs.table.by_mode.Tie as tie

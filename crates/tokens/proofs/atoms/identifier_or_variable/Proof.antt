@@ -5,6 +5,13 @@ use Rattle.tokens.proofs.AtomLaws.{identifier-plain, identifier-short, 
 use Rattle.tokens.proofs.atoms.identifier_or_variable.Statement.{statement}
 use Rattle.tokens.proofs.atoms.identifier_or_variable.Tie as tie
 
+-- the start, from where the letter is asked for its kind; where it was asked, from where an index is looked for
+abbrev start : tie.After-variable-kind → tie.Start
+start c = c .before .before .before
+
+abbrev asked : tie.After-index-length → tie.After-variable-kind
+asked c = c .before .before
+
 pub identifier-or-variable-spec : {M : Type 1} → statement M
 identifier-or-variable-spec =
     tie.close
@@ -14,28 +21,28 @@ identifier-or-variable-spec =
     (λ c. search needs)
     (λ c κs. search needs)
     (λ c.
-    let start = c .before .before .before .before .before in
-    let kind = c .before .before in (
-      identifier-plain (start .args .text .now) (start .args .at) (c .name-end .result) (kind .variable-kind .result) (start .pre .0) (start .pre .1) (kind .variable-kind .ensures) (c .before .if1 .taken)
-          (c .name-end .ensures .0),
-      (omega (arith, c .name-end .ensures .0), c .name-end .ensures .1),
+    let kind = c .before .before in
+    let begun = start kind in
+    let end = c .name-end .ensures in (
+      identifier-plain (begun .args .text .now) (begun .args .at) (begun .pre .0) (begun .pre .1) (kind .variable-kind .ensures) (c .before .if1 .taken) (end .0),
+      (omega (arith, end .0), end .1),
     ))
     (λ c κs. search needs)
     (λ c κs. search needs)
     (λ c.
-    let start = c .before .before .before .before .before .before .before in
-    let index = c .before .before in (
-      identifier-short (start .args .text .now) (start .args .at) (c .name-end2 .result) (index .index-length .result) (start .pre .0) (start .pre .1) (index .index-length .ensures .0)
-          (c .before .if2 .taken) (c .name-end2 .ensures .0),
-      (omega (arith, c .name-end2 .ensures .0), c .name-end2 .ensures .1),
+    let index = c .before .before in
+    let begun = start (asked index) in
+    let end = c .name-end2 .ensures in (
+      identifier-short (begun .args .text .now) (begun .args .at) (begun .pre .0) (begun .pre .1) (index .index-length .ensures .0) (c .before .if2 .taken) (end .0),
+      (omega (arith, end .0), end .1),
     ))
     (λ c. search needs)
     (λ c. omega (arith, c .before .index-length .ensures .1 (c .if2 .left)))
     (λ c.
-    let start = c .before .before .before .before .before .before in
     let index = c .before in
-    let kind = c .before .before .before in (
-      variable-found (start .args .text .now) (start .args .at) (kind .variable-kind .result) (index .index-length .result) (start .pre .0) (start .pre .1) (kind .variable-kind .ensures)
-          (c .before .before .if1 .left) (index .index-length .ensures .0) (c .if2 .left),
-      (kind-numbered (start .args .text .now) (start .args .at) (kind .variable-kind .result) (kind .variable-kind .ensures) (c .before .before .if1 .left), omega arith, omega (arith, index .index-length .ensures .1 (c .if2 .left))),
+    let kind = asked index in
+    let begun = start kind in
+    let letter = index .before .if1 .left in (
+      variable-found (begun .args .text .now) (begun .args .at) (begun .pre .0) (begun .pre .1) (kind .variable-kind .ensures) letter (index .index-length .ensures .0) (c .if2 .left),
+      (kind-numbered (begun .args .text .now) (begun .args .at) (kind .variable-kind .ensures) letter, omega arith, omega (arith, index .index-length .ensures .1 (c .if2 .left))),
     )))

@@ -12,7 +12,7 @@ number-at-spec =
     (λ c. search needs)
     (λ c κs. search needs)
     (λ c.
-    let start = c .before .before in (
-      number-found (start .args .text .now) (start .args .at) (c .digits-end .result) (start .pre .0) (start .pre .1) (c .digits-end .ensures .0),
+    let begun = c .before .before in (
+      number-found (begun .args .text .now) (begun .args .at) (begun .pre .0) (begun .pre .1) (c .digits-end .ensures .0),
       (omega (arith, c .digits-end .ensures .0), c .digits-end .ensures .1),
     )))

@@ -1,31 +1,36 @@
-use Prim.Native.Nat.{_-_}
-use mathlib.Core.Path.{ap, _∙_}
+-- One law for each way out, by the first byte.
 use borrow.Author.Needs.{needs}
 use Rattle.tokens.proofs.CharacterLaws.{guess-one, guess-two, guess-three, guess-four}
 use Rattle.tokens.proofs.characters.guess_character.Statement.{statement}
 use Rattle.tokens.proofs.characters.guess_character.Tie as tie
+
+-- the start, from where the first byte is read; where it was read, from where the second is taken; and so on
+abbrev start : tie.After-byte-at → tie.Start
+start c = c .before .before
+
+abbrev first : tie.After-less → tie.After-byte-at
+first c = c .before .before .before
+
+abbrev second : tie.After-less3 → tie.After-less
+second c = c .before .before .before
 
 pub guess-character-spec : {M : Type 1} → statement M
 guess-character-spec =
     tie.close
     (tie.spec
     (λ c κs. search needs)
-    (λ c. guess-one (c .before .before .before .args .text .now) (c .before .before .before .args .at) (c .before .byte-at .result) (c .before .byte-at .ensures .0) (c .if1 .taken))
+    (λ c. let x = start (c .before) .args in guess-one (x .text .now) (x .at) (c .before .byte-at .ensures .0) (c .if1 .taken))
     (λ c. search needs)
     (λ c κs. search needs)
     (λ c κs. search needs)
     (λ c κs. search needs)
     (λ c. search needs)
     (λ c. search needs)
-    (λ c. rw (c .less2 .ensures) (guess-two (c .before .before .before .before .before .before .before .args .text .now) (c .before .before .before .before .before .before .before .args .at) (c .before .before .before .before .before .byte-at .result) (c .before .before .before .before .before .byte-at .ensures .0) (c .before .before .less .result) (c .before .before .before .before .if1 .left) (c .before .if2 .taken) (c .before .before .less .ensures ∙ ap (λ z. z - 128) (c .before .before .before .byte-at2 .ensures .0))))
-    (λ c. search needs)
-    (λ c κs. search needs)
-    (λ c κs. search needs)
-    (λ c. search needs)
-    (λ c. search needs)
-    (λ c. search needs)
-    (λ c. search needs)
-    (λ c. guess-three (c .before .before .before .before .before .before .before .before .before .args .text .now) (c .before .before .before .before .before .before .before .before .before .args .at) (c .before .before .before .before .before .before .before .byte-at .result) (c .before .before .before .before .before .before .before .byte-at .ensures .0) (c .before .before .before .before .less .result) (c .before .less3 .result) (c .before .before .before .before .before .before .if1 .left) (c .before .before .before .if2 .left) (c .if3 .taken) (c .before .before .before .before .less .ensures ∙ ap (λ z. z - 128) (c .before .before .before .before .before .byte-at2 .ensures .0)) (c .before .less3 .ensures ∙ ap (λ z. z - 128) (c .before .before .byte-at3 .ensures .0)))
+    (λ c.
+    let two = c .before .before in
+    let x = start (first two) .args in
+    rw (c .less2 .ensures)
+    (guess-two (x .text .now) (x .at) (first two .byte-at .ensures .0) (two .before .byte-at2 .ensures .0) (two .less .ensures) (two .before .before .if1 .left) (c .before .if2 .taken)))
     (λ c. search needs)
     (λ c κs. search needs)
     (λ c κs. search needs)
@@ -33,6 +38,24 @@ guess-character-spec =
     (λ c. search needs)
     (λ c. search needs)
     (λ c. search needs)
+    (λ c.
+    let three = c .before in
+    let two = second three in
+    let x = start (first two) .args in
+    guess-three (x .text .now) (x .at) (first two .byte-at .ensures .0) (two .before .byte-at2 .ensures .0) (two .less .ensures) (three .before .byte-at3 .ensures .0) (three .less3 .ensures)
+    (two .before .before .if1 .left) (three .before .before .if2 .left) (c .if3 .taken))
+    (λ c. search needs)
+    (λ c κs. search needs)
+    (λ c κs. search needs)
     (λ c. search needs)
     (λ c. search needs)
-    (λ c. guess-four (c .before .before .before .before .before .before .before .before .before .before .before .args .text .now) (c .before .before .before .before .before .before .before .before .before .before .before .args .at) (c .before .before .before .before .before .before .before .before .before .byte-at .result) (c .before .before .before .before .before .before .before .before .before .byte-at .ensures .0) (c .before .before .before .before .before .before .less .result) (c .before .before .before .less3 .result) (c .less4 .result) (c .before .before .before .before .before .before .before .before .if1 .left) (c .before .before .before .before .before .if2 .left) (c .before .before .if3 .left) (c .before .before .before .before .before .before .less .ensures ∙ ap (λ z. z - 128) (c .before .before .before .before .before .before .before .byte-at2 .ensures .0)) (c .before .before .before .less3 .ensures ∙ ap (λ z. z - 128) (c .before .before .before .before .byte-at3 .ensures .0)) (c .less4 .ensures ∙ ap (λ z. z - 128) (c .before .byte-at4 .ensures .0))))
+    (λ c. search needs)
+    (λ c. search needs)
+    (λ c. search needs)
+    (λ c. search needs)
+    (λ c.
+    let three = c .before .before .before in
+    let two = second three in
+    let x = start (first two) .args in
+    guess-four (x .text .now) (x .at) (first two .byte-at .ensures .0) (two .before .byte-at2 .ensures .0) (two .less .ensures) (three .before .byte-at3 .ensures .0) (three .less3 .ensures)
+    (c .before .byte-at4 .ensures .0) (c .less4 .ensures) (two .before .before .if1 .left) (three .before .before .if2 .left) (c .before .before .if3 .left)))

@@ -1,3 +1,4 @@
+-- One law for each way out: no byte stands here, or one that is compared.
 use native.Mathlib.Omega.{arith}
 use borrow.Author.Needs.{needs}
 use Rattle.tokens.proofs.CharacterLaws.{byte-past, byte-same}
@@ -5,8 +6,10 @@ use Rattle.tokens.proofs.characters.one_at.Statement.{statement}
 use Rattle.tokens.proofs.characters.one_at.Tie as tie
 
 pub one-at-spec : {M : Type 1} → statement M
-one-at-spec = tie.close (tie.spec
-    (λ c. byte-past (c .before .before .args .text .now) (c .before .before .args .at) (c .before .before .args .a) (c .if1 .taken))
+one-at-spec =
+    tie.close
+    (tie.spec
+    (λ c. let x = c .before .before .args in byte-past (x .text .now) (x .at) (x .a) (c .if1 .taken))
     (λ c. search needs)
     (λ c κs. search needs)
-    (λ c. byte-same (c .before .before .before .before .args .text .now) (c .before .before .before .before .args .at) (c .before .before .before .before .args .a) (c .wide .result) (omega arith) (c .wide .ensures .0)))
+    (λ c. let x = c .before .before .before .before .args in byte-same (x .text .now) (x .at) (x .a) (omega arith) (c .wide .ensures .0)))

@@ -1,13 +1,19 @@
+-- The first byte decides, and then the others.
 use mathlib.Core.List.{[], _∷_}
 use borrow.Author.Needs.{needs}
-use Rattle.tokens.proofs.CharacterLaws.{both-begin, first-differs}
+use Rattle.tokens.proofs.CharacterLaws.{first-same, first-differs}
 use Rattle.tokens.proofs.characters.three_at.Statement.{statement}
 use Rattle.tokens.proofs.characters.three_at.Tie as tie
 
 pub three-at-spec : {M : Type 1} → statement M
-three-at-spec = tie.close (tie.spec
+three-at-spec =
+    tie.close
+    (tie.spec
     (λ c κs. search needs)
     (λ c. search needs)
     (λ c κs. search needs)
-    (λ c. both-begin (c .before .before .before .before .args .text .now) (c .before .before .before .before .args .at) (c .before .before .before .before .args .a) (c .before .before .before .before .args .b ∷ c .before .before .before .before .args .c ∷ []) (c .before .before .one-at .result) (c .two-at .result) (c .before .before .one-at .ensures) (c .before .if1 .taken) (c .two-at .ensures))
-    (λ c. first-differs (c .before .before .before .args .text .now) (c .before .before .before .args .at) (c .before .before .before .args .a) (c .before .before .before .args .b ∷ c .before .before .before .args .c ∷ []) (c .before .one-at .result) (c .before .one-at .ensures) (c .if1 .left)))
+    (λ c.
+    let first = c .before .before in
+    let x = first .before .before .args in
+    first-same (x .text .now) (x .at) (x .a) (x .b ∷ x .c ∷ []) (first .one-at .ensures) (c .before .if1 .taken) (c .two-at .ensures))
+    (λ c. let x = c .before .before .before .args in first-differs (x .text .now) (x .at) (x .a) (x .b ∷ x .c ∷ []) (c .before .one-at .ensures) (c .if1 .left)))
