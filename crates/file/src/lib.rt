@@ -91,7 +91,7 @@ pub fn refusal_number(why: Refusal) -> u32
 }
 
 // A byte as a word.
-fn wide(b: u8) -> u32
+pub fn wide(b: u8) -> u32
     ensures { λ r. ⌜ (r ≡ b) × (r < 256) ⌝ }
 {
     b as u32
@@ -219,7 +219,7 @@ fn spelled_number(text: &[u8], start: u32, len: u32) -> bool
 }
 
 // A Unicode scalar value.
-fn scalar_allowed(a: u32) -> bool
+pub fn scalar_allowed(a: u32) -> bool
     ensures { λ r. ⌜ r ≡ scalarAllowed a ⌝ }
 {
     if 0x10FFFF < a {

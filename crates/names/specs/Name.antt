@@ -17,9 +17,13 @@ between low high c = leb low c && leb c high
 abbrev pub digitByte : ℕ → Bool
 digitByte c = between 48 57 c
 
+-- ASCII letters
+abbrev pub letterByte : ℕ → Bool
+letterByte c = between 97 122 c || between 65 90 c
+
 -- ASCII letters, digits, `-` and `_`
 abbrev pub nameByte : ℕ → Bool
-nameByte c = between 97 122 c || between 65 90 c || digitByte c || eqb c 45 || eqb c 95
+nameByte c = letterByte c || digitByte c || eqb c 45 || eqb c 95
 
 -- upper case: `a` to `z` become `A` to `Z`
 abbrev pub upperByte : ℕ → ℕ

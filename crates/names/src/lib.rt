@@ -2,7 +2,7 @@
 ghost use mathlib.Core.Path.{_≡_};
 ghost use Prim.Native.Nat.{_+_, _≤_};
 ghost use lib.ListN.{length, take, drop};
-ghost use Rattle.names.specs.Name.{between, digitByte, nameByte, upperByte, foldByte, folded, foldedIndex, sameBytes, orderBytes, lengthAllowed, nameAllowed, numberAllowed};
+ghost use Rattle.names.specs.Name.{between, digitByte, letterByte, nameByte, upperByte, foldByte, folded, foldedIndex, sameBytes, orderBytes, lengthAllowed, nameAllowed, numberAllowed};
 
 // How two names stand to each other, by the bytes of the folded names.
 pub enum Order {
@@ -19,20 +19,27 @@ fn in_range(low: u8, high: u8, c: u8) -> bool
 }
 
 // A decimal digit.
-fn digit_byte(c: u8) -> bool
+pub fn digit_byte(c: u8) -> bool
     ensures { λ r. ⌜ r ≡ digitByte c ⌝ }
 {
     in_range(b'0', b'9', c)
 }
 
-// An ASCII letter, a digit, `-` or `_`.
-fn name_byte(c: u8) -> bool
-    ensures { λ r. ⌜ r ≡ nameByte c ⌝ }
+// An ASCII letter.
+pub fn letter_byte(c: u8) -> bool
+    ensures { λ r. ⌜ r ≡ letterByte c ⌝ }
 {
     if in_range(b'a', b'z', c) {
         return true;
     }
-    if in_range(b'A', b'Z', c) {
+    in_range(b'A', b'Z', c)
+}
+
+// An ASCII letter, a digit, `-` or `_`.
+pub fn name_byte(c: u8) -> bool
+    ensures { λ r. ⌜ r ≡ nameByte c ⌝ }
+{
+    if letter_byte(c) {
         return true;
     }
     if digit_byte(c) {

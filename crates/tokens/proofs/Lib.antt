@@ -1,0 +1,11 @@
+pub mod Utf8
+pub mod Begins
+pub mod NextPiece
+pub mod Lexing
+pub mod AtomLaws
+pub mod CharacterLaws
+pub mod Passed
+pub mod QuotedLaws
+pub mod CommentLaws
+pub mod PieceLaws
+pub mod LexLaws

@@ -1,0 +1,4 @@
+pub mod Token
+pub mod Lex
+pub mod Code
+pub mod Examples
