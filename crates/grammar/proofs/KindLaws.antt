@@ -1,4 +1,4 @@
--- The machine over kinds of tokens is the machine over tokens.
+-- The machine over kinds of tokens is the machine over tokens, `kinds-accepted`; and the loop that runs it.
 use Prim.Native.Nat.{ℕ, zero, suc, _+_, _≤_, _<_}
 use mathlib.Core.List.{List, [], _∷_}
 use mathlib.Core.Bool.{Bool, false}
@@ -77,12 +77,14 @@ never n (suc d) stack o = no-end-open n (openOf (getD stack d 0)) (stackOf d sta
 
 -- ---- the loop: what is left decides
 
+-- the kinds from i on decide, in this mode and with this stack
 pub record Left (ks : List ℕ) (i : ℕ) (m : Mode) (depth : ℕ) (stack : List ℕ) : Type 0 where
   pub inside : i ≤ length ks
   pub low : depth ≤ i
   pub long : length stack ≡ 4096
   pub left : acceptsKinds AtText [] ks ≡ acceptsKinds m (stackOf depth stack) (drop i ks)
 
+-- nothing is read yet
 pub left-start : (ks stack : List ℕ) → length stack ≡ 4096 → Left ks 0 AtText 0 stack
 unfolding stackOf
 left-start ks stack h = record { inside = omega arith; low = omega arith; long = h; left = refl }
@@ -92,10 +94,12 @@ module _ {ks : List ℕ} {i : ℕ} {m : Mode} {depth : ℕ} {stack : List ℕ} (
       → acceptsKinds AtText [] ks ≡ stepped r after (λ n rest. acceptsKinds n rest (drop (suc i) ks))
   one l r after d = h .left ∙ rw (drop-cons ks i 0 l) (d .same (λ n rest. acceptsKinds n rest (drop (suc i) ks)))
 
+  -- a token that is refused
   pub left-refused : {k : Move} {r : Step} {after : List ℕ} → i < length ks → k ≡ kindMove (getD ks i 0) m → StepDone k (stackOf depth stack) r after depth → r ≡ Refused
       → false ≡ acceptsKinds AtText [] ks
   left-refused {after = after} l e d is = sym (one l Refused after (rw (e, is) at d))
 
+  -- a token more
   pub left-next : {k : Move} {r : Step} {n : Mode} {e : ℕ} {after : List ℕ} → i < length ks → length after ≡ 4096 → k ≡ kindMove (getD ks i 0) m
       → StepDone k (stackOf depth stack) r after depth → r ≡ On n e → Left ks (i + 1) n e after
   left-next {n = n} {e = e} {after = after} l long q d is =
@@ -107,9 +111,11 @@ module _ {ks : List ℕ} {i : ℕ} {m : Mode} {depth : ℕ} {stack : List ℕ} (
         left = rw (add-one i) (one l (On n e) after step);
       }
 
+  -- the tokens end where something is open
   pub left-open : length ks ≤ i → (depth ≡ 0 → ⊥) → false ≡ acceptsKinds AtText [] ks
   left-open l o = sym (h .left ∙ rw (drop-of-length-le ks {i = i} l) (never m depth stack o))
 
+  -- the tokens end where nothing is open
   pub left-end : {t : Bool} → length ks ≤ i → depth ≡ 0 → t ≡ modeEnds m → t ≡ acceptsKinds AtText [] ks
   unfolding stackOf
   left-end l o e = e ∙ sym (h .left ∙ rw (drop-of-length-le ks {i = i} l, o))
