@@ -1,7 +1,8 @@
 -- The machine over kinds of tokens is the machine over tokens, `kinds-accepted`; and the loop that runs it.
 use Prim.Native.Nat.{ℕ, zero, suc, _+_, _≤_, _<_}
 use mathlib.Core.List.{List, [], _∷_}
-use mathlib.Core.Bool.{Bool, false}
+use mathlib.Core.Bool.{Bool, false, cond}
+use mathlib.Core.Option.{none, some}
 use mathlib.Core.Path.{_≡_, refl, sym, ap, _∙_, fun-ext}
 use native.Mathlib.Omega.{arith}
 use native.Mathlib.Numerals.{add-one}
@@ -9,10 +10,13 @@ use lib.ListN.{length, drop, getD, drop-of-length-le}
 use lib.Seq.{drop-cons}
 use borrow.Author.Tests.{ne-eqb}
 use Rattle.law.specs.Tree.{symbolKind, termKind, expressionKind}
-use Rattle.tokens.specs.Token.{leftBrace, rightBrace, leftBracket, rightBracket, leftAngle, rightAngle, comma, colon, equals, semicolon, dollarEntry, dollarExtern, identifier, number, variable, quoted, Token, sign, atom, Placed}
+use Rattle.tokens.specs.Token.{leftBrace, rightBrace, leftBracket, rightBracket, leftAngle, rightAngle, comma, colon, equals, semicolon, dollarEntry, dollarExtern, identifier, number, variable, quoted, Token, sign, atom, Piece, Placed, placed}
+use Rattle.tokens.specs.Lex.{lex}
 use Rattle.tokens.specs.Code.TokenKind.{tokenKind}
 use Rattle.tokens.specs.Code.Arrays.{kindsOf}
+use Rattle.grammar.specs.Parse.{phrase}
 use Rattle.grammar.specs.Accept.{Opened, openOf, otherMove, move, perform, mayEnd, accepts}
+use Rattle.grammar.specs.Read.{phraseOf}
 use Rattle.grammar.specs.Code.Machine.{stackOf, stepped, StepDone, modeEnds, braceMove, separatorMove, kindMove, acceptsKinds}
 use Rattle.grammar.specs.declared.table.Mode.{Mode}
 use Rattle.grammar.specs.declared.table.Mode.the-variants.{AtText, AfterEntry, AfterName, AtExtern, InExtern, InPattern, InCondition, InResult, AfterSemicolon, ConditionCall, ResultCall}
@@ -56,6 +60,16 @@ pub kinds-accepted : (ts : List Placed) (m : Mode) (st : List Opened) → accept
 kinds-accepted [] m st = refl
 kinds-accepted (p ∷ ps) m st =
     rw (kind-move (p .what) m) (ap (perform (move (p .what) m) st) (fun-ext (λ n. fun-ext (λ rest. kinds-accepted ps n rest))))
+
+-- so the code's two passes decide the phrase of a text
+pub unlexed-phrase : (bytes : List ℕ) → lex bytes ≡ none → phraseOf bytes ≡ none
+unfolding phraseOf
+unlexed-phrase bytes e = rw e
+
+pub kinds-phrase : (bytes : List ℕ) (ps : List Piece) → lex bytes ≡ some ps
+    → phraseOf bytes ≡ cond (acceptsKinds AtText [] (kindsOf (placed 0 ps))) (some (phrase (placed 0 ps))) none
+unfolding phraseOf
+kinds-phrase bytes ps e = rw (e, kinds-accepted (placed 0 ps) AtText [])
 
 no-end-open : (n : Mode) (o : Opened) (st : List Opened) → mayEnd n (o ∷ st) ≡ false
 no-end-open AtText o st = refl
