@@ -1,7 +1,8 @@
--- The machine over kinds of tokens is the machine over tokens.
+-- The machine over kinds of tokens is the machine over tokens, `kinds-accepted`; and the loop that runs it.
 use Prim.Native.Nat.{ℕ, zero, suc, _+_, _≤_, _<_}
 use mathlib.Core.List.{List, [], _∷_}
-use mathlib.Core.Bool.{Bool, false}
+use mathlib.Core.Bool.{Bool, false, cond}
+use mathlib.Core.Option.{none, some}
 use mathlib.Core.Path.{_≡_, refl, sym, ap, _∙_, fun-ext}
 use native.Mathlib.Omega.{arith}
 use native.Mathlib.Numerals.{add-one}
@@ -9,10 +10,13 @@ use lib.ListN.{length, drop, getD, drop-of-length-le}
 use lib.Seq.{drop-cons}
 use borrow.Author.Tests.{ne-eqb}
 use Rattle.law.specs.Tree.{symbolKind, termKind, expressionKind}
-use Rattle.tokens.specs.Token.{leftBrace, rightBrace, leftBracket, rightBracket, leftAngle, rightAngle, comma, colon, equals, semicolon, dollarEntry, dollarExtern, identifier, number, variable, quoted, Token, sign, atom, Placed}
+use Rattle.tokens.specs.Token.{leftBrace, rightBrace, leftBracket, rightBracket, leftAngle, rightAngle, comma, colon, equals, semicolon, dollarEntry, dollarExtern, identifier, number, variable, quoted, Token, sign, atom, Piece, Placed, placed}
+use Rattle.tokens.specs.Lex.{lex}
 use Rattle.tokens.specs.Code.TokenKind.{tokenKind}
 use Rattle.tokens.specs.Code.Arrays.{kindsOf}
+use Rattle.grammar.specs.Parse.{phrase}
 use Rattle.grammar.specs.Accept.{Opened, openOf, otherMove, move, perform, mayEnd, accepts}
+use Rattle.grammar.specs.Read.{phraseOf}
 use Rattle.grammar.specs.Code.Machine.{stackOf, stepped, StepDone, modeEnds, braceMove, separatorMove, kindMove, acceptsKinds}
 use Rattle.grammar.specs.declared.table.Mode.{Mode}
 use Rattle.grammar.specs.declared.table.Mode.the-variants.{AtText, AfterEntry, AfterName, AtExtern, InExtern, InPattern, InCondition, InResult, AfterSemicolon, ConditionCall, ResultCall}
@@ -57,6 +61,16 @@ kinds-accepted [] m st = refl
 kinds-accepted (p ∷ ps) m st =
     rw (kind-move (p .what) m) (ap (perform (move (p .what) m) st) (fun-ext (λ n. fun-ext (λ rest. kinds-accepted ps n rest))))
 
+-- so the code's two passes decide the phrase of a text
+pub unlexed-phrase : (bytes : List ℕ) → lex bytes ≡ none → phraseOf bytes ≡ none
+unfolding phraseOf
+unlexed-phrase bytes e = rw e
+
+pub kinds-phrase : (bytes : List ℕ) (ps : List Piece) → lex bytes ≡ some ps
+    → phraseOf bytes ≡ cond (acceptsKinds AtText [] (kindsOf (placed 0 ps))) (some (phrase (placed 0 ps))) none
+unfolding phraseOf
+kinds-phrase bytes ps e = rw (e, kinds-accepted (placed 0 ps) AtText [])
+
 no-end-open : (n : Mode) (o : Opened) (st : List Opened) → mayEnd n (o ∷ st) ≡ false
 no-end-open AtText o st = refl
 no-end-open AfterEntry o st = refl
@@ -77,12 +91,14 @@ never n (suc d) stack o = no-end-open n (openOf (getD stack d 0)) (stackOf d sta
 
 -- ---- the loop: what is left decides
 
+-- the kinds from i on decide, in this mode and with this stack
 pub record Left (ks : List ℕ) (i : ℕ) (m : Mode) (depth : ℕ) (stack : List ℕ) : Type 0 where
   pub inside : i ≤ length ks
   pub low : depth ≤ i
   pub long : length stack ≡ 4096
   pub left : acceptsKinds AtText [] ks ≡ acceptsKinds m (stackOf depth stack) (drop i ks)
 
+-- nothing is read yet
 pub left-start : (ks stack : List ℕ) → length stack ≡ 4096 → Left ks 0 AtText 0 stack
 unfolding stackOf
 left-start ks stack h = record { inside = omega arith; low = omega arith; long = h; left = refl }
@@ -92,10 +108,12 @@ module _ {ks : List ℕ} {i : ℕ} {m : Mode} {depth : ℕ} {stack : List ℕ} (
       → acceptsKinds AtText [] ks ≡ stepped r after (λ n rest. acceptsKinds n rest (drop (suc i) ks))
   one l r after d = h .left ∙ rw (drop-cons ks i 0 l) (d .same (λ n rest. acceptsKinds n rest (drop (suc i) ks)))
 
+  -- a token that is refused
   pub left-refused : {k : Move} {r : Step} {after : List ℕ} → i < length ks → k ≡ kindMove (getD ks i 0) m → StepDone k (stackOf depth stack) r after depth → r ≡ Refused
       → false ≡ acceptsKinds AtText [] ks
   left-refused {after = after} l e d is = sym (one l Refused after (rw (e, is) at d))
 
+  -- a token more
   pub left-next : {k : Move} {r : Step} {n : Mode} {e : ℕ} {after : List ℕ} → i < length ks → length after ≡ 4096 → k ≡ kindMove (getD ks i 0) m
       → StepDone k (stackOf depth stack) r after depth → r ≡ On n e → Left ks (i + 1) n e after
   left-next {n = n} {e = e} {after = after} l long q d is =
@@ -107,9 +125,11 @@ module _ {ks : List ℕ} {i : ℕ} {m : Mode} {depth : ℕ} {stack : List ℕ} (
         left = rw (add-one i) (one l (On n e) after step);
       }
 
+  -- the tokens end where something is open
   pub left-open : length ks ≤ i → (depth ≡ 0 → ⊥) → false ≡ acceptsKinds AtText [] ks
   left-open l o = sym (h .left ∙ rw (drop-of-length-le ks {i = i} l) (never m depth stack o))
 
+  -- the tokens end where nothing is open
   pub left-end : {t : Bool} → length ks ≤ i → depth ≡ 0 → t ≡ modeEnds m → t ≡ acceptsKinds AtText [] ks
   unfolding stackOf
   left-end l o e = e ∙ sym (h .left ∙ rw (drop-of-length-le ks {i = i} l, o))

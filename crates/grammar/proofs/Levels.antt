@@ -9,6 +9,7 @@ use Rattle.grammar.specs.Grammar.{signAt, atomAt, Identifier, identifier
 use Rattle.grammar.specs.Parse.{_⊕_}
 use Rattle.grammar.specs.Accept.{Opened, bracketOpen, callOpen}
 
+-- terms, and then others
 pub spell-plus : (t u : Terms) (after : List Placed) → spellTerms (t ⊕ u) after ≡ spellTerms t (spellTerms u after)
 spell-plus nothing u after = refl
 spell-plus (atomic at a rest) u after = ap (_∷_ (atomAt at a)) (spell-plus rest u after)
@@ -22,6 +23,7 @@ free-plus (bracket l inside r rest) u h k =
     both (callFree inside) (callFree (rest ⊕ u)) (both-first (callFree inside) (callFree rest) h) (free-plus rest u (both-second (callFree inside) (callFree rest) h) k)
 free-plus (call l f inside r rest) u h k = absurd (false≢true h)
 
+-- the sign that closes
 abbrev pub closer : Opened → Sign
 closer bracketOpen = rightBracket
 closer callOpen = rightAngle
@@ -44,6 +46,7 @@ module _ (R : Type 0) (spellR : R → List Placed) (frontR : Terms → R → R) 
   okLevels [] x = okR x
   okLevels (o ∷ st) x = okT (x .0) && okLevels st (x .2)
 
+  -- these tokens are what is left, and it is allowed
   pub record Found (st : List Opened) (ts : List Placed) : Type 0 where
     pub rest : Levels st
     pub spells : spellLevels st rest ≡ ts
@@ -68,6 +71,7 @@ module _ (R : Type 0) (spellR : R → List Placed) (frontR : Terms → R → R) 
     ok-fronted t (o ∷ st) x h k =
         both (okT (t ⊕ x .0)) (okLevels st (x .2)) (laws .ok-plus t (x .0) h (both-first (okT (x .0)) (okLevels st (x .2)) k)) (both-second (okT (x .0)) (okLevels st (x .2)) k)
 
+    -- terms, an atom, a bracket, a call and a closing sign in front
     pub found-front : (t : Terms) (st : List Opened) (ts : List Placed) → okT t ≡ true → Found st ts → Found st (spellTerms t ts)
     found-front t st ts h f =
         record {

@@ -1,4 +1,4 @@
--- The machine accepts exactly the tokens that spell a text.
+-- The machine accepts the tokens that spell a text, `text-taken`.
 use Prim.Native.Nat.{ℕ}
 use mathlib.Core.List.{List, [], _∷_}
 use mathlib.Core.Bool.{true, false, true≢false, false≢true}
@@ -91,6 +91,7 @@ names-taken : (names : Names) (after : List Placed) → accepts AtExtern [] (spe
 names-taken (lastName i c) after = refl
 names-taken (moreNames i c rest) after = names-taken rest after
 
+-- a text is accepted
 pub text-taken : (text : Text) → textAllowed text ≡ true → accepts AtText [] (spellText text) ≡ true
 text-taken done h = refl
 text-taken (extern at names rest) h = names-taken names (spellText rest) ∙ text-taken rest h

@@ -1,4 +1,4 @@
--- What a move does to the code's stack: one law for each way out of `perform`.
+-- What a move does to the code's stack: one law for each way out of `perform` and `close`.
 use Prim.Native.Nat.{ℕ, zero, suc, _+_, _-_, _≤_, _<_}
 use mathlib.Core.List.{List, [], _∷_}
 use mathlib.Core.Bool.{Bool, false}

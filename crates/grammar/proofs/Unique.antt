@@ -7,6 +7,7 @@ use Rattle.tokens.specs.Token.{Sign, rightBrace, rightBracket, rightAngle, comm
 use Rattle.grammar.specs.Grammar.{signAt, Identifier, Terms, nothing, atomic, bracket, call, Conditions, noCondition, condition, Sentence, Sentences, last, lastClosed, more, Names, lastName, moreNames, Text, done, extern, function, entry, spellTerms, spellConditions, spellSentence, spellSentences, spellNames, spellText}
 use Rattle.grammar.specs.Parse.{_⊕_, Rows, end, row, front, bracketBefore, callBefore, rowsFrom, other, role, conditioned, withCondition, Body, plain, closesBody, braceNext, braceAt, bodyAfter, readText, readTail, readNames, readBody, phrase}
 
+-- nothing after terms
 pub plus-nothing : (t : Terms) → t ⊕ nothing ≡ t
 plus-nothing nothing = refl
 plus-nothing (atomic at a rest) = ap (atomic at a) (plus-nothing rest)

@@ -36,6 +36,7 @@ abbrev pub openNumber : Opened → ℕ
 openNumber bracketOpen = 0
 openNumber callOpen = 1
 
+-- a move that opens, and one that closes
 abbrev pub opening : Opened → Mode → Move
 opening o m = Open (openNumber o) m
 
@@ -68,6 +69,7 @@ inLists e f g h i = byMode Refuse Refuse Refuse Refuse e f g h i Refuse Refuse
 abbrev pub inTerms : (f g h i : Move) → Mode → Move
 inTerms f g h i = inLists Refuse f g h i
 
+-- a sign
 abbrev pub signMove : Sign → Mode → Move
 signMove leftBracket = inTerms (opening bracketOpen InPattern) (opening bracketOpen InCondition) (opening bracketOpen InResult) (opening bracketOpen InPattern)
 signMove rightBracket = inTerms (closing bracketOpen InPattern) (closing bracketOpen InCondition) (closing bracketOpen InResult) Refuse
@@ -91,6 +93,7 @@ identifierMove =
 abbrev pub otherMove : Mode → Move
 otherMove = inTerms (Stay InPattern) (Stay InCondition) (Stay InResult) (Stay InPattern)
 
+-- an atom
 abbrev pub atomMove : Atom → Mode → Move
 atomMove (identifier w) = identifierMove
 atomMove (number w) = otherMove

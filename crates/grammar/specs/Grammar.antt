@@ -118,12 +118,14 @@ spellText (entry at f rest) = signAt at dollarEntry ∷ spellFunction f (spellTe
 
 -- ---- "Patterns hold no calls"
 
+-- terms without calls
 abbrev pub callFree : Terms → Bool
 callFree nothing = true
 callFree (atomic at a rest) = callFree rest
 callFree (bracket l inside r rest) = callFree inside && callFree rest
 callFree (call l f inside r rest) = false
 
+-- all patterns are without calls
 abbrev pub conditionsAllowed : Conditions → Bool
 conditionsAllowed noCondition = true
 conditionsAllowed (condition c result d pattern rest) = callFree pattern && conditionsAllowed rest

@@ -76,6 +76,7 @@ abbrev pub tokenBefore : ℕ → Token → Rows → Rows
 tokenBefore at (sign g) rows = signBefore at g rows
 tokenBefore at (atom a) rows = front (atomic at a nothing) rows
 
+-- the rows of some tokens
 unfoldable pub rowsFrom : List Placed → Rows
 rowsFrom [] = end nothing
 rowsFrom (p ∷ ps) = tokenBefore (p .start) (p .what) (rowsFrom ps)
@@ -195,6 +196,7 @@ textAfter separates t at text names body = functionThen (nameIn t) at body
 textAfter ends t at text names body = functionThen (nameIn t) at body
 textAfter other t at text names body = functionThen (nameIn t) at body
 
+-- rows as a text, as the text after a row, as names and as a body
 unfoldable mutual
   pub readText : Rows → Text
   readText (end t) = done

@@ -9,7 +9,7 @@ ghost use mathlib.Core.Path.{_≡_};
 ghost use lib.ListN.{length};
 ghost use Rattle.grammar.specs.Code.Machine.{acceptsKinds, stackOf, StepDone};
 
-pub mod table;
+mod table;
 
 // Where a token has led: a mode, and the number of brackets and calls that are open.
 enum Step {

@@ -1,4 +1,4 @@
--- Laws for the loops that look for the end of a run of bytes, and for the tokens that they find.
+-- Laws for identifiers, numbers and variables: the loops that look for their end, and the tokens that are found.
 use Prim.Native.Nat.{ℕ, suc, _+_, _-_, _≤_, _<_}
 use mathlib.Core.List.{List, [], _∷_, _++_}
 use mathlib.Core.Bool.{Bool, true, false}
@@ -50,6 +50,7 @@ module _ {p : ℕ → Bool} {s : List ℕ} {at i : ℕ} (h : LeadingTo p s at i)
 
 -- ---- an index after a point
 
+-- the text ends, no point stands here, or one does
 pub index-past : (s : List ℕ) (at : ℕ) → length s ≤ at → (0 ≡ length (indexAfter (drop at s))) × ((_≡_ {A = ℕ} 0 0 → ⊥) → at + 1 + 0 ≤ length s)
 unfolding indexAfter
 index-past s at h = (rw (drop-of-length-le s {i = at} h), λ d. absurd (d refl))
@@ -78,6 +79,7 @@ leading-part p s at e h q =
     let size : e - at ≡ suc n = rw (← add-one at) (omega arith) in
     rw (size, drop-cons s at 0 h) (ap (_∷_ (getD s at 0)) (leading-take p (drop (suc at) s)))
 
+-- a number
 pub number-found : (s : List ℕ) (at : ℕ) {e : ℕ} → at < length s → digitByte (getD s at 0) ≡ true → e ≡ at + 1 + length (leading digitByte (drop (at + 1) s))
     → next (drop at s) ≡ some (token (atom (atomIn s at (Number e))))
 unfolding everyByte

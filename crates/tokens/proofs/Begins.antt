@@ -1,7 +1,7 @@
 -- Bytes that begin with others, and the bytes at the start that pass a test.
 use Prim.Native.Nat.{ℕ, zero, suc, _+_, _<_}
 use mathlib.Core.List.{List, [], _∷_, _++_, append-nil}
-use mathlib.Core.Bool.{Bool, true, false, cond, _&&_, false≢true}
+use mathlib.Core.Bool.{Bool, true, false, cond, _&&_, false≢true, and-true}
 use mathlib.Core.Logic.{_⊎_, inl, inr}
 use mathlib.Core.Path.{_≡_, refl, ap}
 use native.Mathlib.Omega.{arith}
@@ -18,6 +18,7 @@ use Rattle.tokens.specs.Lex.{leading, begins}
 pub eqb-self : (n : ℕ) → eqb n n ≡ true
 eqb-self n = eq-eqb n n refl
 
+-- what stands on both sides is put aside
 pub begins-append : (x y z : List ℕ) → begins (x ++ y) (x ++ z) ≡ begins y z
 unfolding begins
 begins-append [] y z = refl
@@ -28,6 +29,7 @@ unfolding begins
 begins-all [] r = refl
 begins-all (c ∷ x) r = rw (eqb-self c) (begins-all x r)
 
+-- what bytes begin with, and the bytes after it
 pub begins-found : (x s : List ℕ) → begins x s ≡ true → x ++ drop (length x) s ≡ s
 unfolding begins
 begins-found [] s h = refl
@@ -38,6 +40,7 @@ begins-found (c ∷ x) (d ∷ s) h =
 
 -- ---- runs
 
+-- the bytes at the start pass the test, and stand there
 pub leading-every : (p : ℕ → Bool) (s : List ℕ) → everyByte p (leading p s) ≡ true
 unfolding leading everyByte
 leading-every p [] = refl
@@ -56,6 +59,7 @@ leading-begins p (c ∷ s) = go (p c) (leading-begins p s)
     go true h = both (eqb c c) (begins (leading p s) s) (eqb-self c) h
     go false h = refl
 
+-- bytes that pass the test are among them
 pub leading-append : (p : ℕ → Bool) (x r : List ℕ) → everyByte p x ≡ true → leading p (x ++ r) ≡ x ++ leading p r
 unfolding leading everyByte
 leading-append p [] r h = refl
@@ -71,6 +75,7 @@ pub grown : (x y : List ℕ) → (x ++ y ≡ x) ⊎ (length x < length (x ++ y))
 grown x [] = inl (append-nil x)
 grown x (c ∷ y) = inr (omega (arith, length-append x (c ∷ y)))
 
+-- a part of what bytes begin with
 pub begins-front : (x y s : List ℕ) → begins (x ++ y) s ≡ true → begins x s ≡ true
 unfolding begins
 begins-front [] y s h = refl
@@ -83,6 +88,10 @@ unfolding everyByte
 every-back p [] y h = h
 every-back p (c ∷ x) y h = every-back p x y (both-second (p c) (everyByte p (x ++ y)) h)
 
+pub every-one : (p : ℕ → Bool) (c : ℕ) → p c ≡ true → everyByte p (c ∷ []) ≡ true
+unfolding everyByte
+every-one p c h = both (p c) true h refl
+
 pub every-first : (p : ℕ → Bool) (c : ℕ) (x : List ℕ) → everyByte p (c ∷ x) ≡ true → p c ≡ true
 unfolding everyByte
 every-first p c x h = both-first (p c) (everyByte p x) h
@@ -92,11 +101,6 @@ unfolding begins
 begins-nothing [] y z = refl
 begins-nothing (c ∷ x) y z = refl
 
-pub every-more : (p : ℕ → Bool) (x : List ℕ) (c : ℕ) → everyByte p x ≡ true → p c ≡ true → everyByte p (x ++ (c ∷ [])) ≡ true
-unfolding everyByte
-every-more p [] c h k = both (p c) true k refl
-every-more p (d ∷ x) c h k = both (p d) (everyByte p (x ++ (c ∷ []))) (both-first (p d) (everyByte p x) h) (every-more p x c (both-second (p d) (everyByte p x) h) k)
-
 -- ---- bytes from a place on
 
 -- bytes that begin with one, and then with others
@@ -104,9 +108,5 @@ pub begins-next : (s : List ℕ) (at a : ℕ) (r : List ℕ) → begins (a ∷ r
 unfolding begins
 begins-next [] zero a r = refl
 begins-next [] (suc at) a r = refl
-begins-next (c ∷ s) zero a r = go (eqb a c)
-  where
-    go : (b : Bool) → b && begins r s ≡ (b && true) && begins r s
-    go true = refl
-    go false = refl
+begins-next (c ∷ s) zero a r = rw (and-true (eqb a c))
 begins-next (c ∷ s) (suc at) a r = rw (add-one (suc at)) (rw (add-one at) at (begins-next s at a r))

@@ -1,8 +1,8 @@
--- Laws for the bytes of characters.
+-- Laws for the character at a byte: the bytes that stand there, the guess by the first of them, and its check.
 use Prim.Native.Nat.{ℕ, _+_, _*_, _-_, _≤_, _<_}
 use mathlib.Core.List.{List, [], _∷_}
-use mathlib.Core.Bool.{Bool, true, false, _&&_}
-use mathlib.Core.Path.{_≡_, refl, sym, _∙_}
+use mathlib.Core.Bool.{Bool, true, false, and-true}
+use mathlib.Core.Path.{_≡_, sym, _∙_}
 use native.Mathlib.Nat.{add-zero}
 use lib.ListN.{length, drop, getD, drop-of-length-le}
 use lib.Seq.{drop-cons, getD-drop}
@@ -25,11 +25,7 @@ byte-past s at a h = rw (drop-of-length-le s {i = at} h)
 
 pub byte-same : (s : List ℕ) (at a : ℕ) {b : ℕ} → at < length s → b ≡ getD s at 0 → eqb a b ≡ begins (a ∷ []) (drop at s)
 unfolding begins
-byte-same s at a h e = rw (drop-cons s at 0 h, e) (go (eqb a (getD s at 0)))
-  where
-    go : (b : Bool) → b ≡ b && true
-    go true = refl
-    go false = refl
+byte-same s at a h e = rw (drop-cons s at 0 h, e, and-true (eqb a (getD s at 0)))
 
 -- the first of some bytes, and then the others
 module _ (s : List ℕ) (at a : ℕ) (r : List ℕ) {x : Bool} (e : x ≡ begins (a ∷ []) (drop at s)) where

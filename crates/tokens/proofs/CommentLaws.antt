@@ -1,7 +1,7 @@
--- Laws for comments.
+-- Laws for the loop over the characters of a comment: one for each way out, and for a character more.
 use Prim.Native.Nat.{ℕ, zero, suc, _+_, _≤_, _<_}
 use mathlib.Core.List.{List, [], _∷_, _++_, append-assoc, nil≢cons}
-use mathlib.Core.Bool.{Bool, true, false, not, _&&_, true≢false}
+use mathlib.Core.Bool.{Bool, true, false, not, _&&_, true≢false, and-true}
 use mathlib.Core.Option.{none, some}
 use mathlib.Core.Path.{_≡_, refl, sym, ap, _∙_}
 use native.Mathlib.Omega.{arith}
@@ -35,16 +35,8 @@ eqb-turn a b = go (eqb a b) refl
 close-same : (s : List ℕ) → begins (42 ∷ 47 ∷ []) s ≡ atClose s
 unfolding begins
 close-same [] = refl
-close-same (a ∷ []) = rw (eqb-turn 42 a) (go (eqb a 42))
-  where
-    go : (x : Bool) → x && false ≡ x && false
-    go x = refl
-close-same (a ∷ b ∷ s) = rw (eqb-turn 42 a, eqb-turn 47 b) (go (eqb a 42) (eqb b 47))
-  where
-    go : (x y : Bool) → x && (y && true) ≡ x && y
-    go true true = refl
-    go true false = refl
-    go false y = refl
+close-same (a ∷ []) = rw (eqb-turn 42 a)
+close-same (a ∷ b ∷ s) = rw (eqb-turn 42 a, eqb-turn 47 b, and-true (eqb b 47))
 
 comment-fails : (r : List ℕ) → everyByte scalarAllowed (charactersTo atClose (suc (length r)) r) && begins (charactersBytes (charactersTo atClose (suc (length r)) r) ++ (42 ∷ 47 ∷ [])) r ≡ false
     → next (47 ∷ 42 ∷ r) ≡ none

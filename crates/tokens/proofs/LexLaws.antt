@@ -1,11 +1,11 @@
--- Laws for the loop over the pieces of a text.
+-- Laws for the loop over the pieces of a text, which puts their tokens into arrays.
 use Prim.Native.Nat.{ℕ, zero, suc, _+_, _≤_, _<_}
 use mathlib.Core.List.{List, [], _∷_, _++_, append-assoc, append-nil}
 use mathlib.Core.Option.{Option, none, some, Option·some-injective, Option·none-ne-some}
 use mathlib.Core.Path.{_≡_, refl, sym, ap, _∙_}
 use native.Mathlib.Omega.{arith}
 use native.Mathlib.Numerals.{add-one}
-use native.Mathlib.Nat.{add-zero}
+use native.Mathlib.Nat.{add-zero, add-assoc}
 use lib.ListN.{length, drop, getD, set, drop-of-length-le, length-append, length-drop, length-set}
 use lib.Seq.{drop-cons, drop-drop, take-suc-set}
 use Rattle.tokens.specs.Token.{Token, tokenBytes, Piece, blank, comment, token, pieceBytes, piecesBytes, Placed, placed}
@@ -19,9 +19,6 @@ use Rattle.tokens.specs.declared.pieces.Found.{Found}
 use Rattle.tokens.specs.declared.pieces.Found.the-variants.{Nothing, Between, Token as Tokened}
 
 -- ---- what an answer says of the next piece
-
-clash : {A : Type 0} → _≡_ {A = ℕ} 0 1 → A
-clash e = let z : ⊥ = omega (arith, e) in absurd z
 
 code : Found → ℕ
 code Nothing = 0
@@ -116,9 +113,6 @@ unfolding piecesBytes
 bytes-more [] p = append-nil (pieceBytes p)
 bytes-more (q ∷ ps) p = rw (bytes-more ps p) (sym (append-assoc (pieceBytes q) (piecesBytes ps) (pieceBytes p)))
 
-sums : (a b c : ℕ) → a + b + c ≡ a + (b + c)
-sums a b c = omega arith
-
 text-size : (q : Piece) (ps : List Piece) → length (piecesBytes (q ∷ ps)) ≡ length (pieceBytes q) + length (piecesBytes ps)
 unfolding piecesBytes
 text-size q ps = length-append (pieceBytes q) (piecesBytes ps)
@@ -127,11 +121,11 @@ placed-more : (a : ℕ) (ps : List Piece) (p : Piece) → placed a (ps ++ (p ∷
 unfolding placed piecesBytes
 placed-more a [] p = ap (λ z. placed z (p ∷ [])) (sym (add-zero a))
 placed-more a (blank b ∷ ps) p =
-    rw (text-size (blank b) ps, ← sums a (length (pieceBytes (blank b))) (length (piecesBytes ps))) (placed-more (a + length (pieceBytes (blank b))) ps p)
+    rw (text-size (blank b) ps, ← add-assoc a (length (pieceBytes (blank b))) (length (piecesBytes ps))) (placed-more (a + length (pieceBytes (blank b))) ps p)
 placed-more a (comment cs ∷ ps) p =
-    rw (text-size (comment cs) ps, ← sums a (length (pieceBytes (comment cs))) (length (piecesBytes ps))) (placed-more (a + length (pieceBytes (comment cs))) ps p)
+    rw (text-size (comment cs) ps, ← add-assoc a (length (pieceBytes (comment cs))) (length (piecesBytes ps))) (placed-more (a + length (pieceBytes (comment cs))) ps p)
 placed-more a (token t ∷ ps) p =
-    rw (text-size (token t) ps, ← sums a (length (pieceBytes (token t))) (length (piecesBytes ps)))
+    rw (text-size (token t) ps, ← add-assoc a (length (pieceBytes (token t))) (length (piecesBytes ps)))
     (ap (_∷_ (record { start = a; what = t })) (placed-more (a + length (pieceBytes (token t))) ps p))
 
 kinds-more : (xs : List Placed) (p : Placed) → kindsOf (xs ++ (p ∷ [])) ≡ kindsOf xs ++ (tokenKind (p .what) ∷ [])

@@ -35,12 +35,14 @@ sign-some semicolon = omega arith
 sign-some dollarEntry = omega arith
 sign-some dollarExtern = omega arith
 
+-- a piece has at least one byte
 pub piece-some : (p : Piece) → pieceAllowed p ≡ true → 1 ≤ length (pieceBytes p)
 piece-some (blank b) h = omega arith
 piece-some (comment cs) h = omega arith
 piece-some (token (sign g)) h = sign-some g
 piece-some (token (atom a)) h = atom-some a h
 
+-- nothing is left
 pub lex-end : (k : ℕ) → lexFrom k [] ≡ some []
 unfolding lexFrom
 lex-end zero = refl

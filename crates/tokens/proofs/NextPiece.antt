@@ -20,10 +20,12 @@ use Rattle.tokens.proofs.Begins.{eqb-self, begins-append, begins-all, b
 
 -- ---- the next piece
 
+-- a guess that is allowed and stands there is taken
 pub next-takes : (s : List ℕ) (p : Piece) → guess s ≡ some p → pieceAllowed p ≡ true → begins (pieceBytes p) s ≡ true → next s ≡ some p
 unfolding next
 next-takes s p g a b = rw (g, a, b)
 
+-- what is taken is allowed and stands there
 pub record Taken (s : List ℕ) (p : Piece) : Type 0 where
   pub allowed : pieceAllowed p ≡ true
   pub begun : begins (pieceBytes p) s ≡ true
@@ -87,6 +89,7 @@ comment-next cs r h =
 
 -- ---- a token that fits is taken, or a longer one is
 
+-- the lexer takes this token where these bytes begin, or a longer one
 pub record Stretch (t : Token) (s : List ℕ) : Type 0 where
   pub found : Token
   pub takes : next s ≡ some (token found)
@@ -107,6 +110,7 @@ letter-not-digit c h = second-fails (leb 48 c) (leb c 57) (lt-leb c 57 (go (betw
     go true e k = let l : 97 ≤ c = leb-true 97 c (both-first (leb 97 c) (leb c 122) e) in omega arith
     go false e k = let l : 65 ≤ c = leb-true 65 c (both-first (leb 65 c) (leb c 90) k) in omega arith
 
+-- a number to its end
 pub number-next : (d : ℕ) (ds r : List ℕ) → atomAllowed (number (d ∷ ds)) ≡ true → next (d ∷ ds ++ r) ≡ some (token (atom (number (d ∷ ds ++ leading digitByte r))))
 unfolding guess everyByte begins
 number-next d ds r h =
@@ -154,6 +158,7 @@ name-no-point d h = go (eqb d 46) refl
     go false e = refl
     go true e = absurd (false≢true (rw (eqb-true d 46 e) at h))
 
+-- the letter of a kind
 pub kind-byte : (c : ℕ) (k : Kind) → variableKind c ≡ some k → kindByte k ≡ c
 kind-byte c k h = go (eqb c 115) (eqb c 116) (eqb c 101) refl refl refl h
   where
@@ -227,6 +232,7 @@ indexed-stretch k x i r h =
       longer = lengthen (λ y. atom (variable k (x ∷ y))) i (leading nameByte r) (λ l. omega arith);
     }
 
+-- a quoted run
 pub quoted-next : (cs r : List ℕ) → everyByte quotable cs ≡ true → atomAllowed (quoted cs) ≡ true → next (atomBytes (quoted cs) ++ r) ≡ some (token (atom (quoted cs)))
 unfolding guess
 quoted-next cs r q h =
@@ -236,6 +242,7 @@ quoted-next cs r q h =
     found = rw (append-assoc (charactersBytes cs) (39 ∷ []) r)
         (to-quote cs r (length (charactersBytes cs ++ 39 ∷ r)) q (omega (arith, characters-fewer cs, length-append (charactersBytes cs) (39 ∷ r))))
 
+-- where a token fits, it or a longer one is taken
 pub stretch : (t : Token) (r : List ℕ) → tokenAllowed t ≡ true → Stretch t (tokenBytes t ++ r)
 stretch (sign g) r h = record { found = sign g; takes = sign-next g r; longer = inl refl }
 stretch (atom (identifier [])) r h = absurd (false≢true h)
@@ -286,6 +293,7 @@ longest-next t r a l = go (stretch t r a)
         pick (inl e) = st .takes ∙ ap (λ z. some (token z)) e
         pick (inr k) = let z : ⊥ = omega (arith, l (st .found) fit) in absurd z
 
+-- the same of any piece
 pub piece-next : (p : Piece) (r : List ℕ) → pieceAllowed p ≡ true → Stands p (pieceBytes p ++ r) → next (pieceBytes p ++ r) ≡ some p
 piece-next (blank b) r a l = blank-next b r
 piece-next (comment cs) r a l = comment-next cs r a

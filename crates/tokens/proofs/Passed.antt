@@ -11,7 +11,7 @@ use Rattle.file.proofs.Below.{both, both-first, both-second, second-fails}
 use Rattle.tokens.specs.Token.{utf8, charactersBytes}
 use Rattle.tokens.specs.Lex.{begins, characterIn, charactersTo}
 use Rattle.tokens.proofs.Utf8.{utf8-some}
-use Rattle.tokens.proofs.Begins.{begins-append, begins-found, begins-front, every-back, every-first, begins-nothing, every-more}
+use Rattle.tokens.proofs.Begins.{begins-append, begins-found, every-append, begins-front, every-back, every-one, every-first, begins-nothing}
 
 bytes-append : (x y : List ℕ) → charactersBytes (x ++ y) ≡ charactersBytes x ++ charactersBytes y
 unfolding charactersBytes
@@ -97,7 +97,7 @@ module _ {stop : List ℕ → Bool} {ok : ℕ → Bool} {all : ℕ} {s : List �
             fuel = k;
             inside = size;
             enough = omega (arith, h .enough, utf8-some c);
-            every = every-more ok (h .found) c (h .every) o;
+            every = every-append ok (h .found) (c ∷ []) (h .every) (every-one ok c o);
             bytes =
                 rw (bytes-append (h .found) (c ∷ []), bytes-single c, append-assoc (charactersBytes (h .found)) (utf8 c) (drop (i + w) s), whole) (h .bytes);
             place = rw (bytes-append (h .found) (c ∷ []), bytes-single c) (omega (arith, h .place, length-append (charactersBytes (h .found)) (utf8 c)));

@@ -1,4 +1,4 @@
--- Laws for the piece at a byte.
+-- Laws for the piece at a byte: one for each way in which a piece begins, or none does.
 use Prim.Native.Nat.{ℕ, zero, suc, _+_, _-_, _≤_, _<_}
 use mathlib.Core.List.{List, [], _∷_, _++_}
 use mathlib.Core.Bool.{Bool, true, false, cond, true≢false, false≢true}
@@ -183,6 +183,7 @@ neither r e f = go (eqb (getD r 1 0) 78)
     go true = rw e
     go false = rw f
 
+-- neither of them stands here
 pub dollar-none : (s : List ℕ) (at : ℕ) {t u : Bool} → at < length s → getD s at 0 ≡ 36 → t ≡ begins (signBytes dollarEntry) (drop at s) → t ≡ false
     → u ≡ begins (signBytes dollarExtern) (drop at s) → u ≡ false → Nothing ≡ foundAt at (next (drop at s))
 dollar-none s at l c e h f k =
@@ -195,6 +196,7 @@ dollar-none s at l c e h f k =
 part-size : (s : List ℕ) (at e : ℕ) → at ≤ e → e ≤ length s → at + length (take (e - at) (drop at s)) ≡ e
 part-size s at e l k = rw (length-take-le (e - at) (drop at s) (omega (arith, length-drop at s))) (omega arith)
 
+-- what the code found, as a piece
 pub lexeme-found : (s : List ℕ) (at : ℕ) (x : Lexeme) {r : Found} → next (drop at s) ≡ some (token (atom (atomIn s at x))) → EndsIn (length s) at x → r ≡ lexemeFound x
     → r ≡ foundAt at (next (drop at s))
 lexeme-found s at (Identifier e) n i q = q ∙ sym (rw (n, part-size s at e (omega (arith, i .0)) (i .1)))

@@ -1,4 +1,4 @@
--- Laws for quoted runs.
+-- Laws for the loop over the characters of a quoted run: one for each way out, and for a character more.
 use Prim.Native.Nat.{ℕ, suc, _+_, _≤_, _<_}
 use mathlib.Core.List.{List, [], _∷_, _++_, append-assoc}
 use mathlib.Core.Bool.{Bool, true, false, not, _&&_}

@@ -1,4 +1,4 @@
--- Characters are found again from their bytes.
+-- Characters are found again from their bytes: `character-found`; `to-quote` and `to-close` for those of a quoted run and of a comment.
 use Prim.Native.Nat.{ℕ, zero, suc, _+_, _*_, _-_, _/_, _%_, _≤_, _<_}
 use mathlib.Core.List.{List, [], _∷_, _++_, append-assoc}
 use mathlib.Core.Bool.{Bool, true, false, not, _&&_, true≢false}
@@ -14,6 +14,7 @@ use Rattle.file.proofs.Below.{both-first, both-second}
 use Rattle.tokens.specs.Token.{utf8, charactersBytes, quotable, apart, unclosed}
 use Rattle.tokens.specs.Lex.{characterIn, charactersTo, atQuote, atClose}
 
+-- the bytes of a character by their number
 pub utf8-one : (c : ℕ) → c < 128 → utf8 c ≡ c ∷ []
 unfolding utf8
 utf8-one c h = rw (lt-ltb c 128 h)
@@ -87,9 +88,11 @@ first-byte c b d r h = go (sized c)
     go (three l k) = rw (utf8-three c l k, ne-eqb (224 + c / 4096) b (λ e. omega arith), ne-eqb c b (λ e. omega arith))
     go (four l) = rw (utf8-four c l, ne-eqb (240 + c / 262144) b (λ e. omega arith), ne-eqb c b (λ e. omega arith))
 
+-- a scalar value is at most 0x10FFFF
 pub scalar-bound : (c : ℕ) → scalarAllowed c ≡ true → c ≤ 0x10FFFF
 scalar-bound c h = leb-true c 0x10FFFF (both-first (leb c 0x10FFFF) (not (between 0xD800 0xDFFF c)) h)
 
+-- a character has at least one byte
 pub utf8-some : (c : ℕ) → 1 ≤ length (utf8 c)
 utf8-some c = go (sized c)
   where
@@ -146,6 +149,7 @@ not-close c cs r h = rw (first-byte c 42 0 (charactersBytes cs ++ 42 ∷ 47 ∷ 
         rw (eqb-true c 42 e, append-assoc (utf8 d) (charactersBytes ds) (42 ∷ 47 ∷ r))
         (first-byte d 47 0 (charactersBytes ds ++ 42 ∷ 47 ∷ r) (omega arith) ∙ not-true (eqb d 47) (rw e at h))
 
+-- the characters before `*/`
 pub to-close : (cs r : List ℕ) (k : ℕ) → everyByte scalarAllowed cs ≡ true → unclosed cs ≡ true → length cs ≤ k
     → charactersTo atClose k (charactersBytes cs ++ 42 ∷ 47 ∷ r) ≡ cs
 unfolding charactersTo charactersBytes everyByte unclosed

@@ -71,6 +71,7 @@ identifierOrVariable (some k) (x ∷ i) c s = variable k (x ∷ i)
 
 -- ---- pieces
 
+-- a sign as a piece
 abbrev pub signPiece : Sign → Option Piece
 signPiece g = some (token (sign g))
 
@@ -112,6 +113,7 @@ checked s (some p) = cond (pieceAllowed p && begins (pieceBytes p) s) (some p) n
 unfoldable pub next : List ℕ → Option Piece
 next s = checked s (guess s)
 
+-- a piece before others, where there are some
 abbrev pub pieceBefore : Piece → Option (List Piece) → Option (List Piece)
 pieceBefore p none = none
 pieceBefore p (some ps) = some (p ∷ ps)

@@ -45,6 +45,7 @@ charactersBytes (c ∷ cs) = utf8 c ++ charactersBytes cs
 pub data Sign : Type 0 where
   leftBrace rightBrace leftBracket rightBracket leftAngle rightAngle comma colon equals semicolon dollarEntry dollarExtern : Sign
 
+-- their bytes
 abbrev pub signBytes : Sign → List ℕ
 signBytes leftBrace = 123 ∷ []
 signBytes rightBrace = 125 ∷ []
@@ -70,6 +71,7 @@ pub data Atom : Type 0 where
 abbrev pub quotable : ℕ → Bool
 quotable c = scalarAllowed c && not (eqb c 39) && not (eqb c 92)
 
+-- what each may hold
 abbrev pub atomAllowed : Atom → Bool
 atomAllowed (identifier []) = false
 atomAllowed (identifier (c ∷ cs)) = letterByte c && everyByte nameByte cs
@@ -86,12 +88,14 @@ kindByte symbolKind = 115
 kindByte termKind = 116
 kindByte expressionKind = 101
 
+-- the bytes of an atom
 abbrev pub atomBytes : Atom → List ℕ
 atomBytes (identifier cs) = cs
 atomBytes (number cs) = cs
 atomBytes (variable k i) = kindByte k ∷ 46 ∷ i
 atomBytes (quoted cs) = 39 ∷ charactersBytes cs ++ (39 ∷ [])
 
+-- a token, what it may hold, and its bytes
 pub data Token : Type 0 where
   sign : Sign → Token
   atom : Atom → Token
@@ -106,6 +110,7 @@ tokenBytes (atom a) = atomBytes a
 
 -- ---- pieces
 
+-- what may stand between tokens besides comments
 pub data Blank : Type 0 where
   space tab lineFeed carriageReturn : Blank
 
@@ -131,16 +136,19 @@ unfoldable pub unclosed : List ℕ → Bool
 unclosed [] = true
 unclosed (c ∷ cs) = apart c cs && unclosed cs
 
+-- what each may hold
 abbrev pub pieceAllowed : Piece → Bool
 pieceAllowed (blank b) = true
 pieceAllowed (comment cs) = everyByte scalarAllowed cs && unclosed cs
 pieceAllowed (token t) = tokenAllowed t
 
+-- the bytes of a piece
 abbrev pub pieceBytes : Piece → List ℕ
 pieceBytes (blank b) = blankByte b ∷ []
 pieceBytes (comment cs) = 47 ∷ 42 ∷ charactersBytes cs ++ (42 ∷ 47 ∷ [])
 pieceBytes (token t) = tokenBytes t
 
+-- the bytes of pieces one after the other
 unfoldable pub piecesBytes : List Piece → List ℕ
 piecesBytes [] = []
 piecesBytes (p ∷ ps) = pieceBytes p ++ piecesBytes ps

@@ -24,6 +24,7 @@ abbrev pub stepped : Step → List ℕ → (Mode → List Opened → Bool) → B
 stepped Refused stack then = false
 stepped (On m d) stack then = then m (stackOf d stack)
 
+-- the number of places that are used after a step
 abbrev pub depthOf : Step → ℕ
 depthOf Refused = 0
 depthOf (On m d) = d

@@ -10,6 +10,7 @@ use Rattle.tokens.specs.Code.TokenKind.{tokenKind}
 use Rattle.tokens.specs.declared.Tokens.{Tokens}
 use Rattle.tokens.specs.declared.Tokens.the-variants.{Refused, Count}
 
+-- kinds, starts and ends of some tokens
 abbrev pub kindsOf : List Placed → List ℕ
 kindsOf [] = []
 kindsOf (p ∷ ps) = tokenKind (p .what) ∷ kindsOf ps

@@ -16,6 +16,7 @@ kindNumber expressionKind = 5
 abbrev pub kindNumbered : ℕ → Kind
 kindNumbered n = cond (eqb n 3) symbolKind (cond (eqb n 4) termKind expressionKind)
 
+-- the kind of a sign, of an atom and of any token
 abbrev pub signKind : Sign → ℕ
 signKind leftBrace = 123
 signKind rightBrace = 125
