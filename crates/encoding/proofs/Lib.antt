@@ -1,0 +1,12 @@
+pub mod Lists
+pub mod RecordLaws
+pub mod SectionsCut
+pub mod TermRecords
+pub mod TermsRead
+pub mod SentencePlaces
+pub mod TermParts
+pub mod SentencesRead
+pub mod RunsAllowed
+pub mod FunctionsRead
+pub mod TokensStand
+pub mod EncodedLaw

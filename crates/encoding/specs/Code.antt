@@ -1,0 +1,4 @@
+-- What functions inside the library promise each other: the law file of a text, from its tokens. No contract of a call that users make, and no theorem that
+-- docs/ARCHITECTURE.md names, says anything by these; tests/believed.py holds that up.
+pub mod FlatTerms
+pub mod FlatFile

@@ -1,0 +1,4 @@
+pub mod Encode
+pub mod TextTree
+pub mod LawOfText
+pub mod Code

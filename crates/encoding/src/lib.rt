@@ -1,0 +1,1 @@
+// The law file that a text means, and its tree: definitions in specs/, laws in proofs/.
