@@ -10,3 +10,7 @@ pub mod RunsAllowed
 pub mod FunctionsRead
 pub mod TokensStand
 pub mod EncodedLaw
+pub mod FlatTerms
+pub mod FlatRuns
+pub mod FlatSentences
+pub mod FlatFile

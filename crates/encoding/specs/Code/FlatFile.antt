@@ -1,39 +1,21 @@
--- The records of functions, sentences and conditions from tokens, read from left to right, by the kinds of the tokens: what the code writes.
-use Prim.Native.Nat.{ℕ, zero, suc, _+_}
+-- The law file of a text from its tokens, read from left to right by their kinds: the records of functions, sentences and conditions, and with FlatTerms.antt the file.
+-- `encoded-flat` of proofs/FlatFile.antt: it is the file of the text's phrase.
+use Prim.Native.Nat.{ℕ, _+_}
 use mathlib.Core.List.{List, [], _∷_, _++_}
 use mathlib.Core.Bool.{Bool, true, false, cond, _&&_, _||_}
 use lib.ListN.{length}
 use lib.Dec.{eqb}
-use Rattle.tokens.specs.Token.{Token, sign, atom, tokenBytes, Placed}
+use Rattle.tokens.specs.Token.{tokenBytes, Placed}
 use Rattle.encoding.specs.Encode.{Record, wordBytes, sectionBytes}
-use Rattle.tokens.specs.Code.TokenKind.{signKind, tokenKind}
-use Rattle.encoding.specs.Code.FlatTerms.{Where, outside, inside, calling, own, flatTerms}
+use Rattle.encoding.specs.Code.FlatTerms.{Where, outside, inside, kindAt, endAt, firstStart, weight, stateAfter, flatTerms}
 
-abbrev pub kindAt : Placed → ℕ
-kindAt p = tokenKind (p .what)
-
-abbrev pub endAt : Placed → ℕ
-endAt p = p .start + length (tokenBytes (p .what))
+-- ---- what is found from a token on
 
 -- a token that ends a run of terms: `,` `:` `=` `;` `}`
 abbrev pub parts : ℕ → Bool
 parts k = cond (eqb k 44) true (cond (eqb k 58) true (cond (eqb k 61) true (cond (eqb k 59) true (eqb k 125))))
 
--- the number of term records that begin with a token; the name of a call has none
-abbrev pub signWeight : ℕ → ℕ
-signWeight k = cond (eqb k 40) 1 (cond (eqb k 60) 1 0)
-
-abbrev pub tokenWeight : Where → ℕ → Token → ℕ
-tokenWeight w at (sign g) = signWeight (signKind g)
-tokenWeight w at (atom a) = length (own w at a)
-
-abbrev pub weight : Where → Placed → ℕ
-weight w p = tokenWeight w (p .start) (p .what)
-
-abbrev pub stateAfter : ℕ → Where
-stateAfter k = cond (eqb k 60) calling inside
-
--- a run of terms: the number of its records, and where its last token ends
+-- a run of terms: the number of its records, and where its last token ends; another place where it has none
 abbrev pub partRecords : Where → List Placed → ℕ
 partRecords w [] = 0
 partRecords w (p ∷ ps) = cond (parts (kindAt p)) 0 (weight w p + partRecords (stateAfter (kindAt p)) ps)
@@ -42,15 +24,12 @@ abbrev pub partEnd : ℕ → List Placed → ℕ
 partEnd e [] = e
 partEnd e (p ∷ ps) = cond (parts (kindAt p)) e (partEnd (endAt p) ps)
 
-abbrev pub firstStart : List Placed → ℕ
-firstStart [] = 0
-firstStart (p ∷ ps) = p .start
-
+-- whether the first token is of a kind
 abbrev pub firstIs : ℕ → List Placed → Bool
 firstIs k [] = false
 firstIs k (p ∷ ps) = eqb (kindAt p) k
 
--- the tokens after the first of a kind, and where that ends
+-- the tokens after the first of a kind, and where that one ends
 abbrev pub afterKind : ℕ → List Placed → List Placed
 afterKind k [] = []
 afterKind k (p ∷ ps) = cond (eqb (kindAt p) k) ps (afterKind k ps)
@@ -64,11 +43,13 @@ abbrev pub countTo : ℕ → ℕ → List Placed → ℕ
 countTo k stop [] = 0
 countTo k stop (p ∷ ps) = cond (eqb (kindAt p) stop) 0 (cond (eqb (kindAt p) k) 1 0 + countTo k stop ps)
 
--- ---- records
+-- ---- records, from their first token on
 
+-- a function has as many sentences as `=` before its `}`
 abbrev pub functionHere : Placed → List Placed → Record
 functionHere p ps = p .start ∷ length (tokenBytes (p .what)) ∷ countTo 61 125 ps ∷ p .start ∷ endOfKind 125 ps ∷ []
 
+-- a sentence has as many conditions as `:` before its `=`
 abbrev pub sentenceHere : List Placed → Record
 sentenceHere ps =
     partRecords inside ps
@@ -79,16 +60,15 @@ sentenceHere ps =
     ∷ []
 
 abbrev pub conditionHere : List Placed → Record
-conditionHere ps =
-    partRecords inside ps ∷ partRecords inside (afterKind 58 ps) ∷ firstStart ps ∷ partEnd (endOfKind 58 ps) (afterKind 58 ps) ∷ []
+conditionHere ps = partRecords inside ps ∷ partRecords inside (afterKind 58 ps) ∷ firstStart ps ∷ partEnd (endOfKind 58 ps) (afterKind 58 ps) ∷ []
 
 -- ---- sections
 
--- inside braces after a token?
+-- whether it is inside braces after a token
 abbrev pub within : Bool → ℕ → Bool
 within b k = cond (eqb k 123) true (cond (eqb k 125) false b)
 
--- a function at its name
+-- a function at its name, before `{`
 abbrev pub functionsAt : Placed → List Placed → List Record
 functionsAt p ps = cond (eqb (kindAt p) 1 && firstIs 123 ps) (functionHere p ps ∷ []) []
 
@@ -96,7 +76,7 @@ abbrev pub flatFunctions : List Placed → List Record
 flatFunctions [] = []
 flatFunctions (p ∷ ps) = functionsAt p ps ++ flatFunctions ps
 
--- a sentence after `{` or `;`
+-- a sentence after `{` or `;`, if no `}` follows
 abbrev pub sentencesAfter : Bool → ℕ → List Placed → List Record
 sentencesAfter b k ps = cond (eqb k 123 || (b && eqb k 59)) (cond (firstIs 125 ps) [] (sentenceHere ps ∷ [])) []
 

@@ -1,93 +1,100 @@
--- The records of a text from its tokens, read from left to right: what the code writes. What a record needs of later tokens is found by a scan forward.
+-- The term records of a text from its tokens, read from left to right by their kinds. What a bracket's or a call's record needs of later tokens is found by a scan
+-- forward. `flat-text` of proofs/FlatTerms.antt: these are the records of the text's phrase.
 use Prim.Native.Nat.{ℕ, zero, suc, _+_}
 use mathlib.Core.List.{List, [], _∷_, _++_}
+use mathlib.Core.Bool.{Bool, cond, _||_}
 use lib.ListN.{length}
-use Rattle.tokens.specs.Token.{Sign, leftBrace, rightBrace, leftBracket, rightBracket, leftAngle, rightAngle, comma, colon, equals, semicolon, dollarEntry, dollarExtern, Atom, identifier, number, variable, quoted, Token, sign, atom, Placed}
-use Rattle.grammar.specs.Grammar.{Identifier}
-use Rattle.grammar.specs.Parse.{named, unnamed}
+use lib.Dec.{eqb}
+use Rattle.tokens.specs.Token.{Token, sign, atom, tokenBytes, Placed}
+use Rattle.tokens.specs.Code.TokenKind.{tokenKind}
 use Rattle.encoding.specs.Encode.{Record, atomRecords}
+
+abbrev pub kindAt : Placed → ℕ
+kindAt p = tokenKind (p .what)
+
+abbrev pub endAt : Placed → ℕ
+endAt p = p .start + length (tokenBytes (p .what))
+
+-- where the first token starts, and the number of its bytes
+abbrev pub firstStart : List Placed → ℕ
+firstStart [] = 0
+firstStart (p ∷ ps) = p .start
+
+abbrev pub firstLength : List Placed → ℕ
+firstLength [] = 0
+firstLength (p ∷ ps) = length (tokenBytes (p .what))
 
 -- outside braces, inside, and inside after `<`
 pub data Where : Type 0 where
   outside inside calling : Where
 
--- a number of records, and where the token after them ends
-pub record Found : Type 0 where
+-- inside braces, after a token
+abbrev pub stateAfter : ℕ → Where
+stateAfter k = cond (eqb k 60) calling inside
+
+abbrev pub stays : Where → ℕ → Where
+stays outside k = outside
+stays inside k = stateAfter k
+stays calling k = stateAfter k
+
+-- anywhere, after a token
+abbrev pub whereAfter : Where → ℕ → Where
+whereAfter w k = cond (eqb k 123) inside (cond (eqb k 125) outside (stays w k))
+
+-- the records of an atom inside braces; the name of a call has none
+abbrev pub ownRecords : Where → ℕ → Token → List Record
+ownRecords w at (sign g) = []
+ownRecords outside at (atom a) = []
+ownRecords inside at (atom a) = atomRecords at a
+ownRecords calling at (atom a) = []
+
+abbrev pub own : Where → Placed → List Record
+own w p = ownRecords w (p .start) (p .what)
+
+-- `(` and `<`; `)` and `>`
+abbrev pub opens : ℕ → Bool
+opens k = eqb k 40 || eqb k 60
+
+abbrev pub closes : ℕ → Bool
+closes k = eqb k 41 || eqb k 62
+
+-- the number of records that begin with a token
+abbrev pub weight : Where → Placed → ℕ
+weight w p = cond (opens (kindAt p)) 1 (length (own w p))
+
+-- ---- what stands between `(` and `)`, or between `<` and `>`
+
+-- the number of its records, and where the closing sign ends
+pub record Contents : Type 0 where
   pub records : ℕ
   pub end : ℕ
 
-abbrev pub add : ℕ → Found → Found
+abbrev pub add : ℕ → Contents → Contents
 add n r = record { records = n + r .records; end = r .end }
 
--- the records of an atom; the name of a call has none
-abbrev pub own : Where → ℕ → Atom → List Record
-own outside at a = []
-own inside at a = atomRecords at a
-own calling at a = []
+-- at a closing sign, with so many more open before it
+abbrev pub closed : ℕ → ℕ → (ℕ → Contents) → Contents
+closed end zero go = record { records = 0; end = end }
+closed end (suc d) go = go d
 
--- the records up to the token that closes d + 1 brackets or calls
-abbrev pub closes : ℕ → ℕ → (ℕ → Found) → Found
-closes at zero go = record { records = 0; end = at + 1 }
-closes at (suc d) go = go d
-
-abbrev pub scanSign : Sign → ℕ → ℕ → (Where → ℕ → Found) → Found
-scanSign leftBracket at d go = add 1 (go inside (suc d))
-scanSign leftAngle at d go = add 1 (go calling (suc d))
-scanSign rightBracket at d go = closes at d (go inside)
-scanSign rightAngle at d go = closes at d (go inside)
-scanSign leftBrace at d go = go inside d
-scanSign rightBrace at d go = go inside d
-scanSign comma at d go = go inside d
-scanSign colon at d go = go inside d
-scanSign equals at d go = go inside d
-scanSign semicolon at d go = go inside d
-scanSign dollarEntry at d go = go inside d
-scanSign dollarExtern at d go = go inside d
-
-abbrev pub scanToken : Token → Where → ℕ → ℕ → (Where → ℕ → Found) → Found
-scanToken (sign g) w at d go = scanSign g at d go
-scanToken (atom a) w at d go = add (length (own w at a)) (go inside d)
-
-abbrev pub scan : Where → ℕ → List Placed → Found
+-- from a token on, with so many more open
+abbrev pub scan : Where → ℕ → List Placed → Contents
 scan w d [] = record { records = 0; end = 0 }
-scan w d (p ∷ ps) = scanToken (p .what) w (p .start) d (λ v e. scan v e ps)
+scan w d (p ∷ ps) =
+    cond (closes (kindAt p)) (closed (endAt p) d (λ e. scan inside e ps))
+    (add (weight w p) (scan (stateAfter (kindAt p)) (cond (opens (kindAt p)) (suc d) d) ps))
 
--- the identifier that stands first
-abbrev pub firstAtom : ℕ → Token → Identifier
-firstAtom at (sign g) = unnamed
-firstAtom at (atom a) = named at a
+-- ---- term records
 
-abbrev pub firstName : List Placed → Identifier
-firstName [] = unnamed
-firstName (p ∷ ps) = firstAtom (p .start) (p .what)
+abbrev pub holder : (kind a b : ℕ) → Placed → Contents → Record
+holder kind a b p r = kind ∷ a ∷ b ∷ r .records ∷ p .start ∷ r .end ∷ []
 
-abbrev pub holder : ℕ → Identifier → ℕ → Found → Record
-holder kind f at r = kind ∷ f .start ∷ length (f .spelled) ∷ r .records ∷ at ∷ r .end ∷ []
+-- those that begin with a token
+abbrev pub termsAt : Where → Placed → List Placed → List Record
+termsAt w p ps =
+    cond (eqb (kindAt p) 40) (holder 6 0 0 p (scan inside 0 ps) ∷ [])
+    (cond (eqb (kindAt p) 60) (holder 7 (firstStart ps) (firstLength ps) p (scan calling 0 ps) ∷ []) (own w p))
 
-abbrev pub flatSign : Sign → Where → ℕ → List Placed → (Where → List Record) → List Record
-flatSign leftBracket w at ps go = holder 6 unnamed at (scan inside 0 ps) ∷ go inside
-flatSign leftAngle w at ps go = holder 7 (firstName ps) at (scan calling 0 ps) ∷ go calling
-flatSign rightBracket w at ps go = go inside
-flatSign rightAngle w at ps go = go inside
-flatSign leftBrace w at ps go = go inside
-flatSign rightBrace w at ps go = go outside
-flatSign comma w at ps go = go w
-flatSign colon w at ps go = go inside
-flatSign equals w at ps go = go inside
-flatSign semicolon w at ps go = go w
-flatSign dollarEntry w at ps go = go outside
-flatSign dollarExtern w at ps go = go outside
-
-abbrev pub after : Where → Where
-after outside = outside
-after inside = inside
-after calling = inside
-
-abbrev pub flatToken : Token → Where → ℕ → List Placed → (Where → List Record) → List Record
-flatToken (sign g) w at ps go = flatSign g w at ps go
-flatToken (atom a) w at ps go = own w at a ++ go (after w)
-
--- the term records of some tokens
 abbrev pub flatTerms : Where → List Placed → List Record
 flatTerms w [] = []
-flatTerms w (p ∷ ps) = flatToken (p .what) w (p .start) ps (λ v. flatTerms v ps)
+flatTerms w (p ∷ ps) = termsAt w p ps ++ flatTerms (whereAfter w (kindAt p)) ps
