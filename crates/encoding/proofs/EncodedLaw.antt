@@ -1,5 +1,5 @@
 -- What `lawOf` says of the law file of a text: 1, 4, 5, 8 or 9, in this order, or the text's own tree.
-use Prim.Native.Nat.{ℕ, _+_, _*_, _≤_, _<_}
+use Prim.Native.Nat.{ℕ, _*_, _≤_}
 use mathlib.Core.List.{List, [], _∷_, _++_, flatMap, List·Mem, mem-cast, mem-cons-self, mem-cons-of-mem}
 use mathlib.Core.Bool.{true≢false, Bool, true, false, not, _||_}
 use mathlib.Core.Path.{_≡_, refl, sym, ap, _∙_}
@@ -7,8 +7,8 @@ use native.Mathlib.Omega.{arith}
 use lib.ListN.{length, length-append, length-map}
 use lib.Seq.{take-length}
 use lib.Dec.{ltb}
-use borrow.Author.Tests.{ltb-true, ltb-false}
-use Rattle.file.specs.Answer.{Answer, refused, given, refuseIf, _>>=_, _>>_}
+use borrow.Author.Tests.{ltb-false}
+use Rattle.file.specs.Answer.{Answer, refused, given, refuseIf, _>>_}
 use Rattle.file.specs.Sections.{sectionsOf}
 use Rattle.file.specs.Fields.{fieldsAllowed}
 use Rattle.file.proofs.Answers.{never-both, pass-given}

@@ -1,6 +1,6 @@
 -- Five sections after each other are cut where they were put together, or refused with 1 or 4.
 use Prim.Native.Nat.{ℕ, _+_, _*_, _≤_, _<_}
-use mathlib.Core.List.{List, [], _∷_, _++_, append-nil}
+use mathlib.Core.List.{List, [], _++_, append-nil}
 use mathlib.Core.Bool.{Bool, true, false, _||_}
 use mathlib.Core.Path.{_≡_, refl, _∙_}
 use native.Mathlib.Omega.{arith}
@@ -9,7 +9,7 @@ use lib.Seq.{take-at, drop-at}
 use lib.Dec.{ltb}
 use borrow.Author.Tests.{lt-ltb, le-ltb, ltb-true, ltb-false}
 use Rattle.file.specs.Word.{wordAt}
-use Rattle.file.specs.Answer.{Answer, refused, given, refuseIf, _>>=_, _>>_}
+use Rattle.file.specs.Answer.{refused, given, refuseIf, _>>_}
 use Rattle.file.specs.Sections.{File, section, sectionsOf}
 use Rattle.file.proofs.SectionLaws.{section-whole, section-over}
 use Rattle.encoding.specs.Encode.{wordBytes}

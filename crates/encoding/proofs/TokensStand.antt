@@ -1,5 +1,5 @@
 -- A token of a text stands in the text at its place. So the names of a phrase are spelled there, and its spans lie inside the text.
-use Prim.Native.Nat.{ℕ, suc, _+_, _≤_, _<_}
+use Prim.Native.Nat.{ℕ, suc, _+_, _≤_}
 use mathlib.Core.List.{List, [], _∷_, _++_, append-assoc, nil≢cons, tail-eq-of-cons-eq, flatMap}
 use mathlib.Core.Bool.{true, not, _&&_, false≢true}
 use mathlib.Core.Path.{_≡_, refl, _∙_}

@@ -5,7 +5,7 @@ use mathlib.Core.List.{List}
 use mathlib.Core.Bool.{Bool, not, _||_}
 use lib.ListN.{length}
 use lib.Dec.{ltb}
-use Rattle.file.specs.Answer.{Answer, given, refuseIf, _>>=_, _>>_}
+use Rattle.file.specs.Answer.{Answer, given, refuseIf, _>>_}
 use Rattle.file.specs.Sections.{File}
 use Rattle.file.specs.Fields.{fieldsAllowed}
 use Rattle.law.specs.Tree.{Law}

@@ -4,7 +4,7 @@ use mathlib.Core.List.{List, [], _∷_}
 use lib.ListN.{length}
 use Rattle.law.specs.Tree as tree
 use Rattle.tokens.specs.Token.{Atom, identifier, number, variable, quoted}
-use Rattle.grammar.specs.Grammar.{Identifier, Terms, nothing, atomic, bracket, call, Conditions, noCondition, condition, Sentence, Function, Text}
+use Rattle.grammar.specs.Grammar.{Terms, nothing, atomic, bracket, call, Conditions, noCondition, condition, Sentence, Function, Text}
 use Rattle.encoding.specs.Encode.{termRecords, conditionTerms, sentenceTerms, sentenceStart, sentenceEnd, sentencesIn, functionsOf}
 
 abbrev pub nameOf : ℕ → List ℕ → tree.Name
