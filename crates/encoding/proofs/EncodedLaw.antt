@@ -9,18 +9,16 @@ use lib.Seq.{take-length}
 use lib.Dec.{ltb}
 use borrow.Author.Tests.{ltb-false}
 use Rattle.file.specs.Answer.{Answer, refused, given, refuseIf, _>>_}
-use Rattle.file.specs.Sections.{sectionsOf}
-use Rattle.file.specs.Fields.{fieldsAllowed}
+use Rattle.file.specs.Sections.{File, sectionsOf}
 use Rattle.file.proofs.Answers.{never-both, pass-given}
 use Rattle.law.specs.Tree.{Law}
 use Rattle.law.specs.Law.{lawOf}
 use Rattle.law.specs.Places as places
 use Rattle.law.specs.Depth.{depthOf}
-use Rattle.law.specs.Variables.{patternsAllowed}
 use Rattle.grammar.specs.Grammar.{Conditions, noCondition, condition, Sentence, Function, Text, Written}
 use Rattle.encoding.specs.Encode.{recordsBytes, termRecords, conditionTerms, sentenceRecord, sentenceTerms, sentencesIn, functionRecord, functionsOf, sentencesOf, functionSection, sentenceSection, conditionSection, termSection, encode}
 use Rattle.encoding.specs.TextTree.{treeOfText}
-use Rattle.encoding.specs.LawOfText.{fileSize, countOver, fileOfText, lawOfText}
+use Rattle.encoding.specs.LawOfText.{allOf, fileSize, countOver, spellingsShort, fewVariables, lawOfText}
 use Rattle.encoding.proofs.Lists.{All}
 use Rattle.encoding.proofs.RecordLaws.{records-length}
 use Rattle.encoding.proofs.SectionsCut.{sections-cut}
@@ -29,6 +27,8 @@ use Rattle.encoding.proofs.SentencePlaces.{SmallConditions, Small, cond
 use Rattle.encoding.proofs.SentencesRead.{WithinSentence}
 use Rattle.encoding.proofs.FunctionsRead.{Named, function-records-sized, HoldsFunctions, first-sentence, tree-read}
 use Rattle.encoding.proofs.RunsAllowed.{runs-allowed, blocks-allowed}
+use Rattle.encoding.proofs.Spellings.{fields-spelled}
+use Rattle.encoding.proofs.PatternVariables.{patterns-few}
 use Rattle.encoding.proofs.TokensStand.{NameStands, sentences-inside, names-inside}
 
 -- ---- within the limits everything fits a word
@@ -76,6 +76,17 @@ one-of : {A : Type 0} (m : ℕ) (ms : List ℕ) (n : ℕ) (t : Bool) (after : An
 one-of m ms n true after e later = let same : n ≡ m = cc in mem-cast same mem-cons-self
 one-of m ms n false after e later = mem-cons-of-mem m (later e)
 
+-- the law file of a text, cut into its sections
+abbrev fileOfText : List ℕ → Text → File
+fileOfText b x =
+    record {
+      text = record { count = length b; records = b };
+      functions = record { count = length (functionSection x); records = recordsBytes (functionSection x) };
+      sentences = record { count = length (sentenceSection x); records = recordsBytes (sentenceSection x) };
+      conditions = record { count = length (conditionSection x); records = recordsBytes (conditionSection x) };
+      terms = record { count = length (termSection x); records = recordsBytes (termSection x) };
+    }
+
 module _ (b : List ℕ) (x : Text) (w : Written b x) (short : length b ≤ 4096) where
   abbrev xs : List Sentence
   xs = sentencesOf x
@@ -108,9 +119,9 @@ module _ (b : List ℕ) (x : Text) (w : Written b x) (short : length b ≤ 4096)
   -- the rows of the table from 5 on
   abbrev rows : Answer Law
   rows = do
-    refuseIf 5 (not (fieldsAllowed (fileOfText b x)))
+    refuseIf 5 (not (spellingsShort x))
     refuseIf 8 (ltb 32 (depthOf (treeOfText x)))
-    refuseIf 9 (not (patternsAllowed (fileOfText b x)))
+    refuseIf 9 (not (allOf fewVariables xs))
     given (treeOfText x)
 
   -- ---- within the limits
@@ -145,9 +156,11 @@ module _ (b : List ℕ) (x : Text) (w : Written b x) (short : length b ≤ 4096)
         let n = length-map xs sentenceRecord in
         rw (
           cut,
+          fields-spelled (fileOfText b x) (functionsOf x) holds-functions refl,
           runs-allowed (fileOfText b x) xs holds n refl refl all-sentences,
           blocks-allowed (fileOfText b x) xs holds n refl refl all-sentences,
           tree-read (fileOfText b x) (functionsOf x) holds-functions,
+          patterns-few (fileOfText b x) xs holds short (sentences-inside b x w) n,
         )
 
   -- ---- the whole table
@@ -186,9 +199,9 @@ module _ (b : List ℕ) (x : Text) (w : Written b x) (short : length b ≤ 4096)
   only-these-refusals n e =
       one-of 1 (4 ∷ 5 ∷ 8 ∷ 9 ∷ []) n (ltb 16384 (fileSize b x)) (refuseIf 4 (countOver x) >> rows) (sym encoded-law ∙ e)
       (λ e₁. one-of 4 (5 ∷ 8 ∷ 9 ∷ []) n (countOver x) rows e₁
-      (λ e₄. one-of 5 (8 ∷ 9 ∷ []) n (not (fieldsAllowed (fileOfText b x))) _ e₄
+      (λ e₄. one-of 5 (8 ∷ 9 ∷ []) n (not (spellingsShort x)) _ e₄
       (λ e₅. one-of 8 (9 ∷ []) n (ltb 32 (depthOf (treeOfText x))) _ e₅
-      (λ e₈. one-of 9 [] n (not (patternsAllowed (fileOfText b x))) (given (treeOfText x)) e₈
+      (λ e₈. one-of 9 [] n (not (allOf fewVariables xs)) (given (treeOfText x)) e₈
       (λ e₉. absurd (never-both (treeOfText x) n (sym e₉)))))))
 
   -- what is accepted is the text's tree
@@ -197,9 +210,9 @@ module _ (b : List ℕ) (x : Text) (w : Written b x) (short : length b ≤ 4096)
   encoded-tree law e =
       pass-given 1 (ltb 16384 (fileSize b x)) (refuseIf 4 (countOver x) >> rows) law (sym encoded-law ∙ e)
       (λ _ e₁. pass-given 4 (countOver x) rows law e₁
-      (λ _ e₄. pass-given 5 (not (fieldsAllowed (fileOfText b x))) _ law e₄
+      (λ _ e₄. pass-given 5 (not (spellingsShort x)) _ law e₄
       (λ _ e₅. pass-given 8 (ltb 32 (depthOf (treeOfText x))) _ law e₅
-      (λ _ e₈. pass-given 9 (not (patternsAllowed (fileOfText b x))) (given (treeOfText x)) law e₈ (λ _ e₉. given-same law (treeOfText x) e₉)))))
+      (λ _ e₈. pass-given 9 (not (allOf fewVariables xs)) (given (treeOfText x)) law e₈ (λ _ e₉. given-same law (treeOfText x) e₉)))))
     where
       given-same : (l m : Law) → given m ≡ given l → l ≡ m
       given-same l m h = cc

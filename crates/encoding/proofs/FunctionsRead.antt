@@ -6,6 +6,7 @@ use native.Mathlib.Omega.{arith}
 use native.Mathlib.Nat.{add-zero, zero-add}
 use lib.ListN.{length, take, drop, getD, length-append, length-map, drop-of-length-le}
 use lib.Seq.{drop-cons, take-suc, split-at}
+use Rattle.names.specs.Name.{nameAllowed}
 use Rattle.file.specs.Word.{wordAt}
 use Rattle.file.specs.Sections.{File}
 use Rattle.law.specs.Tree as tree
@@ -16,7 +17,7 @@ use Rattle.encoding.specs.Encode.{recordBytes, recordsBytes, functionRec
 use Rattle.encoding.specs.TextTree.{nameOf, treeSentences, treeFunctions, size}
 use Rattle.encoding.proofs.Lists.{All, all-at, all-map, map-at, total-take, flatMap-append, flatMap-length}
 use Rattle.encoding.proofs.RecordLaws.{word-0, word-4, word-8, Sized, word-of}
-use Rattle.encoding.proofs.TermsRead.{Spelled}
+use Rattle.encoding.proofs.TermsRead.{Word}
 use Rattle.encoding.proofs.SentencePlaces.{noSentence, Holds}
 use Rattle.encoding.proofs.SentencesRead.{WithinSentence, sentences-run}
 
@@ -44,11 +45,11 @@ size-append (x ∷ xs) ys = rw (size-append xs ys) (omega arith)
 
 -- a function whose name stands in a text, with a number of sentences that fits a word
 pub record Named (text : List ℕ) (f : Function) : Type 0 where
-  pub name : Spelled text (f .name .start) (f .name .spelled)
+  pub name : Word nameAllowed text (f .name .start) (f .name .spelled)
   pub count : length (sentencesIn f) ≤ 128
 
 -- one for places past the last
-abbrev noFunction : Function
+abbrev pub noFunction : Function
 noFunction = record { name = record { start = 0; spelled = [] }; leftAt = 0; sentences = last noSentence; rightAt = 0 }
 
 pub function-records-sized : (fs : List Function) → All (Sized 20) (map functionRecord fs)
@@ -81,14 +82,16 @@ module _ (file : File) (fs : List Function) (h : HoldsFunctions file fs) where
         map-at functionRecord fs f noFunction [] l,
       )
 
-  name-read : (f : ℕ) → f < length fs → functionName file f ≡ nameOf (function f .name .start) (function f .name .spelled)
-  name-read f l =
-      let s = named f l .name in
+  pub name-start : (f : ℕ) → f < length fs → wordAt (file .functions .records) (20 * f) ≡ function f .name .start
+  name-start f l =
       let e : 20 * f ≡ 20 * f + 0 = omega arith in
-      let start : wordAt (file .functions .records) (20 * f) ≡ function f .name .start = rw e (function-word f 0 l ∙ word-0 _ _ _ (omega (arith, s .inside, h .short))) in
-      let long : wordAt (file .functions .records) (20 * f + 4) ≡ length (function f .name .spelled) =
-      function-word f 4 l ∙ word-4 _ _ _ _ (omega (arith, s .inside, h .short)) in
-      rw (start, long, s .same)
+      rw e (function-word f 0 l ∙ word-0 _ _ _ (omega (arith, named f l .name .0 .inside, h .short)))
+
+  pub name-long : (f : ℕ) → f < length fs → wordAt (file .functions .records) (20 * f + 4) ≡ length (function f .name .spelled)
+  name-long f l = function-word f 4 l ∙ word-4 _ _ _ _ (omega (arith, named f l .name .0 .inside, h .short))
+
+  name-read : (f : ℕ) → f < length fs → functionName file f ≡ nameOf (function f .name .start) (function f .name .spelled)
+  name-read f l = rw (name-start f l, name-long f l, named f l .name .0 .same)
 
   sentences-of : (f : ℕ) → f < length fs → places.sentencesOf file f ≡ length (sentencesIn (function f))
   sentences-of f l = function-word f 8 l ∙ word-8 _ _ _ _ _ (omega (arith, named f l .count))

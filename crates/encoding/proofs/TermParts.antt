@@ -46,7 +46,7 @@ module _ (file : File) (xs : List Sentence) (h : Holds file xs) (s : ℕ) (l : s
   abbrev after : List Record
   after = flatMap sentenceTerms (drop (suc s) xs)
 
-  terms-split : flatMap sentenceTerms xs ≡ before ++ (pattern ++ (conditions ++ (result ++ after)))
+  pub terms-split : flatMap sentenceTerms xs ≡ before ++ (pattern ++ (conditions ++ (result ++ after)))
   unfolding flatMap
   terms-split =
       ap (flatMap sentenceTerms) (split-at xs s noSentence l)
