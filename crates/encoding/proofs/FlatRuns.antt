@@ -22,7 +22,7 @@ use Rattle.encoding.specs.Code.FlatFile.{partRecords, partEnd, firstIs, 
 abbrev pub ofTerms : ℕ → Bool
 ofTerms k = leb k 6 || eqb k 40 || eqb k 41 || eqb k 60 || eqb k 62
 
-pub atom-of-terms : (a : Atom) → ofTerms (atomKind a) ≡ true
+atom-of-terms : (a : Atom) → ofTerms (atomKind a) ≡ true
 atom-of-terms (identifier w) = refl
 atom-of-terms (number w) = refl
 atom-of-terms (variable symbolKind w) = refl

@@ -12,6 +12,7 @@ pub mod RunsAllowed
 pub mod TermWords
 pub mod Spellings
 pub mod PatternVariables
+pub mod FileRead
 pub mod EncodedLaw
 pub mod FlatTerms
 pub mod FlatRuns

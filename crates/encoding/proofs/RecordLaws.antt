@@ -12,7 +12,7 @@ use Rattle.encoding.specs.Encode.{Record, wordBytes, recordBytes, record
 use Rattle.encoding.proofs.Lists.{All, flatMap-append}
 
 -- a number below 2^32 from its four bytes
-pub word-value : (n : ℕ) → n < 4294967296 → n % 256 + n / 256 % 256 * 256 + n / 65536 % 256 * 65536 + n / 16777216 % 256 * 16777216 ≡ n
+word-value : (n : ℕ) → n < 4294967296 → n % 256 + n / 256 % 256 * 256 + n / 65536 % 256 * 65536 + n / 16777216 % 256 * 16777216 ≡ n
 word-value n h =
     let p : n / 65536 ≡ n / 256 / 256 = omega arith in
     let q : n / 16777216 ≡ n / 65536 / 256 = omega arith in

@@ -104,7 +104,7 @@ module _ (text : List ℕ) where
       ∙ sentences-fields xs w
 
 -- the function records
-pub functions-spelled : (file : File) (fs : List Function) → HoldsFunctions file fs
+functions-spelled : (file : File) (fs : List Function) → HoldsFunctions file fs
     → functionsAllowed (file .text .records) (file .functions .records) (file .functions .count) ≡ allOf shortName fs
 functions-spelled file fs h =
     ap (functionsAllowed (file .text .records) (file .functions .records)) (h .functionCount)

@@ -55,7 +55,7 @@ module _ (kind a b n x y : ℕ) (inner outer : List ℕ) (small : n < 4294967296
       let past : drop (24 + 24 * n) node ≡ outer = sym (drop-drop (24 * n) 24 node) ∙ rw node-drop (drop-at inner outer (24 * n) whole) in
       rw (node-end, past) (take-all (length node - (24 + 24 * n)) outer (omega (arith, node-length)))
 
-  pub node-fits : runFits inner ≡ true → runFits outer ≡ true → runFits node ≡ true
+  node-fits : runFits inner ≡ true → runFits outer ≡ true → runFits node ≡ true
   node-fits h k =
       rw (fits-node node (omega (arith, node-length)), node-contents, node-rest, node-count, h, k) (rw (le-leb (24 + 24 * n) (length node) (omega (arith, node-length))))
 
@@ -121,6 +121,7 @@ unfolding characterRecords
 characters-count at [] = refl
 characters-count at (c ∷ cs) = ap suc (characters-count (at + length (utf8 c)) cs)
 
+-- an atom has so many records
 pub atom-count : (at : ℕ) (a : Atom) → length (atomRecords at a) ≡ atomSize a
 atom-count at (identifier w) = refl
 atom-count at (number w) = refl

@@ -34,7 +34,7 @@ spelled-between front w after b at e l =
     }
 
 -- tokens stand where they are placed
-placed-stand : (b : List ℕ) (ps : List Piece) (front : List ℕ) (at : ℕ) → Lexed ps → front ++ piecesBytes ps ≡ b → length front ≡ at → All (Standing b) (placed at ps)
+pub placed-stand : (b : List ℕ) (ps : List Piece) (front : List ℕ) (at : ℕ) → Lexed ps → front ++ piecesBytes ps ≡ b → length front ≡ at → All (Standing b) (placed at ps)
 unfolding placed piecesBytes
 placed-stand b [] front at h e l = tt
 placed-stand b (blank k ∷ ps) front at h e l =
@@ -49,7 +49,7 @@ placed-stand b (token t ∷ ps) front at h e l = (
       (length-append front (tokenBytes t) ∙ rw l),
 )
 
-pub written-stand : (b : List ℕ) (x : Text) → Written b x → All (Standing b) (spellText x)
+written-stand : (b : List ℕ) (x : Text) → Written b x → All (Standing b) (spellText x)
 written-stand b x w = rw (w .spelled) (placed-stand b (w .pieces) [] 0 (w .lexed) (w .whole) refl)
 
 -- ---- atoms

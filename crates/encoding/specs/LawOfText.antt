@@ -1,6 +1,6 @@
 -- The law that a text means, or a refusal. Document 02, R-1: a text of the grammar is refused "with 1, 4, 5, 8 or 9 in document 01's order".
 -- `encoded-law` of proofs/EncodedLaw.antt: this is what `lawOf` says of the text's law file.
-use Prim.Native.Nat.{ℕ, _+_, _*_}
+use Prim.Native.Nat.{ℕ}
 use mathlib.Core.List.{List, [], _∷_, _++_}
 use mathlib.Core.Bool.{Bool, true, not, _&&_, _||_}
 use lib.ListN.{length}
@@ -12,7 +12,7 @@ use Rattle.law.specs.Depth.{depthOf}
 use Rattle.law.specs.Variables.{Variable, distinct}
 use Rattle.tokens.specs.Token.{Atom, identifier, number, variable, quoted}
 use Rattle.grammar.specs.Grammar.{Terms, nothing, atomic, bracket, call, Conditions, noCondition, condition, Sentence, Function, Text}
-use Rattle.encoding.specs.Encode.{functionsOf, sentencesOf, functionSection, sentenceSection, conditionSection, termSection}
+use Rattle.encoding.specs.Encode.{functionsOf, sentencesOf, functionSection, sentenceSection, conditionSection, termSection, encode}
 use Rattle.encoding.specs.TextTree.{treeOfText}
 
 -- a test that every element passes
@@ -20,12 +20,7 @@ abbrev pub allOf : {A : Type 0} → (A → Bool) → List A → Bool
 allOf p [] = true
 allOf p (x ∷ xs) = p x && allOf p xs
 
--- ---- 1: a file over 16,384 bytes, 4: a count over its limit
-
--- the bytes of the law file
-abbrev pub fileSize : List ℕ → Text → ℕ
-fileSize bytes text =
-    20 + length bytes + 20 * length (functionSection text) + 20 * length (sentenceSection text) + 16 * length (conditionSection text) + 24 * length (termSection text)
+-- ---- 4: a count over its limit
 
 -- more functions, sentences, conditions or terms than a law may have
 abbrev pub countOver : Text → Bool
@@ -79,11 +74,11 @@ variablesIn (call l f inside r rest) = variablesIn inside ++ variablesIn rest
 abbrev pub fewVariables : Sentence → Bool
 fewVariables x = leb (distinct (variablesIn (x .pattern))) 32
 
--- ---- the law; 8: over 32 brackets and calls around a term
+-- ---- the law; 1: a file over 16,384 bytes, 8: over 32 brackets and calls around a term
 
 unfoldable pub lawOfText : List ℕ → Text → Answer Law
 lawOfText bytes text = do
-  refuseIf 1 (ltb 16384 (fileSize bytes text))
+  refuseIf 1 (ltb 16384 (length (encode bytes text)))
   refuseIf 4 (countOver text)
   refuseIf 5 (not (spellingsShort text))
   refuseIf 8 (ltb 32 (depthOf (treeOfText text)))
