@@ -1,11 +1,12 @@
 -- Texts and what becomes of them, by computation: the law of one with every construct, spans where something is empty, the empty text, and the refusals in their order.
 use Prim.Native.Nat.{ℕ}
+use Prim.Native.String.{String}
 use mathlib.Core.List.{List, [], _∷_, _++_, map, flatMap}
 use mathlib.Core.Option.{Option, none, some}
 use mathlib.Core.Path.{_≡_, refl}
 use lib.ListN.{replicate}
 use Rattle.names.specs.Name.{everyByte, sameBytes}
-use Rattle.file.specs.Answer.{refused, given}
+use Rattle.file.specs.Answer.{Answer, refused, given}
 use Rattle.file.specs.Word.{wordAt}
 use Rattle.file.specs.Below.{every, total}
 use Rattle.file.specs.Sections.{section, sectionsOf}
@@ -93,6 +94,25 @@ itsLaw =
     }
     ∷ []
 
+-- ---- spans, where something is empty
+
+abbrev SpanRow : Type 0
+SpanRow = String × List (List Record)
+
+abbrev spans : List SpanRow
+spans =
+    -- the pattern: the sentence's span begins with `=`, or with the first comma
+    ("F { = }", (functionWords 0 1 1 0 7 ∷ []) ∷ (sentenceWords 0 0 0 4 5 ∷ []) ∷ [] ∷ [] ∷ [])
+    -- the result: it ends with `=`
+    ∷ ("F { a = ; }", (functionWords 0 1 1 0 11 ∷ []) ∷ (sentenceWords 1 0 0 4 7 ∷ []) ∷ [] ∷ (termWords 1 4 1 0 4 5 ∷ []) ∷ [])
+    -- both parts of a condition: its span is the colon
+    ∷ ("F { , : = }", (functionWords 0 1 1 0 11 ∷ []) ∷ (sentenceWords 0 1 0 4 9 ∷ []) ∷ (conditionWords 0 0 6 7 ∷ []) ∷ [] ∷ [])
+    -- its pattern: it ends with the colon
+    ∷ ("F { , b : = }", (functionWords 0 1 1 0 13 ∷ []) ∷ (sentenceWords 0 1 0 4 11 ∷ []) ∷ (conditionWords 1 0 6 9 ∷ []) ∷ (termWords 1 6 1 0 6 7 ∷ []) ∷ [])
+    -- its result: it begins with the colon
+    ∷ ("F { , : c = }", (functionWords 0 1 1 0 13 ∷ []) ∷ (sentenceWords 0 1 0 4 11 ∷ []) ∷ (conditionWords 0 1 6 9 ∷ []) ∷ (termWords 1 8 1 0 8 9 ∷ []) ∷ [])
+    ∷ []
+
 -- ---- refusals
 
 -- a quoted run of n characters, an identifier of n letters, n brackets around terms, n functions, n sentences of a function whose name has so many letters
@@ -111,54 +131,42 @@ functions n = flatMap bytesOf (replicate n "F{=}")
 abbrev sentences : ℕ → ℕ → List ℕ
 sentences name n = replicate name 97 ++ bytesOf "{" ++ flatMap bytesOf (replicate n "=;") ++ bytesOf "}"
 
--- an s. variable for each letter of a text
-abbrev variables : List ℕ → List ℕ
-variables letters = flatMap (λ c. 115 ∷ 46 ∷ c ∷ 32 ∷ []) letters
+-- an s. variable for each of some indices of one byte
+abbrev variables : String → List ℕ
+variables indices = flatMap (λ c. 115 ∷ 46 ∷ c ∷ 32 ∷ []) (bytesOf indices)
+
+abbrev Row : Type 0
+Row = List ℕ × Answer (Unit {0})
+
+abbrev refusals : List Row
+refusals =
+    -- 1 comes before 4
+    (quotedRun 700, refused 1)
+    ∷ (quotedRun 513, refused 4)
+    ∷ (functions 65, refused 4)
+    -- 4 before 5
+    ∷ (sentences 65 129, refused 4)
+    ∷ (sentences 65 1, refused 5)
+    ∷ (letters 64, given tt)
+    ∷ (letters 65, refused 5)
+    -- 5 before 8
+    ∷ (nested 33 (replicate 65 97), refused 5)
+    ∷ (nested 32 (bytesOf "a"), given tt)
+    ∷ (nested 33 (bytesOf "a"), refused 8)
+    -- 8 before 9
+    ∷ (nested 33 (variables "ABCDEFGHIJKLMNOPQRSTUVWXYZ0123456"), refused 8)
+    ∷ (nested 1 (variables "ABCDEFGHIJKLMNOPQRSTUVWXYZ0123456"), refused 9)
+    ∷ (nested 1 (variables "ABCDEFGHIJKLMNOPQRSTUVWXYZ012345"), given tt)
+    ∷ []
+
+-- ---- all of them; an empty text is a file of five counts
 
 pub examples :
-    (lawOf (written everyConstruct) ≡ given itsLaw)
-    × (sections (phraseOf everyConstruct) ≡ itsSections)
-    -- an empty text is a file of five counts
+    (sections (phraseOf everyConstruct) ≡ itsSections)
+    × (lawOf (written everyConstruct) ≡ given itsLaw)
+    × (map (λ (r : SpanRow). sections (phraseOf (bytesOf (r .0)))) spans ≡ map (λ (r : SpanRow). r .1) spans)
     × (written [] ≡ replicate 20 0)
-    -- an empty pattern: the sentence's span begins with `=` or the comma; an empty result: it ends with `=`
-    -- the span of a condition is its colon where it has nothing else, and ends with the colon or begins with it
-    × (map (λ text. sections (phraseOf (bytesOf text))) ("F { = }" ∷ "F { a = ; }" ∷ "F { , : = }" ∷ "F { a, b : = }" ∷ "F { , : c = d }" ∷ [])
-    ≡ ((functionWords 0 1 1 0 7 ∷ []) ∷ (sentenceWords 0 0 0 4 5 ∷ []) ∷ [] ∷ [] ∷ [])
-    ∷ ((functionWords 0 1 1 0 11 ∷ []) ∷ (sentenceWords 1 0 0 4 7 ∷ []) ∷ [] ∷ (termWords 1 4 1 0 4 5 ∷ []) ∷ [])
-    ∷ ((functionWords 0 1 1 0 11 ∷ []) ∷ (sentenceWords 0 1 0 4 9 ∷ []) ∷ (conditionWords 0 0 6 7 ∷ []) ∷ [] ∷ [])
-    ∷ ((functionWords 0 1 1 0 14 ∷ []) ∷ (sentenceWords 1 1 0 4 12 ∷ []) ∷ (conditionWords 1 0 7 10 ∷ []) ∷ (termWords 1 4 1 0 4 5 ∷ termWords 1 7 1 0 7 8 ∷ []) ∷ [])
-    ∷ ((functionWords 0 1 1 0 15 ∷ []) ∷ (sentenceWords 0 1 1 4 13 ∷ []) ∷ (conditionWords 0 1 6 9 ∷ []) ∷ (termWords 1 8 1 0 8 9 ∷ termWords 1 12 1 0 12 13 ∷ []) ∷ [])
-    ∷ [])
-    -- 1 comes before 4, 4 before 5, 5 before 8, 8 before 9
-    × (map (λ text. checkOf (written text))
-    (quotedRun 700
-    ∷ quotedRun 513
-    ∷ functions 65
-    ∷ sentences 65 129
-    ∷ sentences 65 1
-    ∷ letters 64
-    ∷ letters 65
-    ∷ nested 33 (replicate 65 97)
-    ∷ nested 32 (bytesOf "a")
-    ∷ nested 33 (bytesOf "a")
-    ∷ nested 33 (variables (bytesOf "ABCDEFGHIJKLMNOPQRSTUVWXYZ0123456"))
-    ∷ nested 1 (variables (bytesOf "ABCDEFGHIJKLMNOPQRSTUVWXYZ0123456"))
-    ∷ nested 1 (variables (bytesOf "ABCDEFGHIJKLMNOPQRSTUVWXYZ012345"))
-    ∷ [])
-    ≡ refused 1
-    ∷ refused 4
-    ∷ refused 4
-    ∷ refused 4
-    ∷ refused 5
-    ∷ given tt
-    ∷ refused 5
-    ∷ refused 5
-    ∷ given tt
-    ∷ refused 8
-    ∷ refused 8
-    ∷ refused 9
-    ∷ given tt
-    ∷ [])
+    × (map (λ (r : Row). checkOf (written (r .0))) refusals ≡ map (λ (r : Row). r .1) refusals)
 unfolding
     bytesOf flatMap
     lawOf sectionsOf section wordAt every total fieldsAllowed termAllowed spelled everyByte
