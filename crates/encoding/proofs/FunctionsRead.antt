@@ -14,7 +14,7 @@ use Rattle.law.specs.Places as places
 use Rattle.law.specs.Reading.{functionName, functionsFrom, sentencesFrom, treeOf}
 use Rattle.grammar.specs.Grammar.{Sentence, last, Function}
 use Rattle.encoding.specs.Encode.{recordBytes, recordsBytes, functionRecord, sentencesIn, sentenceTerms}
-use Rattle.encoding.specs.TextTree.{nameOf, treeSentences, treeFunctions, size}
+use Rattle.encoding.specs.TextTree.{nameOf, treeSentences, treeFunctions}
 use Rattle.encoding.proofs.Lists.{All, all-at, all-map, map-at, total-take, flatMap-append, flatMap-length}
 use Rattle.encoding.proofs.RecordLaws.{word-0, word-4, word-8, Sized, word-of}
 use Rattle.encoding.proofs.TermsRead.{Word}
@@ -23,23 +23,25 @@ use Rattle.encoding.proofs.SentencesRead.{WithinSentence, sentences-run
 
 -- ---- some of the sentences
 
+-- the number of some sentences' term records
+abbrev size : List Sentence → ℕ
+size xs = length (flatMap sentenceTerms xs)
+
+size-append : (xs ys : List Sentence) → size (xs ++ ys) ≡ size xs + size ys
+size-append xs ys = rw (flatMap-append sentenceTerms xs ys) (length-append (flatMap sentenceTerms xs) (flatMap sentenceTerms ys))
+
 skip-tree : (ys zs : List Sentence) (s n : ℕ) → tree.skip (length ys) (treeSentences s n (ys ++ zs)) ≡ treeSentences (s + length ys) (n + size ys) zs
-unfolding tree.skip treeSentences size
+unfolding tree.skip treeSentences flatMap
 skip-tree [] zs s n = rw (add-zero s, add-zero n)
 skip-tree (y ∷ ys) zs s n =
     let p : s + 1 + length ys ≡ s + suc (length ys) = omega arith in
-    let q : n + length (sentenceTerms y) + size ys ≡ n + (length (sentenceTerms y) + size ys) = omega arith in
+    let q : n + length (sentenceTerms y) + size ys ≡ n + size (y ∷ ys) = omega (arith, length-append (sentenceTerms y) (flatMap sentenceTerms ys)) in
     skip-tree ys zs (s + 1) (n + length (sentenceTerms y)) ∙ rw (p, q)
 
 keep-tree : (ys zs : List Sentence) (s n : ℕ) → tree.keep (length ys) (treeSentences s n (ys ++ zs)) ≡ treeSentences s n ys
 unfolding tree.keep treeSentences
 keep-tree [] zs s n = refl
 keep-tree (y ∷ ys) zs s n = rw (keep-tree ys zs (s + 1) (n + length (sentenceTerms y)))
-
-size-append : (xs ys : List Sentence) → size (xs ++ ys) ≡ size xs + size ys
-unfolding size
-size-append [] ys = omega arith
-size-append (x ∷ xs) ys = rw (size-append xs ys) (omega arith)
 
 -- ---- functions
 
@@ -142,7 +144,7 @@ module _ (file : File) (fs : List Function) (h : HoldsFunctions file fs) where
 
   -- the tree of the file
   pub tree-read : treeOf file ≡ treeFunctions 0 0 fs
-  unfolding treeOf flatMap size
+  unfolding treeOf flatMap
   tree-read =
       let xs = flatMap sentencesIn fs in
       ap (λ c. functionsFrom file (sentencesFrom file c 0) (file .functions .count) 0) (h .sentenceCount)

@@ -92,7 +92,7 @@ module _ (file : File) (xs : List Sentence) (h : Holds file xs) (short : length 
         part,
       ) (terms-variables (file .text .records) (x .pattern) (all-at (WithinSentence (file .text .records)) xs s noSentence inside l .pattern))
 
-  -- the whole row
+  -- the patterns of all sentences
   pub patterns-few : file .sentences .count ≡ length xs → patternsAllowed file ≡ allOf fewVariables xs
   unfolding patternsAllowed
   patterns-few e =

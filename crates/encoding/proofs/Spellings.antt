@@ -112,7 +112,7 @@ functions-spelled file fs h =
     (λ f l. rw (name-start file fs h f l, name-long file fs h f l)
     (word-spelled (file .text .records) nameAllowed _ _ (all-at (Named (file .text .records)) fs f noFunction (h .named) l .name)))
 
--- the whole row
+-- all fields of a file
 pub fields-spelled : (file : File) (fs : List Function) → HoldsFunctions file fs → file .terms .count ≡ length (flatMap sentenceTerms (flatMap sentencesIn fs))
     → fieldsAllowed file ≡ allOf shortName fs && allOf shortSentence (flatMap sentencesIn fs)
 unfolding fieldsAllowed

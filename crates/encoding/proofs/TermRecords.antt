@@ -16,7 +16,6 @@ use Rattle.law.proofs.RunLaws.{fits-none, fits-node}
 use Rattle.tokens.specs.Token.{utf8, Atom, identifier, number, variable, quoted}
 use Rattle.grammar.specs.Grammar.{Terms, nothing, atomic, bracket, call, Conditions, noCondition, condition, Sentence}
 use Rattle.encoding.specs.Encode.{Record, recordBytes, recordsBytes, recordKind, characterRecords, atomRecords, termRecords, conditionTerms, sentenceTerms}
-use Rattle.encoding.specs.TextTree.{atomSize}
 use Rattle.encoding.proofs.Lists.{All, all-append, all-flatMap}
 use Rattle.encoding.proofs.RecordLaws.{word-12, Sized, records-append, records-length}
 
@@ -116,17 +115,10 @@ runBytes t = recordsBytes (termRecords t)
 pub run-length : (t : Terms) → length (runBytes t) ≡ 24 * length (termRecords t)
 run-length t = terms-length (termRecords t) (terms-records t)
 
-characters-count : (at : ℕ) (cs : List ℕ) → length (characterRecords at cs) ≡ length cs
+pub characters-count : (at : ℕ) (cs : List ℕ) → length (characterRecords at cs) ≡ length cs
 unfolding characterRecords
 characters-count at [] = refl
 characters-count at (c ∷ cs) = ap suc (characters-count (at + length (utf8 c)) cs)
-
--- an atom has so many records
-pub atom-count : (at : ℕ) (a : Atom) → length (atomRecords at a) ≡ atomSize a
-atom-count at (identifier w) = refl
-atom-count at (number w) = refl
-atom-count at (variable k i) = refl
-atom-count at (quoted cs) = characters-count (at + 1) cs
 
 -- ---- fitting
 

@@ -18,10 +18,10 @@ use Rattle.tokens.specs.Token.{utf8, Atom, identifier, number, variable, quoted
 use Rattle.tokens.proofs.Utf8.{scalar-bound}
 use Rattle.grammar.specs.Grammar.{Terms, nothing, atomic, bracket, call}
 use Rattle.encoding.specs.Encode.{recordBytes, recordsBytes, characterRecords, atomRecords, termRecords}
-use Rattle.encoding.specs.TextTree.{characterRun, atomRun, atomSize, treeRun}
+use Rattle.encoding.specs.TextTree.{characterRun, atomRun, treeRun}
 use Rattle.encoding.specs.LawOfText.{short}
 use Rattle.encoding.proofs.RecordLaws.{word-0, word-4, word-8, word-16, word-20, records-append}
-use Rattle.encoding.proofs.TermRecords.{six, before, node-count, node-length, node-contents, node-rest, runBytes, run-length}
+use Rattle.encoding.proofs.TermRecords.{six, before, node-count, node-length, node-contents, node-rest, runBytes, run-length, characters-count}
 
 -- ---- terms whose tokens stand in a text
 
@@ -99,14 +99,14 @@ module _ (file : File) (own : ℕ → ℕ → tree.Sentences) where
     spelled-run kind x w p q outer at ks s = leaf-run kind x (length w) p q outer at ks (omega (arith, s .inside)) (omega (arith, s .inside))
 
     atom-run : (x : ℕ) (a : Atom) (outer : List ℕ) (at : ℕ) → AtomWithin (file .text .records) x a
-        → runOf file own at (recordsBytes (atomRecords x a) ++ outer) ≡ atomRun x a (runOf file own (at + atomSize a) outer)
+        → runOf file own at (recordsBytes (atomRecords x a) ++ outer) ≡ atomRun x a (runOf file own (at + length (atomRecords x a)) outer)
     unfolding flatMap termFrom
     atom-run x (identifier w) outer at s = spelled-run 1 x w x (x + length w) outer at (omega arith) (s .0) ∙ rw (s .0 .same)
     atom-run x (number w) outer at s = spelled-run 2 x w x (x + length w) outer at (omega arith) (s .0) ∙ rw (s .0 .same)
     atom-run x (variable tree.Kind.symbolKind i) outer at s = spelled-run 3 (x + 2) i x (x + 2 + length i) outer at (omega arith) (s .0) ∙ rw (s .0 .same)
     atom-run x (variable tree.Kind.termKind i) outer at s = spelled-run 4 (x + 2) i x (x + 2 + length i) outer at (omega arith) (s .0) ∙ rw (s .0 .same)
     atom-run x (variable tree.Kind.expressionKind i) outer at s = spelled-run 5 (x + 2) i x (x + 2 + length i) outer at (omega arith) (s .0) ∙ rw (s .0 .same)
-    atom-run x (quoted cs) outer at s = characters-run (x + 1) cs outer at s
+    atom-run x (quoted cs) outer at s = rw (characters-count (x + 1) cs) (characters-run (x + 1) cs outer at s)
 
     -- the records of some terms, the first of number `at`
     pub terms-run : (t : Terms) (at : ℕ) → length (termRecords t) ≤ 512 → Within (file .text .records) t → runOf file own at (runBytes t) ≡ treeRun at t
@@ -115,7 +115,7 @@ module _ (file : File) (own : ℕ → ℕ → tree.Sentences) where
     terms-run (atomic x a rest) at l h =
         rw (records-append (atomRecords x a) (termRecords rest))
         (atom-run x a (runBytes rest) at (h .0)
-        ∙ ap (atomRun x a) (terms-run rest (at + atomSize a) (omega (arith, length-append (atomRecords x a) (termRecords rest))) (h .1)))
+        ∙ ap (atomRun x a) (terms-run rest (at + length (atomRecords x a)) (omega (arith, length-append (atomRecords x a) (termRecords rest))) (h .1)))
     terms-run (bracket p inside r rest) at l h =
         let n = length (termRecords inside) in
         let lengths = length-append (termRecords inside) (termRecords rest) in
