@@ -29,7 +29,7 @@ pub word-encoded : (n : ℕ) (s : List ℕ) → n < 4294967296 → wordAt (wordB
 unfolding wordAt
 word-encoded n s h = word-value n h
 
--- the first five words of a record, by their places
+-- the six words of a record, by their places
 module _ (a : ℕ) (s : List ℕ) where
   pub word-0 : (r : Record) → a < 4294967296 → wordAt (recordBytes (a ∷ r) ++ s) 0 ≡ a
   unfolding flatMap wordAt
