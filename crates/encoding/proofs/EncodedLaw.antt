@@ -1,71 +1,28 @@
 -- What `lawOf` says of the law file of a text: 1, 4, 5, 8 or 9, in this order, or the text's own tree.
-use Prim.Native.Nat.{ℕ, _+_, _*_, _≤_, _<_}
-use mathlib.Core.List.{List, [], _∷_, _++_, flatMap, List·Mem, mem-cast, mem-cons-self, mem-cons-of-mem}
+use Prim.Native.Nat.{ℕ, _*_, _≤_}
+use mathlib.Core.List.{List, [], _∷_, List·Mem, mem-cast, mem-cons-self, mem-cons-of-mem}
 use mathlib.Core.Bool.{true≢false, Bool, true, false, not, _||_}
-use mathlib.Core.Path.{_≡_, refl, sym, ap, _∙_}
+use mathlib.Core.Path.{_≡_, refl, sym, _∙_}
 use native.Mathlib.Omega.{arith}
-use lib.ListN.{length, length-append, length-map}
-use lib.Seq.{take-length}
+use lib.ListN.{length}
 use lib.Dec.{ltb}
-use borrow.Author.Tests.{ltb-true, ltb-false}
-use Rattle.file.specs.Answer.{Answer, refused, given, refuseIf, _>>=_, _>>_}
+use borrow.Author.Tests.{ltb-false}
+use Rattle.file.specs.Answer.{Answer, refused, given, refuseIf, _>>_}
 use Rattle.file.specs.Sections.{sectionsOf}
-use Rattle.file.specs.Fields.{fieldsAllowed}
 use Rattle.file.proofs.Answers.{never-both, pass-given}
 use Rattle.law.specs.Tree.{Law}
 use Rattle.law.specs.Law.{lawOf}
-use Rattle.law.specs.Places as places
 use Rattle.law.specs.Depth.{depthOf}
-use Rattle.law.specs.Variables.{patternsAllowed}
-use Rattle.grammar.specs.Grammar.{Conditions, noCondition, condition, Sentence, Function, Text, Written}
-use Rattle.encoding.specs.Encode.{recordsBytes, termRecords, conditionTerms, sentenceRecord, sentenceTerms, sentencesIn, functionRecord, functionsOf, sentencesOf, functionSection, sentenceSection, conditionSection, termSection, encode}
+use Rattle.grammar.specs.Grammar.{Text, Written}
+use Rattle.encoding.specs.Encode.{recordsBytes, functionsOf, sentencesOf, functionSection, sentenceSection, conditionSection, termSection, encode}
 use Rattle.encoding.specs.TextTree.{treeOfText}
-use Rattle.encoding.specs.LawOfText.{fileSize, countOver, fileOfText, lawOfText}
-use Rattle.encoding.proofs.Lists.{All}
+use Rattle.encoding.specs.LawOfText.{allOf, countOver, spellingsShort, fewVariables, lawOfText}
 use Rattle.encoding.proofs.RecordLaws.{records-length}
 use Rattle.encoding.proofs.SectionsCut.{sections-cut}
 use Rattle.encoding.proofs.TermRecords.{sentences-records, terms-length}
-use Rattle.encoding.proofs.SentencePlaces.{SmallConditions, Small, conditionsIn, sentence-records-sized, condition-records-sized, sentence-size, Holds}
-use Rattle.encoding.proofs.SentencesRead.{WithinSentence}
-use Rattle.encoding.proofs.FunctionsRead.{Named, function-records-sized, HoldsFunctions, first-sentence, tree-read}
-use Rattle.encoding.proofs.RunsAllowed.{runs-allowed, blocks-allowed}
-use Rattle.encoding.proofs.TokensStand.{NameStands, sentences-inside, names-inside}
-
--- ---- within the limits everything fits a word
-
-small-conditions : (cs : Conditions) → length (conditionTerms cs) ≤ 512 → SmallConditions cs
-unfolding conditionTerms
-small-conditions noCondition h = tt
-small-conditions (condition c x d y rest) h =
-    let p = length-append (termRecords x ++ termRecords y) (conditionTerms rest) in
-    let q = length-append (termRecords x) (termRecords y) in
-    (omega (arith, p, q), omega (arith, p, q), small-conditions rest (omega (arith, p, q)))
-
-all-small : (b : List ℕ) (xs : List Sentence) → All (WithinSentence b) xs → length b ≤ 4096 → length (flatMap sentenceTerms xs) ≤ 512 → length (flatMap conditionsIn xs) ≤ 128
-    → All Small xs
-unfolding flatMap
-all-small b [] w l h k = tt
-all-small b (x ∷ xs) w l h k =
-    let p = sentence-size x in
-    let t = length-append (sentenceTerms x) (flatMap sentenceTerms xs) in
-    let c = length-append (conditionsIn x) (flatMap conditionsIn xs) in (
-      record {
-        pattern = omega (arith, p, t);
-        count = omega (arith, c);
-        result = omega (arith, p, t);
-        conditions = small-conditions (x .conditions) (omega (arith, p, t));
-        starts = omega (arith, w .0 .starts);
-        ends = omega (arith, w .0 .ends);
-      },
-      all-small b xs (w .1) l (omega (arith, t)) (omega (arith, c)),
-    )
-
-all-named : (b : List ℕ) (fs : List Function) → All (NameStands b) fs → length (flatMap sentencesIn fs) ≤ 128 → All (Named b) fs
-unfolding flatMap
-all-named b [] n h = tt
-all-named b (f ∷ fs) n h =
-    let t = length-append (sentencesIn f) (flatMap sentencesIn fs) in
-    (record { name = n .0; count = omega (arith, t) }, all-named b fs (n .1) (omega (arith, t)))
+use Rattle.encoding.proofs.SentencePlaces.{sentence-records-sized, condition-records-sized}
+use Rattle.encoding.proofs.FunctionsRead.{function-records-sized}
+use Rattle.encoding.proofs.FileRead.{fileOfText, Limits, text-fields, text-runs, text-blocks, text-tree, text-patterns}
 
 neither : (a b : Bool) → a || b ≡ false → (a ≡ false) × (b ≡ false)
 neither true b e = absurd (true≢false e)
@@ -77,9 +34,6 @@ one-of m ms n true after e later = let same : n ≡ m = cc in mem-cast same mem-
 one-of m ms n false after e later = mem-cons-of-mem m (later e)
 
 module _ (b : List ℕ) (x : Text) (w : Written b x) (short : length b ≤ 4096) where
-  abbrev xs : List Sentence
-  xs = sentencesOf x
-
   abbrev f : ℕ
   f = length (functionSection x)
 
@@ -92,78 +46,44 @@ module _ (b : List ℕ) (x : Text) (w : Written b x) (short : length b ≤ 4096)
   abbrev k : ℕ
   k = length (termSection x)
 
-  -- the file's bytes, and the theorems of SectionsCut on them
   functions-long : length (recordsBytes (functionSection x)) ≡ 20 * f
   functions-long = records-length 20 (functionSection x) (function-records-sized (functionsOf x))
 
   sentences-long : length (recordsBytes (sentenceSection x)) ≡ 20 * s
-  sentences-long = records-length 20 (sentenceSection x) (sentence-records-sized xs)
+  sentences-long = records-length 20 (sentenceSection x) (sentence-records-sized (sentencesOf x))
 
   conditions-long : length (recordsBytes (conditionSection x)) ≡ 16 * c
-  conditions-long = records-length 16 (conditionSection x) (condition-records-sized xs)
+  conditions-long = records-length 16 (conditionSection x) (condition-records-sized (sentencesOf x))
 
   terms-long : length (recordsBytes (termSection x)) ≡ 24 * k
-  terms-long = terms-length (termSection x) (sentences-records xs)
+  terms-long = terms-length (termSection x) (sentences-records (sentencesOf x))
 
   -- the rows of the table from 5 on
   abbrev rows : Answer Law
   rows = do
-    refuseIf 5 (not (fieldsAllowed (fileOfText b x)))
+    refuseIf 5 (not (spellingsShort x))
     refuseIf 8 (ltb 32 (depthOf (treeOfText x)))
-    refuseIf 9 (not (patternsAllowed (fileOfText b x)))
+    refuseIf 9 (not (allOf fewVariables (sentencesOf x)))
     given (treeOfText x)
 
-  -- ---- within the limits
+  -- neither 6 nor 7 comes, and the tree is the text's
+  law-read : Limits x → sectionsOf (encode b x) ≡ given (fileOfText b x) → lawOf (encode b x) ≡ rows
+  unfolding lawOf
+  law-read l cut =
+      rw (cut, text-fields b x w short l, text-runs b x w short l, text-blocks b x w short l, text-tree b x w short l, text-patterns b x w short l)
 
-  module _ (limits : (f ≤ 64) × (s ≤ 128) × (c ≤ 128) × (k ≤ 512)) where
-    holds : Holds (fileOfText b x) xs
-    holds = record { sentences = refl; conditions = refl; terms = refl; small = all-small b xs (sentences-inside b x w) short (limits .3) (limits .2) }
-
-    holds-functions : HoldsFunctions (fileOfText b x) (functionsOf x)
-    holds-functions =
-        let n = length-map xs sentenceRecord in
-        record {
-          functions = refl;
-          functionCount = length-map (functionsOf x) functionRecord;
-          sentenceCount = n;
-          sentences = holds;
-          short = short;
-          named = all-named b (functionsOf x) (names-inside b x w) (omega (arith, n, limits .1));
-          inside = sentences-inside b x w;
-        }
-
-    all-sentences : places.firstSentence (fileOfText b x) f ≡ length xs
-    all-sentences =
-        ap (places.firstSentence (fileOfText b x)) (length-map (functionsOf x) functionRecord)
-        ∙ first-sentence (fileOfText b x) (functionsOf x) holds-functions (length (functionsOf x)) (omega arith)
-        ∙ ap (λ z. length (flatMap sentencesIn z)) (take-length (functionsOf x))
-
-    -- neither 6 nor 7 comes, and the tree is the text's
-    law-read : sectionsOf (encode b x) ≡ given (fileOfText b x) → lawOf (encode b x) ≡ rows
-    unfolding lawOf
-    law-read cut =
-        let n = length-map xs sentenceRecord in
-        rw (
-          cut,
-          runs-allowed (fileOfText b x) xs holds n refl refl all-sentences,
-          blocks-allowed (fileOfText b x) xs holds n refl refl all-sentences,
-          tree-read (fileOfText b x) (functionsOf x) holds-functions,
-        )
-
-  -- ---- the whole table
-
-  encoded-sections : sectionsOf (encode b x) ≡ refuseIf 1 (ltb 16384 (fileSize b x)) >> (refuseIf 4 (countOver x) >> given (fileOfText b x))
+  encoded-sections : sectionsOf (encode b x) ≡ refuseIf 1 (ltb 16384 (length (encode b x))) >> (refuseIf 4 (countOver x) >> given (fileOfText b x))
   unfolding encode
   encoded-sections =
       sections-cut (length b) f s c k b (recordsBytes (functionSection x)) (recordsBytes (sentenceSection x)) (recordsBytes (conditionSection x)) (recordsBytes (termSection x))
       (omega arith) functions-long sentences-long conditions-long terms-long short
 
-  limits : countOver x ≡ false → (f ≤ 64) × (s ≤ 128) × (c ≤ 128) × (k ≤ 512)
+  limits : countOver x ≡ false → Limits x
   limits e =
       let (e₄, e₅) = neither (ltb 64 f || ltb 128 s || ltb 128 c) (ltb 512 k) e in
       let (e₃, h₄) = neither (ltb 64 f || ltb 128 s) (ltb 128 c) e₄ in
       let (e₂, h₃) = neither (ltb 64 f) (ltb 128 s) e₃ in
-      (ltb-false 64 f e₂, ltb-false 128 s h₃, ltb-false 128 c h₄, ltb-false 512 k e₅)
+      record { functions = ltb-false 64 f e₂; sentences = ltb-false 128 s h₃; conditions = ltb-false 128 c h₄; terms = ltb-false 512 k e₅ }
 
   refused-law : (n : ℕ) → sectionsOf (encode b x) ≡ refused n → lawOf (encode b x) ≡ refused n
   unfolding lawOf
@@ -172,7 +92,7 @@ module _ (b : List ℕ) (x : Text) (w : Written b x) (short : length b ≤ 4096)
   -- `lawOf` of the file that a text becomes
   pub encoded-law : lawOf (encode b x) ≡ lawOfText b x
   unfolding lawOfText
-  encoded-law = go (ltb 16384 (fileSize b x)) (countOver x) refl encoded-sections
+  encoded-law = go (ltb 16384 (length (encode b x))) (countOver x) refl encoded-sections
     where
       go : (p q : Bool) → countOver x ≡ q → sectionsOf (encode b x) ≡ refuseIf 1 p >> (refuseIf 4 q >> given (fileOfText b x))
           → lawOf (encode b x) ≡ refuseIf 1 p >> (refuseIf 4 q >> rows)
@@ -184,22 +104,22 @@ module _ (b : List ℕ) (x : Text) (w : Written b x) (short : length b ≤ 4096)
   pub only-these-refusals : (n : ℕ) → lawOf (encode b x) ≡ refused n → List·Mem n (1 ∷ 4 ∷ 5 ∷ 8 ∷ 9 ∷ [])
   unfolding lawOfText
   only-these-refusals n e =
-      one-of 1 (4 ∷ 5 ∷ 8 ∷ 9 ∷ []) n (ltb 16384 (fileSize b x)) (refuseIf 4 (countOver x) >> rows) (sym encoded-law ∙ e)
+      one-of 1 (4 ∷ 5 ∷ 8 ∷ 9 ∷ []) n (ltb 16384 (length (encode b x))) (refuseIf 4 (countOver x) >> rows) (sym encoded-law ∙ e)
       (λ e₁. one-of 4 (5 ∷ 8 ∷ 9 ∷ []) n (countOver x) rows e₁
-      (λ e₄. one-of 5 (8 ∷ 9 ∷ []) n (not (fieldsAllowed (fileOfText b x))) _ e₄
+      (λ e₄. one-of 5 (8 ∷ 9 ∷ []) n (not (spellingsShort x)) _ e₄
       (λ e₅. one-of 8 (9 ∷ []) n (ltb 32 (depthOf (treeOfText x))) _ e₅
-      (λ e₈. one-of 9 [] n (not (patternsAllowed (fileOfText b x))) (given (treeOfText x)) e₈
+      (λ e₈. one-of 9 [] n (not (allOf fewVariables (sentencesOf x))) (given (treeOfText x)) e₈
       (λ e₉. absurd (never-both (treeOfText x) n (sym e₉)))))))
 
   -- what is accepted is the text's tree
   pub encoded-tree : (law : Law) → lawOf (encode b x) ≡ given law → law ≡ treeOfText x
   unfolding lawOfText
   encoded-tree law e =
-      pass-given 1 (ltb 16384 (fileSize b x)) (refuseIf 4 (countOver x) >> rows) law (sym encoded-law ∙ e)
+      pass-given 1 (ltb 16384 (length (encode b x))) (refuseIf 4 (countOver x) >> rows) law (sym encoded-law ∙ e)
       (λ _ e₁. pass-given 4 (countOver x) rows law e₁
-      (λ _ e₄. pass-given 5 (not (fieldsAllowed (fileOfText b x))) _ law e₄
+      (λ _ e₄. pass-given 5 (not (spellingsShort x)) _ law e₄
       (λ _ e₅. pass-given 8 (ltb 32 (depthOf (treeOfText x))) _ law e₅
-      (λ _ e₈. pass-given 9 (not (patternsAllowed (fileOfText b x))) (given (treeOfText x)) law e₈ (λ _ e₉. given-same law (treeOfText x) e₉)))))
+      (λ _ e₈. pass-given 9 (not (allOf fewVariables (sentencesOf x))) (given (treeOfText x)) law e₈ (λ _ e₉. given-same law (treeOfText x) e₉)))))
     where
       given-same : (l m : Law) → given m ≡ given l → l ≡ m
       given-same l m h = cc

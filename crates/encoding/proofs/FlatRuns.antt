@@ -1,7 +1,7 @@
 -- What is found of a run of terms from left to right: the number of its records, where it starts and ends. And what a run of terms does not change.
 use Prim.Native.Nat.{ℕ, _+_}
-use mathlib.Core.List.{List, [], _∷_, _++_}
-use mathlib.Core.Bool.{Bool, true, false, cond, _||_, true≢false}
+use mathlib.Core.List.{List, _∷_}
+use mathlib.Core.Bool.{Bool, true, false, _||_, true≢false}
 use mathlib.Core.Path.{_≡_, refl, sym, ap, _∙_}
 use native.Mathlib.Omega.{arith}
 use native.Mathlib.Nat.{zero-add}
@@ -22,7 +22,7 @@ use Rattle.encoding.specs.Code.FlatFile.{partRecords, partEnd, firstIs, 
 abbrev pub ofTerms : ℕ → Bool
 ofTerms k = leb k 6 || eqb k 40 || eqb k 41 || eqb k 60 || eqb k 62
 
-pub atom-of-terms : (a : Atom) → ofTerms (atomKind a) ≡ true
+atom-of-terms : (a : Atom) → ofTerms (atomKind a) ≡ true
 atom-of-terms (identifier w) = refl
 atom-of-terms (number w) = refl
 atom-of-terms (variable symbolKind w) = refl

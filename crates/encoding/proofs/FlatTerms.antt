@@ -6,10 +6,10 @@ use native.Mathlib.Omega.{arith}
 use native.Mathlib.Nat.{zero-add, add-zero}
 use lib.ListN.{length, length-append}
 use Rattle.law.specs.Tree.{symbolKind, termKind, expressionKind}
-use Rattle.tokens.specs.Token.{Sign, rightBrace, rightBracket, rightAngle, colon, equals, semicolon, Atom, identifier, number, variable, quoted, Placed}
+use Rattle.tokens.specs.Token.{rightBrace, rightBracket, rightAngle, colon, equals, semicolon, Atom, identifier, number, variable, quoted, Placed}
 use Rattle.grammar.specs.Grammar.{signAt, atomAt, Terms, nothing, atomic, bracket, call, Conditions, noCondition, condition, Sentence, Sentences, last, lastClosed, more, Function, Names, lastName, moreNames, Text, done, extern, function, entry, spellTerms, spellConditions, spellSentence, spellSentences, spellFunction, spellNames, spellText}
-use Rattle.encoding.specs.Encode.{atomRecords, termRecords, conditionTerms, sentenceTerms, listed, sentencesIn, functionsOf, sentencesOf, termSection}
-use Rattle.encoding.specs.Code.FlatTerms.{outside, inside, calling, Contents, add, scan, holder, flatTerms}
+use Rattle.encoding.specs.Encode.{atomRecords, termRecords, conditionTerms, sentenceTerms, listed, sentencesIn, sentencesOf, termSection}
+use Rattle.encoding.specs.Code.FlatTerms.{outside, inside, Contents, add, scan, flatTerms}
 use Rattle.encoding.proofs.Lists.{flatMap-append}
 
 -- ---- the scan

@@ -6,6 +6,7 @@ use native.Mathlib.Omega.{arith}
 use native.Mathlib.Nat.{add-zero, zero-add}
 use lib.ListN.{length, take, drop, getD, length-append, length-map, drop-of-length-le}
 use lib.Seq.{drop-cons, take-suc, split-at}
+use Rattle.names.specs.Name.{nameAllowed}
 use Rattle.file.specs.Word.{wordAt}
 use Rattle.file.specs.Sections.{File}
 use Rattle.law.specs.Tree as tree
@@ -13,21 +14,28 @@ use Rattle.law.specs.Places as places
 use Rattle.law.specs.Reading.{functionName, functionsFrom, sentencesFrom, treeOf}
 use Rattle.grammar.specs.Grammar.{Sentence, last, Function}
 use Rattle.encoding.specs.Encode.{recordBytes, recordsBytes, functionRecord, sentencesIn, sentenceTerms}
-use Rattle.encoding.specs.TextTree.{nameOf, treeSentences, treeFunctions, size}
+use Rattle.encoding.specs.TextTree.{nameOf, treeSentences, treeFunctions}
 use Rattle.encoding.proofs.Lists.{All, all-at, all-map, map-at, total-take, flatMap-append, flatMap-length}
 use Rattle.encoding.proofs.RecordLaws.{word-0, word-4, word-8, Sized, word-of}
-use Rattle.encoding.proofs.TermsRead.{Spelled}
+use Rattle.encoding.proofs.TermsRead.{Word}
 use Rattle.encoding.proofs.SentencePlaces.{noSentence, Holds}
 use Rattle.encoding.proofs.SentencesRead.{WithinSentence, sentences-run}
 
 -- ---- some of the sentences
 
+-- the number of some sentences' term records
+abbrev size : List Sentence → ℕ
+size xs = length (flatMap sentenceTerms xs)
+
+size-append : (xs ys : List Sentence) → size (xs ++ ys) ≡ size xs + size ys
+size-append xs ys = rw (flatMap-append sentenceTerms xs ys) (length-append (flatMap sentenceTerms xs) (flatMap sentenceTerms ys))
+
 skip-tree : (ys zs : List Sentence) (s n : ℕ) → tree.skip (length ys) (treeSentences s n (ys ++ zs)) ≡ treeSentences (s + length ys) (n + size ys) zs
-unfolding tree.skip treeSentences size
+unfolding tree.skip treeSentences flatMap
 skip-tree [] zs s n = rw (add-zero s, add-zero n)
 skip-tree (y ∷ ys) zs s n =
     let p : s + 1 + length ys ≡ s + suc (length ys) = omega arith in
-    let q : n + length (sentenceTerms y) + size ys ≡ n + (length (sentenceTerms y) + size ys) = omega arith in
+    let q : n + length (sentenceTerms y) + size ys ≡ n + size (y ∷ ys) = omega (arith, length-append (sentenceTerms y) (flatMap sentenceTerms ys)) in
     skip-tree ys zs (s + 1) (n + length (sentenceTerms y)) ∙ rw (p, q)
 
 keep-tree : (ys zs : List Sentence) (s n : ℕ) → tree.keep (length ys) (treeSentences s n (ys ++ zs)) ≡ treeSentences s n ys
@@ -35,20 +43,15 @@ unfolding tree.keep treeSentences
 keep-tree [] zs s n = refl
 keep-tree (y ∷ ys) zs s n = rw (keep-tree ys zs (s + 1) (n + length (sentenceTerms y)))
 
-size-append : (xs ys : List Sentence) → size (xs ++ ys) ≡ size xs + size ys
-unfolding size
-size-append [] ys = omega arith
-size-append (x ∷ xs) ys = rw (size-append xs ys) (omega arith)
-
 -- ---- functions
 
 -- a function whose name stands in a text, with a number of sentences that fits a word
 pub record Named (text : List ℕ) (f : Function) : Type 0 where
-  pub name : Spelled text (f .name .start) (f .name .spelled)
+  pub name : Word nameAllowed text (f .name .start) (f .name .spelled)
   pub count : length (sentencesIn f) ≤ 128
 
 -- one for places past the last
-abbrev noFunction : Function
+abbrev pub noFunction : Function
 noFunction = record { name = record { start = 0; spelled = [] }; leftAt = 0; sentences = last noSentence; rightAt = 0 }
 
 pub function-records-sized : (fs : List Function) → All (Sized 20) (map functionRecord fs)
@@ -81,14 +84,16 @@ module _ (file : File) (fs : List Function) (h : HoldsFunctions file fs) where
         map-at functionRecord fs f noFunction [] l,
       )
 
-  name-read : (f : ℕ) → f < length fs → functionName file f ≡ nameOf (function f .name .start) (function f .name .spelled)
-  name-read f l =
-      let s = named f l .name in
+  pub name-start : (f : ℕ) → f < length fs → wordAt (file .functions .records) (20 * f) ≡ function f .name .start
+  name-start f l =
       let e : 20 * f ≡ 20 * f + 0 = omega arith in
-      let start : wordAt (file .functions .records) (20 * f) ≡ function f .name .start = rw e (function-word f 0 l ∙ word-0 _ _ _ (omega (arith, s .inside, h .short))) in
-      let long : wordAt (file .functions .records) (20 * f + 4) ≡ length (function f .name .spelled) =
-      function-word f 4 l ∙ word-4 _ _ _ _ (omega (arith, s .inside, h .short)) in
-      rw (start, long, s .same)
+      rw e (function-word f 0 l ∙ word-0 _ _ _ (omega (arith, named f l .name .0 .inside, h .short)))
+
+  pub name-long : (f : ℕ) → f < length fs → wordAt (file .functions .records) (20 * f + 4) ≡ length (function f .name .spelled)
+  name-long f l = function-word f 4 l ∙ word-4 _ _ _ _ (omega (arith, named f l .name .0 .inside, h .short))
+
+  name-read : (f : ℕ) → f < length fs → functionName file f ≡ nameOf (function f .name .start) (function f .name .spelled)
+  name-read f l = rw (name-start f l, name-long f l, named f l .name .0 .same)
 
   sentences-of : (f : ℕ) → f < length fs → places.sentencesOf file f ≡ length (sentencesIn (function f))
   sentences-of f l = function-word f 8 l ∙ word-8 _ _ _ _ _ (omega (arith, named f l .count))
@@ -139,7 +144,7 @@ module _ (file : File) (fs : List Function) (h : HoldsFunctions file fs) where
 
   -- the tree of the file
   pub tree-read : treeOf file ≡ treeFunctions 0 0 fs
-  unfolding treeOf flatMap size
+  unfolding treeOf flatMap
   tree-read =
       let xs = flatMap sentencesIn fs in
       ap (λ c. functionsFrom file (sentencesFrom file c 0) (file .functions .count) 0) (h .sentenceCount)

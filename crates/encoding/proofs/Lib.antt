@@ -6,9 +6,13 @@ pub mod TermsRead
 pub mod SentencePlaces
 pub mod TermParts
 pub mod SentencesRead
-pub mod RunsAllowed
 pub mod FunctionsRead
 pub mod TokensStand
+pub mod RunsAllowed
+pub mod TermWords
+pub mod Spellings
+pub mod PatternVariables
+pub mod FileRead
 pub mod EncodedLaw
 pub mod FlatTerms
 pub mod FlatRuns

@@ -1,12 +1,14 @@
--- Lists after each other, what holds of every element, and sums over a list.
+-- Lists after each other, what holds of every element, sums over a list and tests of it.
 use Prim.Native.Nat.{ℕ, zero, suc, _+_, _≤_, _<_}
 use mathlib.Core.List.{List, [], _∷_, _++_, append-assoc, map, flatMap}
+use mathlib.Core.Bool.{Bool, _&&_, and-assoc, and-true}
 use mathlib.Core.Path.{_≡_, refl, sym, ap, _∙_}
 use native.Mathlib.Omega.{arith}
 use native.Mathlib.Nat.{zero-add, add-zero, add-assoc}
 use lib.ListN.{length, take, drop, getD, length-append, take-append-drop}
 use lib.Seq.{take-at, take-suc}
-use Rattle.file.specs.Below.{total}
+use Rattle.file.specs.Below.{every, total}
+use Rattle.encoding.specs.LawOfText.{allOf}
 
 module _ {A : Type 0} (P : A → Type 0) where
   -- what holds of every element
@@ -77,3 +79,19 @@ module _ {A B : Type 0} (f : A → List B) where
   flatMap-take xs n =
       let whole : flatMap f (take n xs) ++ flatMap f (drop n xs) ≡ flatMap f xs = sym (flatMap-append (take n xs) (drop n xs)) ∙ ap (flatMap f) (take-append-drop n xs) in
       rw (← whole) (take-at (flatMap f (take n xs)) (flatMap f (drop n xs)) (sum (λ x. length (f x)) (take n xs)) (flatMap-length (take n xs)))
+
+every-front : (n : ℕ) (p : ℕ → Bool) → every (suc n) p ≡ p 0 && every n (λ i. p (suc i))
+unfolding every
+every-front zero p = sym (and-true (p 0))
+every-front (suc n) p = ap (λ z. z && p (suc n)) (every-front n p) ∙ and-assoc (p 0) (every n (λ i. p (suc i))) (p (suc n))
+
+-- a test of the numbers below a list's length as one of its elements
+pub every-list : {A : Type 0} (d : A) (q : A → Bool) (p : ℕ → Bool) (xs : List A) → ((i : ℕ) → i < length xs → p i ≡ q (getD xs i d)) → every (length xs) p ≡ allOf q xs
+unfolding every
+every-list d q p [] h = refl
+every-list d q p (x ∷ xs) h =
+    every-front (length xs) p ∙ rw (h 0 (omega arith), every-list d q (λ i. p (suc i)) xs (λ i l. h (suc i) (omega arith)))
+
+pub all-of-append : {A : Type 0} (p : A → Bool) (xs ys : List A) → allOf p (xs ++ ys) ≡ allOf p xs && allOf p ys
+all-of-append p [] ys = refl
+all-of-append p (x ∷ xs) ys = rw (all-of-append p xs ys) (sym (and-assoc (p x) (allOf p xs) (allOf p ys)))

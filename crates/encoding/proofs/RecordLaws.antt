@@ -12,7 +12,7 @@ use Rattle.encoding.specs.Encode.{Record, wordBytes, recordBytes, record
 use Rattle.encoding.proofs.Lists.{All, flatMap-append}
 
 -- a number below 2^32 from its four bytes
-pub word-value : (n : ℕ) → n < 4294967296 → n % 256 + n / 256 % 256 * 256 + n / 65536 % 256 * 65536 + n / 16777216 % 256 * 16777216 ≡ n
+word-value : (n : ℕ) → n < 4294967296 → n % 256 + n / 256 % 256 * 256 + n / 65536 % 256 * 65536 + n / 16777216 % 256 * 16777216 ≡ n
 word-value n h =
     let p : n / 65536 ≡ n / 256 / 256 = omega arith in
     let q : n / 16777216 ≡ n / 65536 / 256 = omega arith in
@@ -29,7 +29,7 @@ pub word-encoded : (n : ℕ) (s : List ℕ) → n < 4294967296 → wordAt (wordB
 unfolding wordAt
 word-encoded n s h = word-value n h
 
--- the first five words of a record, by their places
+-- the six words of a record, by their places
 module _ (a : ℕ) (s : List ℕ) where
   pub word-0 : (r : Record) → a < 4294967296 → wordAt (recordBytes (a ∷ r) ++ s) 0 ≡ a
   unfolding flatMap wordAt

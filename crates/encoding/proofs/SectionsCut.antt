@@ -1,15 +1,15 @@
 -- Five sections after each other are cut where they were put together, or refused with 1 or 4.
 use Prim.Native.Nat.{ℕ, _+_, _*_, _≤_, _<_}
-use mathlib.Core.List.{List, [], _∷_, _++_, append-nil}
+use mathlib.Core.List.{List, [], _++_, append-nil}
 use mathlib.Core.Bool.{Bool, true, false, _||_}
 use mathlib.Core.Path.{_≡_, refl, _∙_}
 use native.Mathlib.Omega.{arith}
 use lib.ListN.{length, length-append}
 use lib.Seq.{take-at, drop-at}
 use lib.Dec.{ltb}
-use borrow.Author.Tests.{lt-ltb, le-ltb, ltb-true, ltb-false}
+use borrow.Author.Tests.{ltb-true, ltb-false}
 use Rattle.file.specs.Word.{wordAt}
-use Rattle.file.specs.Answer.{Answer, refused, given, refuseIf, _>>=_, _>>_}
+use Rattle.file.specs.Answer.{refused, given, refuseIf, _>>_}
 use Rattle.file.specs.Sections.{File, section, sectionsOf}
 use Rattle.file.proofs.SectionLaws.{section-whole, section-over}
 use Rattle.encoding.specs.Encode.{wordBytes}
@@ -61,46 +61,46 @@ module _ (t f s c k : ℕ) (text functions sentences conditions terms : List ℕ
   together-length =
       omega (arith, lt, lf, ls, lc, lk, length-append text r₂, length-append functions r₃, length-append sentences r₄, length-append conditions r₅)
 
-  over-file : 16384 < 20 + t + 20 * f + 20 * s + 16 * c + 24 * k → sectionsOf together ≡ refused 1
+  over-file : ltb 16384 (length together) ≡ true → sectionsOf together ≡ refused 1
   unfolding sectionsOf
-  over-file h = rw (lt-ltb 16384 (length together) (rw together-length h))
+  over-file e = rw e
 
-  module _ (size : 20 + t + 20 * f + 20 * s + 16 * c + 24 * k ≤ 16384) where
-    fits : ltb 16384 (length together) ≡ false
-    fits = le-ltb 16384 (length together) (rw together-length size)
+  module _ (fits : ltb 16384 (length together) ≡ false) where
+    size : 20 + t + 20 * f + 20 * s + 16 * c + 24 * k ≤ 16384
+    size = rw together-length at (ltb-false 16384 (length together) fits)
 
     -- the text, and with it each section within its limit
     whole₁ : section 4096 1 together ≡ given (record { count = t; records = text }, r₂)
-    whole₁ = section-given 4096 1 t text r₂ tl (omega arith) lt
+    whole₁ = section-given 4096 1 t text r₂ tl (omega (arith, size)) lt
 
     whole₂ : f ≤ 64 → section 64 20 r₂ ≡ given (record { count = f; records = functions }, r₃)
-    whole₂ h = section-given 64 20 f functions r₃ h (omega arith) lf
+    whole₂ h = section-given 64 20 f functions r₃ h (omega (arith, size)) lf
 
     whole₃ : s ≤ 128 → section 128 20 r₃ ≡ given (record { count = s; records = sentences }, r₄)
-    whole₃ h = section-given 128 20 s sentences r₄ h (omega arith) ls
+    whole₃ h = section-given 128 20 s sentences r₄ h (omega (arith, size)) ls
 
     whole₄ : c ≤ 128 → section 128 16 r₄ ≡ given (record { count = c; records = conditions }, r₅)
-    whole₄ h = section-given 128 16 c conditions r₅ h (omega arith) lc
+    whole₄ h = section-given 128 16 c conditions r₅ h (omega (arith, size)) lc
 
     whole₅ : k ≤ 512 → section 512 24 r₅ ≡ given (record { count = k; records = terms }, [])
-    whole₅ h = rw (append-nil terms) at (section-given 512 24 k terms [] h (omega arith) lk)
+    whole₅ h = rw (append-nil terms) at (section-given 512 24 k terms [] h (omega (arith, size)) lk)
 
     over-functions : 64 < f → sectionsOf together ≡ refused 4
     unfolding sectionsOf
-    over-functions h = rw (fits, whole₁, section-refused 64 20 f functions r₃ h (omega arith))
+    over-functions h = rw (fits, whole₁, section-refused 64 20 f functions r₃ h (omega (arith, size)))
 
     over-sentences : f ≤ 64 → 128 < s → sectionsOf together ≡ refused 4
     unfolding sectionsOf
-    over-sentences h₂ h = rw (fits, whole₁, whole₂ h₂, section-refused 128 20 s sentences r₄ h (omega arith))
+    over-sentences h₂ h = rw (fits, whole₁, whole₂ h₂, section-refused 128 20 s sentences r₄ h (omega (arith, size)))
 
     over-conditions : f ≤ 64 → s ≤ 128 → 128 < c → sectionsOf together ≡ refused 4
     unfolding sectionsOf
-    over-conditions h₂ h₃ h = rw (fits, whole₁, whole₂ h₂, whole₃ h₃, section-refused 128 16 c conditions r₅ h (omega arith))
+    over-conditions h₂ h₃ h = rw (fits, whole₁, whole₂ h₂, whole₃ h₃, section-refused 128 16 c conditions r₅ h (omega (arith, size)))
 
     over-terms : f ≤ 64 → s ≤ 128 → c ≤ 128 → 512 < k → sectionsOf together ≡ refused 4
     unfolding sectionsOf
     over-terms h₂ h₃ h₄ h =
-        let over : section 512 24 r₅ ≡ refused 4 = rw (append-nil terms) at (section-refused 512 24 k terms [] h (omega arith)) in
+        let over : section 512 24 r₅ ≡ refused 4 = rw (append-nil terms) at (section-refused 512 24 k terms [] h (omega (arith, size))) in
         rw (fits, whole₁, whole₂ h₂, whole₃ h₃, whole₄ h₄, over)
 
     in-limits : f ≤ 64 → s ≤ 128 → c ≤ 128 → k ≤ 512 → sectionsOf together ≡ given cut
@@ -109,19 +109,16 @@ module _ (t f s c k : ℕ) (text functions sentences conditions terms : List ℕ
 
   -- all cases: 2 and 3 never come
   pub sections-cut : sectionsOf together
-      ≡ refuseIf 1 (ltb 16384 (20 + t + 20 * f + 20 * s + 16 * c + 24 * k)) >> (refuseIf 4 (ltb 64 f || ltb 128 s || ltb 128 c || ltb 512 k) >> given cut)
-  sections-cut = go (ltb 16384 n) (ltb 64 f) (ltb 128 s) (ltb 128 c) (ltb 512 k) refl refl refl refl refl
+      ≡ refuseIf 1 (ltb 16384 (length together)) >> (refuseIf 4 (ltb 64 f || ltb 128 s || ltb 128 c || ltb 512 k) >> given cut)
+  sections-cut = go (ltb 16384 (length together)) (ltb 64 f) (ltb 128 s) (ltb 128 c) (ltb 512 k) refl refl refl refl refl
     where
-      n : ℕ
-      n = 20 + t + 20 * f + 20 * s + 16 * c + 24 * k
-
-      go : (p q₂ q₃ q₄ q₅ : Bool) → ltb 16384 n ≡ p → ltb 64 f ≡ q₂ → ltb 128 s ≡ q₃ → ltb 128 c ≡ q₄ → ltb 512 k ≡ q₅
+      go : (p q₂ q₃ q₄ q₅ : Bool) → ltb 16384 (length together) ≡ p → ltb 64 f ≡ q₂ → ltb 128 s ≡ q₃ → ltb 128 c ≡ q₄ → ltb 512 k ≡ q₅
           → sectionsOf together ≡ refuseIf 1 p >> (refuseIf 4 (q₂ || q₃ || q₄ || q₅) >> given cut)
-      go true q₂ q₃ q₄ q₅ e e₂ e₃ e₄ e₅ = over-file (ltb-true 16384 n e)
-      go false true q₃ q₄ q₅ e e₂ e₃ e₄ e₅ = over-functions (ltb-false 16384 n e) (ltb-true 64 f e₂)
-      go false false true q₄ q₅ e e₂ e₃ e₄ e₅ = over-sentences (ltb-false 16384 n e) (ltb-false 64 f e₂) (ltb-true 128 s e₃)
-      go false false false true q₅ e e₂ e₃ e₄ e₅ = over-conditions (ltb-false 16384 n e) (ltb-false 64 f e₂) (ltb-false 128 s e₃) (ltb-true 128 c e₄)
+      go true q₂ q₃ q₄ q₅ e e₂ e₃ e₄ e₅ = over-file e
+      go false true q₃ q₄ q₅ e e₂ e₃ e₄ e₅ = over-functions e (ltb-true 64 f e₂)
+      go false false true q₄ q₅ e e₂ e₃ e₄ e₅ = over-sentences e (ltb-false 64 f e₂) (ltb-true 128 s e₃)
+      go false false false true q₅ e e₂ e₃ e₄ e₅ = over-conditions e (ltb-false 64 f e₂) (ltb-false 128 s e₃) (ltb-true 128 c e₄)
       go false false false false true e e₂ e₃ e₄ e₅ =
-          over-terms (ltb-false 16384 n e) (ltb-false 64 f e₂) (ltb-false 128 s e₃) (ltb-false 128 c e₄) (ltb-true 512 k e₅)
+          over-terms e (ltb-false 64 f e₂) (ltb-false 128 s e₃) (ltb-false 128 c e₄) (ltb-true 512 k e₅)
       go false false false false false e e₂ e₃ e₄ e₅ =
-          in-limits (ltb-false 16384 n e) (ltb-false 64 f e₂) (ltb-false 128 s e₃) (ltb-false 128 c e₄) (ltb-false 512 k e₅)
+          in-limits e (ltb-false 64 f e₂) (ltb-false 128 s e₃) (ltb-false 128 c e₄) (ltb-false 512 k e₅)

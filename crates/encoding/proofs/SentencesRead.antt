@@ -1,7 +1,7 @@
 -- The sentences of a file are read as the sentences' tree.
 use Prim.Native.Nat.{ℕ, zero, suc, _+_, _*_, _≤_, _<_}
 use mathlib.Core.List.{List, [], _∷_, _++_, flatMap}
-use mathlib.Core.Path.{_≡_, refl, ap, _∙_}
+use mathlib.Core.Path.{_≡_, refl}
 use native.Mathlib.Omega.{arith}
 use native.Mathlib.Numerals.{add-one}
 use native.Mathlib.Nat.{add-assoc}
@@ -14,7 +14,7 @@ use Rattle.law.specs.Reading.{runOf, markAt, conditionsFrom, sentencesFrom, own
 use Rattle.grammar.specs.Grammar.{Conditions, noCondition, condition, Sentence}
 use Rattle.encoding.specs.Encode.{Record, termRecords, conditionRecords, conditionTerms, sentenceStart, sentenceEnd, sentenceTerms, startOf, endOf}
 use Rattle.encoding.specs.TextTree.{treeRun, treeConditions, treeSentences}
-use Rattle.encoding.proofs.Lists.{All, all-at, sum, sum-append, sum-one, flatMap-append, flatMap-length}
+use Rattle.encoding.proofs.Lists.{All, all-at, sum-append, sum-one, flatMap-length}
 use Rattle.encoding.proofs.RecordLaws.{word-12, word-16}
 use Rattle.encoding.proofs.TermsRead.{Within, terms-run}
 use Rattle.encoding.proofs.SentencePlaces.{Small, noSentence, Holds, conditions-of, sentence-word}

@@ -12,7 +12,7 @@ use Rattle.encoding.specs.Encode.{Record, recordsBytes, termRecords, con
 use Rattle.encoding.proofs.Lists.{All, all-append, all-at, sum, sum-append, sum-one, flatMap-append, flatMap-length}
 use Rattle.encoding.proofs.RecordLaws.{records-append}
 use Rattle.encoding.proofs.TermRecords.{TermRecord, terms-records, conditions-records, sentences-records, terms-length, runBytes}
-use Rattle.encoding.proofs.SentencePlaces.{SmallConditions, counted, Small, noSentence, conditionsIn, ownSize, conditionsSize, counted-conditions, sentences-size, Holds, pattern-size, conditions-of, result-size, first-condition, sentence-records, condition-result-size, condition-pattern-size, condition-records, condition-place, pattern-at}
+use Rattle.encoding.proofs.SentencePlaces.{SmallConditions, counted, Small, noSentence, conditionsIn, conditionsSize, counted-conditions, sentences-size, Holds, pattern-size, result-size, first-condition, sentence-records, condition-result-size, condition-pattern-size, condition-records, condition-place, pattern-at}
 
 -- the records in the middle
 middle : (file : File) (all before part after : List Record) → file .terms .records ≡ recordsBytes all → all ≡ before ++ (part ++ after) → All TermRecord before → All TermRecord part
@@ -46,7 +46,7 @@ module _ (file : File) (xs : List Sentence) (h : Holds file xs) (s : ℕ) (l : s
   abbrev after : List Record
   after = flatMap sentenceTerms (drop (suc s) xs)
 
-  terms-split : flatMap sentenceTerms xs ≡ before ++ (pattern ++ (conditions ++ (result ++ after)))
+  pub terms-split : flatMap sentenceTerms xs ≡ before ++ (pattern ++ (conditions ++ (result ++ after)))
   unfolding flatMap
   terms-split =
       ap (flatMap sentenceTerms) (split-at xs s noSentence l)

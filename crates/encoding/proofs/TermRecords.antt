@@ -16,7 +16,6 @@ use Rattle.law.proofs.RunLaws.{fits-none, fits-node}
 use Rattle.tokens.specs.Token.{utf8, Atom, identifier, number, variable, quoted}
 use Rattle.grammar.specs.Grammar.{Terms, nothing, atomic, bracket, call, Conditions, noCondition, condition, Sentence}
 use Rattle.encoding.specs.Encode.{Record, recordBytes, recordsBytes, recordKind, characterRecords, atomRecords, termRecords, conditionTerms, sentenceTerms}
-use Rattle.encoding.specs.TextTree.{atomSize}
 use Rattle.encoding.proofs.Lists.{All, all-append, all-flatMap}
 use Rattle.encoding.proofs.RecordLaws.{word-12, Sized, records-append, records-length}
 
@@ -55,7 +54,7 @@ module _ (kind a b n x y : ℕ) (inner outer : List ℕ) (small : n < 4294967296
       let past : drop (24 + 24 * n) node ≡ outer = sym (drop-drop (24 * n) 24 node) ∙ rw node-drop (drop-at inner outer (24 * n) whole) in
       rw (node-end, past) (take-all (length node - (24 + 24 * n)) outer (omega (arith, node-length)))
 
-  pub node-fits : runFits inner ≡ true → runFits outer ≡ true → runFits node ≡ true
+  node-fits : runFits inner ≡ true → runFits outer ≡ true → runFits node ≡ true
   node-fits h k =
       rw (fits-node node (omega (arith, node-length)), node-contents, node-rest, node-count, h, k) (rw (le-leb (24 + 24 * n) (length node) (omega (arith, node-length))))
 
@@ -116,16 +115,10 @@ runBytes t = recordsBytes (termRecords t)
 pub run-length : (t : Terms) → length (runBytes t) ≡ 24 * length (termRecords t)
 run-length t = terms-length (termRecords t) (terms-records t)
 
-characters-count : (at : ℕ) (cs : List ℕ) → length (characterRecords at cs) ≡ length cs
+pub characters-count : (at : ℕ) (cs : List ℕ) → length (characterRecords at cs) ≡ length cs
 unfolding characterRecords
 characters-count at [] = refl
 characters-count at (c ∷ cs) = ap suc (characters-count (at + length (utf8 c)) cs)
-
-pub atom-count : (at : ℕ) (a : Atom) → length (atomRecords at a) ≡ atomSize a
-atom-count at (identifier w) = refl
-atom-count at (number w) = refl
-atom-count at (variable k i) = refl
-atom-count at (quoted cs) = characters-count (at + 1) cs
 
 -- ---- fitting
 

@@ -1,12 +1,12 @@
 -- The records of some terms are read as the terms' tree.
 use Prim.Native.Nat.{ℕ, suc, _+_, _*_, _≤_, _<_}
 use mathlib.Core.List.{List, [], _∷_, _++_, append-assoc, flatMap}
-use mathlib.Core.Bool.{true}
+use mathlib.Core.Bool.{Bool, true}
 use mathlib.Core.Path.{_≡_, refl, ap, _∙_}
 use native.Mathlib.Omega.{arith}
 use native.Mathlib.Nat.{add-zero}
 use lib.ListN.{length, take, drop, length-append}
-use Rattle.names.specs.Name.{everyByte}
+use Rattle.names.specs.Name.{everyByte, nameAllowed, numberAllowed}
 use Rattle.file.specs.Sections.{File}
 use Rattle.file.specs.Fields.{scalarAllowed}
 use Rattle.file.specs.Head.{termAt, termFrom}
@@ -18,9 +18,10 @@ use Rattle.tokens.specs.Token.{utf8, Atom, identifier, number, variable, quoted
 use Rattle.tokens.proofs.Utf8.{scalar-bound}
 use Rattle.grammar.specs.Grammar.{Terms, nothing, atomic, bracket, call}
 use Rattle.encoding.specs.Encode.{recordBytes, recordsBytes, characterRecords, atomRecords, termRecords}
-use Rattle.encoding.specs.TextTree.{characterRun, atomRun, atomSize, treeRun}
+use Rattle.encoding.specs.TextTree.{characterRun, atomRun, treeRun}
+use Rattle.encoding.specs.LawOfText.{short}
 use Rattle.encoding.proofs.RecordLaws.{word-0, word-4, word-8, word-16, word-20, records-append}
-use Rattle.encoding.proofs.TermRecords.{six, before, node-count, node-length, node-contents, node-rest, runBytes, run-length}
+use Rattle.encoding.proofs.TermRecords.{six, before, node-count, node-length, node-contents, node-rest, runBytes, run-length, characters-count}
 
 -- ---- terms whose tokens stand in a text
 
@@ -29,17 +30,21 @@ pub record Spelled (text : List ℕ) (at : ℕ) (w : List ℕ) : Type 0 where
   pub inside : at + length w ≤ length text
   pub same : take (length w) (drop at text) ≡ w
 
+-- and that a law may spell if they are no more than 64
+abbrev pub Word : (List ℕ → Bool) → List ℕ → ℕ → List ℕ → Type 0
+Word allowed text at w = Spelled text at w × (allowed w ≡ short w)
+
 abbrev pub AtomWithin : List ℕ → ℕ → Atom → Type 0
-AtomWithin text at (identifier w) = Spelled text at w
-AtomWithin text at (number w) = Spelled text at w
-AtomWithin text at (variable k i) = Spelled text (at + 2) i
+AtomWithin text at (identifier w) = Word nameAllowed text at w
+AtomWithin text at (number w) = Word numberAllowed text at w
+AtomWithin text at (variable k i) = Word nameAllowed text (at + 2) i
 AtomWithin text at (quoted cs) = everyByte scalarAllowed cs ≡ true
 
 abbrev pub Within : List ℕ → Terms → Type 0
 Within text nothing = Unit {0}
 Within text (atomic at a rest) = AtomWithin text at a × Within text rest
 Within text (bracket l inside r rest) = Within text inside × Within text rest
-Within text (call l f inside r rest) = Spelled text (f .start) (f .spelled) × (l < length text) × (r < length text) × Within text inside × Within text rest
+Within text (call l f inside r rest) = Word nameAllowed text (f .start) (f .spelled) × (l < length text) × (r < length text) × Within text inside × Within text rest
 
 -- ---- a record as it is read
 
@@ -94,14 +99,14 @@ module _ (file : File) (own : ℕ → ℕ → tree.Sentences) where
     spelled-run kind x w p q outer at ks s = leaf-run kind x (length w) p q outer at ks (omega (arith, s .inside)) (omega (arith, s .inside))
 
     atom-run : (x : ℕ) (a : Atom) (outer : List ℕ) (at : ℕ) → AtomWithin (file .text .records) x a
-        → runOf file own at (recordsBytes (atomRecords x a) ++ outer) ≡ atomRun x a (runOf file own (at + atomSize a) outer)
+        → runOf file own at (recordsBytes (atomRecords x a) ++ outer) ≡ atomRun x a (runOf file own (at + length (atomRecords x a)) outer)
     unfolding flatMap termFrom
-    atom-run x (identifier w) outer at s = spelled-run 1 x w x (x + length w) outer at (omega arith) s ∙ rw (s .same)
-    atom-run x (number w) outer at s = spelled-run 2 x w x (x + length w) outer at (omega arith) s ∙ rw (s .same)
-    atom-run x (variable tree.Kind.symbolKind i) outer at s = spelled-run 3 (x + 2) i x (x + 2 + length i) outer at (omega arith) s ∙ rw (s .same)
-    atom-run x (variable tree.Kind.termKind i) outer at s = spelled-run 4 (x + 2) i x (x + 2 + length i) outer at (omega arith) s ∙ rw (s .same)
-    atom-run x (variable tree.Kind.expressionKind i) outer at s = spelled-run 5 (x + 2) i x (x + 2 + length i) outer at (omega arith) s ∙ rw (s .same)
-    atom-run x (quoted cs) outer at s = characters-run (x + 1) cs outer at s
+    atom-run x (identifier w) outer at s = spelled-run 1 x w x (x + length w) outer at (omega arith) (s .0) ∙ rw (s .0 .same)
+    atom-run x (number w) outer at s = spelled-run 2 x w x (x + length w) outer at (omega arith) (s .0) ∙ rw (s .0 .same)
+    atom-run x (variable tree.Kind.symbolKind i) outer at s = spelled-run 3 (x + 2) i x (x + 2 + length i) outer at (omega arith) (s .0) ∙ rw (s .0 .same)
+    atom-run x (variable tree.Kind.termKind i) outer at s = spelled-run 4 (x + 2) i x (x + 2 + length i) outer at (omega arith) (s .0) ∙ rw (s .0 .same)
+    atom-run x (variable tree.Kind.expressionKind i) outer at s = spelled-run 5 (x + 2) i x (x + 2 + length i) outer at (omega arith) (s .0) ∙ rw (s .0 .same)
+    atom-run x (quoted cs) outer at s = rw (characters-count (x + 1) cs) (characters-run (x + 1) cs outer at s)
 
     -- the records of some terms, the first of number `at`
     pub terms-run : (t : Terms) (at : ℕ) → length (termRecords t) ≤ 512 → Within (file .text .records) t → runOf file own at (runBytes t) ≡ treeRun at t
@@ -110,7 +115,7 @@ module _ (file : File) (own : ℕ → ℕ → tree.Sentences) where
     terms-run (atomic x a rest) at l h =
         rw (records-append (atomRecords x a) (termRecords rest))
         (atom-run x a (runBytes rest) at (h .0)
-        ∙ ap (atomRun x a) (terms-run rest (at + atomSize a) (omega (arith, length-append (atomRecords x a) (termRecords rest))) (h .1)))
+        ∙ ap (atomRun x a) (terms-run rest (at + length (atomRecords x a)) (omega (arith, length-append (atomRecords x a) (termRecords rest))) (h .1)))
     terms-run (bracket p inside r rest) at l h =
         let n = length (termRecords inside) in
         let lengths = length-append (termRecords inside) (termRecords rest) in
@@ -121,11 +126,11 @@ module _ (file : File) (own : ℕ → ℕ → tree.Sentences) where
         let n = length (termRecords inside) in
         let lengths = length-append (termRecords inside) (termRecords rest) in
         rw (records-append (termRecords inside) (termRecords rest))
-        (node-run 7 (f .start) (length (f .spelled)) n p (r + 1) (runBytes inside) (runBytes rest) at (omega arith) (omega (arith, h .0 .inside)) (omega (arith, h .0 .inside))
+        (node-run 7 (f .start) (length (f .spelled)) n p (r + 1) (runBytes inside) (runBytes rest) at (omega arith) (omega (arith, h .0 .0 .inside)) (omega (arith, h .0 .0 .inside))
         (omega (arith, lengths)) (run-length inside)
         ∙ rw (
           node-mark 7 (f .start) (length (f .spelled)) n p (r + 1) (runBytes inside ++ runBytes rest) at (omega (arith, h .1)) (omega (arith, h .2)),
-          h .0 .same,
+          h .0 .0 .same,
           terms-run inside (at + 1) (omega (arith, lengths)) (h .3),
           terms-run rest (at + 1 + n) (omega (arith, lengths)) (h .4),
         ))

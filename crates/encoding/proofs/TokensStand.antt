@@ -1,21 +1,23 @@
 -- A token of a text stands in the text at its place. So the names of a phrase are spelled there, and its spans lie inside the text.
-use Prim.Native.Nat.{ℕ, suc, _+_, _≤_, _<_}
+use Prim.Native.Nat.{ℕ, suc, _+_, _≤_}
 use mathlib.Core.List.{List, [], _∷_, _++_, append-assoc, nil≢cons, tail-eq-of-cons-eq, flatMap}
-use mathlib.Core.Bool.{true, not, _&&_, false≢true}
+use mathlib.Core.Bool.{Bool, true, not, _&&_, and-true, false≢true}
 use mathlib.Core.Path.{_≡_, refl, _∙_}
 use native.Mathlib.Omega.{arith}
 use lib.ListN.{length, take, drop, length-append}
 use lib.Seq.{drop-at, take-append-seam, drop-drop}
 use lib.Dec.{eqb}
-use Rattle.names.specs.Name.{everyByte}
+use borrow.Author.Tests.{le-leb}
+use Rattle.names.specs.Name.{digitByte, letterByte, nameByte, everyByte, lengthAllowed, nameAllowed, numberAllowed}
 use Rattle.file.specs.Fields.{scalarAllowed}
 use Rattle.file.proofs.Below.{both, both-first, both-second}
 use Rattle.law.specs.Tree.{Kind}
-use Rattle.tokens.specs.Token.{rightBrace, rightBracket, rightAngle, colon, equals, semicolon, Atom, identifier, number, variable, quoted, quotable, atomBytes, kindByte, tokenAllowed, tokenBytes, Piece, blank, comment, token, pieceBytes, piecesBytes, Lexed, Placed, placed}
+use Rattle.tokens.specs.Token.{rightBrace, rightBracket, rightAngle, colon, equals, semicolon, Atom, identifier, number, variable, quoted, quotable, atomAllowed, atomBytes, kindByte, tokenAllowed, tokenBytes, Piece, blank, comment, token, pieceBytes, piecesBytes, Lexed, Placed, placed}
 use Rattle.grammar.specs.Grammar.{signAt, atomAt, Terms, nothing, atomic, bracket, call, Conditions, noCondition, condition, Sentence, Sentences, last, lastClosed, more, Function, Names, lastName, moreNames, Text, done, extern, function, entry, spellTerms, spellConditions, spellSentence, spellSentences, spellFunction, spellNames, spellText, Written}
 use Rattle.encoding.specs.Encode.{startOf, endOf, conditionsStart, listed, sentencesIn, functionsOf, sentencesOf}
+use Rattle.encoding.specs.LawOfText.{short}
 use Rattle.encoding.proofs.Lists.{All, all-append}
-use Rattle.encoding.proofs.TermsRead.{Spelled, AtomWithin, Within}
+use Rattle.encoding.proofs.TermsRead.{Spelled, Word, AtomWithin, Within}
 use Rattle.encoding.proofs.SentencesRead.{WithinConditions, WithinSentence}
 
 -- a token that may be one, and whose bytes stand at its place
@@ -32,7 +34,7 @@ spelled-between front w after b at e l =
     }
 
 -- tokens stand where they are placed
-placed-stand : (b : List ℕ) (ps : List Piece) (front : List ℕ) (at : ℕ) → Lexed ps → front ++ piecesBytes ps ≡ b → length front ≡ at → All (Standing b) (placed at ps)
+pub placed-stand : (b : List ℕ) (ps : List Piece) (front : List ℕ) (at : ℕ) → Lexed ps → front ++ piecesBytes ps ≡ b → length front ≡ at → All (Standing b) (placed at ps)
 unfolding placed piecesBytes
 placed-stand b [] front at h e l = tt
 placed-stand b (blank k ∷ ps) front at h e l =
@@ -47,7 +49,7 @@ placed-stand b (token t ∷ ps) front at h e l = (
       (length-append front (tokenBytes t) ∙ rw l),
 )
 
-pub written-stand : (b : List ℕ) (x : Text) → Written b x → All (Standing b) (spellText x)
+written-stand : (b : List ℕ) (x : Text) → Written b x → All (Standing b) (spellText x)
 written-stand b x w = rw (w .spelled) (placed-stand b (w .pieces) [] 0 (w .lexed) (w .whole) refl)
 
 -- ---- atoms
@@ -74,10 +76,29 @@ scalars (c ∷ cs) h =
     (both-first (scalarAllowed c) (not (eqb c 39)) (both-first (scalarAllowed c && not (eqb c 39)) (not (eqb c 92)) q))
     (scalars cs (both-second (quotable c) (everyByte quotable cs) h))
 
+-- bytes that are all allowed may be spelled if they are not too many
+limited : (p : ℕ → Bool) (c : ℕ) (cs : List ℕ) → everyByte p (c ∷ cs) ≡ true → lengthAllowed (length (c ∷ cs)) && everyByte p (c ∷ cs) ≡ short (c ∷ cs)
+limited p c cs h = rw (h, le-leb 1 (length (c ∷ cs)) (omega arith)) (and-true (short (c ∷ cs)))
+
+identifier-limited : (w : List ℕ) → atomAllowed (identifier w) ≡ true → nameAllowed w ≡ short w
+unfolding everyByte
+identifier-limited [] h = absurd (false≢true h)
+identifier-limited (c ∷ cs) h =
+    let letter = both-first (letterByte c) (everyByte nameByte cs) h in
+    limited nameByte c cs (both (nameByte c) (everyByte nameByte cs) (rw letter) (both-second (letterByte c) (everyByte nameByte cs) h))
+
+number-limited : (w : List ℕ) → atomAllowed (number w) ≡ true → numberAllowed w ≡ short w
+number-limited [] h = absurd (false≢true h)
+number-limited (c ∷ cs) h = limited digitByte c cs h
+
+index-limited : (k : Kind) (i : List ℕ) → atomAllowed (variable k i) ≡ true → nameAllowed i ≡ short i
+index-limited k [] h = absurd (false≢true h)
+index-limited k (c ∷ cs) h = limited nameByte c cs h
+
 atom-within : (b : List ℕ) (at : ℕ) (a : Atom) → Standing b (atomAt at a) → AtomWithin b at a
-atom-within b at (identifier w) s = s .here
-atom-within b at (number w) s = s .here
-atom-within b at (variable k i) s = index-spelled b at k i (s .here)
+atom-within b at (identifier w) s = (s .here, identifier-limited w (s .allowed))
+atom-within b at (number w) s = (s .here, number-limited w (s .allowed))
+atom-within b at (variable k i) s = (index-spelled b at k i (s .here), index-limited k i (s .allowed))
 atom-within b at (quoted []) s = absurd (false≢true (s .allowed))
 atom-within b at (quoted (c ∷ cs)) s = scalars (c ∷ cs) (s .allowed)
 
@@ -99,7 +120,7 @@ module _ (b : List ℕ) where
   terms-within (call l f inside m rest) after h =
       let i = terms-within inside (signAt m rightAngle ∷ spellTerms rest after) (h .1 .1) in
       let r = terms-within rest after (i .1 .1) in
-      ((h .1 .0 .here, omega (arith, h .0 .here .inside), omega (arith, i .1 .0 .here .inside), i .0, r .0), r .1)
+      ((atom-within b (f .start) (identifier (f .spelled)) (h .1 .0), omega (arith, h .0 .here .inside), omega (arith, i .1 .0 .here .inside), i .0, r .0), r .1)
 
   -- their span
   start-inside : (t : Terms) (other : ℕ) (after : List Placed) → Stand (spellTerms t after) → other ≤ length b → startOf t other ≤ length b
@@ -162,7 +183,7 @@ module _ (b : List ℕ) where
 
   -- a function's name is spelled where it stands
   abbrev pub NameStands : Function → Type 0
-  NameStands f = Spelled b (f .name .start) (f .name .spelled)
+  NameStands f = Word nameAllowed b (f .name .start) (f .name .spelled)
 
   abbrev TextWithin : Text → Type 0
   TextWithin x = All (WithinSentence b) (sentencesOf x) × All NameStands (functionsOf x)
@@ -172,7 +193,7 @@ module _ (b : List ℕ) where
   function-within f rest h later =
       let s = sentences-within (f .sentences) (signAt (f .rightAt) rightBrace ∷ spellText rest) (h .1 .1) in
       let r = later (s .1 .1) in
-      (all-append (WithinSentence b) (sentencesIn f) (sentencesOf rest) (s .0) (r .0), (h .0 .here, r .1))
+      (all-append (WithinSentence b) (sentencesIn f) (sentencesOf rest) (s .0) (r .0), (atom-within b (f .name .start) (identifier (f .name .spelled)) (h .0), r .1))
 
   text-within : (x : Text) → Stand (spellText x) → TextWithin x
   unfolding flatMap

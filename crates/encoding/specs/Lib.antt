@@ -2,3 +2,4 @@ pub mod Encode
 pub mod TextTree
 pub mod LawOfText
 pub mod Code
+pub mod Examples

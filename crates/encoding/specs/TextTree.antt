@@ -1,11 +1,11 @@
 -- The tree of a text: its phrase as a law, with records numbered as document 01 numbers them in a file and with the spans of specs/Encode.antt.
 use Prim.Native.Nat.{ℕ, _+_}
-use mathlib.Core.List.{List, [], _∷_}
+use mathlib.Core.List.{List, [], _∷_, flatMap}
 use lib.ListN.{length}
 use Rattle.law.specs.Tree as tree
 use Rattle.tokens.specs.Token.{Atom, identifier, number, variable, quoted}
-use Rattle.grammar.specs.Grammar.{Identifier, Terms, nothing, atomic, bracket, call, Conditions, noCondition, condition, Sentence, Function, Text}
-use Rattle.encoding.specs.Encode.{termRecords, conditionTerms, sentenceTerms, sentenceStart, sentenceEnd, sentencesIn, functionsOf}
+use Rattle.grammar.specs.Grammar.{Terms, nothing, atomic, bracket, call, Conditions, noCondition, condition, Sentence, Function, Text}
+use Rattle.encoding.specs.Encode.{atomRecords, termRecords, conditionTerms, sentenceTerms, sentenceStart, sentenceEnd, sentencesIn, functionsOf}
 
 abbrev pub nameOf : ℕ → List ℕ → tree.Name
 nameOf start w = record { start = start; spelled = w }
@@ -21,17 +21,10 @@ atomRun at (number w) after = tree.Run.symbol (tree.Symbol.number (nameOf at w))
 atomRun at (variable k i) after = tree.Run.variable k (nameOf (at + 2) i) after
 atomRun at (quoted cs) after = characterRun cs after
 
--- the number of an atom's records
-abbrev pub atomSize : Atom → ℕ
-atomSize (identifier w) = 1
-atomSize (number w) = 1
-atomSize (variable k i) = 1
-atomSize (quoted cs) = length cs
-
 -- the run of some terms, the first record of number n
 unfoldable pub treeRun : ℕ → Terms → tree.Run
 treeRun n nothing = tree.Run.empty
-treeRun n (atomic at a rest) = atomRun at a (treeRun (n + atomSize a) rest)
+treeRun n (atomic at a rest) = atomRun at a (treeRun (n + length (atomRecords at a)) rest)
 treeRun n (bracket l inside r rest) = tree.Run.bracket (treeRun (n + 1) inside) (treeRun (n + 1 + length (termRecords inside)) rest)
 treeRun n (call l f inside r rest) =
     tree.Run.call (record { at = n; spanStart = l; spanEnd = r + 1 }) (nameOf (f .start) (f .spelled))
@@ -56,17 +49,12 @@ treeSentences s n (x ∷ xs) =
     (treeRun (n + pattern + conditions) (x .result))
     (treeSentences (s + 1) (n + length (sentenceTerms x)) xs)
 
--- the number of some sentences' term records
-unfoldable pub size : List Sentence → ℕ
-size [] = 0
-size (x ∷ xs) = length (sentenceTerms x) + size xs
-
 -- functions, the first sentence of number s and its first term record of number n
 unfoldable pub treeFunctions : (s n : ℕ) → List Function → tree.Law
 treeFunctions s n [] = []
 treeFunctions s n (f ∷ fs) =
     record { name = nameOf (f .name .start) (f .name .spelled); sentences = treeSentences s n (sentencesIn f) }
-    ∷ treeFunctions (s + length (sentencesIn f)) (n + size (sentencesIn f)) fs
+    ∷ treeFunctions (s + length (sentencesIn f)) (n + length (flatMap sentenceTerms (sentencesIn f))) fs
 
 abbrev pub treeOfText : Text → tree.Law
 treeOfText text = treeFunctions 0 0 (functionsOf text)
