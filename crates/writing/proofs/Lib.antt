@@ -1,0 +1,10 @@
+pub mod LaidLaws
+pub mod FoundLaws
+pub mod HeldLaws
+pub mod PassingLaws
+pub mod FunctionLaws
+pub mod CharacterLaws
+pub mod WeightLaws
+pub mod PartLaws
+pub mod SentenceLaws
+pub mod ConditionLaws

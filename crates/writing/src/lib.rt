@@ -1,0 +1,14 @@
+// The sections of a law file, written into a lent buffer from the tokens of a text.
+//
+// Bytes are put where there is room, and the position after them is given in any case: a section's number of records is known from
+// where its records end, and a file that is too large from where it ends.
+mod arrays;
+mod conditions;
+mod functions;
+mod parts;
+mod records;
+mod sentences;
+
+pub use crate::conditions::condition_section;
+pub use crate::functions::function_section;
+pub use crate::sentences::sentence_section;
