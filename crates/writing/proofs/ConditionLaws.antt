@@ -1,14 +1,14 @@
 -- Laws for the section of conditions.
-use Prim.Native.Nat.{ℕ, suc, _+_, _*_, _≤_, _<_}
+use Prim.Native.Nat.{ℕ, _+_, _*_, _≤_, _<_}
 use mathlib.Core.List.{List, [], _∷_, _++_, flatMap}
 use mathlib.Core.Bool.{Bool, true, false, cond, _&&_}
-use mathlib.Core.Path.{_≡_, refl, sym, _∙_}
+use mathlib.Core.Path.{_≡_, refl, _∙_}
 use native.Mathlib.Omega.{arith}
 use native.Mathlib.Numerals.{add-one}
 use lib.ListN.{length, drop, getD, drop-of-length-le}
 use lib.Dec.{eqb}
 use Rattle.tokens.specs.Token.{Placed}
-use Rattle.encoding.specs.Encode.{Record, recordsBytes}
+use Rattle.encoding.specs.Encode.{recordsBytes}
 use Rattle.encoding.specs.Code.FlatTerms.{inside, kindAt}
 use Rattle.encoding.specs.Code.FlatFile.{partRecords, partEnd, conditionHere, within, flatConditions}
 use Rattle.encoding.proofs.Lists.{All, all-append}

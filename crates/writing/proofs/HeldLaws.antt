@@ -1,5 +1,5 @@
 -- What the arrays say of the tokens that they hold.
-use Prim.Native.Nat.{ℕ, zero, suc, _+_, _-_, _≤_, _<_}
+use Prim.Native.Nat.{ℕ, zero, suc, _+_, _-_, _<_}
 use mathlib.Core.List.{List, [], _∷_}
 use mathlib.Core.Bool.{Bool, true, false, cond, not}
 use mathlib.Core.Path.{_≡_, refl, sym, ap, _∙_}
@@ -12,12 +12,18 @@ use lib.Dec.{eqb}
 use Rattle.tokens.specs.Token.{tokenBytes, Placed}
 use Rattle.tokens.specs.Lex.{leading}
 use Rattle.tokens.specs.Code.Arrays.{kindsOf, startsOf, endsOf}
-use Rattle.encoding.specs.Code.FlatTerms.{kindAt, endAt, firstStart}
+use Rattle.encoding.specs.Code.FlatTerms.{kindAt, endAt, firstStart, firstLength}
 use Rattle.encoding.specs.Code.FlatFile.{firstIs, afterKind, countTo, endOfKind}
 use Rattle.writing.specs.Code.Found.{notKind, placeOf, countKinds}
 use Rattle.writing.specs.Code.Held.{Held}
 
 -- ---- from a place on
+
+pub size-of : (p : Placed) → endAt p - p .start ≡ length (tokenBytes (p .what))
+size-of p = go (p .start) (length (tokenBytes (p .what)))
+  where
+    go : (a b : ℕ) → a + b - a ≡ b
+    go a b = omega arith
 
 kinds-drop : (i : ℕ) (ts : List Placed) → drop i (kindsOf ts) ≡ kindsOf (drop i ts)
 kinds-drop zero ts = refl
@@ -64,6 +70,12 @@ starts-drop zero (p ∷ ts) = refl
 starts-drop (suc i) [] = refl
 starts-drop (suc i) (p ∷ ts) = starts-drop i ts
 
+lengths-drop : (i : ℕ) (ts : List Placed) → getD (endsOf ts) i 0 - getD (startsOf ts) i 0 ≡ firstLength (drop i ts)
+lengths-drop zero [] = refl
+lengths-drop zero (p ∷ ts) = size-of p
+lengths-drop (suc i) [] = refl
+lengths-drop (suc i) (p ∷ ts) = lengths-drop i ts
+
 first-same : (k : ℕ) (ts : List Placed) → eqb 0 k ≡ false → eqb (getD (kindsOf ts) 0 0) k ≡ firstIs k ts
 first-same k [] e = e
 first-same k (p ∷ ts) e = refl
@@ -107,13 +119,10 @@ module _ {ks ss es : List ℕ} {ts : List Placed} (h : Held ks ss es ts) where
   pub start-here : (i : ℕ) → getD ss i 0 ≡ firstStart (drop i ts)
   start-here i = rw (h .started) (starts-drop i ts)
 
+  pub length-here : (i : ℕ) → getD es i 0 - getD ss i 0 ≡ firstLength (drop i ts)
+  length-here i = rw (h .started, h .ended) (lengths-drop i ts)
+
   pub first-here : (k i : ℕ) → eqb 0 k ≡ false → eqb (getD ks i 0) k ≡ firstIs k (drop i ts)
   first-here k i e =
       let moved : getD (kindsOf (drop i ts)) 0 0 ≡ getD ks i 0 = rw (h .kinded, ← kinds-drop i ts, getD-drop i (kindsOf ts) 0 0, add-zero i) in
       rw (← moved) (first-same k (drop i ts) e)
-
-pub size-of : (p : Placed) → endAt p - p .start ≡ length (tokenBytes (p .what))
-size-of p = go (p .start) (length (tokenBytes (p .what)))
-  where
-    go : (a b : ℕ) → a + b - a ≡ b
-    go a b = omega arith

@@ -8,3 +8,9 @@ pub mod WeightLaws
 pub mod PartLaws
 pub mod SentenceLaws
 pub mod ConditionLaws
+pub mod ScanLaws
+pub mod SpellLaws
+pub mod AtomLaws
+pub mod TermLaws
+pub mod LexedLaws
+pub mod WholeLaws

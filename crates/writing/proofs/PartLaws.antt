@@ -1,15 +1,15 @@
 -- Laws for the loops over a run of terms.
-use Prim.Native.Nat.{ℕ, zero, suc, _+_, _*_, _≤_, _<_}
+use Prim.Native.Nat.{ℕ, zero, suc, _+_, _≤_, _<_}
 use mathlib.Core.List.{List, [], _∷_}
 use mathlib.Core.Bool.{Bool, true, false}
-use mathlib.Core.Path.{_≡_, refl, sym, _∙_}
+use mathlib.Core.Path.{_≡_, sym, _∙_}
 use native.Mathlib.Omega.{arith}
 use native.Mathlib.Numerals.{add-one}
 use lib.ListN.{length, drop, getD, drop-of-length-le}
 use lib.Dec.{eqb}
 use borrow.Author.Tests.{ne-eqb}
 use Rattle.tokens.specs.Token.{Placed}
-use Rattle.encoding.specs.Code.FlatTerms.{inside, kindAt, endAt, weight}
+use Rattle.encoding.specs.Code.FlatTerms.{kindAt, endAt, weight}
 use Rattle.encoding.specs.Code.FlatFile.{parts, partRecords, partEnd}
 use Rattle.writing.specs.Code.Held.{Held, Stands, Stand}
 use Rattle.writing.specs.Code.Found.{runState}

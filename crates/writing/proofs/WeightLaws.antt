@@ -4,14 +4,13 @@ use mathlib.Core.List.{List, [], _∷_, _++_, nil≢cons, tail-eq-of-cons-eq}
 use mathlib.Core.Bool.{Bool, true, false, cond, false≢true}
 use mathlib.Core.Path.{_≡_, refl, sym, ap, _∙_}
 use native.Mathlib.Omega.{arith}
-use native.Mathlib.Numerals.{add-one}
 use lib.ListN.{length, take, drop, length-append}
 use lib.Seq.{take-take, take-at, drop-drop}
 use lib.Dec.{ltb, eqb}
 use borrow.Author.Tests.{eq-eqb, ne-eqb, lt-ltb, le-ltb}
 use Rattle.law.specs.Tree.{symbolKind, termKind, expressionKind}
-use Rattle.tokens.specs.Token.{charactersBytes, Sign, leftBrace, rightBrace, leftBracket, rightBracket, leftAngle, rightAngle, comma, colon, equals, semicolon, dollarEntry, dollarExtern, Atom, identifier, number, variable, quoted, Token, sign, atom, tokenBytes, Placed}
-use Rattle.tokens.specs.Code.TokenKind.{signKind, atomKind, tokenKind}
+use Rattle.tokens.specs.Token.{charactersBytes, Sign, leftBrace, rightBrace, leftBracket, rightBracket, leftAngle, rightAngle, comma, colon, equals, semicolon, dollarEntry, dollarExtern, identifier, number, variable, quoted, Token, sign, atom, tokenBytes, Placed}
+use Rattle.tokens.specs.Code.TokenKind.{signKind, tokenKind}
 use Rattle.encoding.specs.Encode.{characterRecords}
 use Rattle.encoding.specs.Code.FlatTerms.{inside, calling, ownRecords, kindAt, endAt, weight}
 use Rattle.writing.specs.Code.Held.{Stands}
@@ -80,7 +79,7 @@ quoted-bytes text at cs {start = start} {end = end} s e h =
     (sym (take-take (length inner) (length (inner ++ 39 ∷ [])) (drop 1 (drop at text)) (omega (arith, long)))
     ∙ (ap (take (length inner)) tail ∙ take-at inner (39 ∷ []) (length inner) refl))
 
-sign-no-quote : (g : Sign) → eqb (signKind g) 6 ≡ false
+pub sign-no-quote : (g : Sign) → eqb (signKind g) 6 ≡ false
 sign-no-quote leftBrace = refl
 sign-no-quote rightBrace = refl
 sign-no-quote leftBracket = refl

@@ -3,12 +3,14 @@
 // Bytes are put where there is room, and the position after them is given in any case: a section's number of records is known from
 // where its records end, and a file that is too large from where it ends.
 mod arrays;
+mod atoms;
+mod brackets;
 mod conditions;
 mod functions;
 mod parts;
 mod records;
 mod sentences;
+mod terms;
+mod whole;
 
-pub use crate::conditions::condition_section;
-pub use crate::functions::function_section;
-pub use crate::sentences::sentence_section;
+pub use crate::whole::put_file;

@@ -1,5 +1,5 @@
 -- What is found among kinds of tokens from a place on, and among bytes.
-use Prim.Native.Nat.{ℕ, _+_}
+use Prim.Native.Nat.{ℕ, suc, _+_, _-_}
 use mathlib.Core.List.{List, [], _∷_}
 use mathlib.Core.Bool.{Bool, cond, not, _&&_, _||_}
 use lib.ListN.{length, drop}
@@ -8,7 +8,7 @@ use Rattle.names.specs.Name.{between}
 use Rattle.tokens.specs.Lex.{leading}
 use Rattle.tokens.specs.Token.{Placed}
 use Rattle.encoding.specs.Encode.{Record}
-use Rattle.encoding.specs.Code.FlatTerms.{Where, inside, calling, kindAt}
+use Rattle.encoding.specs.Code.FlatTerms.{Where, outside, inside, calling, kindAt, firstStart, firstLength, opens, closes, scan, holder}
 use Rattle.encoding.specs.Code.FlatFile.{sentencesAfter, conditionsAfter}
 
 -- the place of the first of a kind; the end where there is none
@@ -45,3 +45,18 @@ sentencesAt b p ps = sentencesAfter b (kindAt p) ps
 
 abbrev pub conditionsAt : Bool → Placed → List Placed → List Record
 conditionsAt b p ps = conditionsAfter b (kindAt p) ps
+
+-- the number that is open after a token
+abbrev pub depthAfter : ℕ → ℕ → ℕ
+depthAfter k d = cond (closes k) (d - 1) (cond (opens k) (suc d) d)
+
+-- the code's number of a state
+abbrev pub whereOf : ℕ → Where
+whereOf n = cond (eqb n 1) inside (cond (eqb n 0) outside calling)
+
+-- the record that a token opens
+abbrev pub bracketAt : Placed → List Placed → List Record
+bracketAt p ps = holder 6 0 0 p (scan inside 0 ps) ∷ []
+
+abbrev pub callAt : Placed → List Placed → List Record
+callAt p ps = holder 7 (firstStart ps) (firstLength ps) p (scan calling 0 ps) ∷ []

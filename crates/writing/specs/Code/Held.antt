@@ -1,10 +1,12 @@
 -- The tokens that the arrays hold: kinds, starts and ends.
-use Prim.Native.Nat.{ℕ}
-use mathlib.Core.List.{List, [], _∷_}
+use Prim.Native.Nat.{ℕ, _+_}
+use mathlib.Core.List.{List, [], _∷_, _++_}
 use mathlib.Core.Bool.{true}
 use mathlib.Core.Path.{_≡_}
 use lib.ListN.{length, take, drop}
-use Rattle.tokens.specs.Token.{tokenAllowed, tokenBytes, Placed}
+use Rattle.names.specs.Name.{everyByte}
+use Rattle.file.specs.Fields.{scalarAllowed}
+use Rattle.tokens.specs.Token.{charactersBytes, tokenAllowed, tokenBytes, Placed}
 use Rattle.tokens.specs.Code.Arrays.{kindsOf, startsOf, endsOf}
 use Rattle.encoding.specs.Encode.{Record}
 
@@ -22,6 +24,13 @@ pub record Stands (text : List ℕ) (p : Placed) : Type 0 where
 abbrev pub Stand : List ℕ → List Placed → Type 0
 Stand text [] = Unit {0}
 Stand text (p ∷ ps) = Stands text p × Stand text ps
+
+-- from a byte to another these characters stand
+pub record Spans (text : List ℕ) (from to : ℕ) (cs : List ℕ) : Type 0 where
+  pub after : List ℕ
+  pub allowed : everyByte scalarAllowed cs ≡ true
+  pub size : to ≡ from + length (charactersBytes cs)
+  pub same : drop from text ≡ charactersBytes cs ++ after
 
 -- the records of the first token, from it and those after it
 abbrev pub atFirst : (Placed → List Placed → List Record) → List Placed → List Record

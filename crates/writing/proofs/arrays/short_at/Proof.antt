@@ -1,5 +1,4 @@
 -- Past the end the default is read.
-use mathlib.Core.List.{List}
 use mathlib.Core.Path.{sym}
 use native.Mathlib.Omega.{arith}
 use lib.ListN.{List·getD-eq-default}

@@ -6,8 +6,8 @@ use native.Mathlib.Omega.{arith}
 use lib.ListN.{length, drop}
 use borrow.Author.Needs.{needs}
 use Rattle.tokens.specs.Token.{Placed}
-use Rattle.encoding.specs.Code.FlatFile.{functionsAt, flatFunctions}
-use Rattle.writing.specs.Code.Held.{Held, atFirst}
+use Rattle.encoding.specs.Code.FlatFile.{flatFunctions}
+use Rattle.writing.specs.Code.Held.{Held}
 use Rattle.writing.proofs.PassingLaws.{Passing, passing-start, passing-next, passing-end}
 use Rattle.writing.proofs.FunctionLaws.{functions-step, functions-end}
 use Rattle.writing.proofs.functions.put_functions.Statement.{statement}

@@ -1,0 +1,42 @@
+-- Six parts, one after another.
+use native.Mathlib.Omega.{arith}
+use borrow.Author.Needs.{needs}
+use Rattle.writing.proofs.LaidLaws.{laid}
+use Rattle.writing.proofs.WholeLaws.{file-laid}
+use Rattle.writing.proofs.whole.put_file.Statement.{statement}
+use Rattle.writing.proofs.whole.put_file.Tie as tie
+
+pub put-file-spec : {M : Type 1} → statement M
+put-file-spec =
+    tie.close
+    (tie.spec
+    (λ c κs. search needs)
+    (λ c κs. search needs)
+    (λ c κs. let size = c .before .before .before in omega (arith, size .put-word .ensures .end, size .before .before .before .before .before .before .before .before .pre .0))
+    (λ c κs. search needs)
+    (λ c κs. search needs)
+    (λ c κs. search needs)
+    (λ c κs.
+    let fourth = c .before .before .before in
+    let third = fourth .before .before .before .before in
+    let second = third .before .before .before .before in
+    let first = second .before .before .before .before in
+    let size = first .before .before .before .before in
+    let start = size .before .before .before .before .before .before .before .before in (
+      omega (arith, fourth .condition-section .ensures .0, third .sentence-section .ensures .0, second .function-section .ensures .0, first .put .ensures .end, size .put-word .ensures .end, start .pre .0),
+      start .pre .1,
+      start .pre .0,
+    ))
+    (λ c. search needs)
+    (λ c ts h st.
+    let last = c .before .before .term-section in
+    let fourth = c .before .before .before .before .before .before in
+    let third = fourth .before .before .before .before in
+    let second = third .before .before .before .before in
+    let first = second .before .before .before .before in
+    let size = first .before .before .before .before in
+    file-laid (size .before .before .before .before .before .before .before .before .args .text .now) ts (size .before .before .word .ensures) (size .put-word .ensures, size .put-word .kept .1 .0) (laid (first .put .ensures), first .put .kept .1 .0)
+    (second .function-section .ensures .1 ts h, second .function-section .kept .1 .1 .1 .0)
+    (third .sentence-section .ensures .1 ts h st, third .sentence-section .kept .1 .1 .1 .1 .0)
+    (fourth .condition-section .ensures .1 ts h st, fourth .condition-section .kept .1 .1 .1 .1 .0)
+    (last .ensures .1 ts h st, last .kept .1 .1 .1 .1 .0)))
