@@ -40,7 +40,7 @@ put-atom-spec =
     (λ c. (omega arith, omega arith, λ p e s t h. laid-no-record _ _ (atom-sign p e s t (c .before .if1 .left) (c .if3 .taken))))
     (λ c κs. search needs)
     (λ c κs. search needs)
-    (λ c κs. omega (arith, c .before .before .before .before .before .before .before .before .pre .0))
+    (λ c κs. let start = c .before .before .before .before .before .before .before .before in omega (arith, start .pre .0))
     (λ c. search needs)
     (λ c.
     let put = c .before .before .put-six in
@@ -52,9 +52,9 @@ put-atom-spec =
           (atom-word p e s t (size .before .before .if1 .left) (size .before .if3 .left) (size .less2 .ensures) (kind .kind-word .ensures) (kind .before .if4 .taken)) (put .ensures .1),
     ))
     (λ c κs. search needs)
-    (λ c. omega (arith, c .before .before .before .before .before .before .before .pre .1))
+    (λ c. let start = c .before .before .before .before .before .before .before in omega (arith, start .pre .1))
     (λ c κs. search needs)
-    (λ c κs. omega (arith, c .before .before .before .before .before .before .before .before .before .pre .0))
+    (λ c κs. let start = c .before .before .before .before .before .before .before .before .before in omega (arith, start .pre .0))
     (λ c. search needs)
     (λ c.
     let put = c .before .before .put-six2 in

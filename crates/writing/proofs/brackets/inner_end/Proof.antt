@@ -33,7 +33,7 @@ inner-end-spec =
     (λ c. let round = c .before .before .before .before .before .loop in
     λ ss ts h. closing-stop h (omega arith) (round .depth) (c .before .before .closes-all .ensures) (c .before .if1 .taken) (c .short-at .ensures .0) (round .inv .2 ss ts h))
     (λ c κs. let round = c .before .before .before .before .loop in omega (arith, round .inv .0, round .inv .1))
-    (λ c. omega (arith, c .before .before .before .before .before .loop .inv .0))
+    (λ c. let round = c .before .before .before .before .before in omega (arith, round .loop .inv .0))
     (λ c. omega arith)
     (λ c.
     let tested = c .before in

@@ -46,5 +46,6 @@ put-functions-spec =
     ))
     (λ c. search needs)
     (λ c.
+    let start = c .before .before .before .before .before .before in
     let inv = c .before .loop .inv in
-    (inv .1, omega (arith, inv .2, inv .0, c .before .before .before .before .before .before .pre .1), λ ts h. passing-end (inv .4 ts h) (functions-end h _ (c .loop-test .left)))))
+    (inv .1, omega (arith, inv .2, inv .0, start .pre .1), λ ts h. passing-end (inv .4 ts h) (functions-end h _ (c .loop-test .left)))))

@@ -25,13 +25,13 @@ put-sentence-spec =
     ))
     (λ c κs. let start = c .before .before .before .before .before .before .before .before .before in (omega (arith, start .pre .1, start .pre .2), start .pre .2))
     (λ c κs. let start = c .before .before .before .before .before .before .before .before .before .before in (omega (arith, start .pre .1), start .pre .2))
-    (λ c κs. omega (arith, c .before .before .before .before .before .before .before .before .before .before .before .pre .1))
-    (λ c. omega (arith, c .place-of .ensures .1, c .before .before .before .before .before .before .before .before .before .before .before .before .pre .2))
+    (λ c κs. let start = c .before .before .before .before .before .before .before .before .before .before .before in omega (arith, start .pre .1))
+    (λ c. let start = c .before .before .before .before .before .before .before .before .before .before .before .before in omega (arith, c .place-of .ensures .1, start .pre .2))
     (λ c κs. let start = c .before .before .before .before .before .before .before .before .before .before .before .before in (omega (arith, c .place-of .ensures .1, start .pre .2), start .pre .2))
     (λ c κs. search needs)
     (λ c κs. search needs)
     (λ c κs. search needs)
-    (λ c κs. c .before .before .before .before .before .before .before .before .before .before .before .before .before .before .before .before .before .pre .0)
+    (λ c κs. let start = c .before .before .before .before .before .before .before .before .before .before .before .before .before .before .before .before .before in start .pre .0)
     (λ c. search needs)
     (λ c.
     let put = c .before .before .put-five in

@@ -17,7 +17,7 @@ put-call-spec =
     (λ c κs. let start = c .before .before .before .before .before .before .before .before in (omega (arith, start .pre .1, start .pre .2), start .pre .2))
     (λ c κs. let start = c .before .before .before .before .before .before .before .before .before in (omega (arith, start .pre .1, start .pre .2), start .pre .2))
     (λ c κs. search needs)
-    (λ c κs. omega (arith, c .before .before .before .before .before .before .before .before .before .before .before .before .pre .0))
+    (λ c κs. let start = c .before .before .before .before .before .before .before .before .before .before .before .before in omega (arith, start .pre .0))
     (λ c. search needs)
     (λ c.
     let put = c .before .before .put-six in

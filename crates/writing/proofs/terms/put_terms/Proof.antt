@@ -52,8 +52,9 @@ put-terms-spec =
     (λ c. search needs)
     (λ c.
     let round = c .before .loop in
+    let start = c .before .before .before .before .before .before .before in
     let inv = round .inv in (
       inv .1,
-      omega (arith, inv .2, inv .0, c .before .before .before .before .before .before .before .pre .1),
+      omega (arith, inv .2, inv .0, start .pre .1),
       λ ts h st. passing-end (inv .4 ts h st) (terms-end h (whereOf (round .state)) (round .i) (c .loop-test .left)),
     )))

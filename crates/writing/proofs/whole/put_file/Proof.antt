@@ -12,7 +12,7 @@ put-file-spec =
     (tie.spec
     (λ c κs. search needs)
     (λ c κs. search needs)
-    (λ c κs. let size = c .before .before .before in omega (arith, size .put-word .ensures .end, size .before .before .before .before .before .before .before .before .pre .0))
+    (λ c κs. let size = c .before .before .before in let start = size .before .before .before .before .before .before .before .before in omega (arith, size .put-word .ensures .end, start .pre .0))
     (λ c κs. search needs)
     (λ c κs. search needs)
     (λ c κs. search needs)
@@ -35,7 +35,8 @@ put-file-spec =
     let second = third .before .before .before .before in
     let first = second .before .before .before .before in
     let size = first .before .before .before .before in
-    file-laid (size .before .before .before .before .before .before .before .before .args .text .now) ts (size .before .before .word .ensures) (size .put-word .ensures, size .put-word .kept .1 .0) (laid (first .put .ensures), first .put .kept .1 .0)
+    let start = size .before .before .before .before .before .before .before .before in
+    file-laid (start .args .text .now) ts (size .before .before .word .ensures) (size .put-word .ensures, size .put-word .kept .1 .0) (laid (first .put .ensures), first .put .kept .1 .0)
     (second .function-section .ensures .1 ts h, second .function-section .kept .1 .1 .1 .0)
     (third .sentence-section .ensures .1 ts h st, third .sentence-section .kept .1 .1 .1 .1 .0)
     (fourth .condition-section .ensures .1 ts h st, fourth .condition-section .kept .1 .1 .1 .1 .0)
