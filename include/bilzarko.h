@@ -1,20 +1,21 @@
-/* Bilzarko for C: the findings of a law file, and the text of each of them.
+/* Bilzarko for C: the findings of a law file, the text of each of them, and the law file of a law typed as text.
  *
  * Link with libbilzarko.a, which `rt staticlib bilzarko` writes to target/staticlib. It is for x86-64 Linux and needs
- * the C library only. Both functions are proved to meet their contracts, which crates/bilzarko/src/lib.rt and
+ * the C library only. The functions are proved to meet their contracts, which crates/bilzarko/src/lib.rt and
  * crates/bilzarko/specs/Exported.antt state: whatever the values of their arguments, the calls return, and the returned
  * number and every lent word afterwards are those of the specification. They keep nothing between calls.
  *
  * What a caller sees to, since nothing checks a caller in C:
  * - each pointer leads to as many elements as the number after it says, aligned for their type;
  * - the elements have values: memory that was never written may not be lent, not even as a buffer;
- * - what a call writes to (store, words, text, answer) overlaps nothing else that is lent to it, and nothing else
- *   reads or writes it before the call returns; nothing writes the overrides and the law before then;
+ * - what a call writes to (store, words, answer, the text call's text, the reading call's law) overlaps nothing else that
+ *   is lent to it, and nothing else reads or writes it before the call returns; nothing writes what a call only reads
+ *   before then;
  * - where the number of elements is 0 the pointer is not used: it may be null or point anywhere;
  * - `answer` is never null;
  * - a call has BILZARKO_STACK_BYTES of stack. With less, the system may end the process at the guard page.
  *
- * A call returns, but it can take for ever: matching with repeated variables is NP-complete. The smallest law known to do so
+ * The findings call and the text call return, but they can take for ever: matching with repeated variables is NP-complete. The smallest law known to do so
  * has a sentence `(e.1 .. e.k s.A) s.A` and a call of its function with ('b' .. 'b') 'a', k times 'b'; it takes some 2 seconds
  * at k = 13, in 32 terms, and four times as long for each step of k. Where laws come from strangers, make the call in a
  * process of its own and end that process: a call keeps nothing, and holds nothing but what it is lent.
@@ -36,6 +37,7 @@ extern "C" {
 
 /* Limits and sizes. */
 #define BILZARKO_LAW_BYTES 16384     /* bytes of a law file, at most */
+#define BILZARKO_LAW_TEXT_BYTES 4096 /* bytes of a law typed as text, at most */
 #define BILZARKO_OVERRIDES 8         /* overrides, at most */
 #define BILZARKO_STORE_WORDS 8320    /* words of a store, at least: BILZARKO_FORMATS x BILZARKO_FORMAT_WORDS */
 #define BILZARKO_FINDING_WORDS 8     /* words of a finding */
@@ -119,17 +121,19 @@ extern "C" {
 
 /* Refusals: what a call returns where it does not return 0. Where several hold, the first in this order is returned.
  *
- *   both calls          14, then 1;
+ *   findings and text   14, then 1;
  *                       then of the sections text, functions, sentences, conditions and terms, one after the other: 2 where
  *                       the count is cut off, 4 where it is over its limit, 2 where the records are cut off;
  *                       then 3, 5, 6, 7, 8, 9, 15, 10
  *   the findings call   then 11, where eight words for each finding are more than words_length
  *   the text call       then 11, where there are over BILZARKO_TEXT_FINDINGS findings; then 12, then 13
+ *   the reading call    4, where the text has over BILZARKO_LAW_TEXT_BYTES bytes; 16; of the law file that it spells 1, 4, 5,
+ *                       8, 9; then 17
  *
  * Each of 5 to 10 is looked for in the whole law before what comes after it in this order. 10 does not depend on the
  * settings; 11 and 12 count the findings that the settings show.
  *
- * After a refusal `answer`, `words` and `text` hold what they held before. So does the store after 1 to 9, 14 and 15.
+ * After a refusal `answer`, `words`, `text` and the reading call's `law` hold what they held before. So does the store after 1 to 9, 14 and 15.
  * After 10 its first 8,320 words are 0; after 11, 12 and 13 they hold the formats of the law, as after a call that is
  * not refused. Store words past 8,320 always keep their values. */
 #define BILZARKO_REFUSAL_FILE_OVER UINT32_C(1)   /* the law has over 16,384 bytes */
@@ -152,6 +156,8 @@ extern "C" {
 #define BILZARKO_REFUSAL_SETTINGS UINT32_C(14)   /* the mode is not 0 or 1, there are over 8 overrides, or one has a lint
                                                     other than 1 to 4 or a severity other than 0 to 3 */
 #define BILZARKO_REFUSAL_STORE UINT32_C(15)      /* the store has under 8,320 words */
+#define BILZARKO_REFUSAL_GRAMMAR UINT32_C(16)    /* reading call: the text is outside the grammar, or not UTF-8 */
+#define BILZARKO_REFUSAL_LAW UINT32_C(17)        /* reading call: the law file does not fit */
 
 /* Lists the findings of a law.
  *
@@ -188,6 +194,18 @@ uint32_t bilzarko_text(uint32_t mode,
                        uint32_t *store, size_t store_length,
                        size_t position,
                        uint8_t *text, size_t text_length,
+                       uint64_t *answer);
+
+/* Writes the law file of a law typed as Refal-5 text. docs/GRAMMAR.md has the grammar.
+ *
+ *   text            the bytes of the text, UTF-8; read only
+ *   law             gets the law file; BILZARKO_LAW_BYTES hold any
+ *   answer          gets the number of bytes written
+ *
+ * Returns 0, or the number of a refusal. Bytes past the law file keep their values. Spans in the law file, and so those of its
+ * findings, are places in the text. */
+uint32_t bilzarko_read(const uint8_t *text, size_t text_length,
+                       uint8_t *law, size_t law_length,
                        uint64_t *answer);
 
 #ifdef __cplusplus

@@ -1,5 +1,5 @@
-//! The two calls. They are declared once, and each is called in one place.
-use crate::{Refusal, Settings};
+//! The calls. They are declared once, and each is called in one place.
+use crate::{Refusal, Settings, LAW_BYTES};
 
 /// As `include/bilzarko.h` declares them: a slice crosses as a pointer and a number of elements, an array as a pointer to
 /// its first.
@@ -31,6 +31,14 @@ mod library {
             text_length: usize,
             answer: *mut u64,
         ) -> u32;
+
+        pub fn bilzarko_read(
+            text: *const u8,
+            text_length: usize,
+            law: *mut u8,
+            law_length: usize,
+            answer: *mut u64,
+        ) -> u32;
     }
 }
 
@@ -53,7 +61,7 @@ fn answered<T>(number: u32, answer: T) -> Result<T, Refusal> {
     }
 }
 
-/// Lists the findings of a law: eight words each in `words`, which [`read`](crate::read) reads, and the inferred formats in
+/// Lists the findings of a law: eight words each in `words`, which [`decode`](crate::decode) reads, and the inferred formats in
 /// the first 8,320 words of the store. Words past the last finding keep their values.
 ///
 /// Where the count is settled and no number in the law has a needless leading zero, this is proved of the listing: there
@@ -62,14 +70,14 @@ fn answered<T>(number: u32, answer: T) -> Result<T, Refusal> {
 /// matches, or in which a function's sentence listed as [`Lint::DeadSentence`](crate::Lint::DeadSentence) is chosen.
 ///
 /// ```
-/// use bilzarko::{findings, read, Mode, Settings, FINDING_WORDS, STORE_WORDS};
+/// use bilzarko::{decode, findings, Mode, Settings, FINDING_WORDS, STORE_WORDS};
 ///
 /// let law = std::fs::read("../samples/bearing.law")?;
 /// let mut store = vec![0; STORE_WORDS];
 /// let mut words = vec![0; FINDING_WORDS * 100];
 /// let count = findings(&Settings::new(Mode::Strict), &law, &mut store, &mut words)?;
 /// assert_eq!((count.findings, count.rounds, count.settled), (6, 3, true));
-/// let first = read(&words).next().expect("there are six");
+/// let first = decode(&words).next().expect("there are six");
 /// assert_eq!((first.span_start, first.span_end), (615, 622));
 /// # Ok::<(), Box<dyn std::error::Error>>(())
 /// ```
@@ -157,6 +165,52 @@ pub fn text(
     answered(number, answer as usize)
 }
 
+/// Writes the law file of a law typed as Refal-5 text, and answers the number of bytes written. [`LAW_BYTES`] hold any law file.
+/// Bytes past it keep their values. `docs/GRAMMAR.md` has the grammar.
+///
+/// ```
+/// use bilzarko::{read, Refusal};
+///
+/// let mut law = [0xff; 100];
+/// assert_eq!(read(b"F { e.X = ; }", &mut law), Ok(97));
+/// assert_eq!(law[..4], 13_u32.to_le_bytes());
+/// assert_eq!(law[97..], [0xff; 3]);
+/// assert_eq!(read(b"F { e.X = }}", &mut law), Err(Refusal::Grammar));
+/// ```
+pub fn read(text: &[u8], law: &mut [u8]) -> Result<usize, Refusal> {
+    let mut answer = 0;
+    // SAFETY: as in `findings`, with `text` borrowed, `law` borrowed for writing, and `answer` a local number.
+    #[allow(unsafe_code)]
+    let number = unsafe {
+        library::bilzarko_read(
+            text.as_ptr(),
+            text.len(),
+            law.as_mut_ptr(),
+            law.len(),
+            &mut answer,
+        )
+    };
+    answered(number, answer as usize)
+}
+
+/// The law file of a law typed as Refal-5 text.
+///
+/// ```
+/// use bilzarko::{law_file, list, Mode, Settings};
+///
+/// let law = law_file(b"F { e.X = 'a'; s.A = 'b'; }")?;
+/// let listing = list(&Settings::new(Mode::Strict), &law)?;
+/// let dead = listing.findings[0].finding;
+/// assert_eq!((dead.span_start, dead.span_end), (15, 24));
+/// # Ok::<(), bilzarko::Refusal>(())
+/// ```
+pub fn law_file(text: &[u8]) -> Result<Vec<u8>, Refusal> {
+    let mut law = vec![0; LAW_BYTES];
+    let bytes = read(text, &mut law)?;
+    law.truncate(bytes);
+    Ok(law)
+}
+
 #[cfg(test)]
 mod tests {
     use super::answered;
@@ -166,7 +220,7 @@ mod tests {
     fn unknown_numbers_are_refusals() {
         assert_eq!(answered(0, 7), Ok(7));
         assert_eq!(answered(13, 7), Err(Refusal::Text));
-        for number in [16, 255, u32::MAX] {
+        for number in [18, 255, u32::MAX] {
             assert_eq!(answered(number, 7), Err(Refusal::Other(number)));
         }
     }

@@ -45,13 +45,13 @@ impl Finding {
 /// writes none such.
 ///
 /// ```
-/// use bilzarko::{read, Lint};
+/// use bilzarko::{decode, Lint};
 ///
 /// let words = [1, 1, 15, 26, 2, 1, 0, 1, 9, 1, 40, 45, 1, 0, 1, 6];
-/// let lints: Vec<Lint> = read(&words).map(|finding| finding.lint).collect();
+/// let lints: Vec<Lint> = decode(&words).map(|finding| finding.lint).collect();
 /// assert_eq!(lints, [Lint::DeadSentence, Lint::Other(9)]);
 /// ```
-pub fn read(words: &[u32]) -> impl Iterator<Item = Finding> + '_ {
+pub fn decode(words: &[u32]) -> impl Iterator<Item = Finding> + '_ {
     words
         .chunks_exact(FINDING_WORDS)
         .filter_map(|eight| Some(Finding::of_words(eight.try_into().ok()?)))

@@ -1,8 +1,8 @@
-//! The findings of a law file, and the text of each of them, for Rust.
+//! The findings of a law file, the text of each of them, and the law file of a law typed as text, for Rust.
 //!
-//! The work is done by `libbilzarko.a`, whose two functions are proved to meet their contracts; `include/bilzarko.h`
-//! says what they answer. This crate declares them again and gives each a safe function, [`findings`] and [`text`]: any
-//! arguments that its types allow may be passed. [`list`] makes the buffers itself and gives owned values.
+//! The work is done by `libbilzarko.a`, whose functions are proved to meet their contracts; `include/bilzarko.h`
+//! says what they answer. This crate declares them again and gives each a safe function, [`findings`], [`text`] and [`read`]:
+//! any arguments that its types allow may be passed. [`list`] and [`law_file`] make the buffers themselves and give owned values.
 //!
 //! ```
 //! use bilzarko::{list, Lint, Mode, Settings};
@@ -33,7 +33,7 @@
 //!
 //! # Time
 //!
-//! A call returns, but it can take for ever: matching with repeated variables is NP-complete. The smallest law known to do
+//! [`findings`] and [`text`] return, but they can take for ever: matching with repeated variables is NP-complete. The smallest law known to do
 //! so has a sentence `(e.1 .. e.k s.A) s.A` and a call of its function with `('b' .. 'b') 'a'`, k times `'b'`; it takes some 2
 //! seconds at k = 13, in 32 terms, and four times as long for each step of k. Where laws come from strangers, make the call
 //! in a process of its own and end that process: a call keeps nothing, and holds nothing but what it is lent.
@@ -48,8 +48,8 @@ mod listing;
 mod refusal;
 mod settings;
 
-pub use calls::{findings, text, Count};
-pub use finding::{read, Finding};
+pub use calls::{findings, law_file, read, text, Count};
+pub use finding::{decode, Finding};
 pub use kinds::{Lint, Mode, Severity};
 pub use listing::{list, Listed, Listing};
 pub use refusal::Refusal;
@@ -57,6 +57,8 @@ pub use settings::{Override, Settings};
 
 /// The bytes of a law file, at most.
 pub const LAW_BYTES: usize = 16_384;
+/// The bytes of a law typed as text, at most.
+pub const LAW_TEXT_BYTES: usize = 4_096;
 /// The words of a store, at least. [`formats`] says what they are.
 pub const STORE_WORDS: usize = formats::FORMATS * formats::FORMAT_WORDS;
 /// The words of a finding.

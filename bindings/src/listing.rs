@@ -1,6 +1,6 @@
 //! The findings of a law with their texts, in owned values.
 use crate::{
-    findings, read, text, Finding, Refusal, Settings, FINDING_WORDS, STORE_WORDS, TEXT_BYTES,
+    decode, findings, text, Finding, Refusal, Settings, FINDING_WORDS, STORE_WORDS, TEXT_BYTES,
     TEXT_FINDINGS,
 };
 
@@ -50,7 +50,7 @@ pub fn list(settings: &Settings, law: &[u8]) -> Result<Listing, Refusal> {
     let mut bytes = vec![0; TEXT_BYTES];
     let count = findings(settings, law, &mut store, &mut words)?;
     let mut listed = Vec::with_capacity(count.findings);
-    for (position, finding) in read(&words).take(count.findings).enumerate() {
+    for (position, finding) in decode(&words).take(count.findings).enumerate() {
         // The text fits, so that its length is at most that of the buffer.
         let length = text(settings, law, &mut store, position, &mut bytes)?;
         listed.push(Listed {

@@ -8,7 +8,10 @@ use std::fmt;
 /// [`CutOff`](Refusal::CutOff) for the count, [`CountOver`](Refusal::CountOver), [`CutOff`](Refusal::CutOff) for the
 /// records; [`LeftOver`](Refusal::LeftOver); [`Fields`](Refusal::Fields) to [`Patterns`](Refusal::Patterns) by their
 /// numbers; [`Store`](Refusal::Store); [`Shapes`](Refusal::Shapes); [`Findings`](Refusal::Findings); and of a text
-/// [`NoFinding`](Refusal::NoFinding), then [`Text`](Refusal::Text).
+/// [`NoFinding`](Refusal::NoFinding), then [`Text`](Refusal::Text). Of a law typed as text it is [`CountOver`](Refusal::CountOver) over
+/// 4,096 bytes; [`Grammar`](Refusal::Grammar); of its law file [`FileOver`](Refusal::FileOver),
+/// [`CountOver`](Refusal::CountOver), [`Fields`](Refusal::Fields), [`Depth`](Refusal::Depth) and [`Patterns`](Refusal::Patterns); and
+/// [`Law`](Refusal::Law).
 ///
 /// The buffers keep their values, but for the store: after [`Refusal::Shapes`] its first 8,320 words are 0, and after
 /// [`Refusal::Findings`], [`Refusal::NoFinding`] and [`Refusal::Text`] they hold the formats of the law.
@@ -56,6 +59,10 @@ pub enum Refusal {
     Settings,
     /// 15: the store has under 8,320 words.
     Store,
+    /// 16: the text is outside the grammar, or not UTF-8.
+    Grammar,
+    /// 17: the law file does not fit.
+    Law,
     /// A number that this crate has no name for. The library of this version returns none such.
     Other(u32),
 }
@@ -79,6 +86,8 @@ impl Refusal {
             Refusal::Text => 13,
             Refusal::Settings => 14,
             Refusal::Store => 15,
+            Refusal::Grammar => 16,
+            Refusal::Law => 17,
             Refusal::Other(number) => number,
         }
     }
@@ -90,7 +99,7 @@ impl Refusal {
     ///
     /// assert_eq!(Refusal::of_number(0), None);
     /// assert_eq!(Refusal::of_number(15), Some(Refusal::Store));
-    /// assert_eq!(Refusal::of_number(16), Some(Refusal::Other(16)));
+    /// assert_eq!(Refusal::of_number(18), Some(Refusal::Other(18)));
     /// ```
     pub const fn of_number(number: u32) -> Option<Refusal> {
         Some(match number {
@@ -110,6 +119,8 @@ impl Refusal {
             13 => Refusal::Text,
             14 => Refusal::Settings,
             15 => Refusal::Store,
+            16 => Refusal::Grammar,
+            17 => Refusal::Law,
             _ => Refusal::Other(number),
         })
     }
@@ -138,6 +149,8 @@ impl Refusal {
                 "there are over 8 overrides, or one has an unknown lint or severity"
             }
             Refusal::Store => "the store has under 8,320 words",
+            Refusal::Grammar => "the text is outside the grammar",
+            Refusal::Law => "the law file does not fit",
             Refusal::Other(_) => "its meaning is not known",
         }
     }

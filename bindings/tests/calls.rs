@@ -4,7 +4,7 @@ mod laws;
 use std::error::Error;
 
 use bilzarko::{
-    findings, list, read, text, Count, Finding, Lint, Listed, Listing, Mode, Override, Refusal,
+    decode, findings, list, text, Count, Finding, Lint, Listed, Listing, Mode, Override, Refusal,
     Settings, Severity, STORE_WORDS, TEXT_FINDINGS,
 };
 use laws::section;
@@ -60,7 +60,7 @@ fn example_is_listed() {
     );
     assert_eq!(store[STORE_WORDS], OLD);
     assert!(store[..STORE_WORDS].iter().all(|word| *word != OLD));
-    let lints: Vec<Lint> = read(&words[..16]).map(|finding| finding.lint).collect();
+    let lints: Vec<Lint> = decode(&words[..16]).map(|finding| finding.lint).collect();
     assert_eq!(lints, [Lint::DeadSentence, Lint::RecognitionImpossible]);
 }
 
@@ -246,7 +246,7 @@ fn overrides_count() {
     let settings = STRICT.with(hidden).and_then(|s| s.with(warned)).unwrap();
     let listed = findings(&settings, &example(), &mut store, &mut words).unwrap();
     assert_eq!(listed.findings, 1);
-    let only = read(&words[..8]).next().unwrap();
+    let only = decode(&words[..8]).next().unwrap();
     assert_eq!(
         (only.lint, only.severity, only.subject),
         (Lint::RecognitionImpossible, Severity::Warn, 6)
@@ -326,7 +326,7 @@ fn list_has_places_for_256_findings() {
 #[test]
 fn unknown_numbers_are_kept() {
     let words = [9, 7, 0, 0, 0, 0, 0, 0, 1, 1, 0, 0, 2, 1, 0, 1, OLD];
-    let found: Vec<Finding> = read(&words).collect();
+    let found: Vec<Finding> = decode(&words).collect();
     let kinds: Vec<(Lint, Severity)> = found.iter().map(|one| (one.lint, one.severity)).collect();
     assert_eq!(
         kinds,

@@ -39,6 +39,7 @@ fn numbers_are_the_same() {
 
     let sizes = [
         ("LAW_BYTES", bilzarko::LAW_BYTES),
+        ("LAW_TEXT_BYTES", bilzarko::LAW_TEXT_BYTES),
         ("OVERRIDES", bilzarko::OVERRIDES),
         ("STORE_WORDS", bilzarko::STORE_WORDS),
         ("FINDING_WORDS", bilzarko::FINDING_WORDS),
@@ -111,6 +112,8 @@ fn numbers_are_the_same() {
         ("REFUSAL_TEXT", Refusal::Text),
         ("REFUSAL_SETTINGS", Refusal::Settings),
         ("REFUSAL_STORE", Refusal::Store),
+        ("REFUSAL_GRAMMAR", Refusal::Grammar),
+        ("REFUSAL_LAW", Refusal::Law),
     ];
     for (name, refusal) in refusals {
         same(name, refusal.number());

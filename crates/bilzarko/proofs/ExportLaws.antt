@@ -1,4 +1,4 @@
--- What the exported calls return, from what the two calls of `listing` answer.
+-- What the exported calls return, from what the calls of `listing` and `reader` answer.
 use Prim.Native.Nat.{ℕ}
 use mathlib.Core.Bool.{Bool, true, false, cond}
 use mathlib.Core.List.{List, [], _∷_}
@@ -16,7 +16,11 @@ use Rattle.listing.specs.declared.Told.{Told}
 use Rattle.listing.specs.declared.Told.the-variants as told
 use Rattle.listing.specs.Outcome.{turnedNumber, TextOutcome}
 use Rattle.listing.specs.Promise.{textAfter, FindingsPromise}
-use Rattle.bilzarko.specs.Exported.{FindingsExported, TextExit, textExit}
+use Rattle.reader.specs.declared.Unread.{Unread}
+use Rattle.reader.specs.declared.Reading.{Reading}
+use Rattle.reader.specs.declared.Reading.the-variants as reading
+use Rattle.reader.specs.Outcome.{unreadNumber, ReadOutcome, readAfter}
+use Rattle.bilzarko.specs.Exported.{FindingsExported, TextExit, textExit, ReadExit, readExit}
 
 -- no refusal's number is 0
 file-number-some : (why : Refusal) → numberOf why ≡ 0 → ⊥
@@ -73,3 +77,13 @@ module _ {filled after : List ℕ} (answer : ℕ) {o : TextOutcome} {r : Told} (
   pub text-written : (bytes : ℕ) → r ≡ told.Written bytes
       → _≡_ {A = TextExit} (record { number = 0; store = filled; text = after; answer = bytes }) (textExit answer o)
   text-written bytes is = rw (← outcome, is) refl
+
+module _ {after : List ℕ} (answer : ℕ) {o : ReadOutcome} {r : Reading} (outcome : readAfter r after ≡ o) where
+  -- the text is not read: the answer keeps its word
+  pub read-refused : (why : Unread) {number : ℕ} → r ≡ reading.Refused why → number ≡ unreadNumber why
+      → _≡_ {A = ReadExit} (record { number = number; law = after; answer = answer }) (readExit answer o)
+  read-refused why is number-is = rw (← outcome, is, number-is) refl
+
+  -- its law file is written
+  pub read-written : (bytes : ℕ) → r ≡ reading.Written bytes → _≡_ {A = ReadExit} (record { number = 0; law = after; answer = bytes }) (readExit answer o)
+  read-written bytes is = rw (← outcome, is) refl

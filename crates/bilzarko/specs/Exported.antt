@@ -12,6 +12,7 @@ use Rattle.lints.specs.Levels.{Settings}
 use Rattle.runs.specs.Numbers.{noNeedlessZeros}
 use Rattle.runs.specs.Claim.{NoFalseFinding}
 use Rattle.listing.specs.Outcome.{Count, FindingsOutcome, findingsOutcome, TextOutcome}
+use Rattle.reader.specs.Outcome.{ReadOutcome}
 
 -- the number that is returned: the refusal's, or 0
 abbrev pub numberReturned : {A : Type 0} → Answer A → ℕ
@@ -66,5 +67,20 @@ textExit before o = record {
   number = numberReturned (o .answer);
   store = o .store;
   text = o .text;
+  answer = answerAfter (λ bytes. bytes) before (o .answer);
+}
+
+-- ---- the call that reads a text
+
+pub record ReadExit : Type 0 where
+  pub number : ℕ
+  pub law : List ℕ
+  pub answer : ℕ
+
+-- the answer is the number of bytes written
+abbrev pub readExit : ℕ → ReadOutcome → ReadExit
+readExit before o = record {
+  number = numberReturned (o .answer);
+  law = o .law;
   answer = answerAfter (λ bytes. bytes) before (o .answer);
 }

@@ -1,13 +1,16 @@
-// The two calls for programs in other languages, as functions of C. A slice crosses as a pointer and a number of elements. Each call returns 0 or a refusal's
+// The three calls for programs in other languages, as functions of C. A slice crosses as a pointer and a number of elements. Each call returns 0 or a refusal's
 // number; what it answers stands in lent words, which keep their values where it is refused.
 use listing::Found;
 use listing::Told;
 use listing::turned_number;
+use reader::Reading;
+use reader::unread_number;
 ghost use mathlib.Core.Path.{_≡_};
 ghost use mathlib.Core.Bool.{cond};
 ghost use Rattle.lints.specs.Levels.{settingsFrom};
 ghost use Rattle.listing.specs.Outcome.{textOutcome};
-ghost use Rattle.bilzarko.specs.Exported.{FindingsExported, TextExit, textExit};
+ghost use Rattle.reader.specs.Outcome.{readOutcome};
+ghost use Rattle.bilzarko.specs.Exported.{FindingsExported, TextExit, textExit, ReadExit, readExit};
 
 // 1 for settled, 0 for not.
 fn settled_word(settled: bool) -> u64
@@ -55,6 +58,21 @@ pub extern "C" fn bilzarko_text(
     match listing::text(mode, overrides, law, store, position, text) {
         Told::Refused(why) => turned_number(why),
         Told::Written(bytes) => {
+            *answer = bytes as u64;
+            0
+        }
+    }
+}
+
+// Reads a law typed as text, and writes its law file. `answer` is the number of bytes written.
+#[no_mangle]
+pub extern "C" fn bilzarko_read(text: &[u8], law: &mut [u8], answer: &mut u64) -> u32
+    ensures { λ r. ⌜ _≡_ {A = ReadExit} (record { number = r; law = now (law .exit); answer = now (answer .exit) })
+        (readExit (now (answer .entry)) (readOutcome (now (text .entry)) (now (law .entry)))) ⌝ }
+{
+    match reader::read(text, law) {
+        Reading::Refused(why) => unread_number(why),
+        Reading::Written(bytes) => {
             *answer = bytes as u64;
             0
         }

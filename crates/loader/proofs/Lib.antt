@@ -1,3 +1,4 @@
 pub mod RowLaws
 pub mod LoadedLaws
 pub mod ShownLaws
+pub mod TypedLaws

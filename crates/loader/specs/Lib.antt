@@ -1,3 +1,4 @@
 pub mod Rows
 pub mod Loaded
 pub mod Shown
+pub mod Typed

@@ -1,12 +1,14 @@
 // The exported calls as a loader and an editor use them. These contracts say in full what a caller relies on, in words of their own: where a contract of
-// `bilzarko` or `listing` promises less, or asks for something, they are not proved.
+// `bilzarko`, `listing` or `reader` promises less, or asks for something, they are not proved.
 use bilzarko::bilzarko_findings;
+use bilzarko::bilzarko_read;
 use bilzarko::bilzarko_text;
 ghost use mathlib.Core.List.{[], _∷_};
 ghost use Rattle.lints.specs.Levels.{settingsFrom};
 ghost use Rattle.loader.specs.Rows.{returned};
 ghost use Rattle.loader.specs.Loaded.{Loaded};
 ghost use Rattle.loader.specs.Shown.{Shown};
+ghost use Rattle.loader.specs.Typed.{Typed};
 
 // Lists the findings of a law that is loaded. It returns 0 or a refusal's number.
 pub fn load(
@@ -37,4 +39,11 @@ pub fn show(
         (returned r (now (store .exit)) (now (text .exit)) (now (answer .exit) ∷ [])) ⌝ }
 {
     bilzarko_text(mode, overrides, law, store, position, text, answer)
+}
+
+// Writes the law file of a text that an editor was given. It returns 0 or a refusal's number.
+pub fn read(text: &[u8], law: &mut [u8], answer: &mut u64) -> u32
+    ensures { λ r. ⌜ Typed (now (text .entry)) (now (law .entry)) (now (answer .entry) ∷ []) (returned r [] (now (law .exit)) (now (answer .exit) ∷ [])) ⌝ }
+{
+    bilzarko_read(text, law, answer)
 }

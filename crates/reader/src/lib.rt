@@ -1,6 +1,7 @@
 // Reads a law typed as text: the law file of a text, in a lent buffer.
 use buffers::put;
 use file::Refusal;
+use file::refusal_number;
 use grammar::accepts;
 use law::Check;
 use law::check_law;
@@ -17,9 +18,9 @@ ghost use Rattle.tokens.specs.Code.Arrays.{Long, Lexes};
 ghost use Rattle.grammar.specs.Read.{phraseOf};
 ghost use Rattle.encoding.specs.Code.FlatFile.{flatFile};
 ghost use Rattle.writing.specs.Code.Held.{Held, Stand};
-ghost use Rattle.reader.specs.Outcome.{lawFile, phraseFile, readBy, readOutcome, readAfter};
+ghost use Rattle.reader.specs.Outcome.{lawFile, phraseFile, readBy, readOutcome, unreadNumber, readAfter};
 
-// Why a text is not read. `unreadNumber` of specs/Outcome.antt gives each its number in document 02.
+// Why a text is not read.
 pub enum Unread {
     TextOver,
     Outside,
@@ -31,6 +32,18 @@ pub enum Unread {
 pub enum Reading {
     Refused(Unread),
     Written(usize),
+}
+
+// Document 02's number of a refusal.
+pub fn unread_number(why: Unread) -> u32
+    ensures { λ r. ⌜ r ≡ unreadNumber why ⌝ }
+{
+    match why {
+        Unread::TextOver => 4,
+        Unread::Outside => 16,
+        Unread::Law(of_law) => refusal_number(of_law),
+        Unread::Short => 17,
+    }
 }
 
 // A file put at the start of a buffer that has room for it.
