@@ -22,17 +22,19 @@ fn main() -> ExitCode {
             return ExitCode::from(2);
         }
     };
-    let law = law_file(&text);
-    let out = match &law {
+    let read = law_file(&text);
+    let out = match &read {
         Ok(law) => format!("{}\n", law.len()),
         Err(refusal) => format!("refused {}\n", refusal.number()),
     };
-    if let Some(error) = law.as_ref().ok().and_then(|law| fs::write(law_name, law).err()) {
-        eprintln!("{}: {error}", law_name.to_string_lossy());
-        return ExitCode::from(2);
+    if let Ok(law) = &read {
+        if let Err(error) = fs::write(law_name, law) {
+            eprintln!("{}: {error}", law_name.to_string_lossy());
+            return ExitCode::from(2);
+        }
     }
     if io::stdout().write_all(out.as_bytes()).is_err() {
         return ExitCode::from(2);
     }
-    ExitCode::from(u8::from(law.is_err()))
+    ExitCode::from(u8::from(read.is_err()))
 }

@@ -362,7 +362,7 @@ fn numbers_go_back_and_forth() {
         let refusal = Refusal::of_number(number).unwrap();
         assert_eq!(refusal.number(), number);
         let unknown = matches!(refusal, Refusal::Other(_));
-        assert_eq!(unknown, number > 15);
+        assert_eq!(unknown, number > 17);
     }
     for number in (0..=40).chain([u32::MAX]) {
         assert_eq!(Lint::of_number(number).number(), number);
@@ -372,7 +372,7 @@ fn numbers_go_back_and_forth() {
 
 #[test]
 fn refusals_say_their_meaning() {
-    let said: Vec<String> = (1..=16)
+    let said: Vec<String> = (1..=18)
         .filter_map(Refusal::of_number)
         .map(|refusal| (Box::new(refusal) as Box<dyn Error>).to_string())
         .collect();
@@ -381,5 +381,6 @@ fn refusals_say_their_meaning() {
         assert!(!said[..position].contains(one));
     }
     assert_eq!(said[12], "refusal 13: the text does not fit");
-    assert_eq!(said[15], "refusal 16: its meaning is not known");
+    assert_eq!(said[15], "refusal 16: the text is outside the grammar");
+    assert_eq!(said[17], "refusal 18: its meaning is not known");
 }

@@ -33,11 +33,20 @@ fn refused_texts_keep_the_buffer() {
     let cases = [
         (" ".repeat(LAW_TEXT_BYTES + 1), Refusal::CountOver),
         ("F { }".to_string(), Refusal::Grammar),
-        (format!("F {{ = '{}'; }}", "a".repeat(700)), Refusal::FileOver),
-        (format!("F {{ = '{}'; }}", "a".repeat(513)), Refusal::CountOver),
+        (
+            format!("F {{ = '{}'; }}", "a".repeat(700)),
+            Refusal::FileOver,
+        ),
+        (
+            format!("F {{ = '{}'; }}", "a".repeat(513)),
+            Refusal::CountOver,
+        ),
         (format!("{} {{ = }}", "F".repeat(65)), Refusal::Fields),
         (nest(34), Refusal::Depth),
-        (format!("F {{ {} = }}", variables.join(" ")), Refusal::Patterns),
+        (
+            format!("F {{ {} = }}", variables.join(" ")),
+            Refusal::Patterns,
+        ),
     ];
     for (text, refusal) in cases {
         let mut law = [OLD; LAW_BYTES];
