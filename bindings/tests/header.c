@@ -15,7 +15,7 @@ HOLDS(format_is_shapes, BILZARKO_FORMAT_SHAPES + 1 == BILZARKO_FORMAT_WORDS);
 
 static uint32_t store[BILZARKO_STORE_WORDS];
 static const uint8_t over[BILZARKO_LAW_BYTES + 1] = {0};
-static uint8_t read[BILZARKO_LAW_BYTES];
+static uint8_t file[BILZARKO_LAW_BYTES];
 
 /* Both calls with a law that is too long and no buffers: are they refused for their settings? */
 static int settings_refused(uint32_t mode, const uint32_t *overrides, size_t overrides_length)
@@ -50,9 +50,9 @@ int main(void)
         || !settings_refused(BILZARKO_MODE_STRICT, no_severity, 1)
         || !settings_refused(BILZARKO_MODE_STRICT, nine, BILZARKO_OVERRIDES + 1))
         return 4;
-    if (bilzarko_read(NULL, 0, read, sizeof read, &bytes) != 0 || bytes != sizeof law)
+    if (bilzarko_read(NULL, 0, file, sizeof file, &bytes) != 0 || bytes != sizeof law)
         return 5;
-    if (bilzarko_read(law, 1, read, sizeof read, &bytes) != BILZARKO_REFUSAL_GRAMMAR
+    if (bilzarko_read(law, 1, file, sizeof file, &bytes) != BILZARKO_REFUSAL_GRAMMAR
         || bilzarko_read(over, BILZARKO_LAW_TEXT_BYTES + 1, NULL, 0, &bytes) != BILZARKO_REFUSAL_COUNT_OVER
         || bilzarko_read(NULL, 0, NULL, 0, &bytes) != BILZARKO_REFUSAL_LAW || bytes != sizeof law)
         return 6;
