@@ -32,7 +32,7 @@ extern "C" {
 
 /* The version of this header and of the Rust crate over the same calls. */
 #define BILZARKO_VERSION_MAJOR 0
-#define BILZARKO_VERSION_MINOR 1
+#define BILZARKO_VERSION_MINOR 2
 #define BILZARKO_VERSION_PATCH 0
 
 /* Limits and sizes. */

@@ -37,6 +37,8 @@ CALLS = [
     ("listing/src/lib.rt", "text"),
     ("bilzarko/src/lib.rt", "bilzarko_findings"),
     ("bilzarko/src/lib.rt", "bilzarko_text"),
+    ("bilzarko/src/lib.rt", "bilzarko_read"),
+    ("reader/src/lib.rt", "read"),
     ("law/src/lib.rt", "check_law"),
     ("formats/src/lib.rt", "infer_formats"),
     ("shapes/src/display.rt", "display_format"),
@@ -66,6 +68,17 @@ THEOREMS = [
     ("matching/proofs/OrderLaws.antt", "matches-in-order"),
     ("matching/proofs/ShadowLaws.antt", "shadow-sound"),
     ("matching/proofs/LiteralLaws.antt", "literal-misses-nothing"),
+    ("tokens/proofs/NextPiece.antt", "next-longest"),
+    ("tokens/proofs/NextPiece.antt", "longest-next"),
+    ("tokens/proofs/Lexing.antt", "lexed-found"),
+    ("tokens/proofs/Lexing.antt", "found-lexed"),
+    ("tokens/proofs/Lexing.antt", "lexed-once"),
+    ("grammar/proofs/Reading.antt", "written-found"),
+    ("grammar/proofs/Reading.antt", "found-written"),
+    ("grammar/proofs/Reading.antt", "written-once"),
+    ("encoding/proofs/EncodedLaw.antt", "encoded-law"),
+    ("encoding/proofs/EncodedLaw.antt", "only-these-refusals"),
+    ("encoding/proofs/EncodedLaw.antt", "encoded-tree"),
 ]
 
 # antt's own words and names, which no `use` line brings in, and those of contracts

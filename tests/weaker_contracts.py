@@ -12,8 +12,8 @@ from weaker_machines import tried
 CODE = "bilzarko/src/lib.rt"
 EXPORTED = "bilzarko/specs/Exported.antt"
 LAWS = "bilzarko/proofs/ExportLaws.antt"
-TEXT_PROOF = "bilzarko/proofs/bilzarko_text/Proof.antt"
-PINS = {"loader/proofs/" + name for name in ("LoadedLaws.antt", "ShownLaws.antt", "load/Proof.antt", "show/Proof.antt")}
+PINS = {"loader/proofs/" + name for name in ("LoadedLaws.antt", "ShownLaws.antt", "TypedLaws.antt", "load/Proof.antt",
+                                             "show/Proof.antt", "read/Proof.antt")}
 
 # ---- demand 3
 
@@ -33,15 +33,28 @@ REFUSED = "outcome = rw (← promise .outcome, is, number-is) refl;"
 LISTED = "outcome = rw (← promise .outcome, is, word-is) refl;"
 NUMBER_SOME = "absurd (turned-number-some why (rw (← number-is) none))"
 
-TEXT_RECORD = "(record { number = r; store = now (store .exit); text = now (text .exit); answer = now (answer .exit) })"
-TEXT_IS = ("(textExit (now (answer .entry)) (textOutcome 64 (settingsFrom mode (now (overrides .entry))) (now (law .entry))"
-           " (now (store .entry)) position (now (text .entry))))")
-TEXT_SAID = f"""_≡_ {{A = TextExit}} {TEXT_RECORD}
-        {TEXT_IS}"""
-TEXT_REFUSED = ("text-refused (at-start .args .answer .now) (at-call .text .ensures) (at-why .why .given .0 .0) (at-why .why .given .1)"
-                " (c .turned-number .ensures)")
-TEXT_WRITTEN = ("text-written (at-start .args .answer .now) (at-call .text .ensures) (at-bytes .bytes .given .0 .0)"
-                " (at-bytes .bytes .given .1)")
+
+
+class Call:
+    """A call whose contract is one equation: its name, the fields of its exit, its outcome, and the refusal's number in its proof."""
+
+    def __init__(self, name, exit_type, fields, outcome, number):
+        self.exit_type, self.fields = exit_type, fields
+        self.proof = f"bilzarko/proofs/bilzarko_{name}/Proof.antt"
+        self.definition = f"abbrev pub {name}Exit :"
+        after = "; ".join(f"{field} = now ({field} .exit)" for field in fields)
+        self.record = f"(record {{ number = r; {after} }})"
+        self.outcome = f"({name}Exit (now (answer .entry)) ({outcome}))"
+        self.ensured = f"_≡_ {{A = {exit_type}}} {self.record}\n        {self.outcome}"
+        start = f"(at-start .args .answer .now) (at-call .{name} .ensures)"
+        self.refused = f"{name}-refused {start} (at-why .why .given .0 .0) (at-why .why .given .1) (c .{number} .ensures)"
+        self.written = f"{name}-written {start} (at-bytes .bytes .given .0 .0) (at-bytes .bytes .given .1)"
+
+
+TEXT = Call("text", "TextExit", ("store", "text", "answer"),
+            "textOutcome 64 (settingsFrom mode (now (overrides .entry))) (now (law .entry)) (now (store .entry)) position (now (text .entry))",
+            "turned-number")
+READ = Call("read", "ReadExit", ("law", "answer"), "readOutcome (now (text .entry)) (now (law .entry))", "unread-number")
 
 
 def said(name, type_of, fields, left_out, nothing, where):
@@ -64,24 +77,27 @@ def findings_unsaid(field, where):
     ] + ([(LAWS, LISTED, LISTED.replace(", word-is", ""))] if (field, where) == ("answer", "listed") else [])
 
 
-def text_unsaid(field, where):
-    definition = said("said", "TextExit", ("store", "text", "answer"), field, "0" if field == "answer" else "[]", where)
+def unsaid(call, field, where):
+    definition = said("said", call.exit_type, call.fields, field, "0" if field == "answer" else "[]", where)
     return [
         (EXPORTED, "use lib.ListN.{take, getD}", "use lib.ListN.{take, getD}\nuse lib.Dec.{eqb}"),
-        (EXPORTED, "-- the answer is the number of bytes written", definition + "-- the answer is the number of bytes written"),
-        (CODE, "{FindingsExported, TextExit, textExit}", "{FindingsExported, TextExit, textExit, said}"),
-        (CODE, TEXT_RECORD, f"(said {TEXT_RECORD})"),
-        (CODE, TEXT_IS, f"(said {TEXT_IS})"),
-        (TEXT_PROOF, "use borrow.Author.Needs.{needs}", "use borrow.Author.Needs.{needs}\nuse mathlib.Core.Path.{ap}\n"
+        (EXPORTED, call.definition, definition + call.definition),
+        (CODE, "Exported.{FindingsExported, ", "Exported.{said, FindingsExported, "),
+        (CODE, call.record, f"(said {call.record})"),
+        (CODE, call.outcome, f"(said {call.outcome})"),
+        (call.proof, "use borrow.Author.Needs.{needs}", "use borrow.Author.Needs.{needs}\nuse mathlib.Core.Path.{ap}\n"
          "use Rattle.bilzarko.specs.Exported.{said}"),
-        (TEXT_PROOF, TEXT_REFUSED, f"ap said ({TEXT_REFUSED})"),
-        (TEXT_PROOF, TEXT_WRITTEN, f"ap said ({TEXT_WRITTEN})"),
+        (call.proof, call.refused, f"ap said ({call.refused})"),
+        (call.proof, call.written, f"ap said ({call.written})"),
     ]
 
 
-def asking(call):
-    """The mode must be 1."""
-    return [(CODE, f"    ensures {{ λ r. ⌜ {call}", f"    requires {{ ⌜ mode ≡ 1 ⌝ }}\n    ensures {{ λ r. ⌜ {call}")]
+def asking(call, asked):
+    return [(CODE, f"    ensures {{ λ r. ⌜ {call}", f"    requires {{ ⌜ {asked} ⌝ }}\n    ensures {{ λ r. ⌜ {call}")]
+
+
+def nothing_said(call):
+    return [(CODE, call.ensured, "Unit {0}"), (call.proof, call.refused, "tt"), (call.proof, call.written, "tt")]
 
 
 CONTRACTS = {
@@ -128,18 +144,18 @@ CONTRACTS = {
             (LAWS, LISTED, LISTED.replace("rw", "λ none. rw")),
         ],
     ),
-    "findings-asks": ("the findings call asks for strict mode", asking("FindingsExported")),
-    "text-asks": ("the text call asks for strict mode", asking("_≡_ {A = TextExit}")),
-    "text-nothing": (
-        "the text call promises nothing",
-        [(CODE, TEXT_SAID, "Unit {0}"), (TEXT_PROOF, TEXT_REFUSED, "tt"), (TEXT_PROOF, TEXT_WRITTEN, "tt")],
-    ),
+    "findings-asks": ("the findings call asks for strict mode", asking("FindingsExported", "mode ≡ 1")),
+    "text-asks": ("the text call asks for strict mode", asking("_≡_ {A = TextExit}", "mode ≡ 1")),
+    "text-nothing": ("the text call promises nothing", nothing_said(TEXT)),
+    "read-asks": ("the reading call asks for a word of 7", asking("_≡_ {A = ReadExit}", "now answer ≡ 7")),
+    "read-nothing": ("the reading call promises nothing", nothing_said(READ)),
 }
 for where, when in (("refused", "after a refusal"), ("listed", "where it is not refused")):
     for field in ("store", "findings", "answer"):
         CONTRACTS[f"findings-{field}-{where}"] = (f"the findings call leaves its {field} unsaid {when}", findings_unsaid(field, where))
-    for field in ("store", "text", "answer"):
-        CONTRACTS[f"text-{field}-{where}"] = (f"the text call leaves its {field} unsaid {when}", text_unsaid(field, where))
+    for name, call in (("text", TEXT), ("read", READ)):
+        for field in call.fields:
+            CONTRACTS[f"{name}-{field}-{where}"] = (f"the {name} call leaves its {field} unsaid {when}", unsaid(call, field, where))
 
 
 if __name__ == "__main__":
