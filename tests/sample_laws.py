@@ -1,97 +1,47 @@
-"""Makes the law files of the samples, and what the listing program has to write of one of them.
+"""Makes the law files of the samples, and what the programs read_law and list_law have to write of one of them.
 
 Run at the repository's root: python3 tests/sample_laws.py
-It reads samples/bearing.ref and samples/example.ref, laws in Refal-5 notation, and writes their .law files, with spans that
-are byte offsets into these texts; it writes crates/list_law/stdin, which is samples/bearing.law, and crates/list_law/stdout.
+It reads the texts samples/*.ref and writes the law file of each. It writes samples/block.law, a law with a block, which no text
+has; crates/read_law/stdin and stdout, which are samples/bearing.ref and samples/bearing.law; and crates/list_law/stdin, which
+is samples/bearing.law, and stdout.
 
 python3 tests/sample_laws.py --check writes nothing and says whether the files are as they would be written.
 
-What is listed is computed by the model in tests/listing_model.py; for samples/example.ref document 01 gives the lines,
-and the model has to give them.
+Texts are read by the model in tests/text_model.py, and what is listed is computed by the model in tests/listing_model.py; for
+samples/example.ref document 01 gives the lines, and the model has to give them. That no finding's text is longer than that of
+samples/longest_text.law is computed by bindings/tests/longest_text.rs.
 """
-import re
 import sys
 from pathlib import Path
 
-from edge_laws import BLOCK, TOKEN, Reader, encoded, records
+from edge_laws import Reader, encoded, records
 from listing_model import Listing
+from text_model import TextReader, file_of
 
 ROOT = Path(__file__).resolve().parent.parent
+SAMPLES = ROOT / "samples"
 
 # Document 01, "Small laws".
 EXAMPLE_LINES = "2 2 1\n1 1 15 26 2 1 0 1\n2 1 40 45 1 0 1 6\n"
 
-SKIPPED = re.compile(r"\s+|/\*.*?\*/|\$EXTERN[^;]*;|\$ENTRY", re.DOTALL)
-STRING = re.compile(r"'([^'\n]*)'")
+# In the notation of tests/edge_laws.py; spans are its places here.
+BLOCK = "Clamp { s.Strain = [<Compare s.Strain 250> : '+' = 250; s.Order = s.Strain; '-' = 0;]; }"
 
 
-class Refal5(Reader):
-    """Reads Refal-5: comments, declarations, strings, and blocks as `, argument : { sentences }` in place of a result."""
-
-    def cut(self, source):
-        at = 0
-        while at < len(source):
-            skipped = SKIPPED.match(source, at)
-            if skipped:
-                at = skipped.end()
-            elif source[at] == "*" and (at == 0 or source[at - 1] == "\n"):
-                at = source.index("\n", at)
-            elif source[at] == "'":
-                at = self.cut_string(STRING.match(source, at))
-            else:
-                found = TOKEN.match(source, at)
-                self.tokens.append((found.lastgroup, found[found.lastgroup]))
-                self.places.append(found.span())
-                at = found.end()
-
-    def cut_string(self, found):
-        """A string's characters; its quotes belong to the first and the last."""
-        text, start = found[1], found.start(1)
-        for k, character in enumerate(text):
-            self.tokens.append(("character", character))
-            self.places.append((start + k - (k == 0), start + k + 1 + (k == len(text) - 1)))
-        return found.end()
-
-    def sentences(self, end):
-        found = []
-        while not self.next_is(end):
-            first = self.at
-            pattern = self.run()
-            conditions, result = self.right_side()
-            found.append(self.stood(first, (pattern, conditions, result)))
-            if self.next_is(";"):
-                self.skip(";")
-        self.skip(end)
-        return found
-
-    def right_side(self):
-        conditions = []
-        while self.next_is(","):
-            self.skip(",")
-            start = self.at
-            result = self.run()
-            self.skip(":")
-            if self.next_is("{"):
-                self.skip("{")
-                return conditions, [self.stood(start, (BLOCK, None, result, self.sentences("}")))]
-            conditions.append(self.stood(start, (result, self.run())))
-        self.skip("=")
-        return conditions, self.run()
+def lines(text):
+    return Listing(TextReader(text).functions()).lines()
 
 
 def files():
     """The files that are written, with their bytes."""
-    found = {}
-    for name in ("example", "bearing"):
-        source = (ROOT / "samples" / f"{name}.ref").read_text("ascii")
-        assert source == source.lstrip(), name  # else offsets would not be into the file
-        functions = Refal5(source).functions()
-        found[ROOT / "samples" / f"{name}.law"] = encoded(records(functions, spans=True))
-        lines = Listing(functions).lines()
-        if name == "example":
-            assert lines == EXAMPLE_LINES, lines
-    found[ROOT / "crates" / "list_law" / "stdin"] = found[ROOT / "samples" / "bearing.law"]
-    found[ROOT / "crates" / "list_law" / "stdout"] = lines.encode("ascii")
+    texts = {path.stem: path.read_bytes() for path in sorted(SAMPLES.glob("*.ref"))}
+    assert lines(texts["example"]) == EXAMPLE_LINES, lines(texts["example"])
+    found = {SAMPLES / f"{name}.law": file_of(text) for name, text in texts.items()}
+    found[SAMPLES / "block.law"] = encoded(records(Reader(BLOCK).functions(), spans=True))
+    bearing = texts["bearing"], found[SAMPLES / "bearing.law"], lines(texts["bearing"]).encode("ascii")
+    crates = ROOT / "crates"
+    found[crates / "read_law" / "stdin"], found[crates / "read_law" / "stdout"] = bearing[:2]
+    found[crates / "list_law" / "stdin"], found[crates / "list_law" / "stdout"] = bearing[1:]
     return found
 
 

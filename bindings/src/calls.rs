@@ -78,7 +78,7 @@ fn answered<T>(number: u32, answer: T) -> Result<T, Refusal> {
 /// let count = findings(&Settings::new(Mode::Strict), &law, &mut store, &mut words)?;
 /// assert_eq!((count.findings, count.rounds, count.settled), (6, 3, true));
 /// let first = decode(&words).next().expect("there are six");
-/// assert_eq!((first.span_start, first.span_end), (615, 622));
+/// assert_eq!((first.span_start, first.span_end), (661, 677));
 /// # Ok::<(), Box<dyn std::error::Error>>(())
 /// ```
 pub fn findings(

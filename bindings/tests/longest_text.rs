@@ -11,6 +11,7 @@ use bilzarko::{list, text, Mode, Refusal, Settings, STORE_WORDS, TEXT_BYTES};
 const STRICT: Settings = Settings::new(Mode::Strict);
 const LONGEST: &[u8] = include_bytes!("../../samples/longest_text.law");
 const BEARING: &[u8] = include_bytes!("../../samples/bearing.law");
+const BLOCK: &[u8] = include_bytes!("../../samples/block.law");
 
 // ---- the seven kinds of texts
 
@@ -54,20 +55,24 @@ fn open(owner: &str, count: u32) -> String {
     )
 }
 
-/// The wording above is the library's. Of the three builtin failures the sample has one.
+fn texts(law: &[u8]) -> Vec<String> {
+    let listing = list(&STRICT, law).unwrap();
+    listing.findings.into_iter().map(|one| one.text).collect()
+}
+
+/// The wording above is the library's. Of the three builtin failures the samples have one.
 #[test]
 fn kinds_are_worded_so() {
     let wanted = [
-        dead(&in_block("Clamp"), 3, 2),
+        dead("Limit", 3, 2),
         dead("Stiffness", 2, 1),
         by_formats("Stress", "[([S]) S ..]", "[I N]"),
         by_literals("Layers"),
         fails("Numb", BUILTIN[2]),
         open("Find", 2),
     ];
-    let listing = list(&STRICT, BEARING).unwrap();
-    let texts: Vec<String> = listing.findings.into_iter().map(|one| one.text).collect();
-    assert_eq!(texts, wanted);
+    assert_eq!(texts(BEARING), wanted);
+    assert_eq!(texts(BLOCK), [dead(&in_block("Clamp"), 3, 2)]);
 }
 
 // ---- formats
