@@ -1,0 +1,163 @@
+// Puts texts through the reading call, and says what it answers and what every lent byte holds then.
+//
+// A case is a label as the crate `test_cases` reads it; a word, the bytes of the buffer that is lent; and a text, which stands
+// there as a law does.
+//
+// Before each call every lent byte is given a value. After the answer come all bytes in order, as numbers and as `kept` where a
+// byte has its value still, with `*` and a number for so many in a row.
+use libc::STDOUT_FILENO;
+use reader::Reading;
+use reader::read;
+use reader::unread_number;
+use std::num::wrapping_add_u64;
+use test_cases::LABEL;
+use test_cases::LAW;
+use test_cases::read_at_most;
+use test_cases::read_label;
+use test_cases::read_law;
+
+// The first value that is given to bytes, and the last, after which the first comes again.
+const BYTE_FIRST: u8 = 128;
+
+const BYTE_LAST: u8 = 250;
+
+// What stands for a byte that has its value still.
+const KEPT: u64 = 256;
+
+// A value, and how often it was met in a row.
+struct Run {
+    value: u64,
+    count: u64,
+}
+
+// The value of the byte after one with this value.
+fn next_byte(value: u8) -> u8 {
+    if value < BYTE_LAST {
+        value + 1
+    } else {
+        BYTE_FIRST
+    }
+}
+
+// Gives each byte a value.
+fn fill_bytes(bytes: &mut [u8]) {
+    let mut value = BYTE_FIRST;
+    let mut i = 0;
+    while i < bytes.len() {
+        bytes[i] = value;
+        value = next_byte(value);
+        i += 1;
+    }
+}
+
+// Writes a value after a space, and how often it was met.
+fn print_run(run: Run) {
+    if run.count == 0 {
+        return;
+    }
+    if run.value == KEPT {
+        io::write_all(STDOUT_FILENO, b" kept");
+    } else {
+        io::write_all(STDOUT_FILENO, b" ");
+        io::print_decimal(STDOUT_FILENO, run.value);
+    }
+    if run.count > 1 {
+        io::write_all(STDOUT_FILENO, b"*");
+        io::print_decimal(STDOUT_FILENO, run.count);
+    }
+}
+
+// What a byte is now that was given this value before.
+fn meaning(byte: u8, given: u8) -> u64 {
+    if byte == given { KEPT } else { byte as u64 }
+}
+
+// The values in a row with one more. A row that has ended is written.
+fn with_value(run: Run, value: u64) -> Run {
+    if run.value == value {
+        return Run {
+            value: value,
+            count: wrapping_add_u64(run.count, 1),
+        };
+    }
+    print_run(run);
+    Run {
+        value: value,
+        count: 1,
+    }
+}
+
+// Writes what all bytes are now.
+fn print_bytes(bytes: &[u8]) {
+    let mut run = Run { value: 0, count: 0 };
+    let mut given = BYTE_FIRST;
+    let mut i = 0;
+    while i < bytes.len() {
+        run = with_value(run, meaning(bytes[i], given));
+        given = next_byte(given);
+        i += 1;
+    }
+    print_run(run);
+    io::write_all(STDOUT_FILENO, b"\n");
+}
+
+// Writes a word and a number.
+fn print_said(said: &[u8], number: u64) {
+    io::write_all(STDOUT_FILENO, said);
+    io::print_decimal(STDOUT_FILENO, number);
+    io::write_all(STDOUT_FILENO, b"\n");
+}
+
+// Writes the answer of the call.
+fn print_reading(answer: Reading) {
+    match answer {
+        Reading::Refused(why) => print_said(b"  refused ", unread_number(why) as u64),
+        Reading::Written(bytes) => print_said(b"  written ", bytes as u64),
+    }
+}
+
+// Makes the call.
+fn call_read(text: &[u8], law: &mut [u8]) {
+    fill_bytes(law);
+    print_reading(read(text, law));
+    io::write_all(STDOUT_FILENO, b"    bytes");
+    print_bytes(law);
+}
+
+// Makes the call with a part of the buffer, as a case asks. A text that does not fit or is cut short is left without an answer.
+fn answer_text(space: &mut [u8], law: &mut [u8]) -> bool {
+    let lent = read_at_most(law.len());
+    let found = read_law(space);
+    let end = found.bytes;
+    if !found.whole {
+        return false;
+    }
+    call_read(&space[..end], &mut law[..lent]);
+    true
+}
+
+// Reads one case and answers it, and says whether there may be another.
+fn answer_case(space: &mut [u8], law: &mut [u8]) -> bool {
+    let mut label = [0u8; LABEL];
+    let n = read_label(&mut label);
+    if n == 0 {
+        return false;
+    }
+    io::write_all(STDOUT_FILENO, &label[..n]);
+    io::write_all(STDOUT_FILENO, b"\n");
+    answer_text(space, law)
+}
+
+// Answers every case. Nothing says that the input ends, so the loop counts down from a number that no run uses up.
+fn answer_all(space: &mut [u8], law: &mut [u8]) {
+    let mut turns = u64::MAX;
+    while turns > 0 && answer_case(space, law) {
+        turns -= 1;
+    }
+}
+
+fn main() {
+    let mut space = [0u8; LAW];
+    let mut law = [0u8; LAW];
+    answer_all(&mut space, &mut law);
+}
