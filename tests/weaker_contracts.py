@@ -4,7 +4,10 @@
 A weaker contract is easier to prove. So in each of these the proofs of crates/bilzarko are kept in step, such that it is still
 proved, and only what pins it is left to refuse it: the contracts of crates/loader, which say the same in other words. Edits of
 crates/loader/must-fail cannot reach crates/bilzarko; else these are the same. They are tried in a copy of the crates; what
-is proved already, in target, is taken along. Words name contracts; without any, all are tried."""
+is proved already, in target, is taken along. Words name contracts; without any, all are tried.
+
+`put-whole` is a program instead, which no caller would miss: its proof is kept in step too, and only the contract of
+`buffers::put`, on a buffer without room, is left to refuse it."""
 import sys
 
 from weaker_machines import tried
@@ -12,8 +15,10 @@ from weaker_machines import tried
 CODE = "bilzarko/src/lib.rt"
 EXPORTED = "bilzarko/specs/Exported.antt"
 LAWS = "bilzarko/proofs/ExportLaws.antt"
-PINS = {"loader/proofs/" + name for name in ("LoadedLaws.antt", "ShownLaws.antt", "TypedLaws.antt", "load/Proof.antt",
-                                             "show/Proof.antt", "read/Proof.antt")}
+PUT_CODE = "buffers/src/lib.rt"
+PUT_PROOF = "buffers/proofs/put/Proof.antt"
+PINS = {PUT_PROOF} | {"loader/proofs/" + name for name in ("LoadedLaws.antt", "ShownLaws.antt", "TypedLaws.antt", "load/Proof.antt",
+                                                         "show/Proof.antt", "read/Proof.antt")}
 
 # ---- demand 3
 
@@ -55,6 +60,14 @@ TEXT = Call("text", "TextExit", ("store", "text", "answer"),
             "textOutcome 64 (settingsFrom mode (now (overrides .entry))) (now (law .entry)) (now (store .entry)) position (now (text .entry))",
             "turned-number")
 READ = Call("read", "ReadExit", ("law", "answer"), "readOutcome (now (text .entry)) (now (law .entry))", "unread-number")
+
+# ---- what is put into a buffer
+
+PUT_INSIDE = "ltb-true _ _ (c .before .if1 .taken)"
+PUT_AT = "c .before .before .before"
+PUT_FITS = (f"omega (arith, leb-true ({PUT_AT} .before .args .at + length ({PUT_AT} .before .args .piece .now))"
+            f" (length ({PUT_AT} .loop .out)) (c .before .if1 .taken))")
+PUT_SHORT = "omega (arith, leb-false (x .at + length (x .piece .now)) (length (now .out)) (w .1 .left))"
 
 
 def said(name, type_of, fields, left_out, nothing, where):
@@ -149,6 +162,16 @@ CONTRACTS = {
     "text-nothing": ("the text call promises nothing", nothing_said(TEXT)),
     "read-asks": ("the reading call asks for a word of 7", asking("_≡_ {A = ReadExit}", "now answer ≡ 7")),
     "read-nothing": ("the reading call promises nothing", nothing_said(READ)),
+    "put-whole": (
+        "what puts bytes into a buffer writes none where there is no room for all",
+        [
+            (PUT_CODE, "at + i < out.len()", "at + piece.len() <= out.len()"),
+            (PUT_PROOF, "{ltb-true, ltb-false}", "{leb-true, leb-false}"),
+            (PUT_PROOF, f"(λ c. {PUT_INSIDE})", f"(λ c. {PUT_FITS})"),
+            (PUT_PROOF, f"(omega arith) ({PUT_INSIDE})", f"(omega arith) ({PUT_FITS})"),
+            (PUT_PROOF, "ltb-false _ _ (w .1 .left)", PUT_SHORT),
+        ],
+    ),
 }
 for where, when in (("refused", "after a refusal"), ("listed", "where it is not refused")):
     for field in ("store", "findings", "answer"):

@@ -1,12 +1,11 @@
--- Laws of the loops that copy words and bytes, and clear words.
+-- Laws of the loops that copy words and clear them.
 use Prim.Native.Nat.{ℕ, suc, _+_, _≤_, _<_}
 use mathlib.Core.List.{List, _++_, append-nil, append-assoc}
 use mathlib.Core.Path.{_≡_, _∙_}
 use native.Mathlib.Omega.{arith}
 use native.Mathlib.Numerals.{add-one}
 use lib.ListN.{length, take, drop, getD, set, replicate, drop-of-length-le}
-use lib.Seq.{take-all, take-length, take-suc, drop-cons, set-at, length-take-le, paste}
-use Rattle.buffers.specs.Written.{written}
+use lib.Seq.{take-all, take-suc, drop-cons, set-at, length-take-le}
 
 -- one more word is copied
 pub copy-next : (old words new : List ℕ) (i : ℕ) → i < length words → i < length old → new ≡ take i words ++ drop i old
@@ -24,8 +23,3 @@ pub cleared : (old new : List ℕ) (i : ℕ) → i ≤ length old → length old
 cleared old new i h k e =
     let n : i ≡ length old = omega arith in
     e ∙ rw (drop-of-length-le old {i = i} k, append-nil, n)
-
--- all words were pasted at a position
-pub pasted : (old words new : List ℕ) (at i : ℕ) → i ≡ length words → new ≡ paste old at words i → new ≡ written old at words
-unfolding written
-pasted old words new at i h e = e ∙ rw (h, take-length)

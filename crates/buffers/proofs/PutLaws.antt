@@ -1,117 +1,126 @@
--- Laws of text put at a position (specs/Code/Put.antt): one piece with room or without, nothing, and one text after another.
-use Prim.Native.Nat.{ℕ, _+_, _≤_, _<_}
+-- Laws of words put at a position (specs/Code/Put.antt): with room for all, for none and for some of them, and two puts that are one.
+use Prim.Native.Nat.{ℕ, suc, _+_, _-_, _≤_, _<_}
 use mathlib.Core.List.{List, [], _∷_, _++_}
 use mathlib.Core.Path.{_≡_, refl, sym, _∙_}
 use native.Mathlib.Omega.{arith}
 use native.Mathlib.Decide.{decLe}
-use borrow.Author.Tests.{le-leb, lt-leb}
-use lib.ListN.{length, take, set, length-append}
-use lib.Seq.{length-take-le, take-length, take-append-seam, take-append-le, take-append-add}
+use native.Mathlib.Numerals.{add-one}
+use lib.ListN.{length, take, drop, getD, set, length-append, length-take, length-drop, take-append-drop}
+use lib.Seq.{take-all, take-nil, take-suc, take-append-le, take-append-add}
 use Rattle.buffers.specs.Written.{written}
-use Rattle.buffers.specs.Code.Put.{putWhole, PutPiece, Begun, Put}
-use Rattle.buffers.proofs.WrittenLaws.{written-none, written-one, written-more}
+use Rattle.buffers.specs.Code.Put.{putFit, Put}
+use Rattle.buffers.proofs.WrittenLaws.{written-none, written-one, written-more, written-before}
 
--- ---- one piece
+-- ---- the list
 
-whole-fits : (old : List ℕ) (at : ℕ) (new : List ℕ) → at + length new ≤ length old → putWhole old at new ≡ written old at new
-unfolding putWhole
-whole-fits old at new h = rw (le-leb (at + length new) (length old) h)
+fit-length : (old : List ℕ) (at : ℕ) (new : List ℕ) → length (putFit old at new) ≡ length old
+unfolding putFit written
+fit-length old at new = simp (length-append, length-take, length-drop) (omega arith)
 
-whole-past : (old : List ℕ) (at : ℕ) (new : List ℕ) → length old < at + length new → putWhole old at new ≡ old
-unfolding putWhole
-whole-past old at new h = rw (lt-leb (at + length new) (length old) h)
+-- with room for all words, and for none
+fit-all : (old : List ℕ) (at : ℕ) (new : List ℕ) → at + length new ≤ length old → putFit old at new ≡ written old at new
+unfolding putFit
+fit-all old at new h = rw (take-all (length old - at) new (omega arith))
 
-pub piece-fits : (old piece after : List ℕ) (at : ℕ) → at + length piece ≤ length old → after ≡ written old at piece → PutPiece old at piece (at + length piece) after
-piece-fits old piece after at h e = record { end = refl; words = e ∙ sym (whole-fits old at piece h) }
+fit-past : (old : List ℕ) (at : ℕ) (new : List ℕ) → length old ≤ at → putFit old at new ≡ old
+unfolding putFit
+fit-past old at new h = let none : length old - at ≡ 0 = omega arith in rw none (sym (written-none old at))
 
-pub piece-past : (old piece : List ℕ) (at : ℕ) → length old < at + length piece → PutPiece old at piece (at + length piece) old
-piece-past old piece at h = record { end = refl; words = sym (whole-past old at piece h) }
+-- of two texts, the first alone where it has no room, and else what there is room for of the second
+fit-first : (old : List ℕ) (at : ℕ) (first second : List ℕ) → length old ≤ at + length first → putFit old at (first ++ second) ≡ putFit old at first
+unfolding putFit
+fit-first old at first second h = rw (take-append-le (length old - at) first second (omega arith))
 
--- one byte
-pub byte-fits : (old : List ℕ) (at byte : ℕ) → at < length old → PutPiece old at (byte ∷ []) (at + 1) (set old at byte)
-byte-fits old at byte h = piece-fits old (byte ∷ []) (set old at byte) at (omega arith) (written-one old at byte h)
+fit-both : (old : List ℕ) (at : ℕ) (first second : List ℕ) → at + length first ≤ length old
+    → putFit old at (first ++ second) ≡ written old at (first ++ take (length old - (at + length first)) second)
+unfolding putFit
+fit-both old at first second h =
+    let room : length old - at ≡ length first + (length old - (at + length first)) = omega arith in
+    rw (room, take-append-add first second (length old - (at + length first)))
 
-pub byte-past : (old : List ℕ) (at byte : ℕ) → length old ≤ at → PutPiece old at (byte ∷ []) (at + 1) old
-byte-past old at byte h = piece-past old (byte ∷ []) at (omega arith)
+fit-is : (old : List ℕ) (at : ℕ) (new : List ℕ) (room : ℕ) → room ≡ length old - at → putFit old at new ≡ written old at (take room new)
+unfolding putFit
+fit-is old at new room e = rw e
 
--- ---- a text
+-- one text after another, and one before another that was put first
+fit-more : (old : List ℕ) (at : ℕ) (first second : List ℕ) → putFit (putFit old at first) (at + length first) second ≡ putFit old at (first ++ second)
+fit-more old at first second = go (decLe (at + length first) (length old))
+  where
+    go : Dec (at + length first ≤ length old) → putFit (putFit old at first) (at + length first) second ≡ putFit old at (first ++ second)
+    go (yes h) =
+        rw (
+          fit-both old at first second h,
+          fit-is (putFit old at first) (at + length first) second (length old - (at + length first)) (omega (arith, fit-length old at first)),
+          fit-all old at first h,
+        )
+        (written-more old at (at + length first) first (take (length old - (at + length first)) second) h refl)
+    go (no h) = rw (fit-first old at first second (omega arith), fit-past (putFit old at first) (at + length first) second (omega (arith, fit-length old at first)))
 
--- of one piece
-pub put-whole : {old piece after : List ℕ} {at next : ℕ} → PutPiece old at piece next after → Put old at piece next after
-put-whole {old} {piece} {after} {at} {next} p = record {
-  end = p .end;
-  room = λ h. p .words ∙ whole-fits old at piece (omega (arith, h, p .end));
-  short = λ h. record { count = length piece; few = omega arith; words = rw (take-length piece) (p .words) };
-}
+fit-before : (old : List ℕ) (at : ℕ) (front back : List ℕ) → putFit (putFit old (at + length front) back) at front ≡ putFit old at (front ++ back)
+fit-before old at front back = go (decLe (at + length front) (length old))
+  where
+    go : Dec (at + length front ≤ length old) → putFit (putFit old (at + length front) back) at front ≡ putFit old at (front ++ back)
+    go (yes h) =
+        rw (
+          fit-both old at front back h,
+          fit-all (putFit old (at + length front) back) at front (omega (arith, fit-length old (at + length front) back)),
+          fit-is old (at + length front) back (length old - (at + length front)) refl,
+        )
+        (written-before old at (at + length front) front (take (length old - (at + length front)) back) refl (omega (arith, length-take (length old - (at + length front)) back)))
+    go (no h) = rw (fit-past old (at + length front) back (omega arith), fit-first old at front back (omega arith))
+
+-- ---- what was put
+
+-- with room for all of it
+pub put-room : {old new after : List ℕ} {at next : ℕ} → Put old at new next after → next ≤ length old → after ≡ written old at new
+put-room {old} {new} {after} {at} {next} p h = p .words ∙ fit-all old at new (omega (arith, p .end, h))
+
+-- the length stays
+pub put-length : {old new after : List ℕ} {at next : ℕ} → Put old at new next after → length after ≡ length old
+put-length {old} {new} {after} {at} {next} p = rw (p .words) (fit-length old at new)
+
+-- past the end
+pub put-past : (old : List ℕ) (at : ℕ) (new : List ℕ) → length old ≤ at → Put old at new (at + length new) old
+put-past old at new h = record { end = refl; words = sym (fit-past old at new h) }
+
+-- one byte inside
+pub put-one : (old : List ℕ) (at byte : ℕ) → at < length old → Put old at (byte ∷ []) (at + 1) (set old at byte)
+put-one old at byte h = record { end = refl; words = rw (fit-all old at (byte ∷ []) (omega arith)) (written-one old at byte h) }
 
 -- nothing
 pub put-none : (old : List ℕ) (at : ℕ) → Put old at [] at old
-put-none old at = record { end = omega arith; room = λ h. written-none old at; short = λ h. record { count = 0; few = omega arith; words = sym (whole-past old at [] (omega arith)) } }
+unfolding putFit
+put-none old at = record { end = omega arith; words = rw (take-nil (length old - at)) (written-none old at) }
 
--- what is begun after a text that had room or had not
-begun-more : (old first middle second last : List ℕ) (at next : ℕ) → length middle ≡ length old → next ≡ at + length first
-    → (next ≤ length old → middle ≡ written old at first) → (length old < next → Begun old at first middle) → Begun middle next second last
-    → Begun old at (first ++ second) last
-begun-more old first middle second last at next l there room short b = go (decLe next (length old))
-  where
-    long : length (first ++ second) ≡ length first + length second
-    long = length-append first second
-
-    words : length (take (b .count) second) ≡ b .count
-    words = length-take-le (b .count) second (b .few)
-
-    go : Dec (next ≤ length old) → Begun old at (first ++ second) last
-    go (yes fits) = more (decLe (next + b .count) (length middle))
-      where
-        more : Dec (next + b .count ≤ length middle) → Begun old at (first ++ second) last
-        more (yes h) = record {
-          count = length first + b .count;
-          few = omega (arith, long, b .few);
-          words =
-              b .words ∙ whole-fits middle next (take (b .count) second) (omega (arith, words, h))
-              ∙ rw (
-                room fits,
-                written-more old at next first (take (b .count) second) (omega (arith, there, fits)) there,
-                take-append-add first second (b .count),
-                whole-fits old at (first ++ take (b .count) second) (omega (arith, length-append first (take (b .count) second), words, there, l, h)),
-              );
-        }
-        more (no h) = record {
-          count = length first;
-          few = omega (arith, long);
-          words =
-              b .words ∙ whole-past middle next (take (b .count) second) (omega (arith, words, h))
-              ∙ rw (take-append-seam first second, whole-fits old at first (omega (arith, there, fits))) (room fits);
-        }
-    go (no over) =
-        let before = short (omega (arith, over)) in
-        record {
-          count = before .count;
-          few = omega (arith, long, before .few);
-          words =
-              b .words ∙ whole-past middle next (take (b .count) second) (omega (arith, l, over))
-              ∙ rw (take-append-le (before .count) first second (before .few)) (before .words);
-        }
-
--- one text after another
-pub put-more : (old first middle second last : List ℕ) (at next after : ℕ) → length middle ≡ length old → Put old at first next middle → Put middle next second after last
-    → Put old at (first ++ second) after last
-put-more old first middle second last at next after l p q =
-    let long : length (first ++ second) ≡ length first + length second = length-append first second in
-    let there : next ≡ at + length first = p .end in
-    let then : after ≡ next + length second = q .end in
-    record {
-      end = omega arith;
-      room = λ h. q .room (omega arith) ∙ (rw (p .room (omega arith)) (written-more old at next first second (omega arith) there));
-      short = λ h. begun-more old first middle second last at next l there (p .room) (p .short) (q .short (omega arith));
-    }
-
--- a text was put in a buffer of the length that it had
-abbrev pub Done : List ℕ → ℕ → List ℕ → ℕ → List ℕ → Type 0
-Done old at text next new = Put old at text next new × (length new ≡ length old)
-
--- one text after another
+-- one text after another, and one before another that was put first
 infixl 20 _then_
-pub _then_ : {old middle last first second : List ℕ} {at next end : ℕ} → Done old at first next middle → Done middle next second end last → Done old at (first ++ second) end last
-_then_ {old} {middle} {last} {first} {second} {at} {next} {end} p q =
-    (put-more old first middle second last at next end (p .1) (p .0) (q .0), q .1 ∙ p .1)
+pub _then_ : {old middle last first second : List ℕ} {at next end : ℕ} → Put old at first next middle → Put middle next second end last → Put old at (first ++ second) end last
+_then_ {old} {middle} {last} {first} {second} {at} {next} {end} p q = record {
+  end = omega (arith, p .end, q .end, length-append first second);
+  words = q .words ∙ rw (p .words, p .end) (fit-more old at first second);
+}
+
+pub put-before : {old middle last front back : List ℕ} {at next end after : ℕ} → next ≡ at + length front → Put old next back end middle → Put middle at front after last
+    → Put old at (front ++ back) end last
+put-before {old} {middle} {last} {front} {back} {at} {next} {end} {after} e p q = record {
+  end = omega (arith, e, p .end, length-append front back);
+  words = q .words ∙ rw (p .words, e) (fit-before old at front back);
+}
+
+-- ---- the loop that puts bytes
+
+module _ (old piece : List ℕ) (at i : ℕ) {now : List ℕ} (h : Put old at (take i piece) (at + i) now) where
+  -- one more
+  pub put-next : i < length piece → at + i < length now → Put old at (take (i + 1) piece) (at + (i + 1)) (set now (at + i) (getD piece i 0))
+  put-next l k =
+      let next : at + suc i ≡ at + i + 1 = omega arith in
+      rw (add-one, take-suc piece i 0 l, next) (h then put-one now (at + i) (getD piece i 0) k)
+
+  -- all of them, or as many as there is room for
+  pub put-all : length piece ≤ i → Put old at piece (at + length piece) now
+  put-all l = record { end = refl; words = h .words ∙ rw (take-all i piece l) }
+
+  pub put-full : i ≤ length piece → length now ≤ at + i → Put old at piece (at + length piece) now
+  put-full l k =
+      let end : at + i + length (drop i piece) ≡ at + length piece = omega (arith, length-drop i piece) in
+      rw (take-append-drop i piece, end) at (h then put-past now (at + i) (drop i piece) k)

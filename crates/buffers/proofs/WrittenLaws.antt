@@ -6,7 +6,7 @@ use native.Mathlib.Omega.{arith}
 use native.Mathlib.Nat.{add-zero, add-assoc}
 use native.Mathlib.Numerals.{add-one}
 use lib.ListN.{length, take, drop, getD, set, length-append, length-take, length-drop, take-append-drop}
-use lib.Seq.{take-at, drop-append-add, drop-drop, length-take-le, set-at, set-split, take-suc}
+use lib.Seq.{take-at, take-append-le, take-take, drop-at, drop-append-add, drop-drop, length-take-le, set-at, set-split, take-suc}
 use Rattle.buffers.specs.Written.{written}
 
 -- nothing written
@@ -39,6 +39,24 @@ written-more old at next first second h e =
       length-append,
     )
     (simp (append-assoc, add-assoc))
+
+-- a write right before another: one write of both
+pub written-before : (old : List ℕ) (at next : ℕ) (front back : List ℕ) → next ≡ at + length front → next + length back ≤ length old
+    → written (written old next back) at front ≡ written old at (front ++ back)
+unfolding written
+written-before old at next front back e h =
+    let size : length (take next old) ≡ next = length-take-le next old (omega arith) in
+    let low : at ≤ length (take next old) = omega arith in
+    let past : at + length (front ++ back) ≡ next + length back = omega (arith, length-append front back) in
+    rw (
+      append-assoc (take next old) back (drop (next + length back) old),
+      ← e,
+      past,
+      take-append-le at (take next old) (back ++ drop (next + length back) old) low,
+      take-take at next old (omega arith),
+      drop-at (take next old) (back ++ drop (next + length back) old) next size,
+    )
+    (simp append-assoc)
 
 -- one word
 pub written-one : (old : List ℕ) (at word : ℕ) → at < length old → set old at word ≡ written old at (word ∷ [])

@@ -1,13 +1,12 @@
 // What is written into lent buffers: words copied and cleared, and text put at a position.
 //
-// What puts text does so where there is room for it, and gives the position after it in any case, so that with an empty buffer
+// What puts text does so as far as there is room, and gives the position after all of it in any case, so that with an empty buffer
 // it measures.
 ghost use mathlib.Core.Path.{_≡_};
 ghost use mathlib.Core.List.{[], _∷_};
 ghost use Prim.Native.Nat.{_+_, _≤_};
 ghost use lib.ListN.{length, replicate};
-ghost use Rattle.buffers.specs.Written.{written};
-ghost use Rattle.buffers.specs.Code.Put.{PutPiece, Put, largest};
+ghost use Rattle.buffers.specs.Code.Put.{Put, largest};
 ghost use Rattle.buffers.specs.Decimal.{decimal};
 
 // Every word of the one list into the other.
@@ -33,34 +32,23 @@ pub fn clear_words(words: &mut [u32])
     }
 }
 
-// Bytes copied to a position where there is room for them.
-fn copy_bytes(piece: &[u8], out: &mut [u8], at: usize)
-    requires { ⌜ at + length (now piece) ≤ length (now out) ⌝ }
-    ensures { λ _. ⌜ now (out .exit) ≡ written (now (out .entry)) at (now (piece .entry)) ⌝ }
+// Bytes put at a position, as far as there is room. The position after all of them in any case.
+pub fn put(piece: &[u8], out: &mut [u8], at: usize) -> usize
+    requires { ⌜ at + length (now piece) ≤ largest ⌝ }
+    ensures { λ r. ⌜ Put (now (out .entry)) at (now (piece .entry)) r (now (out .exit)) ⌝ }
 {
     let mut i = 0;
-    while i < piece.len() {
+    while i < piece.len() && at + i < out.len() {
         out[at + i] = piece[i];
         i += 1;
     }
-}
-
-// Bytes put at a position, where there is room for them all; else none of them. The position after them in any case.
-pub fn put(piece: &[u8], out: &mut [u8], at: usize) -> usize
-    requires { ⌜ at + length (now piece) ≤ largest ⌝ }
-    ensures { λ r. ⌜ PutPiece (now (out .entry)) at (now (piece .entry)) r (now (out .exit)) ⌝ }
-{
-    let next = at + piece.len();
-    if next <= out.len() {
-        copy_bytes(piece, out, at);
-    }
-    next
+    at + piece.len()
 }
 
 // The same of one byte.
 pub fn put_byte(byte: u8, out: &mut [u8], at: usize) -> usize
     requires { ⌜ at + 1 ≤ largest ⌝ }
-    ensures { λ r. ⌜ PutPiece (now (out .entry)) at (byte ∷ []) r (now (out .exit)) ⌝ }
+    ensures { λ r. ⌜ Put (now (out .entry)) at (byte ∷ []) r (now (out .exit)) ⌝ }
 {
     let next = at + 1;
     if at < out.len() {

@@ -2,11 +2,10 @@
 use Prim.Native.Nat.{ℕ, _+_, _*_, _-_, _≤_}
 use mathlib.Core.Bool.{Bool, true, false, cond, not}
 use mathlib.Core.List.{List, _++_, append-assoc}
-use mathlib.Core.Logic.{inl}
 use mathlib.Core.Path.{_≡_, refl, sym, ap, _∙_}
 use native.Mathlib.Omega.{arith}
 use native.Mathlib.Nat.{add-zero, add-sub-cancel-left}
-use lib.ListN.{length, take, drop, getD, set, replicate, length-append, length-drop, length-set, length-replicate, getD-replicate, take-append-drop}
+use lib.ListN.{length, take, drop, getD, set, replicate, length-append, length-drop, length-set, length-replicate, take-append-drop}
 use lib.Seq.{take-at, take-take, getD-take, getD-drop, drop-drop, length-take-le}
 use lib.Dec.{leb}
 use Rattle.file.specs.Sections.{File, fileOf}
@@ -60,13 +59,16 @@ row-cleared asked long e = record {
 }
 
 module _ (limit : ℕ) (f : Shapes) (old new : List ℕ) where
-  -- a row that was over, of words that were zeros
-  pub made-over : {most : ℕ} {row : Row} → old ≡ replicate (limit + 1) 0 → most ≡ limit + 1 → row ≡ Over → RowIs f old new 1 most row → FormatMade limit f false new
-  made-over {most = most} zeros e o r = record {
-    fits = λ h. absurd (omega (arith, over-passes f old new 1 most (rw o at r)));
-    over = λ h. (refl, r .outside 0 (inl (omega arith)) ∙ rw zeros (getD-replicate (limit + 1) 0 0 0 (omega arith)));
-    kept = r .kept ∙ rw zeros (length-replicate (limit + 1) 0);
-  }
+  -- a row that was over, and was cleared
+  pub made-over : {most : ℕ} {row : Row} {cleared : List ℕ} → most ≡ limit + 1 → row ≡ Over → RowIs f old new 1 most row → length new ≡ limit + 1
+      → cleared ≡ replicate (length new) 0 → FormatMade limit f false cleared
+  made-over {most = most} {cleared = cleared} e o r long zeros =
+      let all : cleared ≡ replicate (limit + 1) 0 = zeros ∙ ap (λ n. replicate n 0) long in
+      record {
+        fits = λ h. absurd (omega (arith, over-passes f old new 1 most (rw o at r)));
+        over = λ h. (refl, all);
+        kept = rw all (length-replicate (limit + 1) 0);
+      }
 
   -- a row that was written over zeros, and a header in front of it
   pub made-written : {most next header : ℕ} {o : Bool} {row : Row} → old ≡ replicate (limit + 1) 0 → most ≡ limit + 1 → row ≡ Ends next o

@@ -52,7 +52,7 @@ pub enum Inference {
     Ran(usize, bool),
 }
 
-// The format of a run of term records, every word of it, or false where it has too many shapes. As in `write_row`, there are results
+// The format of a run of term records, every word of it, or false and zeros where it has too many shapes. As in `write_row`, there are results
 // that the store holds.
 pub fn row_format(
     law: &[u8],
@@ -70,7 +70,10 @@ pub fn row_format(
 {
     clear_words(out);
     match write_row(law, part, at, store, slots, limit, known, out, 1, limit + 1) {
-        Row::Over => false,
+        Row::Over => {
+            clear_words(out);
+            false
+        }
         Row::Ends(next, opened) => {
             out[0] = header_word(next - 1, opened);
             true

@@ -10,6 +10,7 @@ use lib.ListN.{length, take, drop, take-append-drop}
 use Rattle.file.specs.Sections.{fileOf}
 use Rattle.law.specs.Reading.{treeOf}
 use Rattle.buffers.specs.Code.Put.{Put}
+use Rattle.buffers.proofs.PutLaws.{put-room}
 use Rattle.lints.specs.Finding.{Finding, lintOf, findingWords}
 use Rattle.lints.specs.Levels.{Settings, severityOf, listingWords}
 use Rattle.lints.specs.Findings.{findingsOf}
@@ -108,6 +109,6 @@ module _ (settings : Settings) {limit : ℕ} {bytes index slots store own : List
         rw (
           here .at,
           le-leb (length (message (here .finding))) (length text) (omega (arith, fits, number)),
-          put {old = text} {now = end} {next = last} there .room (omega (arith, again, number, fits)),
+          put-room (put {old = text} {now = end} {next = last} there) (omega (arith, again, number, fits)),
           number,
         )

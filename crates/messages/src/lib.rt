@@ -154,7 +154,7 @@ fn put_builtin(law: &[u8], index: &Index, t: usize, a: usize, out: &mut [u8]) ->
     put_fails(name, Failure::DigitsWanted, out, 0)
 }
 
-// The text of a finding, from its eight words, put at the start of a buffer where there is room; its length in any case.
+// The text of a finding, from its eight words, put at the start of a buffer as far as there is room; its length in any case.
 pub fn put_message(
     law: &[u8],
     index: &Index,

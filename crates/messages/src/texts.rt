@@ -1,8 +1,8 @@
 // The text of a finding, written into a lent buffer: fixed pieces, and names, numbers and formats between them.
 //
-// Each function puts its text at a position where there is room, and gives the position after it in any case, so that with
-// an empty buffer it measures. It asks that these positions are numbers of a machine: besides a name, which stands in it
-// twice at most, a text has fewer than 8,192 bytes. What the text is stands in the crate `lints`, specs/Message.antt.
+// Each function puts its text at a position as far as there is room, and gives the position after all of it in any case, so
+// that with an empty buffer it measures. It asks that these positions are numbers of a machine: besides a name, which stands
+// in it twice at most, a text has fewer than 8,192 bytes. What the text is stands in the crate `lints`, specs/Message.antt.
 use buffers::put;
 use buffers::put_decimal;
 use shapes::display::show_format;

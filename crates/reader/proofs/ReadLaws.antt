@@ -17,8 +17,8 @@ use Rattle.law.specs.Law.{lawOf, checkAnswer, checkOf}
 use Rattle.law.specs.declared.Check.{Check}
 use Rattle.law.specs.declared.Check.the-variants.{Accepted as Allowed, Refused as Turned}
 use Rattle.buffers.specs.Written.{written}
-use Rattle.buffers.specs.Code.Put.{PutPiece}
-use Rattle.buffers.proofs.PutLaws.{put-whole}
+use Rattle.buffers.specs.Code.Put.{Put}
+use Rattle.buffers.proofs.PutLaws.{put-room}
 use Rattle.tokens.specs.Code.Arrays.{Lexes, LexedAs}
 use Rattle.tokens.specs.declared.Tokens.{Tokens}
 use Rattle.tokens.specs.declared.Tokens.the-variants.{Refused as None, Count}
@@ -29,7 +29,6 @@ use Rattle.grammar.specs.Code.Machine.{acceptsKinds}
 use Rattle.grammar.specs.declared.table.Mode.the-variants.{AtText as atText}
 use Rattle.encoding.specs.Encode.{encode}
 use Rattle.encoding.specs.Code.FlatFile.{flatFile}
-use Rattle.writing.specs.Code.Laid.{Laid}
 use Rattle.writing.specs.Code.Held.{Held, Stand}
 use Rattle.writing.proofs.LexedLaws.{unlexed, tokens-held, tokens-stand, refused-outside, taken-phrase}
 use Rattle.reader.specs.declared.Unread.the-variants.{TextOver, Outside, Law, Short}
@@ -42,12 +41,12 @@ pub too-short : (file law : List ℕ) → length law < length file → readAfter
 unfolding readBy
 too-short file law h = rw (lt-ltb (length law) (length file) h)
 
-pub delivered : (file law after : List ℕ) (end : ℕ) → length file ≤ length law → PutPiece law 0 file end after
+pub delivered : (file law after : List ℕ) (end : ℕ) → length file ≤ length law → Put law 0 file end after
     → readAfter (Written end) after ≡ readBy law (given file)
 unfolding readBy
 delivered file law after end h p =
     let size : end ≡ length file = omega (arith, p .end) in
-    let there : after ≡ written law 0 file = put-whole p .room (omega (arith, size, h)) in
+    let there : after ≡ written law 0 file = put-room p (omega (arith, size, h)) in
     rw (le-ltb (length law) (length file) h, size, there)
 
 -- ---- whether the file is a law
@@ -74,12 +73,12 @@ pub file-over : (file law : List ℕ) → 16384 < length file → readAfter (Ref
 unfolding readBy lawOf sectionsOf
 file-over file law h = rw (lt-ltb 16384 (length file) h)
 
--- a file that was laid is the first bytes of the buffer
-pub file-part : (old after file : List ℕ) (end : ℕ) → Laid old 0 file end after → end ≤ length old → take end after ≡ file
+-- a file that was put is the first bytes of the buffer
+pub file-part : (old after file : List ℕ) (end : ℕ) → Put old 0 file end after → end ≤ length old → take end after ≡ file
 unfolding written
-file-part old after file end l h =
-    let size : end ≡ length file = omega (arith, l .end) in
-    rw (l .room h, size) (take-append-seam file (drop (0 + length file) old))
+file-part old after file end p h =
+    let size : end ≡ length file = omega (arith, p .end) in
+    rw (put-room p h, size) (take-append-seam file (drop (0 + length file) old))
 
 -- as many first bytes as there are
 pub part-size : (end : ℕ) (after old : List ℕ) → end ≤ 16384 → length old ≡ 16384 → length after ≡ length old → end ≡ length (take end after)
@@ -89,7 +88,7 @@ pub part-small : (end : ℕ) (after : List ℕ) → end ≤ 16384 → length (ta
 part-small end after h = omega (arith, h, length-take end after)
 
 -- what tokens say is delivered as a file is
-pub tokens-delivered : (old after file law : List ℕ) (end : ℕ) (o : ReadOutcome) → Laid old 0 file end after → end ≤ length old
+pub tokens-delivered : (old after file law : List ℕ) (end : ℕ) (o : ReadOutcome) → Put old 0 file end after → end ≤ length old
     → o ≡ readBy law (lawFile (take end after)) → o ≡ readBy law (lawFile file)
 tokens-delivered old after file law end o l h e = e ∙ ap (λ (f : List ℕ). readBy law (lawFile f)) (file-part old after file end l h)
 

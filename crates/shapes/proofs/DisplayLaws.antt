@@ -2,7 +2,7 @@
 use Prim.Native.Nat.{ℕ, _+_, _-_, _≤_, _<_}
 use mathlib.Core.Bool.{Bool, true, false, cond}
 use mathlib.Core.List.{List, [], _∷_, _++_, append-assoc}
-use mathlib.Core.Path.{_≡_, refl, _∙_}
+use mathlib.Core.Path.{_≡_, refl}
 use native.Mathlib.Omega.{arith}
 use lib.ListN.{length, take, drop, getD}
 use lib.Dec.{leb}
@@ -16,7 +16,7 @@ use Rattle.shapes.specs.Display.{spaced, display, shownOutcome, textAt}
 use Rattle.shapes.specs.Code.Shown.{shown, firstShown}
 use Rattle.shapes.specs.declared.display.Shown.the-variants.{At, NoRoom}
 use Rattle.shapes.proofs.WordLaws.{shapes-none, shapes-leaf, shapes-bracket}
-use Rattle.buffers.proofs.PutLaws.{put-none, put-more}
+use Rattle.buffers.proofs.PutLaws.{put-none, put-room, _then_}
 use Rattle.shapes.proofs.FormatLaws.{read-never}
 
 -- ---- rows
@@ -94,37 +94,25 @@ space-length false = omega arith
 
 module _ (o first : Bool) (s old : List ℕ) (at : ℕ) where
   -- an empty row that is open, and one that is closed
-  pub show-none-open : (one last : List ℕ) (next after : ℕ) → length s < 1 → o ≡ true → length one ≡ length old
+  pub show-none-open : (one last : List ℕ) (next after : ℕ) → length s < 1 → o ≡ true
       → Put old at (space first) next one → Put one next (46 ∷ 46 ∷ []) after last → Put old at (shown first (shapesIn o s)) after last
-  show-none-open one last next after h e k p q = rw (shown-none-open o first s h e) at (put-more old (space first) one (46 ∷ 46 ∷ []) last at next after k p q)
+  show-none-open one last next after h e p q = rw (shown-none-open o first s h e) at (p then q)
 
   pub show-none-closed : length s < 1 → o ≡ false → Put old at (shown first (shapesIn o s)) at old
   show-none-closed h e = rw (shown-none-closed o first s h e) at (put-none old at)
 
   -- a row's first item, then the rest
-  pub show-some : (one two last : List ℕ) (e first-at next after : ℕ) → 1 ≤ length s → e ≡ shapesEnd s → length one ≡ length old → length two ≡ length one
+  pub show-some : (one two last : List ℕ) (e first-at next after : ℕ) → 1 ≤ length s → e ≡ shapesEnd s
       → Put old at (space first) first-at one → Put one first-at (firstShown s) next two → Put two next (spaced (shapesIn o (take (length s - e) (drop e s)))) after last
       → Put old at (shown first (shapesIn o s)) after last
-  show-some one two last e first-at next after h u k l p q r =
-      rw (shown-some o first s e h u)
-      at (
-      put-more old (space first ++ firstShown s) two (spaced (shapesIn o (take (length s - e) (drop e s)))) last at next after (l ∙ k)
-      (put-more old (space first) one (firstShown s) two at first-at next k p q)
-      r
-      )
+  show-some one two last e first-at next after h u p q r = rw (shown-some o first s e h u) at (p then q then r)
 
 -- the first item
 module _ (s : List ℕ) (t : Bool) (p : t ≡ isBracket (getD s 0 0)) (old : List ℕ) (at : ℕ) where
   pub show-bracket : (one two last : List ℕ) (o : Bool) (e start next after : ℕ) → t ≡ true → o ≡ insideOpen (getD s 0 0) → e ≡ shapesEnd s
-      → length one ≡ length old → length two ≡ length one → Put old at (40 ∷ 91 ∷ []) start one
+      → Put old at (40 ∷ 91 ∷ []) start one
       → Put one start (drop 1 (spaced (shapesIn o (take (e - 1) (drop 1 s))))) next two → Put two next (93 ∷ 41 ∷ []) after last → Put old at (firstShown s) after last
-  show-bracket one two last o e start next after q u v k l a b c =
-      rw (first-bracket s t o e p q u v)
-      at (
-      put-more old ((40 ∷ 91 ∷ []) ++ drop 1 (spaced (shapesIn o (take (e - 1) (drop 1 s))))) two (93 ∷ 41 ∷ []) last at next after (l ∙ k)
-      (put-more old (40 ∷ 91 ∷ []) one (drop 1 (spaced (shapesIn o (take (e - 1) (drop 1 s))))) two at start next k a b)
-      c
-      )
+  show-bracket one two last o e start next after q u v a b c = rw (first-bracket s t o e p q u v) at (a then b then c)
 
   pub show-leaf : (byte next : ℕ) (last : List ℕ) → t ≡ false → byte ≡ leafByte (leafAt (getD s 0 0)) → Put old at (byte ∷ []) next last → Put old at (firstShown s) next last
   show-leaf byte next last q e a = rw (first-leaf s t byte p q e) at a
@@ -137,15 +125,9 @@ pub show-never : (s old last : List ℕ) (at next : ℕ) (t : Bool) → t ≡ le
     → Put old at (display (readFormat s)) next last
 show-never s old last at next t e h a = rw (display-never s t e h) at a
 
-pub show-whole : (s old one two last : List ℕ) (at start next after : ℕ) (f : Shapes) → readFormat s ≡ of f → length one ≡ length old → length two ≡ length one
+pub show-whole : (s old one two last : List ℕ) (at start next after : ℕ) (f : Shapes) → readFormat s ≡ of f
     → Put old at (91 ∷ []) start one → Put one start (drop 1 (spaced f)) next two → Put two next (93 ∷ []) after last → Put old at (display (readFormat s)) after last
-show-whole s old one two last at start next after f e k l a b c =
-    rw (display-row s f e)
-    at (
-    put-more old ((91 ∷ []) ++ drop 1 (spaced f)) two (93 ∷ []) last at next after (l ∙ k)
-    (put-more old (91 ∷ []) one (drop 1 (spaced f)) two at start next k a b)
-    c
-    )
+show-whole s old one two last at start next after f e a b c = rw (display-row s f e) at (a then b then c)
 
 -- ---- a text put into a buffer
 
@@ -167,4 +149,4 @@ module _ (buffer : List ℕ) (at : ℕ) (text part : List ℕ) (empty : length p
       → shownOutcome (At next) last ≡ textAt buffer at text
   text-fits next after last e h p =
       let put : Put buffer at text after last = rw (none part empty) at p in
-      rw (le-leb (at + length text) (length buffer) (omega arith), e, put .room (omega (arith, put .end)))
+      rw (le-leb (at + length text) (length buffer) (omega arith), e, put-room put (omega (arith, put .end)))

@@ -69,7 +69,7 @@ fn show_row(s: &[u32], is_open: bool, first: bool, out: &mut [u8], at: usize) ->
     show_row(&s[e..], is_open, false, out, next)
 }
 
-// A format as text; the position after it, whether there was room or not. No words are the empty format.
+// A format as text, as far as there is room; the position after all of it in any case. No words are the empty format.
 pub fn show_format(format: &[u32], out: &mut [u8], at: usize) -> usize
     requires { ⌜ at + 4096 ≤ largest ⌝ }
     ensures { λ r. ⌜ Put (now (out .entry)) at (display (readFormat (now (format .entry)))) r (now (out .exit)) ⌝ }

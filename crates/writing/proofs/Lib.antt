@@ -1,4 +1,4 @@
-pub mod LaidLaws
+pub mod SectionLaws
 pub mod FoundLaws
 pub mod HeldLaws
 pub mod PassingLaws

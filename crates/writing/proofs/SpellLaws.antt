@@ -17,9 +17,9 @@ use Rattle.tokens.specs.declared.characters.Character.the-variants.{Broken, Who
 use Rattle.tokens.proofs.Utf8.{utf8-one, utf8-two, utf8-three, utf8-four, character-found, scalar-bound, utf8-some}
 use Rattle.tokens.proofs.Begins.{begins-all, every-first, every-back}
 use Rattle.encoding.specs.Encode.{Record, recordBytes, recordsBytes, characterRecords}
-use Rattle.writing.specs.Code.Laid.{Laid}
+use Rattle.buffers.specs.Code.Put.{Put}
 use Rattle.writing.specs.Code.Held.{Spans}
-use Rattle.writing.proofs.LaidLaws.{bytes-one}
+use Rattle.writing.proofs.SectionLaws.{bytes-one}
 use Rattle.writing.proofs.PassingLaws.{Passing, passing-start, passing-next, passing-end}
 
 -- a character has four bytes at most
@@ -87,7 +87,7 @@ module _ {text : List ℕ} {i to : ℕ} {all : List Record} {old : List ℕ} {at
       let z : ⊥ = omega (arith, s .size, length-append (utf8 c) (charactersBytes cs), utf8-some c) in
       absurd z
 
-  pub spelling-end : to ≤ i → Laid old at (recordsBytes all) next now
+  pub spelling-end : to ≤ i → Put old at (recordsBytes all) next now
   spelling-end l = passing-end (h .passing) (some-left (h .rest) (h .spans) l)
 
   pub spelling-broken : {r : Character} {A : Type 0} → i < to → CharacterAt (drop i text) r → r ≡ Broken → A
@@ -98,10 +98,10 @@ module _ {text : List ℕ} {i to : ℕ} {all : List Record} {old : List ℕ} {at
       go [] s = let z : ⊥ = omega (arith, s .size) in absurd z
       go (c ∷ cs) s = absurd (never-broken text i to c cs s (rw e at f))
 
-  pub spelling-next : {r : Character} {c w after : ℕ} {last : List ℕ} → i < to → length now ≡ length old → CharacterAt (drop i text) r → r ≡ Whole c w
-      → Laid now next (recordBytes (0 ∷ c ∷ 0 ∷ 0 ∷ i ∷ (i + w) ∷ [])) after last → Spelling text (i + w) to all old at after last
+  pub spelling-next : {r : Character} {c w after : ℕ} {last : List ℕ} → i < to → CharacterAt (drop i text) r → r ≡ Whole c w
+      → Put now next (recordBytes (0 ∷ c ∷ 0 ∷ 0 ∷ i ∷ (i + w) ∷ [])) after last → Spelling text (i + w) to all old at after last
   unfolding charactersBytes characterRecords
-  spelling-next {c = c} {w = w} {after = after} {last = last} l k f e put = go (h .rest) (h .spans) (h .passing)
+  spelling-next {c = c} {w = w} {after = after} {last = last} l f e put = go (h .rest) (h .spans) (h .passing)
     where
       go : (rest : List ℕ) → Spans text i to rest → Passing all (characterRecords i rest) old at next now → Spelling text (i + w) to all old at after last
       go [] s p = let z : ⊥ = omega (arith, s .size) in absurd z
@@ -113,5 +113,5 @@ module _ {text : List ℕ} {i to : ℕ} {all : List Record} {old : List ℕ} {at
             rest = cs;
             spans = spans-next text i to d cs s wide;
             passing =
-                passing-next p ((0 ∷ c ∷ 0 ∷ 0 ∷ i ∷ (i + w) ∷ []) ∷ []) (characterRecords (i + w) cs) (rw (same, wide)) k (rw (bytes-one (0 ∷ c ∷ 0 ∷ 0 ∷ i ∷ (i + w) ∷ [])) put);
+                passing-next p ((0 ∷ c ∷ 0 ∷ 0 ∷ i ∷ (i + w) ∷ []) ∷ []) (characterRecords (i + w) cs) (rw (same, wide)) (rw (bytes-one (0 ∷ c ∷ 0 ∷ 0 ∷ i ∷ (i + w) ∷ [])) put);
           }

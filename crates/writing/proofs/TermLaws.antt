@@ -13,7 +13,7 @@ use Rattle.encoding.specs.Encode.{recordsBytes, characterRecords}
 use Rattle.encoding.specs.Code.FlatTerms.{Where, outside, inside, calling, stays, stateAfter, whereAfter, ownRecords, own, kindAt, endAt, scan, termsAt, flatTerms}
 use Rattle.encoding.proofs.Lists.{All, all-append}
 use Rattle.encoding.proofs.RecordLaws.{Sized, records-length}
-use Rattle.writing.specs.Code.Laid.{Laid}
+use Rattle.buffers.specs.Code.Put.{Put}
 use Rattle.writing.specs.Code.Held.{Held, Stands, Stand, atFirst}
 use Rattle.writing.specs.Code.Found.{runState, whereOf, bracketAt, callAt}
 use Rattle.writing.proofs.HeldLaws.{tokens-length, token-at, start-here, length-here}
@@ -101,8 +101,8 @@ module _ {ks ss es : List ℕ} {ts : List Placed} (h : Held ks ss es ts) {i : �
   term-none g = let at = token-at h i l .here in term-own h l e (whereOf n) d f ∙ own-none n (at .start) (at .what) g
 
   pub term-atom : (text : List ℕ) {start end at next : ℕ} {old last : List ℕ} → n ≡ 1 → Stand text ts → start ≡ getD ss i 0 → end ≡ getD es i 0
-      → ((p : Placed) → k ≡ kindAt p → start ≡ p .start → end ≡ endAt p → Stands text p → Laid old at (recordsBytes (own inside p)) next last)
-      → Laid old at (recordsBytes (atFirst (termsAt (whereOf n)) (drop i ts))) next last
+      → ((p : Placed) → k ≡ kindAt p → start ≡ p .start → end ≡ endAt p → Stands text p → Put old at (recordsBytes (own inside p)) next last)
+      → Put old at (recordsBytes (atFirst (termsAt (whereOf n)) (drop i ts))) next last
   term-atom text g st s t put =
       let token = token-at h i l in
       rw (term-own h l e (whereOf n) d f, g) (put (token .here) (e ∙ token .kind) (s ∙ token .start) (t ∙ token .end) (stands-at text st token))

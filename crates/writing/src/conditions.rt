@@ -14,11 +14,10 @@ ghost use mathlib.Core.Path.{_≡_};
 ghost use mathlib.Core.Bool.{false as no, _&&_};
 ghost use lib.Dec.{eqb};
 ghost use lib.ListN.{length, drop};
-ghost use Rattle.buffers.specs.Code.Put.{largest};
+ghost use Rattle.buffers.specs.Code.Put.{Put, largest};
 ghost use Rattle.tokens.specs.Token.{Placed};
 ghost use Rattle.encoding.specs.Encode.{recordsBytes, sectionBytes};
 ghost use Rattle.encoding.specs.Code.FlatFile.{flatConditions};
-ghost use Rattle.writing.specs.Code.Laid.{Laid};
 ghost use Rattle.writing.specs.Code.Held.{Held, Stand, atFirst};
 ghost use Rattle.writing.specs.Code.Found.{conditionsAt};
 
@@ -46,7 +45,7 @@ fn put_condition(
     requires { ⌜ (at + 16 ≤ largest) × (i < length (now kinds)) × (length (now kinds) ≤ 4096) ⌝ }
     ensures { λ r. ⌜ (at ≤ r) × (r ≤ at + 16)
         × ((ts : List Placed) → Held (now (kinds .entry)) (now (starts .entry)) (now (ends .entry)) ts → Stand (now (text .entry)) ts
-        → Laid (now (out .entry)) at (recordsBytes (atFirst (conditionsAt inside) (drop i ts))) r (now (out .exit))) ⌝ }
+        → Put (now (out .entry)) at (recordsBytes (atFirst (conditionsAt inside) (drop i ts))) r (now (out .exit))) ⌝ }
 {
     if !begins_condition(inside, kind_at(kinds, i)) {
         return at;
@@ -73,7 +72,7 @@ fn put_conditions(
     requires { ⌜ (at ≤ 1000000000000) × (length (now kinds) ≤ 4096) ⌝ }
     ensures { λ r. ⌜ (at ≤ r) × (r ≤ at + 65536)
         × ((ts : List Placed) → Held (now (kinds .entry)) (now (starts .entry)) (now (ends .entry)) ts → Stand (now (text .entry)) ts
-        → Laid (now (out .entry)) at (recordsBytes (flatConditions no ts)) r (now (out .exit))) ⌝ }
+        → Put (now (out .entry)) at (recordsBytes (flatConditions no ts)) r (now (out .exit))) ⌝ }
 {
     let mut next = at;
     let mut inside = false;
@@ -98,7 +97,7 @@ pub fn condition_section(
     requires { ⌜ (at ≤ 900000000000) × (length (now kinds) ≤ 4096) ⌝ }
     ensures { λ r. ⌜ (r ≤ at + 65540)
         × ((ts : List Placed) → Held (now (kinds .entry)) (now (starts .entry)) (now (ends .entry)) ts → Stand (now (text .entry)) ts
-        → Laid (now (out .entry)) at (sectionBytes (flatConditions no ts)) r (now (out .exit))) ⌝ }
+        → Put (now (out .entry)) at (sectionBytes (flatConditions no ts)) r (now (out .exit))) ⌝ }
 {
     let first = at + 4;
     let end = put_conditions(text, kinds, starts, ends, out, first);

@@ -10,11 +10,10 @@ use crate::records::word;
 ghost use Prim.Native.Nat.{_+_, _<_, _≤_};
 ghost use mathlib.Core.List.{List};
 ghost use lib.ListN.{length, drop};
-ghost use Rattle.buffers.specs.Code.Put.{largest};
+ghost use Rattle.buffers.specs.Code.Put.{Put, largest};
 ghost use Rattle.tokens.specs.Token.{Placed};
 ghost use Rattle.encoding.specs.Encode.{recordsBytes, sectionBytes};
 ghost use Rattle.encoding.specs.Code.FlatFile.{functionsAt, flatFunctions};
-ghost use Rattle.writing.specs.Code.Laid.{Laid};
 ghost use Rattle.writing.specs.Code.Held.{Held, atFirst};
 
 // The record of the function whose name is a token, if one is.
@@ -29,7 +28,7 @@ fn put_function(
     requires { ⌜ (at + 20 ≤ largest) × (i < length (now kinds)) × (length (now kinds) ≤ 4096) ⌝ }
     ensures { λ r. ⌜ (at ≤ r) × (r ≤ at + 20)
         × ((ts : List Placed) → Held (now (kinds .entry)) (now (starts .entry)) (now (ends .entry)) ts
-        → Laid (now (out .entry)) at (recordsBytes (atFirst functionsAt (drop i ts))) r (now (out .exit))) ⌝ }
+        → Put (now (out .entry)) at (recordsBytes (atFirst functionsAt (drop i ts))) r (now (out .exit))) ⌝ }
 {
     if kind_at(kinds, i) != 1 {
         return at;
@@ -50,7 +49,7 @@ fn put_functions(kinds: &[u8], starts: &[u16], ends: &[u16], out: &mut [u8], at:
     requires { ⌜ (at ≤ 1000000000000) × (length (now kinds) ≤ 4096) ⌝ }
     ensures { λ r. ⌜ (at ≤ r) × (r ≤ at + 81920)
         × ((ts : List Placed) → Held (now (kinds .entry)) (now (starts .entry)) (now (ends .entry)) ts
-        → Laid (now (out .entry)) at (recordsBytes (flatFunctions ts)) r (now (out .exit))) ⌝ }
+        → Put (now (out .entry)) at (recordsBytes (flatFunctions ts)) r (now (out .exit))) ⌝ }
 {
     let mut next = at;
     let mut i = 0;
@@ -72,7 +71,7 @@ pub fn function_section(
     requires { ⌜ (at ≤ 900000000000) × (length (now kinds) ≤ 4096) ⌝ }
     ensures { λ r. ⌜ (r ≤ at + 81924)
         × ((ts : List Placed) → Held (now (kinds .entry)) (now (starts .entry)) (now (ends .entry)) ts
-        → Laid (now (out .entry)) at (sectionBytes (flatFunctions ts)) r (now (out .exit))) ⌝ }
+        → Put (now (out .entry)) at (sectionBytes (flatFunctions ts)) r (now (out .exit))) ⌝ }
 {
     let first = at + 4;
     let end = put_functions(kinds, starts, ends, out, first);

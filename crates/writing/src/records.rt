@@ -3,9 +3,8 @@ use buffers::put_byte;
 ghost use Prim.Native.Nat.{_+_, _%_, _≤_};
 ghost use mathlib.Core.Path.{_≡_};
 ghost use mathlib.Core.List.{[], _∷_};
-ghost use Rattle.buffers.specs.Code.Put.{largest};
+ghost use Rattle.buffers.specs.Code.Put.{Put, largest};
 ghost use Rattle.encoding.specs.Encode.{wordBytes, recordBytes};
-ghost use Rattle.writing.specs.Code.Laid.{Laid};
 
 // The least byte of a word.
 fn low_byte(n: u32) -> u8
@@ -17,7 +16,7 @@ fn low_byte(n: u32) -> u8
 // A word, least byte first.
 pub fn put_word(n: u32, out: &mut [u8], at: usize) -> usize
     requires { ⌜ at + 4 ≤ largest ⌝ }
-    ensures { λ r. ⌜ Laid (now (out .entry)) at (wordBytes n) r (now (out .exit)) ⌝ }
+    ensures { λ r. ⌜ Put (now (out .entry)) at (wordBytes n) r (now (out .exit)) ⌝ }
 {
     let second = put_byte(low_byte(n), out, at);
     let third = put_byte(low_byte(n / 256), out, second);
@@ -28,7 +27,7 @@ pub fn put_word(n: u32, out: &mut [u8], at: usize) -> usize
 // A record of four words.
 pub fn put_four(a: u32, b: u32, c: u32, d: u32, out: &mut [u8], at: usize) -> usize
     requires { ⌜ at + 16 ≤ largest ⌝ }
-    ensures { λ r. ⌜ (r ≡ at + 16) × Laid (now (out .entry)) at (recordBytes (a ∷ b ∷ c ∷ d ∷ [])) r (now (out .exit)) ⌝ }
+    ensures { λ r. ⌜ (r ≡ at + 16) × Put (now (out .entry)) at (recordBytes (a ∷ b ∷ c ∷ d ∷ [])) r (now (out .exit)) ⌝ }
 {
     let second = put_word(a, out, at);
     let third = put_word(b, out, second);
@@ -39,7 +38,7 @@ pub fn put_four(a: u32, b: u32, c: u32, d: u32, out: &mut [u8], at: usize) -> us
 // A record of five words.
 pub fn put_five(a: u32, b: u32, c: u32, d: u32, e: u32, out: &mut [u8], at: usize) -> usize
     requires { ⌜ at + 20 ≤ largest ⌝ }
-    ensures { λ r. ⌜ (r ≡ at + 20) × Laid (now (out .entry)) at (recordBytes (a ∷ b ∷ c ∷ d ∷ e ∷ [])) r (now (out .exit)) ⌝ }
+    ensures { λ r. ⌜ (r ≡ at + 20) × Put (now (out .entry)) at (recordBytes (a ∷ b ∷ c ∷ d ∷ e ∷ [])) r (now (out .exit)) ⌝ }
 {
     let last = put_four(a, b, c, d, out, at);
     put_word(e, out, last)
@@ -48,7 +47,7 @@ pub fn put_five(a: u32, b: u32, c: u32, d: u32, e: u32, out: &mut [u8], at: usiz
 // A record of six words.
 pub fn put_six(a: u32, b: u32, c: u32, d: u32, e: u32, f: u32, out: &mut [u8], at: usize) -> usize
     requires { ⌜ at + 24 ≤ largest ⌝ }
-    ensures { λ r. ⌜ (r ≡ at + 24) × Laid (now (out .entry)) at (recordBytes (a ∷ b ∷ c ∷ d ∷ e ∷ f ∷ [])) r (now (out .exit)) ⌝ }
+    ensures { λ r. ⌜ (r ≡ at + 24) × Put (now (out .entry)) at (recordBytes (a ∷ b ∷ c ∷ d ∷ e ∷ f ∷ [])) r (now (out .exit)) ⌝ }
 {
     let last = put_five(a, b, c, d, e, out, at);
     put_word(f, out, last)

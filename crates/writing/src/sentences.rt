@@ -14,11 +14,10 @@ ghost use mathlib.Core.List.{List};
 ghost use mathlib.Core.Path.{_≡_};
 ghost use mathlib.Core.Bool.{false as no};
 ghost use lib.ListN.{length, drop};
-ghost use Rattle.buffers.specs.Code.Put.{largest};
+ghost use Rattle.buffers.specs.Code.Put.{Put, largest};
 ghost use Rattle.tokens.specs.Token.{Placed};
 ghost use Rattle.encoding.specs.Encode.{recordsBytes, sectionBytes};
 ghost use Rattle.encoding.specs.Code.FlatFile.{flatSentences};
-ghost use Rattle.writing.specs.Code.Laid.{Laid};
 ghost use Rattle.writing.specs.Code.Held.{Held, Stand, atFirst};
 ghost use Rattle.writing.specs.Code.Found.{sentenceBegins, sentencesAt};
 
@@ -52,7 +51,7 @@ fn put_sentence(
     requires { ⌜ (at + 20 ≤ largest) × (i < length (now kinds)) × (length (now kinds) ≤ 4096) ⌝ }
     ensures { λ r. ⌜ (at ≤ r) × (r ≤ at + 20)
         × ((ts : List Placed) → Held (now (kinds .entry)) (now (starts .entry)) (now (ends .entry)) ts → Stand (now (text .entry)) ts
-        → Laid (now (out .entry)) at (recordsBytes (atFirst (sentencesAt inside) (drop i ts))) r (now (out .exit))) ⌝ }
+        → Put (now (out .entry)) at (recordsBytes (atFirst (sentencesAt inside) (drop i ts))) r (now (out .exit))) ⌝ }
 {
     let first = i + 1;
     if !begins_sentence(inside, kind_at(kinds, i), kind_at(kinds, first)) {
@@ -80,7 +79,7 @@ fn put_sentences(
     requires { ⌜ (at ≤ 1000000000000) × (length (now kinds) ≤ 4096) ⌝ }
     ensures { λ r. ⌜ (at ≤ r) × (r ≤ at + 81920)
         × ((ts : List Placed) → Held (now (kinds .entry)) (now (starts .entry)) (now (ends .entry)) ts → Stand (now (text .entry)) ts
-        → Laid (now (out .entry)) at (recordsBytes (flatSentences no ts)) r (now (out .exit))) ⌝ }
+        → Put (now (out .entry)) at (recordsBytes (flatSentences no ts)) r (now (out .exit))) ⌝ }
 {
     let mut next = at;
     let mut inside = false;
@@ -105,7 +104,7 @@ pub fn sentence_section(
     requires { ⌜ (at ≤ 900000000000) × (length (now kinds) ≤ 4096) ⌝ }
     ensures { λ r. ⌜ (r ≤ at + 81924)
         × ((ts : List Placed) → Held (now (kinds .entry)) (now (starts .entry)) (now (ends .entry)) ts → Stand (now (text .entry)) ts
-        → Laid (now (out .entry)) at (sectionBytes (flatSentences no ts)) r (now (out .exit))) ⌝ }
+        → Put (now (out .entry)) at (sectionBytes (flatSentences no ts)) r (now (out .exit))) ⌝ }
 {
     let first = at + 4;
     let end = put_sentences(text, kinds, starts, ends, out, first);

@@ -12,10 +12,10 @@ ghost use Prim.Native.Nat.{_+_, _<_, _≤_};
 ghost use mathlib.Core.List.{List};
 ghost use mathlib.Core.Path.{_≡_};
 ghost use lib.ListN.{length, drop};
+ghost use Rattle.buffers.specs.Code.Put.{Put};
 ghost use Rattle.tokens.specs.Token.{Placed};
 ghost use Rattle.encoding.specs.Encode.{recordsBytes, sectionBytes};
 ghost use Rattle.encoding.specs.Code.FlatTerms.{outside as whereOutside, whereAfter, termsAt, flatTerms};
-ghost use Rattle.writing.specs.Code.Laid.{Laid};
 ghost use Rattle.writing.specs.Code.Held.{Held, Stand, atFirst};
 ghost use Rattle.writing.specs.Code.Found.{whereOf, bracketAt, callAt};
 
@@ -51,7 +51,7 @@ fn put_bracket(
     requires { ⌜ (at ≤ 1000000000000000) × (i < length (now kinds)) × (length (now kinds) ≤ 4096) ⌝ }
     ensures { λ r. ⌜ (r ≡ at + 24)
         × ((ts : List Placed) → Held (now (kinds .entry)) (now (starts .entry)) (now (ends .entry)) ts → Stand (now (text .entry)) ts
-        → Laid (now (out .entry)) at (recordsBytes (atFirst bracketAt (drop i ts))) r (now (out .exit))) ⌝ }
+        → Put (now (out .entry)) at (recordsBytes (atFirst bracketAt (drop i ts))) r (now (out .exit))) ⌝ }
 {
     let inner = i + 1;
     let records = inner_records(text, kinds, starts, ends, inner, false);
@@ -72,7 +72,7 @@ fn put_call(
     requires { ⌜ (at ≤ 1000000000000000) × (i < length (now kinds)) × (length (now kinds) ≤ 4096) ⌝ }
     ensures { λ r. ⌜ (r ≡ at + 24)
         × ((ts : List Placed) → Held (now (kinds .entry)) (now (starts .entry)) (now (ends .entry)) ts → Stand (now (text .entry)) ts
-        → Laid (now (out .entry)) at (recordsBytes (atFirst callAt (drop i ts))) r (now (out .exit))) ⌝ }
+        → Put (now (out .entry)) at (recordsBytes (atFirst callAt (drop i ts))) r (now (out .exit))) ⌝ }
 {
     let inner = i + 1;
     let name = short_at(starts, inner);
@@ -96,7 +96,7 @@ fn put_term(
     requires { ⌜ (at ≤ 1000000000000000) × (i < length (now kinds)) × (length (now kinds) ≤ 4096) × (length (now text) ≤ 4096) ⌝ }
     ensures { λ r. ⌜ (at ≤ r) × (r ≤ at + 1680000)
         × ((ts : List Placed) → Held (now (kinds .entry)) (now (starts .entry)) (now (ends .entry)) ts → Stand (now (text .entry)) ts
-        → Laid (now (out .entry)) at (recordsBytes (atFirst (termsAt (whereOf state)) (drop i ts))) r (now (out .exit))) ⌝ }
+        → Put (now (out .entry)) at (recordsBytes (atFirst (termsAt (whereOf state)) (drop i ts))) r (now (out .exit))) ⌝ }
 {
     let k = kind_at(kinds, i);
     if k == b'(' {
@@ -123,7 +123,7 @@ fn put_terms(
     requires { ⌜ (at ≤ 1000000000000) × (length (now kinds) ≤ 4096) × (length (now text) ≤ 4096) ⌝ }
     ensures { λ r. ⌜ (at ≤ r) × (r ≤ at + 6881280000)
         × ((ts : List Placed) → Held (now (kinds .entry)) (now (starts .entry)) (now (ends .entry)) ts → Stand (now (text .entry)) ts
-        → Laid (now (out .entry)) at (recordsBytes (flatTerms whereOutside ts)) r (now (out .exit))) ⌝ }
+        → Put (now (out .entry)) at (recordsBytes (flatTerms whereOutside ts)) r (now (out .exit))) ⌝ }
 {
     let mut next = at;
     let mut state: u8 = 0;
@@ -148,7 +148,7 @@ pub fn term_section(
     requires { ⌜ (at ≤ 900000000000) × (length (now kinds) ≤ 4096) × (length (now text) ≤ 4096) ⌝ }
     ensures { λ r. ⌜ (r ≤ at + 6881280004)
         × ((ts : List Placed) → Held (now (kinds .entry)) (now (starts .entry)) (now (ends .entry)) ts → Stand (now (text .entry)) ts
-        → Laid (now (out .entry)) at (sectionBytes (flatTerms whereOutside ts)) r (now (out .exit))) ⌝ }
+        → Put (now (out .entry)) at (sectionBytes (flatTerms whereOutside ts)) r (now (out .exit))) ⌝ }
 {
     let first = at + 4;
     let end = put_terms(text, kinds, starts, ends, out, first);

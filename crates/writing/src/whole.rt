@@ -9,16 +9,16 @@ use buffers::put;
 ghost use Prim.Native.Nat.{_≤_};
 ghost use mathlib.Core.List.{List};
 ghost use lib.ListN.{length};
+ghost use Rattle.buffers.specs.Code.Put.{Put};
 ghost use Rattle.tokens.specs.Token.{Placed};
 ghost use Rattle.encoding.specs.Code.FlatFile.{flatFile};
-ghost use Rattle.writing.specs.Code.Laid.{Laid};
 ghost use Rattle.writing.specs.Code.Held.{Held, Stand};
 
 // The file from its first byte on, and where it ends.
 pub fn put_file(text: &[u8], kinds: &[u8], starts: &[u16], ends: &[u16], out: &mut [u8]) -> usize
     requires { ⌜ (length (now text) ≤ 4096) × (length (now kinds) ≤ 4096) ⌝ }
     ensures { λ r. ⌜ ((ts : List Placed) → Held (now (kinds .entry)) (now (starts .entry)) (now (ends .entry)) ts → Stand (now (text .entry)) ts
-        → Laid (now (out .entry)) 0 (flatFile (now (text .entry)) ts) r (now (out .exit))) ⌝ }
+        → Put (now (out .entry)) 0 (flatFile (now (text .entry)) ts) r (now (out .exit))) ⌝ }
 {
     let size = put_word(word(text.len()), out, 0);
     let first = put(text, out, size);

@@ -1,6 +1,6 @@
 -- One digit, or the digits of a tenth of the number and then its last.
 use native.Mathlib.Omega.{arith}
-use Rattle.buffers.proofs.PutLaws.{put-whole, _then_}
+use Rattle.buffers.proofs.PutLaws.{_then_}
 use Rattle.buffers.proofs.DigitLaws.{decimal-alone, decimal-last, decimal-few}
 use borrow.Author.Needs.{needs}
 use Prim.Native.Nat.{ℕ, _<_}
@@ -40,7 +40,7 @@ pub +put-decimal-spec : {M : Type 1} → statement M
     (λ c.
     let x = c .before .before .before .before .before .before .args in
     let digit = c .before .before .put-byte .ensures in
-    (omega (arith, digit .end), rw (decimal-alone (x .n) (omega (arith, c .before .before .before .before .if1 .taken))) (put-whole digit)))
+    (omega (arith, digit .end), rw (decimal-alone (x .n) (omega (arith, c .before .before .before .before .if1 .taken))) digit))
     (λ c κs. (omega arith, omega arith))
     (λ c. search needs)
     (λ c. search needs)
@@ -55,5 +55,5 @@ pub +put-decimal-spec : {M : Type 1} → statement M
     let before = c .before .before .before .before .before .before .put-decimal in
     let digit = c .before .before .put-byte2 in (
       omega (arith, before .ensures .1 .end, digit .ensures .end, decimal-few n (omega (arith, start .fits .n .fits))),
-      rw (decimal-last n (omega (arith, many))) (((before .ensures .1, before .kept .1 .0) then (put-whole (digit .ensures), digit .kept .1 .0)) .0),
+      rw (decimal-last n (omega (arith, many))) (before .ensures .1 then digit .ensures),
     ))

@@ -3,7 +3,7 @@ use Prim.Native.Nat.{ℕ, zero, suc, _+_, _*_, _≤_, _<_}
 use mathlib.Core.Bool.{Bool, true, false, not, cond}
 use mathlib.Core.List.{List, [], _∷_, _++_}
 use mathlib.Core.Path.{_≡_}
-use lib.ListN.{length, drop, getD, replicate}
+use lib.ListN.{length, drop, replicate}
 use Rattle.names.specs.Name.{folded}
 use Rattle.file.specs.Answer.{Answer, refused, given}
 use Rattle.file.specs.Sections.{File, fileOf}
@@ -53,10 +53,10 @@ argumentsIn limit names store = entriesFrom limit store 0 names
 abbrev pub resultsIn : ℕ → List (List ℕ) → List ℕ → List Entry
 resultsIn limit names store = entriesFrom limit store 1 names
 
--- the words of a format that the store has words for; or false, and a header of 0 before words of which nothing is said
+-- the words of a format that the store has words for; or false, and zeros
 pub record FormatMade (limit : ℕ) (f : Shapes) (ok : Bool) (words : List ℕ) : Type 0 where
   pub fits : Encodable limit (of f) → (ok ≡ true) × (words ≡ formatWords limit (of f))
-  pub over : limit < size f → (ok ≡ false) × (getD words 0 0 ≡ 0)
+  pub over : limit < size f → (ok ≡ false) × (words ≡ replicate (limit + 1) 0)
   pub kept : length words ≡ limit + 1
 
 -- the row of a sentence's pattern or result

@@ -11,17 +11,17 @@ deliver-tokens-spec =
     (tie.spec
     (λ c κs. search needs)
     (λ c. search needs)
-    (λ c ts held stand. let laid = c .before .before .before .put-file .ensures ts held stand in file-over _ _ (omega (arith, c .if1 .taken, laid .end)))
+    (λ c ts held stand. let put = c .before .before .before .put-file .ensures ts held stand in file-over _ _ (omega (arith, c .if1 .taken, put .end)))
     (λ c. search needs)
     (λ c.
-    let laid = c .before .before .before .before .put-file in
+    let put = c .before .before .before .before .put-file in
     let start = c .before .before .before .before .before .before .before .before .before .before .before .before in
-    part-size (laid .result) _ (start .args .file .now) (omega (arith, c .before .if1 .left)) (start .pre .2) (laid .kept .1 .1 .1 .1 .0))
-    (λ c κs. let laid = c .before .before .before .before .before .put-file in part-small (laid .result) _ (omega (arith, c .before .before .if1 .left)))
+    part-size (put .result) _ (start .args .file .now) (omega (arith, c .before .if1 .left)) (start .pre .2) (put .kept .1 .1 .1 .1 .0))
+    (λ c κs. let put = c .before .before .before .before .before .put-file in part-small (put .result) _ (omega (arith, c .before .before .if1 .left)))
     (λ c. search needs)
     (λ c. search needs)
     (λ c ts held stand.
-    let laid = c .before .before .before .before .before .before .before .before .put-file in
+    let put = c .before .before .before .before .before .before .before .before .put-file in
     let start = c .before .before .before .before .before .before .before .before .before .before .before .before .before .before .before .before in
     let few = c .before .before .before .before .before .if1 .left in
-    tokens-delivered _ _ _ _ _ _ (laid .ensures ts held stand) (omega (arith, few, start .pre .2)) (c .before .before .deliver-law .ensures)))
+    tokens-delivered _ _ _ _ _ _ (put .ensures ts held stand) (omega (arith, few, start .pre .2)) (c .before .before .deliver-law .ensures)))

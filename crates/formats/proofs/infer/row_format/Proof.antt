@@ -16,6 +16,7 @@ row-format-spec =
     (λ c. search needs)
     (λ c κs. let p = c .before .before .before .before .before .before .before .before .before .pre in (row-cleared (p .0) (c .before .before .before .clear-words .kept .0) refl, p .2))
     (λ c. search needs)
+    (λ c κs. search needs)
     (λ c. search needs)
     (λ c. let the-write-row = c .before .before .before .before .before .write-row in
     omega (arith, ends-between (c .before .next .given .1) (the-write-row .ensures .0)))
@@ -24,10 +25,13 @@ row-format-spec =
     omega (arith, ends-between (c .before .next .given .1) (the-write-row .ensures .0), the-pre .0 .stored .limited))
     (λ c. search needs)
     (λ c. search needs)
-    (λ c. let the-args = c .before .before .before .before .before .before .before .before .before .before .before .before .before .before .args in
-    let the-clear-words = c .before .before .before .before .before .before .before .before .clear-words in
-    let p = c .before .before .before .before .before .before .before .before .before .before .before .before .before .before .pre in
-    λ t knows. made-over (the-args .limit) _ _ _ (the-clear-words .ensures ∙ ap (λ n. replicate n 0) (p .1)) refl (c .enum-told .given .1) (c .before .before .before .before .write-row .ensures .1 t knows))
+    (λ c.
+    let told = c .before .before .before .before in
+    let row = told .before .before .before .before in
+    let first = row .before .before .before .before in
+    let start = first .before .before .before .before .before .before in
+    λ t knows. made-over (start .args .limit) _ _ _ refl (told .enum-told .given .1) (row .write-row .ensures .1 t knows)
+    (row .write-row .kept .1 .1 .1 .1 .1 .1 .1 .0 ∙ first .clear-words .kept .0 ∙ start .pre .1) (c .before .before .clear-words2 .ensures))
     (λ c. let the-write-row = c .before .before .before .before .before .before .write-row in
     let the-clear-words = c .before .before .before .before .before .before .before .before .before .before .clear-words in
     length-set (the-write-row .last .1 .1 .1 .1 .1 .1 .1 .0) _ _ ∙ the-write-row .kept .1 .1 .1 .1 .1 .1 .1 .0 ∙ the-clear-words .kept .0)

@@ -4,7 +4,7 @@ use Rattle.law.specs.Text.{bytesOf}
 use Rattle.law.specs.Tree.{Name}
 use Rattle.lints.specs.Message.{claimText}
 use mathlib.Core.Path.{refl}
-use Rattle.buffers.proofs.PutLaws.{put-whole, _then_}
+use Rattle.buffers.proofs.PutLaws.{_then_}
 use Rattle.messages.proofs.TextLaws.{shown-near}
 use borrow.Author.Needs.{needs}
 use Rattle.messages.proofs.texts.put_by_formats.Statement.{statement}
@@ -65,7 +65,5 @@ put-by-formats-spec =
     let quote = after-quote name in
     let call = after-call quote in
     let callee : Name = record { start = 0; spelled = start call .args .callee .now } in
-    λ owner f e. rw e (((call .put-call .ensures .1 callee refl, call .put-call .kept .1 .0)
-    then (put-whole (quote .put .ensures), quote .put .kept .1 .0) then (put-whole (name .put2 .ensures), name .put2 .kept .1 .0)
-    then (put-whole (accepts .put3 .ensures), accepts .put3 .kept .1 .0) then (accepted .show-format .ensures, accepted .show-format .kept .1 .0)
-    then (put-whole (passes .put4 .ensures), passes .put4 .kept .1 .0) then (passed .show-format2 .ensures, passed .show-format2 .kept .1 .0)) .0)))
+    λ owner f e. rw e (call .put-call .ensures .1 callee refl then quote .put .ensures then name .put2 .ensures then accepts .put3 .ensures
+    then accepted .show-format .ensures then passes .put4 .ensures then passed .show-format2 .ensures)))

@@ -2,7 +2,7 @@
 use Rattle.law.specs.Text.{bytesOf}
 use Rattle.lints.specs.Message.{claimText}
 use mathlib.Core.Path.{refl}
-use Rattle.buffers.proofs.PutLaws.{put-whole, _then_}
+use Rattle.buffers.proofs.PutLaws.{_then_}
 use borrow.Author.Needs.{needs}
 use Rattle.messages.proofs.texts.put_by_literals.Statement.{statement}
 use Rattle.messages.proofs.texts.put_by_literals.Tie as tie
@@ -25,5 +25,5 @@ put-by-literals-spec =
     let first = c .before .before .before .before .before .before .before .before .before .before .before .put in
     let name = c .before .before .before .before .before .before .before .put2 in
     let last = c .before .before .put3 in
-    λ owner f e. rw e (((call .ensures .1 (record { start = 0; spelled = x .callee .now }) refl, call .kept .1 .0)
-    then (put-whole (first .ensures), first .kept .1 .0) then (put-whole (name .ensures), name .kept .1 .0) then (put-whole (last .ensures), last .kept .1 .0)) .0)))
+    λ owner f e. rw e (call .ensures .1 (record { start = 0; spelled = x .callee .now }) refl
+    then first .ensures then name .ensures then last .ensures)))

@@ -1,7 +1,7 @@
 -- Three pieces, one after another.
 use native.Mathlib.Omega.{arith}
 use Rattle.law.specs.Text.{bytesOf}
-use Rattle.buffers.proofs.PutLaws.{put-whole, _then_}
+use Rattle.buffers.proofs.PutLaws.{_then_}
 use borrow.Author.Needs.{needs}
 use Rattle.messages.proofs.texts.put_call.Statement.{statement}
 use Rattle.messages.proofs.texts.put_call.Tie as tie
@@ -22,5 +22,5 @@ put-call-spec =
     let second = c .before .before .before .before .before .before .before .put2 in
     let third = c .before .before .put3 in (
       omega (arith, first .ensures .end, second .ensures .end, third .ensures .end),
-      λ f e. rw e (((put-whole (first .ensures), first .kept .1 .0) then (put-whole (second .ensures), second .kept .1 .0) then (put-whole (third .ensures), third .kept .1 .0)) .0),
+      λ f e. rw e (first .ensures then second .ensures then third .ensures),
     )))

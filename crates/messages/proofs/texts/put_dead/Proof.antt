@@ -1,7 +1,7 @@
 -- Seven pieces, one after another.
 use Rattle.law.specs.Text.{bytesOf}
 use Rattle.lints.specs.Message.{claimText}
-use Rattle.buffers.proofs.PutLaws.{put-whole, _then_}
+use Rattle.buffers.proofs.PutLaws.{_then_}
 use borrow.Author.Needs.{needs}
 use Rattle.messages.proofs.texts.put_dead.Statement.{statement}
 use Rattle.messages.proofs.texts.put_dead.Tie as tie
@@ -31,6 +31,5 @@ put-dead-spec =
     let third = c .before .before .before .before .before .before .before .before .before .before .before .put3 in
     let earlier = c .before .before .before .before .before .before .before .put-decimal2 in
     let last = c .before .before .put4 in
-    λ f e. ((put-whole (first .ensures), first .kept .1 .0) then (later .ensures .1, later .kept .1 .0) then (put-whole (second .ensures), second .kept .1 .0)
-    then (owner .ensures .1 f e, owner .kept .1 .1 .0)
-    then (put-whole (third .ensures), third .kept .1 .0) then (earlier .ensures .1, earlier .kept .1 .0) then (put-whole (last .ensures), last .kept .1 .0)) .0))
+    λ f e. first .ensures then later .ensures .1 then second .ensures then owner .ensures .1 f e then third .ensures then earlier .ensures .1
+    then last .ensures))

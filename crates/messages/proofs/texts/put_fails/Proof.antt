@@ -14,4 +14,4 @@ put-fails-spec = tie.close (tie.spec
     (λ c.
     let call = c .before .before .before .before .before .before .put-call in
     let why = c .before .before .put-failure in
-    λ owner f e. ((call .ensures .1 f e, call .kept .1 .0) then (why .ensures, why .kept .1 .0)) .0))
+    λ owner f e. call .ensures .1 f e then why .ensures))

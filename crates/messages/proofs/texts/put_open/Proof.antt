@@ -1,7 +1,7 @@
 -- Six pieces, one after another.
 use Rattle.law.specs.Text.{bytesOf}
 use Rattle.lints.specs.Message.{claimText}
-use Rattle.buffers.proofs.PutLaws.{put-whole, _then_}
+use Rattle.buffers.proofs.PutLaws.{_then_}
 use borrow.Author.Needs.{needs}
 use Rattle.messages.proofs.texts.put_open.Statement.{statement}
 use Rattle.messages.proofs.texts.put_open.Tie as tie
@@ -28,5 +28,4 @@ put-open-spec =
     let count = c .before .before .before .before .before .before .before .before .before .before .before .put-decimal in
     let third = c .before .before .before .before .before .before .put4 in
     let again = c .before .before .put-decimal2 in
-    λ f e. rw e (((put-whole (first .ensures), first .kept .1 .0) then (put-whole (owner .ensures), owner .kept .1 .0) then (put-whole (second .ensures), second .kept .1 .0)
-    then (count .ensures .1, count .kept .1 .0) then (put-whole (third .ensures), third .kept .1 .0) then (again .ensures .1, again .kept .1 .0)) .0)))
+    λ f e. rw e (first .ensures then owner .ensures then second .ensures then count .ensures .1 then third .ensures then again .ensures .1)))

@@ -1,7 +1,7 @@
 -- Of a block, three pieces, one after another; else the name alone.
 use native.Mathlib.Omega.{arith}
 use Rattle.law.specs.Text.{bytesOf}
-use Rattle.buffers.proofs.PutLaws.{put-whole, _then_}
+use Rattle.buffers.proofs.PutLaws.{_then_}
 use borrow.Author.Needs.{needs}
 use Rattle.messages.proofs.texts.put_owner.Statement.{statement}
 use Rattle.messages.proofs.texts.put_owner.Tie as tie
@@ -23,11 +23,10 @@ put-owner-spec =
     let second = c .before .before .before .before .before .before .before .put2 in
     let third = c .before .before .put3 in (
       omega (arith, first .ensures .end, second .ensures .end, third .ensures .end),
-      λ f e. rw (in-block, e)
-          (((put-whole (first .ensures), first .kept .1 .0) then (put-whole (second .ensures), second .kept .1 .0) then (put-whole (third .ensures), third .kept .1 .0)) .0),
+      λ f e. rw (in-block, e) (first .ensures then second .ensures then third .ensures),
     ))
     (λ c κs. search needs)
     (λ c. search needs)
     (λ c.
     let only = c .before .before .put4 in
-    (omega (arith, only .ensures .end), λ f e. rw (c .before .before .before .before .if1 .left, e) (put-whole (only .ensures)))))
+    (omega (arith, only .ensures .end), λ f e. rw (c .before .before .before .before .if1 .left, e) (only .ensures))))

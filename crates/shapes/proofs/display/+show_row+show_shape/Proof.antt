@@ -5,7 +5,6 @@ use native.Mathlib.Omega.{arith}
 use borrow.Author.Needs.{needs}
 use lib.ListN.{length}
 use Rattle.shapes.proofs.WordLaws.{shapes-end-low, shapes-contents-falls, shapes-rest-falls}
-use Rattle.buffers.proofs.PutLaws.{put-whole}
 use Rattle.shapes.proofs.DisplayLaws.{space-length, show-none-open, show-none-closed, show-some, show-bracket, show-leaf}
 use borrow.Fn.Kinds.{In}
 use borrow.Fn.PlainCycle.{Measures, is, falls, and}
@@ -70,7 +69,7 @@ pub +show-row+show-shape-spec : {M : Type 1} → statement M
     (λ c. let the-put-space = c .before .before .before .before .before .before .before .put-space in
     let the-if1 = c .before .before .before .before .before .before .before .before .before .before .if1 in
     let the-if2 = c .before .before .before .before .before .before .before .before .before .if2 in
-    let x = c .before .before .before .before .before .before .before .before .before .before .before .before .before .args in (omega (arith, c .before .before .put .ensures .end, the-put-space .ensures .end, space-length (x .first)), show-none-open (x .is-open) (x .first) (x .s .now) (x .out .now) (x .at) _ _ _ _ (the-if1 .taken) (the-if2 .taken) (the-put-space .kept .1 .0) (the-put-space .ensures) (put-whole (c .before .before .put .ensures))))
+    let x = c .before .before .before .before .before .before .before .before .before .before .before .before .before .args in (omega (arith, c .before .before .put .ensures .end, the-put-space .ensures .end, space-length (x .first)), show-none-open (x .is-open) (x .first) (x .s .now) (x .out .now) (x .at) _ _ _ _ (the-if1 .taken) (the-if2 .taken) (the-put-space .ensures) (c .before .before .put .ensures)))
     (λ c. let x = c .before .before .before .before .args in (omega arith, show-none-closed (x .is-open) (x .first) (x .s .now) (x .out .now) (x .at) (c .before .if1 .taken) (c .if2 .left)))
     (λ c κs. omega arith)
     (λ c κs.
@@ -93,7 +92,7 @@ pub +show-row+show-shape-spec : {M : Type 1} → statement M
     let the-if1 = c .before .before .before .before .before .before .before .before .before .before .before .before .before .before .if1 in
     let x = c .before .before .before .before .before .before .before .before .before .before .before .before .before .before .before .before .before .args in (
       omega (arith, c .before .before .show-row .ensures .0, the-end-of .ensures, the-show-shape .ensures .0, the-put-space2 .ensures .end, space-length (x .first)),
-      show-some (x .is-open) (x .first) (x .s .now) (x .out .now) (x .at) _ _ _ _ _ _ _ (the-if1 .left) (the-end-of .ensures .0) (the-put-space2 .kept .1 .0) (the-show-shape .kept .1 .0) (the-put-space2 .ensures) (the-show-shape .ensures .1) (c .before .before .show-row .ensures .1),
+      show-some (x .is-open) (x .first) (x .s .now) (x .out .now) (x .at) _ _ _ _ _ _ _ (the-if1 .left) (the-end-of .ensures .0) (the-put-space2 .ensures) (the-show-shape .ensures .1) (c .before .before .show-row .ensures .1),
     )))
     λ t. show-shape-lts.spec (
       end-of-reads.Asked,
@@ -140,7 +139,7 @@ pub +show-row+show-shape-spec : {M : Type 1} → statement M
     let the-inside-open = c .before .before .before .before .before .before .before .before .before .inside-open in
     let x = c .before .before .before .before .before .before .before .before .before .before .before .before .before .before .before .before .before .before .before .before .before .before .args in (
       omega (arith, c .before .before .put2 .ensures .end, the-show-row .ensures .0, the-end-of .ensures, the-put .ensures .end),
-      show-bracket (x .s .now) _ (the-is-bracket .ensures) (x .out .now) (x .at) _ _ _ _ _ _ _ _ (the-if1 .taken) (the-inside-open .ensures) (the-end-of .ensures .0) (the-put .kept .1 .0) (the-show-row .kept .1 .1 .1 .0) (put-whole (the-put .ensures)) (the-show-row .ensures .1) (put-whole (c .before .before .put2 .ensures)),
+      show-bracket (x .s .now) _ (the-is-bracket .ensures) (x .out .now) (x .at) _ _ _ _ _ _ _ _ (the-if1 .taken) (the-inside-open .ensures) (the-end-of .ensures .0) (the-put .ensures) (the-show-row .ensures .1) (c .before .before .put2 .ensures),
     ))
     (λ c κs. search needs)
     (λ c κs. omega arith)
@@ -148,4 +147,4 @@ pub +show-row+show-shape-spec : {M : Type 1} → statement M
     (λ c. let the-pre = c .before .before .before .before .before .before .before .before .before .before .before .pre in
     let the-is-bracket = c .before .before .before .before .before .before .is-bracket in
     let the-if1 = c .before .before .before .before .before .if1 in
-    let x = c .before .before .before .before .before .before .before .before .before .before .before .args in (omega (arith, c .before .before .put-byte .ensures .end, shapes-end-low (x .s .now) (the-pre .1 .0)), show-leaf (x .s .now) _ (the-is-bracket .ensures) (x .out .now) (x .at) _ _ _ (the-if1 .left) (c .before .before .before .before .leaf-byte .ensures) (put-whole (c .before .before .put-byte .ensures))))
+    let x = c .before .before .before .before .before .before .before .before .before .before .before .args in (omega (arith, c .before .before .put-byte .ensures .end, shapes-end-low (x .s .now) (the-pre .1 .0)), show-leaf (x .s .now) _ (the-is-bracket .ensures) (x .out .now) (x .at) _ _ _ (the-if1 .left) (c .before .before .before .before .leaf-byte .ensures) (c .before .before .put-byte .ensures)))

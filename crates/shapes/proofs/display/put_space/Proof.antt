@@ -1,5 +1,5 @@
 -- Nothing, or one byte.
-use Rattle.buffers.proofs.PutLaws.{put-none, put-whole}
+use Rattle.buffers.proofs.PutLaws.{put-none}
 use borrow.Author.Needs.{needs}
 use Rattle.shapes.proofs.display.put_space.Statement.{statement}
 use Rattle.shapes.proofs.display.put_space.Tie as tie
@@ -9,4 +9,4 @@ put-space-spec = tie.close (tie.spec
     (λ c. let x = c .before .before .args in rw (c .if1 .taken) (put-none (x .out .now) (x .at)))
     (λ c κs. search needs)
     (λ c. search needs)
-    (λ c. rw (c .before .before .before .before .if1 .left) (put-whole (c .before .before .put-byte .ensures))))
+    (λ c. rw (c .before .before .before .before .if1 .left) (c .before .before .put-byte .ensures)))

@@ -1,7 +1,6 @@
 -- No words are the empty format. Else it rests on reading the format's row, which has fewer than 256 shapes.
 use native.Mathlib.Omega.{arith}
 use Rattle.shapes.proofs.FormatLaws.{read-row}
-use Rattle.buffers.proofs.PutLaws.{put-whole}
 use Rattle.shapes.proofs.DisplayLaws.{row-end-few, show-none, show-never, show-whole}
 use borrow.Author.Needs.{needs}
 use Rattle.shapes.proofs.display.show_format.Statement.{statement}
@@ -16,7 +15,7 @@ show-format-spec =
     (λ c. search needs)
     (λ c. let the-if1 = c .before .before .before .before .before .if1 in
     let x = c .before .before .before .before .before .before .before .before .args in
-    show-none (x .format .now) (x .out .now) _ (x .at) _ (the-if1 .taken) (put-whole (c .before .before .put .ensures)))
+    show-none (x .format .now) (x .out .now) _ (x .at) _ (the-if1 .taken) (c .before .before .put .ensures))
     (λ c. search needs)
     (λ c κs. search needs)
     (λ c. search needs)
@@ -25,7 +24,7 @@ show-format-spec =
     (λ c. let the-is-never = c .before .before .before .before .before .before .is-never in
     let the-if2 = c .before .before .before .before .before .if2 in
     let x = c .before .before .before .before .before .before .before .before .before .before .before .args in
-    show-never (x .format .now) (x .out .now) _ (x .at) _ _ (the-is-never .ensures) (the-if2 .taken) (put-whole (c .before .before .put2 .ensures)))
+    show-never (x .format .now) (x .out .now) _ (x .at) _ _ (the-is-never .ensures) (the-if2 .taken) (c .before .before .put2 .ensures))
     (λ c κs. search needs)
     (λ c. search needs)
     (λ c κs. search needs)
@@ -50,4 +49,4 @@ show-format-spec =
     let x = tested .before .before .before .before .before .before .args in
     show-whole (x .format .now) (x .out .now) _ _ _ (x .at) _ _ _ _
     (read-row (x .format .now) _ _ _ (tested .before .before .before .if1 .left) (tested .before .is-never .ensures) (tested .if2 .left) (opened .before .before .before .row-end .ensures .0) (row .before .before .row-open .ensures))
-    (opened .put3 .kept .1 .0) (row .show-row .kept .1 .1 .1 .0) (put-whole (opened .put3 .ensures)) (row .show-row .ensures .1) (put-whole (c .before .before .put4 .ensures))))
+    (opened .put3 .ensures) (row .show-row .ensures .1) (c .before .before .put4 .ensures)))

@@ -1,7 +1,7 @@
 -- One law for each return.
 use native.Mathlib.Omega.{arith}
 use borrow.Author.Needs.{needs}
-use Rattle.writing.proofs.LaidLaws.{laid-no-record, laid-record}
+use Rattle.writing.proofs.SectionLaws.{put-no-record, put-record}
 use Rattle.writing.proofs.AtomLaws.{atom-sign, atom-word, atom-variable, run-of}
 use Rattle.writing.proofs.atoms.put_atom.Statement.{statement}
 use Rattle.writing.proofs.atoms.put_atom.Tie as tie
@@ -37,7 +37,7 @@ put-atom-spec =
           rw (run .records, ← last .before .before .index .ensures)
           (put .ensures .2 (run .characters) (rw (last .before .before .index .ensures, last .index2 .ensures, last .before .less .ensures) (run .spans))),
     ))
-    (λ c. (omega arith, omega arith, λ p e s t h. laid-no-record _ _ (atom-sign p e s t (c .before .if1 .left) (c .if3 .taken))))
+    (λ c. (omega arith, omega arith, λ p e s t h. put-no-record _ _ (atom-sign p e s t (c .before .if1 .left) (c .if3 .taken))))
     (λ c κs. search needs)
     (λ c κs. search needs)
     (λ c κs. let start = c .before .before .before .before .before .before .before .before in omega (arith, start .pre .0))
@@ -48,7 +48,7 @@ put-atom-spec =
     let size = kind .before .before in (
       omega (arith, put .ensures .0),
       omega (arith, put .ensures .0),
-      λ p e s t h. laid-record _
+      λ p e s t h. put-record _
           (atom-word p e s t (size .before .before .if1 .left) (size .before .if3 .left) (size .less2 .ensures) (kind .kind-word .ensures) (kind .before .if4 .taken)) (put .ensures .1),
     ))
     (λ c κs. search needs)
@@ -63,6 +63,6 @@ put-atom-spec =
     let size = kind .before .before in (
       omega (arith, put .ensures .0),
       omega (arith, put .ensures .0),
-      λ p e s t h. laid-record _
+      λ p e s t h. put-record _
           (atom-variable p e s t (size .before .before .if1 .left) (size .before .if3 .left) (size .less2 .ensures) (kind .kind-word2 .ensures) (kind .before .if4 .left) (index .less3 .ensures)) (put .ensures .1),
     )))

@@ -64,7 +64,7 @@ put-characters-spec =
       omega (arith, round .inv .1, put .ensures .0),
       omega (arith, round .inv .2, put .ensures .0, wide .0),
       put .kept .1 .1 .1 .1 .1 .1 .0 ∙ round .inv .3,
-      λ cs h. spelling-next (round .inv .4 cs h) (omega arith) (round .inv .3) (taking known .character-at .ensures) (known .before .c .given .1)
+      λ cs h. spelling-next (round .inv .4 cs h) (omega arith) (taking known .character-at .ensures) (known .before .c .given .1)
           (rw (second .before .word .ensures, second .word2 .ensures) at (put .ensures .1)),
     ))
     (λ c. search needs)

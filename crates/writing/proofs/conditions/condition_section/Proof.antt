@@ -3,7 +3,7 @@ use native.Mathlib.Omega.{arith}
 use borrow.Author.Needs.{needs}
 use mathlib.Core.Bool.{false}
 use Rattle.encoding.specs.Code.FlatFile.{flatConditions}
-use Rattle.writing.proofs.LaidLaws.{section-16}
+use Rattle.writing.proofs.SectionLaws.{section-16}
 use Rattle.writing.proofs.ConditionLaws.{conditions-length}
 use Rattle.writing.proofs.conditions.condition_section.Statement.{statement}
 use Rattle.writing.proofs.conditions.condition_section.Tie as tie
@@ -23,5 +23,5 @@ condition-section-spec =
     let number = c .before .before .before .before in
     let put = number .before .before .before .put-conditions in (
       omega (arith, put .ensures .1),
-      λ ts h st. section-16 (flatConditions false ts) (put .kept .1 .1 .1 .1 .0) (put .ensures .2 ts h st) (count .ensures) (conditions-length ts) (number .word .ensures),
+      λ ts h st. section-16 (flatConditions false ts) (put .ensures .2 ts h st) (count .ensures) (conditions-length ts) (number .word .ensures),
     )))

@@ -2,7 +2,7 @@
 use native.Mathlib.Omega.{arith}
 use borrow.Author.Needs.{needs}
 use borrow.Author.Tests.{not-true, not-false}
-use Rattle.writing.proofs.LaidLaws.{laid-no-record, laid-record}
+use Rattle.writing.proofs.SectionLaws.{put-no-record, put-record}
 use Rattle.writing.proofs.ConditionLaws.{condition-none, condition-found}
 use Rattle.writing.proofs.conditions.put_condition.Statement.{statement}
 use Rattle.writing.proofs.conditions.put_condition.Tie as tie
@@ -18,7 +18,7 @@ put-condition-spec =
     let start = c .before .before .before .before .before .before .before .before in (
       omega arith,
       omega arith,
-      λ ts h st. laid-no-record _ _
+      λ ts h st. put-no-record _ _
           (condition-none h (start .pre .1) (start .args .inside) (begins .before .kind-at .ensures) (begins .begins-condition .ensures) (not-true _ (c .if1 .taken))),
     ))
     (λ c. let start = c .before .before .before .before .before .before .before .before in omega (arith, start .pre .1, start .pre .2))
@@ -42,7 +42,7 @@ put-condition-spec =
     let entry = begins .before .before .before .before .before .before .before in (
       omega (arith, put .ensures .0),
       omega (arith, put .ensures .0),
-      λ ts h st. laid-record _
+      λ ts h st. put-record _
           (condition-found h (entry .pre .1) (entry .args .inside) (begins .before .kind-at .ensures) (begins .begins-condition .ensures)
           (not-false _ (result .before .if1 .left)) (result .part-records .ensures ts h st) (colon .place-of .ensures .0)
           (pattern .part-records2 .ensures ts h st) (start .short-at .ensures .0) (end .before .short-at2 .ensures .0) (end .part-end .ensures _ ts h))

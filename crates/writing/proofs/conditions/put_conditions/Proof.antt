@@ -47,7 +47,7 @@ put-conditions-spec =
       omega (arith, inv .1, put .ensures .0),
       omega (arith, inv .2, put .ensures .1),
       put .kept .1 .1 .1 .1 .1 .1 .0 ∙ inv .3,
-      λ ts h st. passing-next (inv .4 ts h st) _ _ (conditions-step h (round .inside) (round .i) (omega arith) (c .within-after .ensures)) (inv .3) (put .ensures .2 ts h st),
+      λ ts h st. passing-next (inv .4 ts h st) _ _ (conditions-step h (round .inside) (round .i) (omega arith) (c .within-after .ensures)) (put .ensures .2 ts h st),
     ))
     (λ c. search needs)
     (λ c.

@@ -2,7 +2,7 @@
 use native.Mathlib.Omega.{arith}
 use borrow.Author.Needs.{needs}
 use Rattle.encoding.specs.Code.FlatFile.{flatFunctions}
-use Rattle.writing.proofs.LaidLaws.{section-20}
+use Rattle.writing.proofs.SectionLaws.{section-20}
 use Rattle.writing.proofs.FunctionLaws.{functions-length}
 use Rattle.writing.proofs.functions.function_section.Statement.{statement}
 use Rattle.writing.proofs.functions.function_section.Tie as tie
@@ -22,5 +22,5 @@ function-section-spec =
     let number = c .before .before .before .before in
     let put = number .before .before .before .put-functions in (
       omega (arith, put .ensures .1),
-      λ ts h. section-20 (flatFunctions ts) (put .kept .1 .1 .1 .0) (put .ensures .2 ts h) (count .ensures) (functions-length ts) (number .word .ensures),
+      λ ts h. section-20 (flatFunctions ts) (put .ensures .2 ts h) (count .ensures) (functions-length ts) (number .word .ensures),
     )))

@@ -42,7 +42,7 @@ put-functions-spec =
       omega (arith, inv .1, put .ensures .0),
       omega (arith, inv .2, put .ensures .1),
       put .kept .1 .1 .1 .1 .0 ∙ inv .3,
-      λ ts h. passing-next (inv .4 ts h) _ _ (functions-step h (round .i) (omega arith)) (inv .3) (put .ensures .2 ts h),
+      λ ts h. passing-next (inv .4 ts h) _ _ (functions-step h (round .i) (omega arith)) (put .ensures .2 ts h),
     ))
     (λ c. search needs)
     (λ c.

@@ -1,7 +1,8 @@
 -- Four words, and one after them.
 use native.Mathlib.Omega.{arith}
 use borrow.Author.Needs.{needs}
-use Rattle.writing.proofs.LaidLaws.{_then_, five-bytes}
+use Rattle.buffers.proofs.PutLaws.{_then_}
+use Rattle.writing.proofs.SectionLaws.{five-bytes}
 use Rattle.writing.proofs.records.put_five.Statement.{statement}
 use Rattle.writing.proofs.records.put_five.Tie as tie
 
@@ -17,5 +18,5 @@ put-five-spec =
     let last = c .before .before .put-word in
     let x = c .before .before .before .before .before .before .before .before .before .args in (
       omega (arith, first .ensures .0, last .ensures .end),
-      rw (← five-bytes (x .a) (x .b) (x .c) (x .d) (x .e)) (((first .ensures .1, first .kept .1 .1 .1 .1 .0) then (last .ensures, last .kept .1 .0)) .0),
+      rw (← five-bytes (x .a) (x .b) (x .c) (x .d) (x .e)) (first .ensures .1 then last .ensures),
     )))

@@ -1,7 +1,8 @@
 -- Four words, one after another.
 use native.Mathlib.Omega.{arith}
 use borrow.Author.Needs.{needs}
-use Rattle.writing.proofs.LaidLaws.{_then_, four-bytes}
+use Rattle.buffers.proofs.PutLaws.{_then_}
+use Rattle.writing.proofs.SectionLaws.{four-bytes}
 use Rattle.writing.proofs.records.put_four.Statement.{statement}
 use Rattle.writing.proofs.records.put_four.Tie as tie
 
@@ -22,8 +23,5 @@ put-four-spec =
     let x = first .before .before .before .args in (
       omega (arith, first .put-word .ensures .end, second .put-word2 .ensures .end, third .put-word3 .ensures .end, d .ensures .end),
       rw (← four-bytes (x .a) (x .b) (x .c) (x .d))
-          (((first .put-word .ensures, first .put-word .kept .1 .0)
-          then (second .put-word2 .ensures, second .put-word2 .kept .1 .0)
-          then (third .put-word3 .ensures, third .put-word3 .kept .1 .0)
-          then (d .ensures, d .kept .1 .0)) .0),
+          (first .put-word .ensures then second .put-word2 .ensures then third .put-word3 .ensures then d .ensures),
     )))

@@ -1,6 +1,6 @@
 -- Four bytes, one after another.
 use borrow.Author.Needs.{needs}
-use Rattle.writing.proofs.LaidLaws.{laid, _then_}
+use Rattle.buffers.proofs.PutLaws.{_then_}
 use Rattle.writing.proofs.records.put_word.Statement.{statement}
 use Rattle.writing.proofs.records.put_word.Tie as tie
 
@@ -23,7 +23,4 @@ put-word-spec =
     let second = third .before .before .before .before .before in
     let first = second .before .before .before .before .before in
     rw (← first .before .before .low-byte .ensures, ← second .before .before .low-byte2 .ensures, ← third .before .before .low-byte3 .ensures, ← c .before .before .before .before .low-byte4 .ensures)
-    (((laid (first .put-byte .ensures), first .put-byte .kept .1 .0)
-    then (laid (second .put-byte2 .ensures), second .put-byte2 .kept .1 .0)
-    then (laid (third .put-byte3 .ensures), third .put-byte3 .kept .1 .0)
-    then (laid (d .ensures), d .kept .1 .0)) .0)))
+    (first .put-byte .ensures then second .put-byte2 .ensures then third .put-byte3 .ensures then d .ensures)))

@@ -2,7 +2,7 @@
 use native.Mathlib.Omega.{arith}
 use borrow.Author.Needs.{needs}
 use borrow.Author.Tests.{not-true, not-false}
-use Rattle.writing.proofs.LaidLaws.{laid-no-record, laid-record}
+use Rattle.writing.proofs.SectionLaws.{put-no-record, put-record}
 use Rattle.writing.proofs.SentenceLaws.{sentence-none, sentence-found}
 use Rattle.writing.proofs.sentences.put_sentence.Statement.{statement}
 use Rattle.writing.proofs.sentences.put_sentence.Tie as tie
@@ -20,7 +20,7 @@ put-sentence-spec =
     let start = c .before .before .before .before .before .before .before .before .before in (
       omega arith,
       omega arith,
-      λ ts h st. laid-no-record _ _
+      λ ts h st. put-no-record _ _
           (sentence-none h (start .pre .1) (start .args .inside) (begins .before .before .kind-at .ensures) (begins .before .kind-at2 .ensures) (begins .begins-sentence .ensures) (not-true _ (c .if1 .taken))),
     ))
     (λ c κs. let start = c .before .before .before .before .before .before .before .before .before in (omega (arith, start .pre .1, start .pre .2), start .pre .2))
@@ -45,7 +45,7 @@ put-sentence-spec =
     let entry = begins .before .before .before .before .before .before .before .before in (
       omega (arith, put .ensures .0),
       omega (arith, put .ensures .0),
-      λ ts h st. laid-record _
+      λ ts h st. put-record _
           (sentence-found h (entry .pre .1) (entry .args .inside) (begins .before .before .kind-at .ensures) (begins .before .kind-at2 .ensures) (begins .begins-sentence .ensures)
           (not-false _ (pattern .before .if1 .left)) (pattern .part-records .ensures ts h st) (conditions .count-kinds .ensures) (equals .place-of .ensures .0)
           (result .part-records2 .ensures ts h st) (start .short-at .ensures .0) (end .before .short-at2 .ensures .0) (end .part-end .ensures _ ts h))

@@ -1,7 +1,7 @@
 -- The record that is found from the opening sign on.
 use native.Mathlib.Omega.{arith}
 use borrow.Author.Needs.{needs}
-use Rattle.writing.proofs.LaidLaws.{laid-record}
+use Rattle.writing.proofs.SectionLaws.{put-record}
 use Rattle.writing.proofs.TermLaws.{bracket-found}
 use Rattle.writing.proofs.terms.put_bracket.Statement.{statement}
 use Rattle.writing.proofs.terms.put_bracket.Tie as tie
@@ -23,5 +23,5 @@ put-bracket-spec =
     let records = end .before in
     let entry = records .before .before .before .before .before .before in (
       put .ensures .0,
-      λ ts h st. laid-record _ (bracket-found h (entry .pre .1) (records .inner-records .ensures ts h st) (start .short-at .ensures .0) (end .inner-end .ensures _ ts h)) (put .ensures .1),
+      λ ts h st. put-record _ (bracket-found h (entry .pre .1) (records .inner-records .ensures ts h st) (start .short-at .ensures .0) (end .inner-end .ensures _ ts h)) (put .ensures .1),
     )))

@@ -1,7 +1,7 @@
 -- The record that is found from the opening sign on.
 use native.Mathlib.Omega.{arith}
 use borrow.Author.Needs.{needs}
-use Rattle.writing.proofs.LaidLaws.{laid-record}
+use Rattle.writing.proofs.SectionLaws.{put-record}
 use Rattle.writing.proofs.TermLaws.{call-found}
 use Rattle.writing.proofs.terms.put_call.Statement.{statement}
 use Rattle.writing.proofs.terms.put_call.Tie as tie
@@ -28,7 +28,7 @@ put-call-spec =
     let name = size .before .before in
     let entry = name .before .before .before .before .before .before in (
       put .ensures .0,
-      λ ts h st. laid-record _
+      λ ts h st. put-record _
           (call-found h (entry .pre .1) (name .short-at .ensures .0) (size .before .short-at2 .ensures .0) (size .less .ensures) (records .inner-records .ensures ts h st)
           (start .short-at3 .ensures .0) (end .inner-end .ensures _ ts h))
           (put .ensures .1),

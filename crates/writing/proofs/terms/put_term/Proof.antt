@@ -2,7 +2,7 @@
 use native.Mathlib.Omega.{arith}
 use borrow.Author.Needs.{needs}
 use Rattle.writing.specs.Code.Found.{whereOf}
-use Rattle.writing.proofs.LaidLaws.{laid-no-record}
+use Rattle.writing.proofs.SectionLaws.{put-no-record}
 use Rattle.writing.proofs.TermLaws.{term-bracket, term-call, term-none, term-atom}
 use Rattle.writing.proofs.terms.put_term.Statement.{statement}
 use Rattle.writing.proofs.terms.put_term.Tie as tie
@@ -36,7 +36,7 @@ put-term-spec =
     let start = c .before .before .before .before .before .before .before .before .before in (
       omega arith,
       omega arith,
-      λ ts h st. laid-no-record _ _ (term-none h (start .pre .1) (c .before .before .before .kind-at .ensures) (start .args .state) (c .before .before .if1 .left) (c .before .if2 .left) (c .if3 .taken)),
+      λ ts h st. put-no-record _ _ (term-none h (start .pre .1) (c .before .before .before .kind-at .ensures) (start .args .state) (c .before .before .if1 .left) (c .before .if2 .left) (c .if3 .taken)),
     ))
     (λ c κs. search needs)
     (λ c κs. search needs)

@@ -2,7 +2,7 @@
 use native.Mathlib.Omega.{arith}
 use borrow.Author.Needs.{needs}
 use Rattle.encoding.specs.Code.FlatTerms.{outside, flatTerms}
-use Rattle.writing.proofs.LaidLaws.{section-24}
+use Rattle.writing.proofs.SectionLaws.{section-24}
 use Rattle.writing.proofs.TermLaws.{terms-length}
 use Rattle.writing.proofs.terms.term_section.Statement.{statement}
 use Rattle.writing.proofs.terms.term_section.Tie as tie
@@ -22,5 +22,5 @@ term-section-spec =
     let number = c .before .before .before .before in
     let put = number .before .before .before .put-terms in (
       omega (arith, put .ensures .1),
-      λ ts h st. section-24 (flatTerms outside ts) (put .kept .1 .1 .1 .1 .0) (put .ensures .2 ts h st) (count .ensures) (terms-length ts) (number .word .ensures),
+      λ ts h st. section-24 (flatTerms outside ts) (put .ensures .2 ts h st) (count .ensures) (terms-length ts) (number .word .ensures),
     )))

@@ -1,8 +1,7 @@
 -- Six parts, one after another.
 use native.Mathlib.Omega.{arith}
 use borrow.Author.Needs.{needs}
-use Rattle.writing.proofs.LaidLaws.{laid}
-use Rattle.writing.proofs.WholeLaws.{file-laid}
+use Rattle.writing.proofs.WholeLaws.{file-put}
 use Rattle.writing.proofs.whole.put_file.Statement.{statement}
 use Rattle.writing.proofs.whole.put_file.Tie as tie
 
@@ -36,8 +35,8 @@ put-file-spec =
     let first = second .before .before .before .before in
     let size = first .before .before .before .before in
     let start = size .before .before .before .before .before .before .before .before in
-    file-laid (start .args .text .now) ts (size .before .before .word .ensures) (size .put-word .ensures, size .put-word .kept .1 .0) (laid (first .put .ensures), first .put .kept .1 .0)
-    (second .function-section .ensures .1 ts h, second .function-section .kept .1 .1 .1 .0)
-    (third .sentence-section .ensures .1 ts h st, third .sentence-section .kept .1 .1 .1 .1 .0)
-    (fourth .condition-section .ensures .1 ts h st, fourth .condition-section .kept .1 .1 .1 .1 .0)
-    (last .ensures .1 ts h st, last .kept .1 .1 .1 .1 .0)))
+    file-put (start .args .text .now) ts (size .before .before .word .ensures) (size .put-word .ensures) (first .put .ensures)
+    (second .function-section .ensures .1 ts h)
+    (third .sentence-section .ensures .1 ts h st)
+    (fourth .condition-section .ensures .1 ts h st)
+    (last .ensures .1 ts h st)))
