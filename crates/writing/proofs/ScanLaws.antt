@@ -6,7 +6,7 @@ use mathlib.Core.Path.{_≡_, refl, sym, ap, _∙_}
 use native.Mathlib.Omega.{arith}
 use native.Mathlib.Numerals.{add-one}
 use native.Mathlib.Nat.{zero-add}
-use lib.ListN.{length, drop, getD, drop-of-length-le}
+use lib.ListN.{length, drop, getD}
 use lib.Dec.{eqb}
 use borrow.Author.Tests.{ne-eqb, eqb-true}
 use Rattle.law.specs.Tree.{symbolKind, termKind, expressionKind}
@@ -15,7 +15,7 @@ use Rattle.tokens.specs.Code.TokenKind.{atomKind, tokenKind}
 use Rattle.encoding.specs.Code.FlatTerms.{Where, inside, stateAfter, opens, closes, ownRecords, kindAt, endAt, weight, Contents, add, closed, scan}
 use Rattle.writing.specs.Code.Held.{Held, Stands, Stand}
 use Rattle.writing.specs.Code.Found.{runState, depthAfter}
-use Rattle.writing.proofs.HeldLaws.{tokens-length, token-at}
+use Rattle.writing.proofs.HeldLaws.{none-left, token-at}
 use Rattle.writing.proofs.PartLaws.{stands-at}
 
 -- ---- a closing sign
@@ -124,11 +124,11 @@ module _ {ks ss es : List ℕ} {ts : List Placed} (h : Held ks ss es ts) {i : �
 
   pub inner-past : {n m : ℕ} (b : Bool) (d : ℕ) → length ks ≤ i → m ≡ n + (scan (runState b) d (drop i ts)) .records → n ≡ m
   inner-past b d l g =
-      let none : (scan (runState b) d (drop i ts)) .records ≡ 0 = rw (drop-of-length-le ts {i = i} (omega (arith, tokens-length h))) in
+      let none : (scan (runState b) d (drop i ts)) .records ≡ 0 = rw (none-left h i l) in
       omega (arith, g, none)
 
   pub closing-past : {m : ℕ} (d : ℕ) → length ks ≤ i → m ≡ (scan inside d (drop i ts)) .end → 0 ≡ m
-  closing-past d l g = sym (g ∙ rw (drop-of-length-le ts {i = i} (omega (arith, tokens-length h))))
+  closing-past d l g = sym (g ∙ rw (none-left h i l))
 
 -- ---- the depth
 

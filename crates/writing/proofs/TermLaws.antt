@@ -1,11 +1,10 @@
 -- Laws for the section of terms.
-use Prim.Native.Nat.{ℕ, suc, _+_, _-_, _*_, _≤_, _<_}
+use Prim.Native.Nat.{ℕ, suc, _+_, _-_, _*_, _<_}
 use mathlib.Core.List.{List, [], _∷_, _++_, flatMap}
 use mathlib.Core.Bool.{Bool, true, false, cond}
 use mathlib.Core.Path.{_≡_, refl, sym, ap, _∙_}
-use native.Mathlib.Omega.{arith}
 use native.Mathlib.Numerals.{add-one}
-use lib.ListN.{length, drop, getD, drop-of-length-le}
+use lib.ListN.{length, drop, getD}
 use lib.Dec.{eqb}
 use borrow.Author.Tests.{eq-eqb, ne-eqb}
 use Rattle.tokens.specs.Token.{utf8, identifier, number, variable, quoted, Token, sign, atom, Placed}
@@ -16,7 +15,7 @@ use Rattle.encoding.proofs.RecordLaws.{Sized, records-length}
 use Rattle.writing.specs.Code.Laid.{Laid}
 use Rattle.writing.specs.Code.Held.{Held, Stands, Stand, atFirst}
 use Rattle.writing.specs.Code.Found.{runState, whereOf, bracketAt, callAt}
-use Rattle.writing.proofs.HeldLaws.{tokens-length, token-at, start-here, length-here}
+use Rattle.writing.proofs.HeldLaws.{token-at, start-here, length-here}
 use Rattle.writing.proofs.PartLaws.{stands-at}
 use Rattle.writing.proofs.ScanLaws.{scan-end}
 
@@ -112,9 +111,6 @@ module _ {ks ss es : List ℕ} {ts : List Placed} (h : Held ks ss es ts) {i : �
 pub terms-step : {ks ss es : List ℕ} {ts : List Placed} → Held ks ss es ts → (w : Where) (i : ℕ) {v : Where} → i < length ks → v ≡ whereAfter w (getD ks i 0)
     → flatTerms w (drop i ts) ≡ atFirst (termsAt w) (drop i ts) ++ flatTerms v (drop (i + 1) ts)
 terms-step h w i l e = let t = token-at h i l in rw (e, t .rest, t .kind, add-one i)
-
-pub terms-end : {ks ss es : List ℕ} {ts : List Placed} → Held ks ss es ts → (w : Where) (i : ℕ) → length ks ≤ i → flatTerms w (drop i ts) ≡ []
-terms-end {ts = ts} h w i l = rw (drop-of-length-le ts {i = i} (omega (arith, tokens-length h)))
 
 -- ---- the section
 
