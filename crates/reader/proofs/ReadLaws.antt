@@ -3,11 +3,11 @@ use Prim.Native.Nat.{ℕ, _+_, _≤_, _<_}
 use mathlib.Core.Bool.{Bool, true, false, not}
 use mathlib.Core.List.{List, []}
 use mathlib.Core.Option.{none, some}
-use mathlib.Core.Path.{_≡_, refl, sym, ap, _∙_}
+use mathlib.Core.Path.{_≡_, sym, ap, _∙_}
 use native.Mathlib.Omega.{arith}
 use lib.ListN.{length, take, drop, length-take}
 use lib.Seq.{take-append-seam, length-take-le}
-use borrow.Author.Tests.{lt-ltb, le-ltb}
+use borrow.Author.Tests.{lt-ltb, le-ltb, not-true, not-false}
 use Rattle.file.specs.Answer.{Answer, refused, given, mapAnswer, _>>=_}
 use Rattle.file.specs.Sections.{sectionsOf}
 use Rattle.file.specs.declared.Refusal.{Refusal}
@@ -101,14 +101,6 @@ first-size n l h e = sym (length-take-le n l (omega (arith, h, e)))
 pub first-small : (n : ℕ) (l : List ℕ) → length l ≡ 4096 → length (take n l) ≤ 4096
 first-small n l e = omega (arith, e, length-take n l)
 
-was-false : (t : Bool) → not t ≡ true → t ≡ false
-was-false true h = sym h
-was-false false h = refl
-
-was-true : (t : Bool) → not t ≡ false → t ≡ true
-was-true true h = refl
-was-true false h = sym h
-
 -- a text outside the grammar
 pub outside : (bytes law : List ℕ) → phraseOf bytes ≡ none → readAfter (Refused Outside) law ≡ readBy law (phraseFile bytes (phraseOf bytes))
 unfolding readBy
@@ -116,7 +108,7 @@ outside bytes law e = rw e
 
 pub tokens-outside : (bytes law : List ℕ) (n : ℕ) (ks ss es : List ℕ) (t : Bool) → Lexes bytes n ks ss es → t ≡ acceptsKinds atText [] (take n ks) → not t ≡ true
     → readAfter (Refused Outside) law ≡ readBy law (phraseFile bytes (phraseOf bytes))
-tokens-outside bytes law n ks ss es t h e f = outside bytes law (refused-outside h t e (was-false t f))
+tokens-outside bytes law n ks ss es t h e f = outside bytes law (refused-outside h t e (not-true t f))
 
 -- a text of the grammar, by what its tokens say
 pub text-delivered : (bytes law : List ℕ) (n : ℕ) (ks ss es : List ℕ) (t : Bool) (o : ReadOutcome) → Lexes bytes n ks ss es
@@ -124,7 +116,7 @@ pub text-delivered : (bytes law : List ℕ) (n : ℕ) (ks ss es : List ℕ) (t :
     → ((ts : List Placed) → Held (take n ks) (take n ss) (take n es) ts → Stand bytes ts → o ≡ readBy law (lawFile (flatFile bytes ts)))
     → o ≡ readBy law (phraseFile bytes (phraseOf bytes))
 text-delivered bytes law n ks ss es t o h e f said =
-    let (x, found, same) = taken-phrase h t e (was-true t f) in
+    let (x, found, same) = taken-phrase h t e (not-false t f) in
     go x found same
   where
     go : (x : Text) → phraseOf bytes ≡ some x → encode bytes x ≡ flatFile bytes (placed 0 (h .pieces)) → o ≡ readBy law (phraseFile bytes (phraseOf bytes))

@@ -5,6 +5,10 @@ use Rattle.reader.proofs.ReadLaws.{file-over, part-size, part-small, to
 use Rattle.reader.proofs.deliver_tokens.Statement.{statement}
 use Rattle.reader.proofs.deliver_tokens.Tie as tie
 
+-- the start, from where the file was put
+abbrev start : tie.After-put-file → tie.Start
+start c = c .before .before .before .before .before .before .before .before
+
 pub deliver-tokens-spec : {M : Type 1} → statement M
 deliver-tokens-spec =
     tie.close
@@ -14,14 +18,13 @@ deliver-tokens-spec =
     (λ c ts held stand. let laid = c .before .before .before .put-file .ensures ts held stand in file-over _ _ (omega (arith, c .if1 .taken, laid .end)))
     (λ c. search needs)
     (λ c.
-    let laid = c .before .before .before .before .put-file in
-    let start = c .before .before .before .before .before .before .before .before .before .before .before .before in
-    part-size (laid .result) _ (start .args .file .now) (omega (arith, c .before .if1 .left)) (start .pre .2) (laid .kept .1 .1 .1 .1 .0))
+    let put = c .before .before .before .before in
+    let begun = start put in
+    part-size (put .put-file .result) _ (begun .args .file .now) (omega (arith, c .before .if1 .left)) (begun .pre .2) (put .put-file .kept .1 .1 .1 .1 .0))
     (λ c κs. let laid = c .before .before .before .before .before .put-file in part-small (laid .result) _ (omega (arith, c .before .before .if1 .left)))
     (λ c. search needs)
     (λ c. search needs)
     (λ c ts held stand.
-    let laid = c .before .before .before .before .before .before .before .before .put-file in
-    let start = c .before .before .before .before .before .before .before .before .before .before .before .before .before .before .before .before in
+    let put = c .before .before .before .before .before .before .before .before in
     let few = c .before .before .before .before .before .if1 .left in
-    tokens-delivered _ _ _ _ _ _ (laid .ensures ts held stand) (omega (arith, few, start .pre .2)) (c .before .before .deliver-law .ensures)))
+    tokens-delivered _ _ _ _ _ _ (put .put-file .ensures ts held stand) (omega (arith, few, start put .pre .2)) (c .before .before .deliver-law .ensures)))
