@@ -13,9 +13,9 @@ use Rattle.file.specs.Forest.{contents, rest}
 use Rattle.law.specs.Tree.{symbolKind, termKind, expressionKind}
 use Rattle.law.specs.Runs.{endOf, runFits}
 use Rattle.law.proofs.RunLaws.{fits-none, fits-node}
-use Rattle.tokens.specs.Token.{utf8, Atom, identifier, number, variable, quoted}
+use Rattle.tokens.specs.Token.{utf8, Atom, identifier, number, variable, quoted, kindNumber}
 use Rattle.grammar.specs.Grammar.{Terms, nothing, atomic, bracket, call, Conditions, noCondition, condition, Sentence}
-use Rattle.encoding.specs.Encode.{Record, recordBytes, recordsBytes, recordKind, characterRecords, atomRecords, termRecords, conditionTerms, sentenceTerms}
+use Rattle.encoding.specs.Encode.{Record, recordBytes, recordsBytes, characterRecords, atomRecords, termRecords, conditionTerms, sentenceTerms}
 use Rattle.encoding.proofs.Lists.{All, all-append, all-flatMap}
 use Rattle.encoding.proofs.RecordLaws.{word-12, Sized, records-append, records-length}
 
@@ -137,7 +137,7 @@ atom-fits : (at : ℕ) (a : Atom) (outer : List ℕ) → runFits outer ≡ true 
 unfolding flatMap
 atom-fits at (identifier w) outer h = leaf-fits 1 at (length w) at (at + length w) outer h
 atom-fits at (number w) outer h = leaf-fits 2 at (length w) at (at + length w) outer h
-atom-fits at (variable k i) outer h = leaf-fits (recordKind k) (at + 2) (length i) at (at + 2 + length i) outer h
+atom-fits at (variable k i) outer h = leaf-fits (kindNumber k) (at + 2) (length i) at (at + 2 + length i) outer h
 atom-fits at (quoted cs) outer h = characters-fit (at + 1) cs outer h
 
 -- the records of some terms are a run that fits

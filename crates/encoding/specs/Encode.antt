@@ -5,8 +5,7 @@
 use Prim.Native.Nat.{ℕ, _+_, _/_, _%_}
 use mathlib.Core.List.{List, [], _∷_, _++_, map, flatMap}
 use lib.ListN.{length}
-use Rattle.law.specs.Tree.{Kind, symbolKind, termKind, expressionKind}
-use Rattle.tokens.specs.Token.{utf8, Atom, identifier, number, variable, quoted, atomBytes}
+use Rattle.tokens.specs.Token.{utf8, Atom, identifier, number, variable, quoted, kindNumber, atomBytes}
 use Rattle.grammar.specs.Grammar.{Terms, nothing, atomic, bracket, call, Conditions, noCondition, condition, Sentence, Sentences, last, lastClosed, more, Function, Text, done, extern, function, entry}
 
 -- a record's words
@@ -14,12 +13,6 @@ abbrev pub Record : Type 0
 Record = List ℕ
 
 -- ---- terms: kind, a, b, n, span
-
--- the kind of a variable's record
-abbrev pub recordKind : Kind → ℕ
-recordKind symbolKind = 3
-recordKind termKind = 4
-recordKind expressionKind = 5
 
 -- the characters of a quoted run, the first at a byte
 unfoldable pub characterRecords : ℕ → List ℕ → List Record
@@ -30,7 +23,7 @@ characterRecords at (c ∷ cs) = (0 ∷ c ∷ 0 ∷ 0 ∷ at ∷ (at + length (u
 abbrev pub atomRecords : ℕ → Atom → List Record
 atomRecords at (identifier w) = (1 ∷ at ∷ length w ∷ 0 ∷ at ∷ (at + length w) ∷ []) ∷ []
 atomRecords at (number w) = (2 ∷ at ∷ length w ∷ 0 ∷ at ∷ (at + length w) ∷ []) ∷ []
-atomRecords at (variable k i) = (recordKind k ∷ (at + 2) ∷ length i ∷ 0 ∷ at ∷ (at + 2 + length i) ∷ []) ∷ []
+atomRecords at (variable k i) = (kindNumber k ∷ (at + 2) ∷ length i ∷ 0 ∷ at ∷ (at + 2 + length i) ∷ []) ∷ []
 atomRecords at (quoted cs) = characterRecords (at + 1) cs
 
 -- a bracket's and a call's record has the number of records inside, and a span from its first sign through its last

@@ -94,7 +94,7 @@ itsLaw =
     }
     ∷ []
 
--- ---- spans, where something is empty
+-- ---- spans, where something is empty and where spellings are longer
 
 abbrev SpanRow : Type 0
 SpanRow = String × List (List Record)
@@ -111,6 +111,15 @@ spans =
     ∷ ("F { , b : = }", (functionWords 0 1 1 0 13 ∷ []) ∷ (sentenceWords 0 1 0 4 11 ∷ []) ∷ (conditionWords 1 0 6 9 ∷ []) ∷ (termWords 1 6 1 0 6 7 ∷ []) ∷ [])
     -- its result: it begins with the colon
     ∷ ("F { , : c = }", (functionWords 0 1 1 0 13 ∷ []) ∷ (sentenceWords 0 1 0 4 11 ∷ []) ∷ (conditionWords 0 1 6 9 ∷ []) ∷ (termWords 1 8 1 0 8 9 ∷ []) ∷ [])
+    -- nothing is empty, and what is spelled has more than one byte; blanks before the brace are not the sentence's
+    ∷ (
+      "Go { e.Rest 42 = <Go e.Rest> }",
+      (functionWords 0 2 1 0 30 ∷ [])
+          ∷ (sentenceWords 2 0 2 5 28 ∷ [])
+          ∷ []
+          ∷ (termWords 5 7 4 0 5 11 ∷ termWords 2 12 2 0 12 14 ∷ termWords 7 18 2 1 17 28 ∷ termWords 5 23 4 0 21 27 ∷ [])
+          ∷ [],
+    )
     ∷ []
 
 -- ---- refusals

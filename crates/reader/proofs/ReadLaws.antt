@@ -3,11 +3,11 @@ use Prim.Native.Nat.{ℕ, _+_, _≤_, _<_}
 use mathlib.Core.Bool.{Bool, true, false, not}
 use mathlib.Core.List.{List, []}
 use mathlib.Core.Option.{none, some}
-use mathlib.Core.Path.{_≡_, refl, sym, ap, _∙_}
+use mathlib.Core.Path.{_≡_, sym, ap, _∙_}
 use native.Mathlib.Omega.{arith}
 use lib.ListN.{length, take, drop, length-take}
 use lib.Seq.{take-append-seam, length-take-le}
-use borrow.Author.Tests.{lt-ltb, le-ltb}
+use borrow.Author.Tests.{lt-ltb, le-ltb, not-true, not-false}
 use Rattle.file.specs.Answer.{Answer, refused, given, mapAnswer, _>>=_}
 use Rattle.file.specs.Sections.{sectionsOf}
 use Rattle.file.specs.declared.Refusal.{Refusal}
@@ -30,6 +30,7 @@ use Rattle.grammar.specs.declared.table.Mode.the-variants.{AtText as atText}
 use Rattle.encoding.specs.Encode.{encode}
 use Rattle.encoding.specs.Code.FlatFile.{flatFile}
 use Rattle.writing.specs.Code.Held.{Held, Stand}
+use Rattle.writing.specs.Code.Closers.{Beside}
 use Rattle.writing.proofs.LexedLaws.{unlexed, tokens-held, tokens-stand, refused-outside, taken-phrase}
 use Rattle.reader.specs.declared.Unread.the-variants.{TextOver, Outside, Law, Short}
 use Rattle.reader.specs.declared.Reading.the-variants.{Refused, Written}
@@ -100,13 +101,9 @@ first-size n l h e = sym (length-take-le n l (omega (arith, h, e)))
 pub first-small : (n : ℕ) (l : List ℕ) → length l ≡ 4096 → length (take n l) ≤ 4096
 first-small n l e = omega (arith, e, length-take n l)
 
-was-false : (t : Bool) → not t ≡ true → t ≡ false
-was-false true h = sym h
-was-false false h = refl
-
-was-true : (t : Bool) → not t ≡ false → t ≡ true
-was-true true h = refl
-was-true false h = sym h
+-- the arrays beside the tokens are long enough
+pub beside : (kinds closers sums : List ℕ) → length kinds ≤ 4096 → length closers ≡ 4096 → length sums ≡ 4096 → Beside kinds closers sums
+beside kinds closers sums few c s = (few, omega (arith, few, c), omega (arith, few, s))
 
 -- a text outside the grammar
 pub outside : (bytes law : List ℕ) → phraseOf bytes ≡ none → readAfter (Refused Outside) law ≡ readBy law (phraseFile bytes (phraseOf bytes))
@@ -115,7 +112,7 @@ outside bytes law e = rw e
 
 pub tokens-outside : (bytes law : List ℕ) (n : ℕ) (ks ss es : List ℕ) (t : Bool) → Lexes bytes n ks ss es → t ≡ acceptsKinds atText [] (take n ks) → not t ≡ true
     → readAfter (Refused Outside) law ≡ readBy law (phraseFile bytes (phraseOf bytes))
-tokens-outside bytes law n ks ss es t h e f = outside bytes law (refused-outside h t e (was-false t f))
+tokens-outside bytes law n ks ss es t h e f = outside bytes law (refused-outside h t e (not-true t f))
 
 -- a text of the grammar, by what its tokens say
 pub text-delivered : (bytes law : List ℕ) (n : ℕ) (ks ss es : List ℕ) (t : Bool) (o : ReadOutcome) → Lexes bytes n ks ss es
@@ -123,7 +120,7 @@ pub text-delivered : (bytes law : List ℕ) (n : ℕ) (ks ss es : List ℕ) (t :
     → ((ts : List Placed) → Held (take n ks) (take n ss) (take n es) ts → Stand bytes ts → o ≡ readBy law (lawFile (flatFile bytes ts)))
     → o ≡ readBy law (phraseFile bytes (phraseOf bytes))
 text-delivered bytes law n ks ss es t o h e f said =
-    let (x, found, same) = taken-phrase h t e (was-true t f) in
+    let (x, found, same) = taken-phrase h t e (not-false t f) in
     go x found same
   where
     go : (x : Text) → phraseOf bytes ≡ some x → encode bytes x ≡ flatFile bytes (placed 0 (h .pieces)) → o ≡ readBy law (phraseFile bytes (phraseOf bytes))

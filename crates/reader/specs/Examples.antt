@@ -2,9 +2,9 @@
 use Prim.Native.Nat.{ℕ}
 use mathlib.Core.List.{List, [], _∷_, _++_, flatMap}
 use mathlib.Core.Path.{_≡_, refl}
-use lib.ListN.{length, replicate}
+use lib.ListN.{replicate}
 use Rattle.names.specs.Name.{everyByte, sameBytes}
-use Rattle.file.specs.Answer.{Answer, refused, given}
+use Rattle.file.specs.Answer.{refused, given}
 use Rattle.file.specs.Word.{wordAt}
 use Rattle.file.specs.Below.{every, total}
 use Rattle.file.specs.Sections.{section, sectionsOf}

@@ -18,6 +18,8 @@ ghost use Rattle.tokens.specs.Code.Arrays.{Long, Lexes};
 ghost use Rattle.grammar.specs.Read.{phraseOf};
 ghost use Rattle.encoding.specs.Code.FlatFile.{flatFile};
 ghost use Rattle.writing.specs.Code.Held.{Held, Stand};
+ghost use Rattle.writing.specs.Code.Closers.{Beside};
+ghost use Rattle.reader.specs.Code.Lent.{Lent};
 ghost use Rattle.reader.specs.Outcome.{lawFile, phraseFile, readBy, readOutcome, unreadNumber, readAfter};
 
 // Why a text is not read.
@@ -75,14 +77,16 @@ fn deliver_tokens(
     kinds: &[u8],
     starts: &[u16],
     ends: &[u16],
+    closers: &mut [u16],
+    sums: &mut [u32],
     file: &mut [u8],
     law: &mut [u8],
 ) -> Reading
-    requires { ⌜ (length (now text) ≤ 4096) × (length (now kinds) ≤ 4096) × (length (now file) ≡ 16384) ⌝ }
+    requires { ⌜ (length (now text) ≤ 4096) × Beside (now kinds) (now closers) (now sums) × (length (now file) ≡ 16384) ⌝ }
     ensures { λ r. ⌜ ((ts : List Placed) → Held (now (kinds .entry)) (now (starts .entry)) (now (ends .entry)) ts → Stand (now (text .entry)) ts
         → readAfter r (now (law .exit)) ≡ readBy (now (law .entry)) (lawFile (flatFile (now (text .entry)) ts))) ⌝ }
 {
-    let end = put_file(text, kinds, starts, ends, file);
+    let end = put_file(text, kinds, starts, ends, closers, sums, file);
     if 16384 < end {
         return Reading::Refused(Unread::Law(Refusal::FileOver));
     }
@@ -97,17 +101,28 @@ fn deliver_text(
     starts: &[u16],
     ends: &[u16],
     stack: &mut [u8; 4096],
+    closers: &mut [u16],
+    sums: &mut [u32],
     file: &mut [u8],
     law: &mut [u8],
 ) -> Reading
-    requires { ⌜ (length (now text) ≤ 4096) × Long (now kinds) (now starts) (now ends) × (length (now stack) ≡ 4096) × (length (now file) ≡ 16384)
+    requires { ⌜ (length (now text) ≤ 4096) × Long (now kinds) (now starts) (now ends) × Lent (now stack) (now closers) (now sums) (now file)
         × Lexes (now text) n (now kinds) (now starts) (now ends) ⌝ }
     ensures { λ r. ⌜ readAfter r (now (law .exit)) ≡ readBy (now (law .entry)) (phraseFile (now (text .entry)) (phraseOf (now (text .entry)))) ⌝ }
 {
     if !accepts(&kinds[..n], stack) {
         return Reading::Refused(Unread::Outside);
     }
-    deliver_tokens(text, &kinds[..n], &starts[..n], &ends[..n], file, law)
+    deliver_tokens(
+        text,
+        &kinds[..n],
+        &starts[..n],
+        &ends[..n],
+        closers,
+        sums,
+        file,
+        law,
+    )
 }
 
 // Reads a text of at most 4,096 bytes, with arrays lent for its tokens and its file.
@@ -117,15 +132,19 @@ fn read_lent(
     starts: &mut [u16; 4096],
     ends: &mut [u16; 4096],
     stack: &mut [u8; 4096],
+    closers: &mut [u16],
+    sums: &mut [u32],
     file: &mut [u8],
     law: &mut [u8],
 ) -> Reading
-    requires { ⌜ (length (now text) ≤ 4096) × Long (now kinds) (now starts) (now ends) × (length (now stack) ≡ 4096) × (length (now file) ≡ 16384) ⌝ }
+    requires { ⌜ (length (now text) ≤ 4096) × Long (now kinds) (now starts) (now ends) × Lent (now stack) (now closers) (now sums) (now file) ⌝ }
     ensures { λ r. ⌜ readAfter r (now (law .exit)) ≡ readBy (now (law .entry)) (phraseFile (now (text .entry)) (phraseOf (now (text .entry)))) ⌝ }
 {
     match lex_text(text, kinds, starts, ends) {
         Tokens::Refused => Reading::Refused(Unread::Outside),
-        Tokens::Count(n) => deliver_text(text, n, kinds, starts, ends, stack, file, law),
+        Tokens::Count(n) => deliver_text(
+            text, n, kinds, starts, ends, stack, closers, sums, file, law,
+        ),
     }
 }
 
@@ -140,6 +159,8 @@ pub fn read(text: &[u8], law: &mut [u8]) -> Reading
     let mut starts = [0u16; 4096];
     let mut ends = [0u16; 4096];
     let mut stack = [0u8; 4096];
+    let mut closers = [0u16; 4096];
+    let mut sums = [0u32; 4096];
     let mut file = [0u8; 16384];
     read_lent(
         text,
@@ -147,6 +168,8 @@ pub fn read(text: &[u8], law: &mut [u8]) -> Reading
         &mut starts,
         &mut ends,
         &mut stack,
+        &mut closers,
+        &mut sums,
         &mut file,
         law,
     )

@@ -13,9 +13,9 @@ use borrow.Author.Tests.{eq-eqb, ne-eqb}
 use Rattle.names.specs.Name.{digitByte, letterByte, nameByte, everyByte}
 use Rattle.file.proofs.Below.{both}
 use Rattle.law.specs.Tree.{Kind, symbolKind, termKind, expressionKind}
-use Rattle.tokens.specs.Token.{identifier, number, atom, token}
+use Rattle.tokens.specs.Token.{identifier, number, kindNumber, atom, token}
 use Rattle.tokens.specs.Lex.{leading, variableKind, indexAfter, identifierOrVariable, next}
-use Rattle.tokens.specs.Code.TokenKind.{kindNumber, kindNumbered}
+use Rattle.tokens.specs.Code.TokenKind.{kindNumbered}
 use Rattle.tokens.specs.Code.Found.{kindCode, atomIn}
 use Rattle.tokens.proofs.Begins.{begins-found, leading-begins}
 use Rattle.tokens.proofs.NextPiece.{number-next, identifier-next, index-begins, variable-next}

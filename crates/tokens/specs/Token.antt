@@ -88,6 +88,12 @@ kindByte symbolKind = 115
 kindByte termKind = 116
 kindByte expressionKind = 101
 
+-- its number in a term record: docs/SPECIFICATION.md, 1.5
+abbrev pub kindNumber : Kind → ℕ
+kindNumber symbolKind = 3
+kindNumber termKind = 4
+kindNumber expressionKind = 5
+
 -- the bytes of an atom
 abbrev pub atomBytes : Atom → List ℕ
 atomBytes (identifier cs) = cs

@@ -6,10 +6,10 @@ ghost use mathlib.Core.Bool.{true};
 ghost use mathlib.Core.Option.{some};
 ghost use mathlib.Core.Path.{_≡_};
 ghost use lib.ListN.{length, drop, getD};
-ghost use Rattle.names.specs.Name.{digitByte, letterByte, nameByte};
+ghost use Rattle.names.specs.Name.{digitByte, letterByte};
 ghost use Rattle.tokens.specs.Token.{atom, token};
 ghost use Rattle.tokens.specs.Lex.{leading, variableKind, indexAfter, next};
-ghost use Rattle.tokens.specs.Code.Found.{kindCode, atomIn, EndsIn};
+ghost use Rattle.tokens.specs.Code.Found.{goesOn, kindCode, atomIn, EndsIn};
 
 // A token that begins with a letter or a digit, by the byte where it ends; a variable with the number of its kind in a file.
 pub enum Lexeme {
@@ -34,29 +34,24 @@ fn variable_kind(c: u8) -> u8
     0
 }
 
-// Where the letters, digits, `-` and `_` from a byte on end.
-fn name_end(text: &[u8], at: usize) -> usize
-    requires { ⌜ at ≤ length (now text) ⌝ }
-    ensures { λ r. ⌜ (r ≡ at + length (leading nameByte (drop at (now (text .entry))))) × (r ≤ length (now (text .entry))) ⌝ }
+// Does a byte go on with a number? Else: with a name?
+fn goes_on(digits: bool, c: u8) -> bool
+    ensures { λ r. ⌜ r ≡ goesOn digits c ⌝ }
 {
-    let mut i = at;
-    while i < text.len() {
-        if !name_byte(text[i]) {
-            return i;
-        }
-        i += 1;
+    if digits {
+        return digit_byte(c);
     }
-    i
+    name_byte(c)
 }
 
-// Where the digits from a byte on end.
-fn digits_end(text: &[u8], at: usize) -> usize
+// Where the digits from a byte on end. Else: where the letters, digits, `-` and `_` do.
+fn leading_end(digits: bool, text: &[u8], at: usize) -> usize
     requires { ⌜ at ≤ length (now text) ⌝ }
-    ensures { λ r. ⌜ (r ≡ at + length (leading digitByte (drop at (now (text .entry))))) × (r ≤ length (now (text .entry))) ⌝ }
+    ensures { λ r. ⌜ (r ≡ at + length (leading (goesOn digits) (drop at (now (text .entry))))) × (r ≤ length (now (text .entry))) ⌝ }
 {
     let mut i = at;
     while i < text.len() {
-        if !digit_byte(text[i]) {
+        if !goes_on(digits, text[i]) {
             return i;
         }
         i += 1;
@@ -76,7 +71,7 @@ fn index_length(text: &[u8], at: usize) -> usize
         return 0;
     }
     let first = at + 1;
-    name_end(text, first) - first
+    leading_end(false, text, first) - first
 }
 
 // The token that begins with the letter at a byte: the longest that fits.
@@ -87,11 +82,11 @@ pub fn identifier_or_variable(text: &[u8], at: usize) -> Lexeme
     let kind = variable_kind(text[at]);
     let after = at + 1;
     if kind == 0 {
-        return Lexeme::Identifier(name_end(text, after));
+        return Lexeme::Identifier(leading_end(false, text, after));
     }
     let n = index_length(text, after);
     if n == 0 {
-        return Lexeme::Identifier(name_end(text, after));
+        return Lexeme::Identifier(leading_end(false, text, after));
     }
     Lexeme::Variable(kind, after + 1 + n)
 }
@@ -102,5 +97,5 @@ pub fn number_at(text: &[u8], at: usize) -> Lexeme
     ensures { λ r. ⌜ (next (drop at (now (text .entry))) ≡ some (token (atom (atomIn (now (text .entry)) at r)))) × EndsIn (length (now (text .entry))) at r ⌝ }
 {
     let after = at + 1;
-    Lexeme::Number(digits_end(text, after))
+    Lexeme::Number(leading_end(true, text, after))
 }

@@ -7,17 +7,17 @@ use native.Mathlib.Omega.{arith}
 use lib.ListN.{length, take, drop, length-append, length-take, length-drop, take-append-drop}
 use lib.Seq.{drop-drop}
 use lib.Dec.{ltb, eqb}
-use borrow.Author.Tests.{eq-eqb, lt-ltb, le-ltb}
+use borrow.Author.Tests.{lt-ltb, le-ltb}
 use Rattle.names.specs.Name.{everyByte}
 use Rattle.file.specs.Fields.{scalarAllowed}
 use Rattle.file.proofs.Below.{both, both-first, both-second}
 use Rattle.law.specs.Tree.{symbolKind, termKind, expressionKind}
-use Rattle.tokens.specs.Token.{charactersBytes, quotable, Sign, leftBrace, rightBrace, leftBracket, rightBracket, leftAngle, rightAngle, comma, colon, equals, semicolon, dollarEntry, dollarExtern, identifier, number, variable, quoted, Token, sign, atom, tokenBytes, Placed}
+use Rattle.tokens.specs.Token.{charactersBytes, quotable, identifier, number, variable, quoted, Token, sign, atom, tokenBytes, Placed}
 use Rattle.tokens.specs.Code.TokenKind.{signKind, tokenKind}
 use Rattle.encoding.specs.Encode.{Record, characterRecords}
 use Rattle.encoding.specs.Code.FlatTerms.{inside, ownRecords, own, kindAt, endAt}
 use Rattle.writing.specs.Code.Held.{Stands, Spans}
-use Rattle.writing.proofs.WeightLaws.{sign-no-quote}
+use Rattle.writing.proofs.WeightLaws.{sign-over, only-quoted}
 
 -- ---- one record, or none
 
@@ -26,20 +26,6 @@ abbrev atomRow : ℕ → ℕ → ℕ → List Record
 atomRow k s e =
     cond (ltb 6 k) []
     (cond (ltb k 3) ((k ∷ s ∷ (e - s) ∷ 0 ∷ s ∷ e ∷ []) ∷ []) ((k ∷ (s + 2) ∷ (e - s - 2) ∷ 0 ∷ s ∷ e ∷ []) ∷ []))
-
-sign-row : (g : Sign) (s e : ℕ) → [] ≡ atomRow (signKind g) s e
-sign-row leftBrace s e = refl
-sign-row rightBrace s e = refl
-sign-row leftBracket s e = refl
-sign-row rightBracket s e = refl
-sign-row leftAngle s e = refl
-sign-row rightAngle s e = refl
-sign-row comma s e = refl
-sign-row colon s e = refl
-sign-row equals s e = refl
-sign-row semicolon s e = refl
-sign-row dollarEntry s e = refl
-sign-row dollarExtern s e = refl
 
 whole-size : (s n : ℕ) → s + n - s ≡ n
 whole-size s n = omega arith
@@ -51,7 +37,7 @@ index-end : (s n : ℕ) → s + 2 + n ≡ s + suc (suc n)
 index-end s n = omega arith
 
 own-row : (at : ℕ) (t : Token) → (tokenKind t ≡ 6 → ⊥) → ownRecords inside at t ≡ atomRow (tokenKind t) at (at + length (tokenBytes t))
-own-row at (sign g) d = sign-row g at (at + length (tokenBytes (sign g)))
+own-row at (sign g) d = rw (lt-ltb 6 (signKind g) (sign-over g))
 own-row at (atom (identifier w)) d = rw (whole-size at (length w))
 own-row at (atom (number w)) d = rw (whole-size at (length w))
 own-row at (atom (variable symbolKind w)) d = rw (index-size at (length w), index-end at (length w))
@@ -118,13 +104,10 @@ quoted-run text at cs {start = start} {end = end} s e h =
 
 token-run : (text : List ℕ) (at : ℕ) (t : Token) {start end : ℕ} → tokenKind t ≡ 6 → start ≡ at → end ≡ at + length (tokenBytes t)
     → Stands text (record { start = at; what = t }) → Run text at t start end
-token-run text at (sign g) k s e h = absurd (false≢true (sym (sign-no-quote g) ∙ eq-eqb (signKind g) 6 k))
-token-run text at (atom (identifier w)) k s e h = let z : ⊥ = omega (arith, k) in absurd z
-token-run text at (atom (number w)) k s e h = let z : ⊥ = omega (arith, k) in absurd z
-token-run text at (atom (variable symbolKind w)) k s e h = let z : ⊥ = omega (arith, k) in absurd z
-token-run text at (atom (variable termKind w)) k s e h = let z : ⊥ = omega (arith, k) in absurd z
-token-run text at (atom (variable expressionKind w)) k s e h = let z : ⊥ = omega (arith, k) in absurd z
-token-run text at (atom (quoted cs)) k s e h = quoted-run text at cs s e h
+token-run text at t {start = start} {end = end} k s =
+    only-quoted (λ u. end ≡ at + length (tokenBytes u) → Stands text (record { start = at; what = u }) → Run text at u start end)
+    (λ cs e h. quoted-run text at cs s e h)
+    t k
 
 pub run-of : (text : List ℕ) {k start end : ℕ} (p : Placed) → k ≡ kindAt p → start ≡ p .start → end ≡ endAt p → Stands text p → k ≡ 6 → Run text (p .start) (p .what) start end
 run-of text p e s t h g = token-run text (p .start) (p .what) (sym e ∙ g) s t h

@@ -1,11 +1,10 @@
 -- Laws for the section of conditions.
-use Prim.Native.Nat.{ℕ, _+_, _*_, _≤_, _<_}
+use Prim.Native.Nat.{ℕ, _+_, _*_, _<_}
 use mathlib.Core.List.{List, [], _∷_, _++_, flatMap}
 use mathlib.Core.Bool.{Bool, true, false, cond, _&&_}
 use mathlib.Core.Path.{_≡_, refl, _∙_}
-use native.Mathlib.Omega.{arith}
 use native.Mathlib.Numerals.{add-one}
-use lib.ListN.{length, drop, getD, drop-of-length-le}
+use lib.ListN.{length, drop, getD}
 use lib.Dec.{eqb}
 use Rattle.tokens.specs.Token.{Placed}
 use Rattle.encoding.specs.Encode.{recordsBytes}
@@ -15,7 +14,7 @@ use Rattle.encoding.proofs.Lists.{All, all-append}
 use Rattle.encoding.proofs.RecordLaws.{Sized, records-length}
 use Rattle.writing.specs.Code.Found.{placeOf, conditionsAt}
 use Rattle.writing.specs.Code.Held.{Held, atFirst}
-use Rattle.writing.proofs.HeldLaws.{tokens-length, token-at, end-here, after-here, start-here}
+use Rattle.writing.proofs.HeldLaws.{token-at, end-here, after-here, start-here}
 
 -- ---- where one begins
 
@@ -47,9 +46,6 @@ module _ {ks ss es : List ℕ} {ts : List Placed} (h : Held ks ss es ts) {i : �
 pub conditions-step : {ks ss es : List ℕ} {ts : List Placed} → Held ks ss es ts → (b : Bool) (i : ℕ) {c : Bool} → i < length ks → c ≡ within b (getD ks i 0)
     → flatConditions b (drop i ts) ≡ atFirst (conditionsAt b) (drop i ts) ++ flatConditions c (drop (i + 1) ts)
 conditions-step h b i l e = let t = token-at h i l in rw (e, t .rest, t .kind, add-one i)
-
-pub conditions-end : {ks ss es : List ℕ} {ts : List Placed} → Held ks ss es ts → (b : Bool) (i : ℕ) → length ks ≤ i → flatConditions b (drop i ts) ≡ []
-conditions-end {ts = ts} h b i l = rw (drop-of-length-le ts {i = i} (omega (arith, tokens-length h)))
 
 -- ---- the section
 

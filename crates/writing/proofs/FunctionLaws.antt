@@ -1,11 +1,10 @@
 -- Laws for the section of functions.
-use Prim.Native.Nat.{ℕ, suc, _+_, _-_, _*_, _≤_, _<_}
+use Prim.Native.Nat.{ℕ, suc, _+_, _-_, _*_, _<_}
 use mathlib.Core.List.{List, [], _∷_, _++_, flatMap}
 use mathlib.Core.Bool.{Bool, true, false, cond, _&&_}
 use mathlib.Core.Path.{_≡_, refl}
-use native.Mathlib.Omega.{arith}
 use native.Mathlib.Numerals.{add-one}
-use lib.ListN.{length, drop, getD, drop-of-length-le}
+use lib.ListN.{length, drop, getD}
 use lib.Dec.{eqb}
 use borrow.Author.Tests.{eq-eqb, ne-eqb}
 use Rattle.tokens.specs.Token.{Placed}
@@ -16,7 +15,7 @@ use Rattle.encoding.proofs.Lists.{All, all-append}
 use Rattle.encoding.proofs.RecordLaws.{Sized, records-length}
 use Rattle.writing.specs.Code.Found.{placeOf, countKinds}
 use Rattle.writing.specs.Code.Held.{Held, atFirst}
-use Rattle.writing.proofs.HeldLaws.{tokens-length, token-at, count-here, end-here, first-here, size-of}
+use Rattle.writing.proofs.HeldLaws.{token-at, count-here, end-here, first-here, size-of}
 
 -- ---- the record at a token
 
@@ -68,9 +67,6 @@ module _ {ks ss es : List ℕ} {ts : List Placed} (h : Held ks ss es ts) {i : �
 pub functions-step : {ks ss es : List ℕ} {ts : List Placed} → Held ks ss es ts → (i : ℕ) → i < length ks
     → flatFunctions (drop i ts) ≡ atFirst functionsAt (drop i ts) ++ flatFunctions (drop (i + 1) ts)
 functions-step h i l = rw (token-at h i l .rest, add-one i)
-
-pub functions-end : {ks ss es : List ℕ} {ts : List Placed} → Held ks ss es ts → (i : ℕ) → length ks ≤ i → flatFunctions (drop i ts) ≡ []
-functions-end {ts = ts} h i l = rw (drop-of-length-le ts {i = i} (omega (arith, tokens-length h)))
 
 -- ---- the section
 

@@ -1,12 +1,12 @@
 -- What the arrays say of the tokens that they hold.
-use Prim.Native.Nat.{ℕ, zero, suc, _+_, _-_, _<_}
+use Prim.Native.Nat.{ℕ, zero, suc, _+_, _-_, _≤_, _<_}
 use mathlib.Core.List.{List, [], _∷_}
 use mathlib.Core.Bool.{Bool, true, false, cond, not}
 use mathlib.Core.Path.{_≡_, refl, sym, ap, _∙_}
 use native.Mathlib.Omega.{arith}
 use native.Mathlib.Nat.{add-zero, add-assoc}
 use native.Mathlib.Numerals.{add-one}
-use lib.ListN.{length, drop, getD}
+use lib.ListN.{length, drop, getD, drop-of-length-le}
 use lib.Seq.{getD-drop, drop-drop}
 use lib.Dec.{eqb}
 use Rattle.tokens.specs.Token.{tokenBytes, Placed}
@@ -25,17 +25,17 @@ size-of p = go (p .start) (length (tokenBytes (p .what)))
     go : (a b : ℕ) → a + b - a ≡ b
     go a b = omega arith
 
-kinds-drop : (i : ℕ) (ts : List Placed) → drop i (kindsOf ts) ≡ kindsOf (drop i ts)
+pub kinds-drop : (i : ℕ) (ts : List Placed) → drop i (kindsOf ts) ≡ kindsOf (drop i ts)
 kinds-drop zero ts = refl
 kinds-drop (suc i) [] = refl
 kinds-drop (suc i) (p ∷ ts) = kinds-drop i ts
 
-ends-drop : (i : ℕ) (ts : List Placed) → drop i (endsOf ts) ≡ endsOf (drop i ts)
+pub ends-drop : (i : ℕ) (ts : List Placed) → drop i (endsOf ts) ≡ endsOf (drop i ts)
 ends-drop zero ts = refl
 ends-drop (suc i) [] = refl
 ends-drop (suc i) (p ∷ ts) = ends-drop i ts
 
-kinds-length : (ts : List Placed) → length (kindsOf ts) ≡ length ts
+pub kinds-length : (ts : List Placed) → length (kindsOf ts) ≡ length ts
 kinds-length [] = refl
 kinds-length (p ∷ ts) = ap suc (kinds-length ts)
 
@@ -99,6 +99,9 @@ token-of (p ∷ ts) (suc i) l =
 module _ {ks ss es : List ℕ} {ts : List Placed} (h : Held ks ss es ts) where
   pub tokens-length : length ks ≡ length ts
   tokens-length = ap length (h .kinded) ∙ kinds-length ts
+
+  pub none-left : (i : ℕ) → length ks ≤ i → drop i ts ≡ []
+  none-left i l = drop-of-length-le ts {i = i} (omega (arith, tokens-length))
 
   pub token-at : (i : ℕ) → i < length ks → TokenAt ks ss es ts i
   token-at i l = rw (h .kinded, h .started, h .ended) (token-of ts i (omega (arith, tokens-length)))

@@ -14,3 +14,4 @@ pub mod AtomLaws
 pub mod TermLaws
 pub mod LexedLaws
 pub mod WholeLaws
+pub mod CloserLaws

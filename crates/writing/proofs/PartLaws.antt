@@ -5,7 +5,7 @@ use mathlib.Core.Bool.{Bool, true, false}
 use mathlib.Core.Path.{_≡_, sym, _∙_}
 use native.Mathlib.Omega.{arith}
 use native.Mathlib.Numerals.{add-one}
-use lib.ListN.{length, drop, getD, drop-of-length-le}
+use lib.ListN.{length, drop, getD}
 use lib.Dec.{eqb}
 use borrow.Author.Tests.{ne-eqb}
 use Rattle.tokens.specs.Token.{Placed}
@@ -13,7 +13,7 @@ use Rattle.encoding.specs.Code.FlatTerms.{kindAt, endAt, weight}
 use Rattle.encoding.specs.Code.FlatFile.{parts, partRecords, partEnd}
 use Rattle.writing.specs.Code.Held.{Held, Stands, Stand}
 use Rattle.writing.specs.Code.Found.{runState}
-use Rattle.writing.proofs.HeldLaws.{tokens-length, TokenAt, token-at}
+use Rattle.writing.proofs.HeldLaws.{none-left, TokenAt, token-at}
 
 pub parts-last : (k : ℕ) → (k ≡ 44 → ⊥) → (k ≡ 58 → ⊥) → (k ≡ 61 → ⊥) → (k ≡ 59 → ⊥) → eqb k 125 ≡ parts k
 parts-last k a b c d = rw (ne-eqb k 44 a, ne-eqb k 58 b, ne-eqb k 61 c, ne-eqb k 59 d)
@@ -39,7 +39,7 @@ module _ {ks ss es : List ℕ} {ts : List Placed} (h : Held ks ss es ts) {i : �
 
   pub records-end : {n m : ℕ} (b : Bool) → length ks ≤ i → m ≡ n + partRecords (runState b) (drop i ts) → n ≡ m
   records-end b l g =
-      let none : partRecords (runState b) (drop i ts) ≡ 0 = rw (drop-of-length-le ts {i = i} (omega (arith, tokens-length h))) in
+      let none : partRecords (runState b) (drop i ts) ≡ 0 = rw (none-left h i l) in
       omega (arith, g)
 
   -- or goes on
@@ -60,7 +60,7 @@ module _ {ks ss es : List ℕ} {ts : List Placed} (h : Held ks ss es ts) {i : �
   end-stop l e f g = let at = token-at h i l in sym (g ∙ rw (at .rest, ← at .kind, ← e, f))
 
   pub end-end : {n m : ℕ} → length ks ≤ i → m ≡ partEnd n (drop i ts) → n ≡ m
-  end-end l g = sym (g ∙ rw (drop-of-length-le ts {i = i} (omega (arith, tokens-length h))))
+  end-end l g = sym (g ∙ rw (none-left h i l))
 
   pub end-next : {t : Bool} (n : ℕ) {m e' : ℕ} → i < length ks → t ≡ parts (getD ks i 0) → t ≡ false → e' ≡ getD es i 0 → m ≡ partEnd n (drop i ts) → m ≡ partEnd e' (drop (i + 1) ts)
   end-next n l e f s g = let at = token-at h i l in g ∙ rw (at .rest, ← at .kind, ← e, f, s, at .end, add-one i)

@@ -1,11 +1,10 @@
 -- Laws for the section of sentences.
-use Prim.Native.Nat.{ℕ, _+_, _*_, _≤_, _<_}
+use Prim.Native.Nat.{ℕ, _+_, _*_, _<_}
 use mathlib.Core.List.{List, [], _∷_, _++_, flatMap}
 use mathlib.Core.Bool.{Bool, true, false, cond, not, _&&_, _||_, true≢false, false≢true}
 use mathlib.Core.Path.{_≡_, refl, sym, _∙_}
-use native.Mathlib.Omega.{arith}
 use native.Mathlib.Numerals.{add-one}
-use lib.ListN.{length, drop, getD, drop-of-length-le}
+use lib.ListN.{length, drop, getD}
 use lib.Dec.{eqb}
 use borrow.Author.Tests.{eq-eqb, ne-eqb}
 use Rattle.tokens.specs.Token.{Placed}
@@ -16,7 +15,7 @@ use Rattle.encoding.proofs.Lists.{All, all-append}
 use Rattle.encoding.proofs.RecordLaws.{Sized, records-length}
 use Rattle.writing.specs.Code.Found.{placeOf, countKinds, sentenceBegins, sentencesAt}
 use Rattle.writing.specs.Code.Held.{Held, atFirst}
-use Rattle.writing.proofs.HeldLaws.{tokens-length, token-at, count-here, end-here, after-here, start-here, first-here}
+use Rattle.writing.proofs.HeldLaws.{token-at, count-here, end-here, after-here, start-here, first-here}
 
 -- ---- where one begins
 
@@ -91,9 +90,6 @@ module _ {ks ss es : List ℕ} {ts : List Placed} (h : Held ks ss es ts) {i : �
 pub sentences-step : {ks ss es : List ℕ} {ts : List Placed} → Held ks ss es ts → (b : Bool) (i : ℕ) {c : Bool} → i < length ks → c ≡ within b (getD ks i 0)
     → flatSentences b (drop i ts) ≡ atFirst (sentencesAt b) (drop i ts) ++ flatSentences c (drop (i + 1) ts)
 sentences-step h b i l e = let t = token-at h i l in rw (e, t .rest, t .kind, add-one i)
-
-pub sentences-end : {ks ss es : List ℕ} {ts : List Placed} → Held ks ss es ts → (b : Bool) (i : ℕ) → length ks ≤ i → flatSentences b (drop i ts) ≡ []
-sentences-end {ts = ts} h b i l = rw (drop-of-length-le ts {i = i} (omega (arith, tokens-length h)))
 
 -- ---- the section
 

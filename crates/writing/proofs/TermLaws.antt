@@ -1,11 +1,10 @@
 -- Laws for the section of terms.
-use Prim.Native.Nat.{ℕ, suc, _+_, _-_, _*_, _≤_, _<_}
+use Prim.Native.Nat.{ℕ, suc, _+_, _-_, _*_, _<_}
 use mathlib.Core.List.{List, [], _∷_, _++_, flatMap}
 use mathlib.Core.Bool.{Bool, true, false, cond}
 use mathlib.Core.Path.{_≡_, refl, sym, ap, _∙_}
-use native.Mathlib.Omega.{arith}
 use native.Mathlib.Numerals.{add-one}
-use lib.ListN.{length, drop, getD, drop-of-length-le}
+use lib.ListN.{length, drop, getD}
 use lib.Dec.{eqb}
 use borrow.Author.Tests.{eq-eqb, ne-eqb}
 use Rattle.tokens.specs.Token.{utf8, identifier, number, variable, quoted, Token, sign, atom, Placed}
@@ -16,7 +15,8 @@ use Rattle.encoding.proofs.RecordLaws.{Sized, records-length}
 use Rattle.buffers.specs.Code.Put.{Put}
 use Rattle.writing.specs.Code.Held.{Held, Stands, Stand, atFirst}
 use Rattle.writing.specs.Code.Found.{runState, whereOf, bracketAt, callAt}
-use Rattle.writing.proofs.HeldLaws.{tokens-length, token-at, start-here, length-here}
+use Rattle.writing.specs.Code.Closers.{calledAt}
+use Rattle.writing.proofs.HeldLaws.{token-at, start-here, length-here}
 use Rattle.writing.proofs.PartLaws.{stands-at}
 use Rattle.writing.proofs.ScanLaws.{scan-end}
 
@@ -49,14 +49,17 @@ module _ (n k : ℕ) where
 -- ---- brackets and calls
 
 module _ {ks ss es : List ℕ} {ts : List Placed} (h : Held ks ss es ts) {i : ℕ} (l : i < length ks) where
-  pub bracket-found : {records start end : ℕ} → records ≡ (scan (runState false) 0 (drop (i + 1) ts)) .records → start ≡ getD ss i 0
-      → end ≡ (scan inside 0 (drop (i + 1) ts)) .end → atFirst bracketAt (drop i ts) ≡ (6 ∷ 0 ∷ 0 ∷ records ∷ start ∷ end ∷ []) ∷ []
-  bracket-found r s e = let at = token-at h i l in ap (atFirst bracketAt) (at .rest) ∙ rw (r, s, e, at .start, add-one i)
+  called-behind : calledAt ks (i + 1) ≡ eqb (getD ks i 0) 60
+  called-behind = rw (add-one i)
 
-  pub call-found : {records start end name last size : ℕ} → name ≡ getD ss (i + 1) 0 → last ≡ getD es (i + 1) 0 → size ≡ last - name
-      → records ≡ (scan (runState true) 0 (drop (i + 1) ts)) .records → start ≡ getD ss i 0 → end ≡ (scan inside 0 (drop (i + 1) ts)) .end
+  pub bracket-found : {records start end : ℕ} → getD ks i 0 ≡ 40 → records ≡ (scan (runState (calledAt ks (i + 1))) 0 (drop (i + 1) ts)) .records → start ≡ getD ss i 0
+      → end ≡ (scan inside 0 (drop (i + 1) ts)) .end → atFirst bracketAt (drop i ts) ≡ (6 ∷ 0 ∷ 0 ∷ records ∷ start ∷ end ∷ []) ∷ []
+  bracket-found q r s e = let at = token-at h i l in ap (atFirst bracketAt) (at .rest) ∙ rw (r, s, e, called-behind, q, at .start, add-one i)
+
+  pub call-found : {records start end name last size : ℕ} → getD ks i 0 ≡ 60 → name ≡ getD ss (i + 1) 0 → last ≡ getD es (i + 1) 0 → size ≡ last - name
+      → records ≡ (scan (runState (calledAt ks (i + 1))) 0 (drop (i + 1) ts)) .records → start ≡ getD ss i 0 → end ≡ (scan inside 0 (drop (i + 1) ts)) .end
       → atFirst callAt (drop i ts) ≡ (7 ∷ name ∷ size ∷ records ∷ start ∷ end ∷ []) ∷ []
-  call-found n la z r s e =
+  call-found q n la z r s e =
       let at = token-at h i l in
       ap (atFirst callAt) (at .rest)
       ∙ rw (
@@ -64,6 +67,8 @@ module _ {ks ss es : List ℕ} {ts : List Placed} (h : Held ks ss es ts) {i : �
         la,
         n,
         r,
+        called-behind,
+        q,
         s,
         e,
         at .start,
@@ -112,9 +117,6 @@ module _ {ks ss es : List ℕ} {ts : List Placed} (h : Held ks ss es ts) {i : �
 pub terms-step : {ks ss es : List ℕ} {ts : List Placed} → Held ks ss es ts → (w : Where) (i : ℕ) {v : Where} → i < length ks → v ≡ whereAfter w (getD ks i 0)
     → flatTerms w (drop i ts) ≡ atFirst (termsAt w) (drop i ts) ++ flatTerms v (drop (i + 1) ts)
 terms-step h w i l e = let t = token-at h i l in rw (e, t .rest, t .kind, add-one i)
-
-pub terms-end : {ks ss es : List ℕ} {ts : List Placed} → Held ks ss es ts → (w : Where) (i : ℕ) → length ks ≤ i → flatTerms w (drop i ts) ≡ []
-terms-end {ts = ts} h w i l = rw (drop-of-length-le ts {i = i} (omega (arith, tokens-length h)))
 
 -- ---- the section
 

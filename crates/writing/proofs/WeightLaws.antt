@@ -1,13 +1,13 @@
 -- Laws for the number of records that begin with a token.
 use Prim.Native.Nat.{ℕ, suc, _+_, _-_, _≤_, _<_}
 use mathlib.Core.List.{List, [], _∷_, _++_, nil≢cons, tail-eq-of-cons-eq}
-use mathlib.Core.Bool.{Bool, true, false, cond, false≢true}
+use mathlib.Core.Bool.{Bool, true, false, cond}
 use mathlib.Core.Path.{_≡_, refl, sym, ap, _∙_}
 use native.Mathlib.Omega.{arith}
 use lib.ListN.{length, take, drop, length-append}
 use lib.Seq.{take-take, take-at, drop-drop}
 use lib.Dec.{ltb, eqb}
-use borrow.Author.Tests.{eq-eqb, ne-eqb, lt-ltb, le-ltb}
+use borrow.Author.Tests.{ne-eqb, lt-ltb, le-ltb}
 use Rattle.law.specs.Tree.{symbolKind, termKind, expressionKind}
 use Rattle.tokens.specs.Token.{charactersBytes, Sign, leftBrace, rightBrace, leftBracket, rightBracket, leftAngle, rightAngle, comma, colon, equals, semicolon, dollarEntry, dollarExtern, identifier, number, variable, quoted, Token, sign, atom, tokenBytes, Placed}
 use Rattle.tokens.specs.Code.TokenKind.{signKind, tokenKind}
@@ -35,22 +35,33 @@ unfolding characterRecords
 characters-length at [] = refl
 characters-length at (c ∷ cs) = ap suc (characters-length _ cs)
 
-sign-weight : (g : Sign) → 0 ≡ byKind (signKind g) 0
-sign-weight leftBrace = refl
-sign-weight rightBrace = refl
-sign-weight leftBracket = refl
-sign-weight rightBracket = refl
-sign-weight leftAngle = refl
-sign-weight rightAngle = refl
-sign-weight comma = refl
-sign-weight colon = refl
-sign-weight equals = refl
-sign-weight semicolon = refl
-sign-weight dollarEntry = refl
-sign-weight dollarExtern = refl
+-- signs have other kinds than atoms
+pub sign-over : (g : Sign) → 6 < signKind g
+sign-over leftBrace = omega arith
+sign-over rightBrace = omega arith
+sign-over leftBracket = omega arith
+sign-over rightBracket = omega arith
+sign-over leftAngle = omega arith
+sign-over rightAngle = omega arith
+sign-over comma = omega arith
+sign-over colon = omega arith
+sign-over equals = omega arith
+sign-over semicolon = omega arith
+sign-over dollarEntry = omega arith
+sign-over dollarExtern = omega arith
+
+-- only a quoted run is of kind 6
+pub only-quoted : (P : Token → Type 0) → ((cs : List ℕ) → P (atom (quoted cs))) → (t : Token) → tokenKind t ≡ 6 → P t
+only-quoted P q (sign g) k = let z : ⊥ = omega (arith, k, sign-over g) in absurd z
+only-quoted P q (atom (identifier w)) k = let z : ⊥ = omega (arith, k) in absurd z
+only-quoted P q (atom (number w)) k = let z : ⊥ = omega (arith, k) in absurd z
+only-quoted P q (atom (variable symbolKind w)) k = let z : ⊥ = omega (arith, k) in absurd z
+only-quoted P q (atom (variable termKind w)) k = let z : ⊥ = omega (arith, k) in absurd z
+only-quoted P q (atom (variable expressionKind w)) k = let z : ⊥ = omega (arith, k) in absurd z
+only-quoted P q (atom (quoted cs)) k = q cs
 
 own-weight : (at : ℕ) (t : Token) → length (ownRecords inside at t) ≡ byKind (tokenKind t) (length (charactersIn t))
-own-weight at (sign g) = sign-weight g
+own-weight at (sign g) = let over = sign-over g in rw (ne-eqb (signKind g) 6 (λ e. omega (arith, e, over)), le-ltb (signKind g) 6 (omega (arith, over)))
 own-weight at (atom (identifier w)) = refl
 own-weight at (atom (number w)) = refl
 own-weight at (atom (variable symbolKind w)) = refl
@@ -79,30 +90,15 @@ quoted-bytes text at cs {start = start} {end = end} s e h =
     (sym (take-take (length inner) (length (inner ++ 39 ∷ [])) (drop 1 (drop at text)) (omega (arith, long)))
     ∙ (ap (take (length inner)) tail ∙ take-at inner (39 ∷ []) (length inner) refl))
 
-pub sign-no-quote : (g : Sign) → eqb (signKind g) 6 ≡ false
-sign-no-quote leftBrace = refl
-sign-no-quote rightBrace = refl
-sign-no-quote leftBracket = refl
-sign-no-quote rightBracket = refl
-sign-no-quote leftAngle = refl
-sign-no-quote rightAngle = refl
-sign-no-quote comma = refl
-sign-no-quote colon = refl
-sign-no-quote equals = refl
-sign-no-quote semicolon = refl
-sign-no-quote dollarEntry = refl
-sign-no-quote dollarExtern = refl
-
 -- as many as characters
 quoted-count : (text : List ℕ) (at : ℕ) (t : Token) {start end : ℕ} → tokenKind t ≡ 6 → start ≡ at → end ≡ at + length (tokenBytes t)
     → Stands text (record { start = at; what = t }) → countStarts (take (end - 1 - (start + 1)) (drop (start + 1) text)) ≡ length (charactersIn t)
-quoted-count text at (sign g) k s e h = absurd (false≢true (sym (sign-no-quote g) ∙ eq-eqb (signKind g) 6 k))
-quoted-count text at (atom (identifier w)) k s e h = let z : ⊥ = omega (arith, k) in absurd z
-quoted-count text at (atom (number w)) k s e h = let z : ⊥ = omega (arith, k) in absurd z
-quoted-count text at (atom (variable symbolKind w)) k s e h = let z : ⊥ = omega (arith, k) in absurd z
-quoted-count text at (atom (variable termKind w)) k s e h = let z : ⊥ = omega (arith, k) in absurd z
-quoted-count text at (atom (variable expressionKind w)) k s e h = let z : ⊥ = omega (arith, k) in absurd z
-quoted-count text at (atom (quoted cs)) k s e h = ap countStarts (quoted-bytes text at cs s e h) ∙ characters-counted cs
+quoted-count text at t {start = start} {end = end} k s =
+    only-quoted
+    (λ u. end ≡ at + length (tokenBytes u) → Stands text (record { start = at; what = u })
+    → countStarts (take (end - 1 - (start + 1)) (drop (start + 1) text)) ≡ length (charactersIn u))
+    (λ cs e h. ap countStarts (quoted-bytes text at cs s e h) ∙ characters-counted cs)
+    t k
 
 -- ---- one law for each kind
 

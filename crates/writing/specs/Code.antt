@@ -2,3 +2,4 @@
 -- theorem that docs/ARCHITECTURE.md names, says anything by these; tests/believed.py holds that up.
 pub mod Held
 pub mod Found
+pub mod Closers

@@ -3,6 +3,7 @@ use crate::arrays::less;
 use crate::parts::index;
 use crate::records::put_six;
 use crate::records::word;
+use file::wide;
 use tokens::characters::Character;
 use tokens::characters::character_at;
 ghost use Prim.Native.Nat.{ℕ, _+_, _<_, _≤_};
@@ -35,13 +36,6 @@ fn put_characters(text: &[u8], from: usize, to: usize, out: &mut [u8], at: usize
     next
 }
 
-// A kind as a word.
-fn kind_word(k: u8) -> u32
-    ensures { λ r. ⌜ r ≡ k ⌝ }
-{
-    k as u32
-}
-
 // The records of a token that is no bracket and no name of a call.
 pub fn put_atom(text: &[u8], k: u8, start: u32, end: u32, out: &mut [u8], at: usize) -> usize
     requires { ⌜ (at ≤ 1000000000000000) × (start < 65536) × (end < 65536) × (length (now text) ≤ 4096) ⌝ }
@@ -60,16 +54,7 @@ pub fn put_atom(text: &[u8], k: u8, start: u32, end: u32, out: &mut [u8], at: us
     }
     let size = less(end, start);
     if k < 3 {
-        return put_six(kind_word(k), start, size, 0, start, end, out, at);
+        return put_six(wide(k), start, size, 0, start, end, out, at);
     }
-    put_six(
-        kind_word(k),
-        start + 2,
-        less(size, 2),
-        0,
-        start,
-        end,
-        out,
-        at,
-    )
+    put_six(wide(k), start + 2, less(size, 2), 0, start, end, out, at)
 }

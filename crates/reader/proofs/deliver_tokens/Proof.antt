@@ -5,23 +5,34 @@ use Rattle.reader.proofs.ReadLaws.{file-over, part-size, part-small, to
 use Rattle.reader.proofs.deliver_tokens.Statement.{statement}
 use Rattle.reader.proofs.deliver_tokens.Tie as tie
 
+-- the start, from where the file was put
+abbrev start : tie.After-put-file → tie.Start
+start c = c .before .before .before .before .before .before .before .before .before .before .before .before
+
 pub deliver-tokens-spec : {M : Type 1} → statement M
 deliver-tokens-spec =
     tie.close
     (tie.spec
-    (λ c κs. search needs)
+    (λ c κs. let asked = c .before .before .before .before .before .before .before .before .before .before .before .pre in (asked .0, asked .1))
     (λ c. search needs)
-    (λ c ts held stand. let put = c .before .before .before .put-file .ensures ts held stand in file-over _ _ (omega (arith, c .if1 .taken, put .end)))
-    (λ c. search needs)
-    (λ c.
-    let put = c .before .before .before .before .put-file in
-    let start = c .before .before .before .before .before .before .before .before .before .before .before .before in
-    part-size (put .result) _ (start .args .file .now) (omega (arith, c .before .if1 .left)) (start .pre .2) (put .kept .1 .1 .1 .1 .0))
-    (λ c κs. let put = c .before .before .before .before .before .put-file in part-small (put .result) _ (omega (arith, c .before .before .if1 .left)))
     (λ c. search needs)
     (λ c. search needs)
     (λ c ts held stand.
-    let put = c .before .before .before .before .before .before .before .before .put-file in
-    let start = c .before .before .before .before .before .before .before .before .before .before .before .before .before .before .before .before in
-    let few = c .before .before .before .before .before .if1 .left in
-    tokens-delivered _ _ _ _ _ _ (put .ensures ts held stand) (omega (arith, few, start .pre .2)) (c .before .before .deliver-law .ensures)))
+    let put = c .before .before .before .before .before .before .before .put-file .ensures ts held stand in
+    file-over _ _ (omega (arith, c .if1 .taken, put .end)))
+    (λ c. search needs)
+    (λ c.
+    let put = c .before .before .before .before .before .before .before .before in
+    let begun = start put in
+    part-size (put .put-file .result) _ (begun .args .file .now) (omega (arith, c .before .if1 .left)) (begun .pre .2) (put .put-file .kept .1 .1 .1 .1 .1 .1 .0))
+    (λ c κs.
+    let put = c .before .before .before .before .before .before .before .before .before .put-file in
+    part-small (put .result) _ (omega (arith, c .before .before .if1 .left)))
+    (λ c. search needs)
+    (λ c. search needs)
+    (λ c. search needs)
+    (λ c. search needs)
+    (λ c ts held stand.
+    let few = c .before .before .before .before .before in
+    let put = few .before .before .before .before .before .before .before in
+    tokens-delivered _ _ _ _ _ _ (put .put-file .ensures ts held stand) (omega (arith, few .if1 .left, start put .pre .2)) (c .before .before .deliver-law .ensures)))

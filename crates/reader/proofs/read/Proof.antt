@@ -11,6 +11,11 @@ read-spec =
     (tie.spec
     (λ c. text-over _ _ (c .if1 .taken))
     (λ c. search needs)
+    (λ c. search needs)
+    (λ c. search needs)
     (λ c κs. search needs)
     (λ c. search needs)
-    (λ c. let few = c .before .before .before .before .before .before .before .before .before .before .if1 .left in text-read _ _ _ (omega (arith, few)) (c .before .before .before .read-lent .ensures)))
+    (λ c.
+    let lent = c .before .before .before .before .before in
+    let few = lent .before .before .before .before .before .before .before .before .before .if1 .left in
+    text-read _ _ _ (omega (arith, few)) (lent .read-lent .ensures)))

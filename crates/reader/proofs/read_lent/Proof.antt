@@ -4,6 +4,10 @@ use Rattle.reader.proofs.ReadLaws.{counted, lexer-outside}
 use Rattle.reader.proofs.read_lent.Statement.{statement}
 use Rattle.reader.proofs.read_lent.Tie as tie
 
+-- the start, from where the tokens were found
+abbrev start : tie.After-lex-text → tie.Start
+start c = c .before .before .before .before .before .before .before .before .before
+
 pub read-lent-spec : {M : Type 1} → statement M
 read-lent-spec =
     tie.close
@@ -12,11 +16,14 @@ read-lent-spec =
     (λ c. search needs)
     (λ c. search needs)
     (λ c κs.
-    let start = c .before .before .before .before .before .before .before .before .before .before .before .before .before .before .before .before .before .before .before in
-    let lexed = c .before .before .before .before .before .before .before .before .before .before .before .before .lex-text in
-    let number = c .before .before .before .before .before .before .before .before .before .before .n in
-    (start .pre .0, lexed .ensures .0, start .pre .2, start .pre .3, counted _ _ _ _ _ _ (number .given .1) (lexed .ensures .1)))
+    let number = c .before .before .before .before .before .before .before .before .before .before .before .before in
+    let found = number .before .before in
+    let begun = start found in
+    let lexed = found .lex-text .ensures in
+    (begun .pre .0, lexed .0, begun .pre .2, counted _ _ _ _ _ _ (number .n .given .1) (lexed .1)))
     (λ c. lexer-outside _ _ _ _ _ _ (c .enum-told .given .1) (c .before .before .lex-text .ensures .1))
+    (λ c. search needs)
+    (λ c. search needs)
     (λ c. search needs)
     (λ c. search needs)
     (λ c. search needs))

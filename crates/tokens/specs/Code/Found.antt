@@ -6,11 +6,12 @@ use mathlib.Core.Option.{Option, none, some}
 use mathlib.Core.Path.{_≡_}
 use lib.ListN.{length, take, drop}
 use lib.Dec.{eqb}
+use Rattle.names.specs.Name.{digitByte, nameByte}
 use Rattle.file.specs.Fields.{scalarAllowed}
 use Rattle.law.specs.Tree.{Kind}
-use Rattle.tokens.specs.Token.{utf8, Atom, identifier, number, variable, tokenBytes, Piece, blank, comment, token, pieceBytes}
+use Rattle.tokens.specs.Token.{utf8, Atom, identifier, number, variable, kindNumber, tokenBytes, Piece, blank, comment, token, pieceBytes}
 use Rattle.tokens.specs.Lex.{begins, characterIn}
-use Rattle.tokens.specs.Code.TokenKind.{kindNumber, kindNumbered, tokenKind}
+use Rattle.tokens.specs.Code.TokenKind.{kindNumbered, tokenKind}
 use Rattle.tokens.specs.declared.characters.Character.{Character}
 use Rattle.tokens.specs.declared.characters.Character.the-variants.{Broken, Whole}
 use Rattle.tokens.specs.declared.atoms.Lexeme.{Lexeme}
@@ -26,6 +27,11 @@ CharacterAt s Broken = scalarAllowed (characterIn s) && begins (utf8 (characterI
 CharacterAt s (Whole c w) = (c ≡ characterIn s) × (scalarAllowed c ≡ true) × (begins (utf8 c) s ≡ true) × (w ≡ length (utf8 c)) × (1 ≤ w)
 
 -- ---- identifiers, numbers and variables
+
+-- the bytes that go on with a number, or with a name
+abbrev pub goesOn : Bool → ℕ → Bool
+goesOn true = digitByte
+goesOn false = nameByte
 
 -- a kind of variable, 0 for none
 abbrev pub kindCode : Option Kind → ℕ

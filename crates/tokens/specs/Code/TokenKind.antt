@@ -4,15 +4,9 @@ use Prim.Native.Nat.{ℕ}
 use mathlib.Core.Bool.{cond}
 use lib.Dec.{eqb}
 use Rattle.law.specs.Tree.{Kind, symbolKind, termKind, expressionKind}
-use Rattle.tokens.specs.Token.{Sign, leftBrace, rightBrace, leftBracket, rightBracket, leftAngle, rightAngle, comma, colon, equals, semicolon, dollarEntry, dollarExtern, Atom, identifier, number, variable, quoted, Token, sign, atom}
+use Rattle.tokens.specs.Token.{Sign, leftBrace, rightBrace, leftBracket, rightBracket, leftAngle, rightAngle, comma, colon, equals, semicolon, dollarEntry, dollarExtern, Atom, identifier, number, variable, quoted, kindNumber, Token, sign, atom}
 
--- a kind of variable, as a file numbers it
-abbrev pub kindNumber : Kind → ℕ
-kindNumber symbolKind = 3
-kindNumber termKind = 4
-kindNumber expressionKind = 5
-
--- and back
+-- the kind of variable that a file gives a number
 abbrev pub kindNumbered : ℕ → Kind
 kindNumbered n = cond (eqb n 3) symbolKind (cond (eqb n 4) termKind expressionKind)
 

@@ -23,7 +23,7 @@ identifier-or-variable-spec =
     (λ c.
     let kind = c .before .before in
     let begun = start kind in
-    let end = c .name-end .ensures in (
+    let end = c .leading-end .ensures in (
       identifier-plain (begun .args .text .now) (begun .args .at) (begun .pre .0) (begun .pre .1) (kind .variable-kind .ensures) (c .before .if1 .taken) (end .0),
       (omega (arith, end .0), end .1),
     ))
@@ -32,7 +32,7 @@ identifier-or-variable-spec =
     (λ c.
     let index = c .before .before in
     let begun = start (asked index) in
-    let end = c .name-end2 .ensures in (
+    let end = c .leading-end2 .ensures in (
       identifier-short (begun .args .text .now) (begun .args .at) (begun .pre .0) (begun .pre .1) (index .index-length .ensures .0) (c .before .if2 .taken) (end .0),
       (omega (arith, end .0), end .1),
     ))

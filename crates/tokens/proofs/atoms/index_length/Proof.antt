@@ -21,4 +21,4 @@ index-length-spec =
     (λ c. search needs)
     (λ c.
     let begun = start (c .before .before) in
-    index-point (begun .args .text .now) (begun .args .at) (omega arith) (c .before .if2 .left) (c .name-end .ensures .0) (c .name-end .ensures .1)))
+    index-point (begun .args .text .now) (begun .args .at) (omega arith) (c .before .if2 .left) (c .leading-end .ensures .0) (c .leading-end .ensures .1)))

@@ -13,6 +13,6 @@ number-at-spec =
     (λ c κs. search needs)
     (λ c.
     let begun = c .before .before in (
-      number-found (begun .args .text .now) (begun .args .at) (begun .pre .0) (begun .pre .1) (c .digits-end .ensures .0),
-      (omega (arith, c .digits-end .ensures .0), c .digits-end .ensures .1),
+      number-found (begun .args .text .now) (begun .args .at) (begun .pre .0) (begun .pre .1) (c .leading-end .ensures .0),
+      (omega (arith, c .leading-end .ensures .0), c .leading-end .ensures .1),
     )))

@@ -49,7 +49,7 @@ put-atom-spec =
       omega (arith, put .ensures .0),
       omega (arith, put .ensures .0),
       λ p e s t h. put-record _
-          (atom-word p e s t (size .before .before .if1 .left) (size .before .if3 .left) (size .less2 .ensures) (kind .kind-word .ensures) (kind .before .if4 .taken)) (put .ensures .1),
+          (atom-word p e s t (size .before .before .if1 .left) (size .before .if3 .left) (size .less2 .ensures) (kind .wide .ensures .0) (kind .before .if4 .taken)) (put .ensures .1),
     ))
     (λ c κs. search needs)
     (λ c. let start = c .before .before .before .before .before .before .before in omega (arith, start .pre .1))
@@ -64,5 +64,5 @@ put-atom-spec =
       omega (arith, put .ensures .0),
       omega (arith, put .ensures .0),
       λ p e s t h. put-record _
-          (atom-variable p e s t (size .before .before .if1 .left) (size .before .if3 .left) (size .less2 .ensures) (kind .kind-word2 .ensures) (kind .before .if4 .left) (index .less3 .ensures)) (put .ensures .1),
+          (atom-variable p e s t (size .before .before .if1 .left) (size .before .if3 .left) (size .less2 .ensures) (kind .wide2 .ensures .0) (kind .before .if4 .left) (index .less3 .ensures)) (put .ensures .1),
     )))

@@ -1,23 +1,22 @@
--- Rests on the invariant `Passing`: the records put and those left from token `i` on are all.
-use Prim.Native.Nat.{_+_, _*_, _-_, _≤_}
-use mathlib.Core.List.{List}
-use mathlib.Core.Path.{_≡_, refl, _∙_}
+-- Rests on the invariant `Rounds`: the records put and those left from token `i` on are all.
+use Prim.Native.Nat.{_-_}
+use mathlib.Core.Path.{ap}
 use native.Mathlib.Omega.{arith}
 use lib.ListN.{length, drop}
 use borrow.Author.Needs.{needs}
 use mathlib.Core.Bool.{false}
-use Rattle.tokens.specs.Token.{Placed}
 use Rattle.encoding.specs.Code.FlatFile.{flatSentences}
-use Rattle.writing.specs.Code.Held.{Held, Stand}
-use Rattle.writing.proofs.PassingLaws.{Passing, passing-start, passing-next, passing-end}
-use Rattle.writing.proofs.SentenceLaws.{sentences-step, sentences-end}
+use Rattle.writing.specs.Code.Held.{Held, Stand, atFirst}
+use Rattle.writing.specs.Code.Found.{sentencesAt}
+use Rattle.writing.proofs.HeldLaws.{none-left}
+use Rattle.writing.proofs.PassingLaws.{Rounds, rounds-start, rounds-next, rounds-end}
+use Rattle.writing.proofs.SentenceLaws.{sentences-step}
 use Rattle.writing.proofs.sentences.put_sentences.Statement.{statement}
 use Rattle.writing.proofs.sentences.put_sentences.Tie as tie
 
 abbrev Inv-loop : tie.InvT-loop
 Inv-loop text kinds starts ends out₀ at next₀ inside₀ i₀ out next inside i =
-    (i ≤ length kinds) × (at ≤ next) × (next ≤ at + 20 * i) × (length out ≡ length out₀)
-    × ((ts : List Placed) → Held kinds starts ends ts → Stand text ts → Passing (flatSentences false ts) (flatSentences inside (drop i ts)) out₀ at next out)
+    Rounds (λ ts. Held kinds starts ends ts × Stand text ts) (flatSentences false) (λ ts. flatSentences inside (drop i ts)) (length kinds) 20 out₀ at i next out
 
 abbrev μ-loop : tie.MeasureT-loop
 μ-loop text kinds starts ends out₀ at next₀ inside₀ i₀ out next inside i = length kinds - i
@@ -28,12 +27,12 @@ put-sentences-spec =
     (tie.spec
     Inv-loop
     μ-loop
-    (λ c. (omega arith, omega arith, omega arith, refl, λ ts h st. passing-start (flatSentences false ts) _ _))
+    (λ c. rounds-start)
     (λ c κs.
     let round = c .before .before in
     let inv = round .loop .inv in
-    let entry = round .before .before .before .before .before .before in
-    (omega (arith, inv .2, entry .pre .0, entry .pre .1), omega arith, entry .pre .1))
+    let asked = round .before .before .before .before .before .before .pre in
+    (omega (arith, inv .high, asked .0, asked .1), omega arith, asked .1))
     (λ c. omega arith)
     (λ c κs. search needs)
     (λ c. omega arith)
@@ -42,19 +41,12 @@ put-sentences-spec =
     let done = c .before .before .before .before in
     let put = done .put-sentence in
     let round = done .before .before .before .loop in
-    let inv = round .inv in (
-      omega arith,
-      omega (arith, inv .1, put .ensures .0),
-      omega (arith, inv .2, put .ensures .1),
-      put .kept .1 .1 .1 .1 .1 .1 .0 ∙ inv .3,
-      λ ts h st. passing-next (inv .4 ts h st) _ _ (sentences-step h (round .inside) (round .i) (omega arith) (c .within-after .ensures)) (put .ensures .2 ts h st),
-    ))
+    rounds-next (round .inv) (λ ts. atFirst (sentencesAt (round .inside)) (drop (round .i) ts)) _ (omega arith) (put .ensures .0) (put .ensures .1) (put .kept .1 .1 .1 .1 .1 .1 .0)
+    (λ ts h. sentences-step (h .0) (round .inside) (round .i) (omega arith) (c .within-after .ensures))
+    (λ ts h. put .ensures .2 ts (h .0) (h .1)))
     (λ c. search needs)
     (λ c.
     let round = c .before .loop in
-    let start = c .before .before .before .before .before .before .before in
-    let inv = round .inv in (
-      inv .1,
-      omega (arith, inv .2, inv .0, start .pre .1),
-      λ ts h st. passing-end (inv .4 ts h st) (sentences-end h (round .inside) (round .i) (c .loop-test .left)),
-    )))
+    let asked = c .before .before .before .before .before .before .before .pre in
+    let ended = rounds-end (round .inv) (asked .1) (λ ts h. ap (flatSentences (round .inside)) (none-left (h .0) (round .i) (c .loop-test .left))) in
+    (ended .0, ended .1, λ ts h st. ended .2 ts (h, st))))

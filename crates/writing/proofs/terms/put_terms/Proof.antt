@@ -1,26 +1,29 @@
--- Rests on the invariant `Passing`: the records put and those left from token `i` on are all.
-use Prim.Native.Nat.{_+_, _*_, _-_, _≤_}
-use mathlib.Core.List.{List}
-use mathlib.Core.Path.{_≡_, refl, _∙_}
+-- Rests on the invariant `Rounds`: the records put and those left from token `i` on are all.
+use Prim.Native.Nat.{_-_}
+use mathlib.Core.Path.{ap}
 use native.Mathlib.Omega.{arith}
 use lib.ListN.{length, drop}
 use borrow.Author.Needs.{needs}
-use Rattle.tokens.specs.Token.{Placed}
-use Rattle.encoding.specs.Code.FlatTerms.{outside, flatTerms}
-use Rattle.writing.specs.Code.Held.{Held, Stand}
+use Rattle.encoding.specs.Code.FlatTerms.{outside, termsAt, flatTerms}
+use Rattle.writing.specs.Code.Held.{Stand, atFirst}
 use Rattle.writing.specs.Code.Found.{whereOf}
-use Rattle.writing.proofs.PassingLaws.{Passing, passing-start, passing-next, passing-end}
-use Rattle.writing.proofs.TermLaws.{terms-step, terms-end}
+use Rattle.writing.specs.Code.Closers.{Nested}
+use Rattle.writing.proofs.HeldLaws.{none-left}
+use Rattle.writing.proofs.PassingLaws.{Rounds, rounds-start, rounds-next, rounds-end}
+use Rattle.writing.proofs.TermLaws.{terms-step}
 use Rattle.writing.proofs.terms.put_terms.Statement.{statement}
 use Rattle.writing.proofs.terms.put_terms.Tie as tie
 
 abbrev Inv-loop : tie.InvT-loop
-Inv-loop text kinds starts ends out₀ at next₀ state₀ i₀ out next state i =
-    (i ≤ length kinds) × (at ≤ next) × (next ≤ at + 1680000 * i) × (length out ≡ length out₀)
-    × ((ts : List Placed) → Held kinds starts ends ts → Stand text ts → Passing (flatTerms outside ts) (flatTerms (whereOf state) (drop i ts)) out₀ at next out)
+Inv-loop text kinds starts ends closers sums out₀ at next₀ state₀ i₀ out next state i =
+    Rounds (λ ts. Nested kinds starts ends closers sums ts × Stand text ts) (flatTerms outside) (λ ts. flatTerms (whereOf state) (drop i ts)) (length kinds) 1680000 out₀ at i next out
 
 abbrev μ-loop : tie.MeasureT-loop
-μ-loop text kinds starts ends out₀ at next₀ state₀ i₀ out next state i = length kinds - i
+μ-loop text kinds starts ends closers sums out₀ at next₀ state₀ i₀ out next state i = length kinds - i
+
+-- the call, from the loop
+abbrev begun : tie.At-loop Inv-loop μ-loop → tie.Start Inv-loop μ-loop
+begun c = c .before .before .before .before .before .before .before .before
 
 pub put-terms-spec : {M : Type 1} → statement M
 put-terms-spec =
@@ -28,12 +31,12 @@ put-terms-spec =
     (tie.spec
     Inv-loop
     μ-loop
-    (λ c. (omega arith, omega arith, omega arith, refl, λ ts h st. passing-start (flatTerms outside ts) _ _))
+    (λ c. rounds-start)
     (λ c κs.
     let round = c .before .before in
     let inv = round .loop .inv in
-    let entry = round .before .before .before .before .before .before in
-    (omega (arith, inv .2, entry .pre .0, entry .pre .1), omega arith, entry .pre .1, entry .pre .2))
+    let asked = begun round .pre in
+    (omega (arith, inv .high, asked .0, asked .1 .0), omega arith, asked .1, asked .2))
     (λ c. omega arith)
     (λ c κs. search needs)
     (λ c. omega arith)
@@ -42,19 +45,12 @@ put-terms-spec =
     let done = c .before .before .before .before in
     let put = done .put-term in
     let round = done .before .before .before .loop in
-    let inv = round .inv in (
-      omega arith,
-      omega (arith, inv .1, put .ensures .0),
-      omega (arith, inv .2, put .ensures .1),
-      put .kept .1 .1 .1 .1 .1 .1 .0 ∙ inv .3,
-      λ ts h st. passing-next (inv .4 ts h st) _ _ (terms-step h (whereOf (round .state)) (round .i) (omega arith) (c .where-after .ensures)) (put .ensures .2 ts h st),
-    ))
+    rounds-next (round .inv) (λ ts. atFirst (termsAt (whereOf (round .state))) (drop (round .i) ts)) _ (omega arith) (put .ensures .0) (put .ensures .1) (put .kept .1 .1 .1 .1 .1 .1 .1 .1 .0)
+    (λ ts h. terms-step (h .0 .held) (whereOf (round .state)) (round .i) (omega arith) (c .where-after .ensures))
+    (λ ts h. put .ensures .2 ts (h .0) (h .1)))
     (λ c. search needs)
     (λ c.
     let round = c .before .loop in
-    let start = c .before .before .before .before .before .before .before in
-    let inv = round .inv in (
-      inv .1,
-      omega (arith, inv .2, inv .0, start .pre .1),
-      λ ts h st. passing-end (inv .4 ts h st) (terms-end h (whereOf (round .state)) (round .i) (c .loop-test .left)),
-    )))
+    let asked = begun (c .before) .pre in
+    let ended = rounds-end (round .inv) (asked .1 .0) (λ ts h. ap (flatTerms (whereOf (round .state))) (none-left (h .0 .held) (round .i) (c .loop-test .left))) in
+    (ended .0, ended .1, λ ts h st. ended .2 ts (h, st))))
