@@ -201,6 +201,17 @@ fn inside(text: &[u8], start: u32, len: u32) -> bool
     start as usize + len as usize <= text.len()
 }
 
+// Is it known that all bytes of the text are those of names? A text that is long for so many records is not read for it, since most
+// of it may be in no record.
+fn is_named(text: &[u8], records: usize) -> bool
+    ensures { λ r. ⌜ Named r (now (text .entry)) ⌝ }
+{
+    if records < text.len() / 8 {
+        return false;
+    }
+    name_bytes(text)
+}
+
 // Does a name stand there, inside the text? Where all bytes of the text are those of names (`named`) its length decides, so that
 // a spelling that many records share is not read for each of them.
 fn spelled_name(text: &[u8], named: bool, start: u32, len: u32) -> bool
@@ -358,7 +369,7 @@ pub fn fields_allowed(law: &[u8], sections: Sections) -> bool
         + 16 * sections.conditions;
     let terms_end = terms_at + 24 * terms;
     let text = &law[4..text_end];
-    let named = name_bytes(text);
+    let named = is_named(text, terms);
     if !functions_allowed(text, named, &law[functions_at..functions_end], functions) {
         return false;
     }

@@ -62,7 +62,7 @@ fields-allowed-spec =
     (λ c.
     let start = c .before .before .before .before .before .before .before .before in
     omega (arith, counts-known (start .args .law .now) (start .args .sections) (start .pre .0) (start .pre .1)))
-    (λ c κs. (search needs, λ e. sym (c .before .name-bytes .ensures) ∙ e))
+    (λ c κs. (search needs, c .before .is-named .ensures))
     (λ c.
     let start = c .before .before .before .before .before .before .before .before .before .before .before in
     sym (fields-parts (start .args .law .now) (start .args .sections) (start .pre .1) ∙ first-fails _ _ (sym (c .before .functions-allowed .ensures) ∙ not-true _ (c .if1 .taken))))
@@ -71,7 +71,7 @@ fields-allowed-spec =
     (λ c.
     let start = c .before .before .before .before .before .before .before .before .before .before .before in
     omega (arith, counts-known (start .args .law .now) (start .args .sections) (start .pre .0) (start .pre .1)))
-    (λ c κs. (search needs, λ e. sym (c .before .before .before .before .name-bytes .ensures) ∙ e))
+    (λ c κs. (search needs, c .before .before .before .before .is-named .ensures))
     (λ c.
     let start = c .before .before .before .before .before .before .before .before .before .before .before .before .before in
     let the-functions-allowed = c .before .before .before .functions-allowed in
