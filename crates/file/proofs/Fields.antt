@@ -1,15 +1,17 @@
 -- Laws of refusal 5 (specs/Fields.antt): what a record that passed it says.
 use Prim.Native.Nat.{ℕ, zero, suc, _+_, _*_, _-_, _≤_, _<_}
 use mathlib.Core.List.{List}
-use mathlib.Core.Bool.{Bool, true, false, _&&_, true≢false}
-use mathlib.Core.Path.{_≡_}
+use mathlib.Core.Bool.{Bool, true, false, _&&_, and-true, true≢false}
+use mathlib.Core.Path.{_≡_, sym}
 use native.Mathlib.Numerals.{add-eight, add-one}
 use native.Mathlib.Omega.{arith}
 use native.Mathlib.Decide.{decLt}
-use lib.ListN.{length, take, drop}
+use lib.ListN.{length, take, drop, length-drop}
+use lib.Seq.{length-take-le}
 use lib.Dec.{leb}
 use borrow.Author.Tests.{leb-true, le-leb, lt-leb, eqb-true}
-use Rattle.names.specs.Name.{nameAllowed, numberAllowed}
+use Rattle.names.specs.Name.{nameByte, everyByte, lengthAllowed, nameAllowed, numberAllowed}
+use Rattle.names.proofs.Laws.{every-part}
 use Rattle.file.specs.Word.{wordAt}
 use Rattle.file.specs.Sections.{File}
 use Rattle.file.specs.Fields.{spelled, unused, scalarAllowed, termAllowed, termFieldsAt, functionFieldsAt, functionsAllowed, termsAllowed, fieldsAllowed}
@@ -26,6 +28,15 @@ pub spelled-test : (allowed : List ℕ → Bool) (text part : List ℕ) (start l
     → part ≡ take len (drop start text) → allowed part ≡ spelled allowed text start len
 unfolding spelled
 spelled-test allowed text part start len h e = rw (h, e)
+
+-- a part inside a text of names' bytes alone is a name where its length is allowed
+pub spelled-named : (text : List ℕ) (start len : ℕ) → leb (start + len) (length text) ≡ true → everyByte nameByte text ≡ true
+    → lengthAllowed len ≡ spelled nameAllowed text start len
+unfolding spelled
+spelled-named text start len h e =
+    let inside : start + len ≤ length text = leb-true (start + len) (length text) h in
+    let whole : length (take len (drop start text)) ≡ len = length-take-le len (drop start text) (rw (length-drop start text) (omega arith)) in
+    rw (h, whole, every-part nameByte start len text e) (sym (and-true (lengthAllowed len)))
 
 -- what is spelled lies inside the text
 pub spelled-inside : (allowed : List ℕ → Bool) (text : List ℕ) (start len : ℕ) → spelled allowed text start len ≡ true → start + len ≤ length text

@@ -1,6 +1,8 @@
 // A law file: its sections, the words of its records, and the fields that refusal 5 looks at.
 use names::is_name;
 use names::is_number;
+use names::length_allowed;
+use names::name_bytes;
 use names::name_in;
 ghost use mathlib.Core.Path.{_≡_};
 ghost use mathlib.Core.Bool.{true, _&&_};
@@ -11,6 +13,7 @@ ghost use Rattle.file.specs.Word.{wordAt};
 ghost use Rattle.file.specs.Answer.{given, mapAnswer};
 ghost use Rattle.file.specs.Sections.{section, numberOf, sectionsOf, fileOf};
 ghost use Rattle.file.specs.Code.Counts.{cutAnswer, countsOf, sectionAnswer, countedOf};
+ghost use Rattle.file.specs.Code.Text.{Named};
 ghost use Rattle.file.specs.Head.{termFrom, termAt};
 ghost use Rattle.file.specs.Fields.{spelled, unused, scalarAllowed, termAllowed, functionsAllowed, termsAllowed, fieldsAllowed};
 ghost use Rattle.names.specs.Name.{nameAllowed, numberAllowed};
@@ -198,12 +201,28 @@ fn inside(text: &[u8], start: u32, len: u32) -> bool
     start as usize + len as usize <= text.len()
 }
 
-// Does a name stand there, inside the text?
-fn spelled_name(text: &[u8], start: u32, len: u32) -> bool
+// Is it known that all bytes of the text are those of names? A text that is long for so many records is not read for it, since most
+// of it may be in no record.
+fn is_named(text: &[u8], records: usize) -> bool
+    ensures { λ r. ⌜ Named r (now (text .entry)) ⌝ }
+{
+    if records < text.len() / 8 {
+        return false;
+    }
+    name_bytes(text)
+}
+
+// Does a name stand there, inside the text? Where all bytes of the text are those of names (`named`) its length decides, so that
+// a spelling that many records share is not read for each of them.
+fn spelled_name(text: &[u8], named: bool, start: u32, len: u32) -> bool
+    requires { ⌜ Named named (now text) ⌝ }
     ensures { λ r. ⌜ r ≡ spelled nameAllowed (now (text .entry)) start len ⌝ }
 {
     if !inside(text, start, len) {
         return false;
+    }
+    if named {
+        return length_allowed(len as usize);
     }
     is_name(name_in(text, start as usize, len as usize))
 }
@@ -245,10 +264,11 @@ fn character_fields(a: u32, b: u32, n: u32) -> bool
 }
 
 // The fields of an identifier or a variable: a name or index, and no more.
-fn name_fields(text: &[u8], a: u32, b: u32, n: u32) -> bool
+fn name_fields(text: &[u8], named: bool, a: u32, b: u32, n: u32) -> bool
+    requires { ⌜ Named named (now text) ⌝ }
     ensures { λ r. ⌜ r ≡ spelled nameAllowed (now (text .entry)) a b && unused n ⌝ }
 {
-    spelled_name(text, a, b) && n == 0
+    spelled_name(text, named, a, b) && n == 0
 }
 
 // The fields of a number, and no more.
@@ -268,7 +288,8 @@ fn is_plain(kind: u32, a: u32, b: u32, n: u32) -> bool
 
 // Are these the fields of a term record that a law may have? A plain character is asked first, since most terms of a long law are
 // characters, and a jump by the kind takes longer.
-fn term_allowed(text: &[u8], kind: u32, a: u32, b: u32, n: u32) -> bool
+fn term_allowed(text: &[u8], named: bool, kind: u32, a: u32, b: u32, n: u32) -> bool
+    requires { ⌜ Named named (now text) ⌝ }
     ensures { λ r. ⌜ r ≡ termAllowed (now (text .entry)) kind a b n ⌝ }
 {
     if is_plain(kind, a, b, n) {
@@ -276,27 +297,33 @@ fn term_allowed(text: &[u8], kind: u32, a: u32, b: u32, n: u32) -> bool
     }
     match kind {
         0 => character_fields(a, b, n),
-        1 => name_fields(text, a, b, n),
+        1 => name_fields(text, named, a, b, n),
         2 => number_fields(text, a, b, n),
-        3 => name_fields(text, a, b, n),
-        4 => name_fields(text, a, b, n),
-        5 => name_fields(text, a, b, n),
+        3 => name_fields(text, named, a, b, n),
+        4 => name_fields(text, named, a, b, n),
+        5 => name_fields(text, named, a, b, n),
         6 => a == 0 && b == 0,
-        7 => spelled_name(text, a, b),
+        7 => spelled_name(text, named, a, b),
         8 => b == 0,
         _ => false,
     }
 }
 
 // Does each function record say a name?
-fn functions_allowed(text: &[u8], functions: &[u8], count: usize) -> bool
+fn functions_allowed(text: &[u8], named: bool, functions: &[u8], count: usize) -> bool
     requires { ⌜ 20 * count ≤ length (now functions) ⌝ }
+    requires { ⌜ Named named (now text) ⌝ }
     ensures { λ r. ⌜ r ≡ functionsAllowed (now (text .entry)) (now (functions .entry)) count ⌝ }
 {
     let mut i = 0;
     while i < count {
         let at = 20 * i;
-        if !spelled_name(text, word_at(functions, at), word_at(functions, at + 4)) {
+        if !spelled_name(
+            text,
+            named,
+            word_at(functions, at),
+            word_at(functions, at + 4),
+        ) {
             return false;
         }
         i += 1;
@@ -305,8 +332,9 @@ fn functions_allowed(text: &[u8], functions: &[u8], count: usize) -> bool
 }
 
 // Does each term record have fields that a law may have?
-fn terms_allowed(text: &[u8], terms: &[u8], count: usize) -> bool
+fn terms_allowed(text: &[u8], named: bool, terms: &[u8], count: usize) -> bool
     requires { ⌜ 24 * count ≤ length (now terms) ⌝ }
+    requires { ⌜ Named named (now text) ⌝ }
     ensures { λ r. ⌜ r ≡ termsAllowed (now (text .entry)) (now (terms .entry)) count ⌝ }
 {
     let mut i = 0;
@@ -316,7 +344,7 @@ fn terms_allowed(text: &[u8], terms: &[u8], count: usize) -> bool
         let a = word_at(terms, at + 4);
         let b = word_at(terms, at + 8);
         let n = word_at(terms, at + 12);
-        if !term_allowed(text, kind, a, b, n) {
+        if !term_allowed(text, named, kind, a, b, n) {
             return false;
         }
         i += 1;
@@ -341,8 +369,9 @@ pub fn fields_allowed(law: &[u8], sections: Sections) -> bool
         + 16 * sections.conditions;
     let terms_end = terms_at + 24 * terms;
     let text = &law[4..text_end];
-    if !functions_allowed(text, &law[functions_at..functions_end], functions) {
+    let named = is_named(text, terms);
+    if !functions_allowed(text, named, &law[functions_at..functions_end], functions) {
         return false;
     }
-    terms_allowed(text, &law[terms_at..terms_end], terms)
+    terms_allowed(text, named, &law[terms_at..terms_end], terms)
 }

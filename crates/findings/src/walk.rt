@@ -36,7 +36,7 @@ ghost use Rattle.law.specs.Code.Index.{Indexed, PartAt};
 ghost use Rattle.law.specs.Code.Accepted.{Accepted};
 ghost use Rattle.lints.specs.Code.Records.{Prepared, formatsIn, conditionsAt};
 ghost use Rattle.findings.specs.Code.Events.{Collects};
-ghost use Rattle.findings.specs.Code.Tasks.{ownAlone, blockEvents, conditionEvents, functionEvents, lintEvents, runMet, termMet, sentencesMet};
+ghost use Rattle.findings.specs.Code.Tasks.{noneInside, blockEvents, conditionEvents, functionEvents, lintEvents, runMet, termMet, sentencesMet};
 
 // Notes the dead ones of a block's own sentences, where the task is lint 1.
 fn note_block(
@@ -223,13 +223,14 @@ fn walk_conditions(
     so_far
 }
 
-// Does lint 1 meet nothing but the functions' own sentences? Where the functions have all sentences, no block has any.
-fn own_alone(index: &Index, lint: u32) -> bool
+// Is it known that a lint meets nothing inside the functions' sentences? Lint 1 goes in for blocks, and no block has sentences
+// where the functions have all. Lints 2 and 3 go in for calls.
+fn none_inside(index: &Index, slots: &Slots, lint: u32) -> bool
     requires { ⌜ getD (now index) 4 0 ≤ 64 ⌝ }
-    ensures { λ r. ⌜ r ≡ ownAlone (now (index .entry)) lint ⌝ }
+    ensures { λ r. ⌜ r ≡ noneInside (now (index .entry)) (now (slots .entry)) lint ⌝ }
 {
     if lint != 1 {
-        return false;
+        return slots[577] == 0;
     }
     first_sentence(index, functions(index)) == sentences(index)
 }
@@ -256,7 +257,7 @@ fn lint_function(
         return note_open(law, index, task, first, count, out, tally);
     }
     let own = note_block(law, index, task, first, count, out, tally);
-    if own_alone(index, task.lint) {
+    if none_inside(index, slots, task.lint) {
         return own;
     }
     walk_sentences(law, index, slots, store, task, first, count, out, own)

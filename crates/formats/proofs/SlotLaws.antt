@@ -449,13 +449,14 @@ module _ (file : File) where
   call-name-read t start len text name e a b q = rw (q, e, a, b)
 
   -- the number of names is written after the places of the functions' names
-  pub slots-start : (slots : List ℕ) (n : ℕ) → file .functions .count ≤ 64 → length slots ≡ 577 → Places file slots
-      → KeptFrom (replicate 577 0) slots (file .functions .count) → n ≡ length (fileNames file) → SlotsUpTo file (set slots 576 n) 0
+  pub slots-start : (slots : List ℕ) (n : ℕ) → file .functions .count ≤ 64 → length slots ≡ 578 → Places file slots
+      → KeptFrom (replicate 578 0) slots (file .functions .count) → n ≡ length (fileNames file) → SlotsUpTo file (set slots 576 n) 0
   slots-start slots n b len p k e = record {
     functions = λ f l. getD-set-other slots 576 f n 0 (λ q. omega arith) ∙ p f l;
     count = getD-set-same slots 576 n 0 (omega arith) ∙ e;
+    marked = λ i l. absurd (omega arith);
     calls = λ i l. absurd (omega arith);
-    others = λ j u. getD-set-other slots 576 j n 0 (u .noCount) ∙ k j (u .past) ∙ getD-zeros 577 j;
+    others = λ j u. getD-set-other slots 576 j n 0 (u .noCount) ∙ k j (u .past) ∙ getD-zeros 578 j;
   }
 
   -- the kind of a term record, as it is read
@@ -464,7 +465,7 @@ module _ (file : File) where
 
   -- a slot that no call among some term records has, none of fewer has
   unused-less : (t j : ℕ) → Unused file (t + 1) j → Unused file t j
-  unused-less t j u = record { past = u .past; noCall = λ i k call. u .noCall i (omega arith) call; noCount = u .noCount }
+  unused-less t j u = record { past = u .past; noCall = λ i k call. u .noCall i (omega arith) call; noCount = u .noCount; noMark = u .noMark }
 
   -- a term that is no call has no slot
   pub slots-pass : (slots : List ℕ) (t kind : ℕ) → SlotsUpTo file slots t → kind ≡ wordAt (file .terms .records) (24 * t + 0) → (kind ≡ 7 → ⊥)
@@ -472,23 +473,40 @@ module _ (file : File) where
   slots-pass slots t kind s e other = record {
     functions = s .functions;
     count = s .count;
-    calls = λ i k call. go i k call (decLt i t);
+    marked = λ i k call. s .marked i (before i k call (decLt i t)) call;
+    calls = λ i k call. s .calls i (before i k call (decLt i t)) call;
     others = λ j u. s .others j (unused-less t j u);
   }
     where
-      go : (i : ℕ) → i < t + 1 → wordAt (file .terms .records) (24 * i) ≡ 7 → Dec (i < t)
-          → getD slots (64 + i) 0 ≡ position (fileNames file) (callFolded file i)
-      go i k call (yes m) = s .calls i m call
-      go i k call (no m) =
+      before : (i : ℕ) → i < t + 1 → wordAt (file .terms .records) (24 * i) ≡ 7 → Dec (i < t) → i < t
+      before i k call (yes m) = m
+      before i k call (no m) =
           let q : i ≡ t = omega arith in
           absurd (other (sym (kind-read t kind e) ∙ rw q at call))
 
+  -- it is written that there is a call
+  pub slots-mark : (slots : List ℕ) (t : ℕ) → file .functions .count ≤ 64 → t ≤ 512 → length slots ≡ 578 → SlotsUpTo file slots t
+      → SlotsUpTo file (set slots 577 1) t × (getD (set slots 577 1) 577 0 ≡ 1)
+  slots-mark slots t fb tb len s =
+      let here : getD (set slots 577 1) 577 0 ≡ 1 = getD-set-same slots 577 1 0 (omega arith) in (
+        record {
+          functions = λ f k. getD-set-other slots 577 f 1 0 (λ q. omega arith) ∙ s .functions f k;
+          count = getD-set-other slots 577 576 1 0 (λ q. omega arith) ∙ s .count;
+          marked = λ i k kind. here;
+          calls = λ i k kind. getD-set-other slots 577 (64 + i) 1 0 (λ q. omega arith) ∙ s .calls i k kind;
+          others = λ j u. getD-set-other slots 577 j 1 0 (u .noMark) ∙ s .others j u;
+        },
+        here,
+      )
+
   -- one more call is written
-  pub slots-next : (slots : List ℕ) (t r : ℕ) → file .functions .count ≤ 64 → file .terms .count ≤ 512 → length slots ≡ 577 → SlotsUpTo file slots t
+  pub slots-next : (slots : List ℕ) (t r : ℕ) → file .functions .count ≤ 64 → file .terms .count ≤ 512 → length slots ≡ 578
+      → SlotsUpTo file slots t × (getD slots 577 0 ≡ 1)
       → t < file .terms .count → wordAt (file .terms .records) (24 * t) ≡ 7 → CalleeSlot file t r → SlotsUpTo file (set slots (64 + t) (getD slots r 0)) (t + 1)
-  slots-next slots t r fb tb len s l call c = record {
+  slots-next slots t r fb tb len (s, mark) l call c = record {
     functions = λ f k. getD-set-other slots (64 + t) f _ 0 (λ q. omega arith) ∙ s .functions f k;
     count = getD-set-other slots (64 + t) 576 _ 0 (λ q. omega arith) ∙ s .count;
+    marked = λ i k kind. getD-set-other slots (64 + t) 577 _ 0 (λ q. omega arith) ∙ mark;
     calls = λ i k kind. go i k kind (decLt i t);
     others = λ j u. getD-set-other slots (64 + t) j _ 0 (u .noCall t (omega arith) call) ∙ s .others j (unused-less t j u);
   }

@@ -18,8 +18,9 @@ pub mod infer;
 mod rows;
 pub mod slots;
 
-// The places of names: of each function's, of each call's, and how many names there are (specs/Code/Slots.antt).
-pub type Slots = [u8; 577];
+// The places of names: of each function's, of each call's, how many names there are, and whether there is a call
+// (specs/Code/Slots.antt).
+pub type Slots = [u8; 578];
 
 // A row of shapes that was written: it passes the room that there is, or it ends before a position, closed or open.
 pub enum Row {

@@ -105,8 +105,8 @@ fn place(law: &[u8], index: &Index, weights: &[u8; 64], f: usize) -> u8
 
 // Writes the place of the name of each function.
 fn fill_functions(law: &[u8], index: &Index, weights: &[u8; 64], slots: &mut Slots)
-    requires { ⌜ Indexed (now law) (now index) × (fieldsAllowed (fileOf (now law)) ≡ true) × Weights (fileOf (now law)) (now weights) × (length (now slots) ≡ 577) ⌝ }
-    ensures { λ _. ⌜ (length (now (slots .exit)) ≡ 577) × Places (fileOf (now (law .entry))) (now (slots .exit))
+    requires { ⌜ Indexed (now law) (now index) × (fieldsAllowed (fileOf (now law)) ≡ true) × Weights (fileOf (now law)) (now weights) × (length (now slots) ≡ 578) ⌝ }
+    ensures { λ _. ⌜ (length (now (slots .exit)) ≡ 578) × Places (fileOf (now (law .entry))) (now (slots .exit))
         × KeptFrom (now (slots .entry)) (now (slots .exit)) (fileOf (now (law .entry)) .functions .count) ⌝ }
 {
     let count = functions(index);
@@ -133,10 +133,10 @@ fn callee_slot(law: &[u8], index: &Index, t: usize) -> usize
     576
 }
 
-// Writes the place of the name of each call, where those of the functions and the number of names are written. The slots of
-// other terms stay 0.
+// Writes the place of the name of each call, and that there is one, where the places of the functions' names and the number of
+// names are written. The slots of other terms stay 0.
 fn fill_calls(law: &[u8], index: &Index, slots: &mut Slots)
-    requires { ⌜ Indexed (now law) (now index) × (fieldsAllowed (fileOf (now law)) ≡ true) × (length (now slots) ≡ 577) × SlotsUpTo (fileOf (now law)) (now slots) 0 ⌝ }
+    requires { ⌜ Indexed (now law) (now index) × (fieldsAllowed (fileOf (now law)) ≡ true) × (length (now slots) ≡ 578) × SlotsUpTo (fileOf (now law)) (now slots) 0 ⌝ }
     ensures { λ _. ⌜ SlotsUpTo (fileOf (now (law .entry))) (now (slots .exit)) (fileOf (now (law .entry)) .terms .count) ⌝ }
 {
     let count = terms(index);
@@ -144,6 +144,7 @@ fn fill_calls(law: &[u8], index: &Index, slots: &mut Slots)
     while t < count {
         if term_word(law, index, t, 0) == 7 {
             let from = callee_slot(law, index, t);
+            slots[577] = 1;
             slots[64 + t] = slots[from];
         }
         t += 1;
@@ -157,7 +158,7 @@ pub fn slots_of(law: &[u8], index: &Index) -> Slots
 {
     let mut weights: [u8; 64] = [0; 64];
     let count = fill_weights(law, index, &mut weights);
-    let mut slots: Slots = [0; 577];
+    let mut slots: Slots = [0; 578];
     fill_functions(law, index, &weights, &mut slots);
     slots[576] = count;
     fill_calls(law, index, &mut slots);

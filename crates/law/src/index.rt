@@ -12,7 +12,7 @@ ghost use Rattle.file.specs.Answer.{given};
 ghost use Rattle.file.specs.Sections.{sectionsOf, fileOf};
 ghost use Rattle.file.specs.Code.Counts.{countsOf, Limits, fileLength};
 ghost use Rattle.law.specs.Runs.{usedUp};
-ghost use Rattle.law.specs.Code.Filling.{Table, wordSum, pairSum, blockWord, blockSum, asWord, TablesOf, header, Placed};
+ghost use Rattle.law.specs.Code.Filling.{Table, wordSum, pairSum, blockSum, asWord, TablesOf, header, Placed};
 
 // An array's length is known only where it is made, so the functions below ask for it and say it again.
 
@@ -65,16 +65,16 @@ fn fill_pair_sums(
     sum
 }
 
-// The number of sentences of a term record, 0 where it is no block.
-fn block_size(terms: &[u8], t: usize) -> usize
-    requires { ⌜ 24 * t + 24 ≤ length (now terms) ⌝ }
-    ensures { λ r. ⌜ (r ≡ blockWord (now (terms .entry)) t) × (r ≤ 4294967295) ⌝ }
+// The sentences of the blocks up to a term record and at it, from those of the blocks before it. Most records are no block, and
+// hand the sum on as it is.
+fn add_block(terms: &[u8], t: usize, sum: usize) -> usize
+    requires { ⌜ (24 * t + 24 ≤ length (now terms)) × (t < 972) × (sum ≡ blockSum (now terms) t) × (sum ≤ 4294967295 * t) ⌝ }
+    ensures { λ r. ⌜ (r ≡ blockSum (now (terms .entry)) (t + 1)) × (r ≤ 4294967295 * (t + 1)) ⌝ }
 {
-    if word_at(terms, 24 * t) == 8 {
-        word_at(terms, 24 * t + 4) as usize
-    } else {
-        0
+    if word_at(terms, 24 * t) != 8 {
+        return sum;
     }
+    sum + word_at(terms, 24 * t + 4) as usize
 }
 
 // Writes the first sentence of the block at each term record, where the first block's stands at `first`, and answers the sentences of all blocks.
@@ -87,7 +87,7 @@ fn fill_blocks(index: &mut Index, from: usize, terms: &[u8], count: usize, first
     let mut t = 0;
     while t < count {
         index[from + t] = ((first + sum) % 65536) as u16;
-        sum += block_size(terms, t);
+        sum = add_block(terms, t, sum);
         t += 1;
     }
     sum

@@ -1,14 +1,14 @@
 -- Laws of the definitions in `specs/Name.antt`.
 -- First what the loops use: an invariant for each kind of loop, over any fold `f` of bytes or any test `p` of a byte, which says that the work
 -- left from position `i` on equals the whole work. Then what the layers above use: equality and order of lists of bytes.
-use Prim.Native.Nat.{ℕ, suc, _+_, _<_, _≤_}
+use Prim.Native.Nat.{ℕ, zero, suc, _+_, _<_, _≤_}
 use mathlib.Core.List.{List, [], _∷_, map}
 use mathlib.Core.Bool.{Bool, true, false, cond, _&&_}
 use mathlib.Core.Logic.{_⊎_, inl, inr}
 use mathlib.Core.Path.{_≡_, refl, ap, sym, _∙_}
 use native.Mathlib.Numerals.{add-one}
 use native.Mathlib.Omega.{arith}
-use lib.ListN.{length, drop, getD, drop-of-length-le}
+use lib.ListN.{length, take, drop, getD, drop-of-length-le}
 use lib.Seq.{drop-cons}
 use lib.Dec.{eqb, leb}
 use borrow.Author.Tests.{eqb-true, eqb-false, leb-true, leb-false, eq-eqb, ne-eqb, le-leb, lt-leb}
@@ -164,30 +164,49 @@ allowed p s = lengthAllowed (length s) && everyByte p s
 pub allowed-length : (p : ℕ → Bool) (s : List ℕ) {t : Bool} → t ≡ lengthAllowed (length s) → t ≡ false → false ≡ allowed p s
 allowed-length p s e q = rw (← e, q)
 
--- the length and `i` bytes are tested, and what is left decides
-pub record AllowedFrom (p : ℕ → Bool) (s : List ℕ) (i : ℕ) : Type 0 where
+-- `i` bytes are tested, and what is left decides the whole answer
+pub record PassedTo (whole : Bool) (p : ℕ → Bool) (s : List ℕ) (i : ℕ) : Type 0 where
   pub inside : i ≤ length s
-  pub left : allowed p s ≡ everyByte p (drop i s)
+  pub left : whole ≡ everyByte p (drop i s)
 
--- no byte is tested yet
-pub allowed-start : (p : ℕ → Bool) (s : List ℕ) {t : Bool} → t ≡ lengthAllowed (length s) → t ≡ true → AllowedFrom p s 0
-allowed-start p s e q = record { inside = omega arith; left = rw (← e, q) }
+-- no byte is tested yet: where the length is allowed, and where it is not asked
+pub passed-allowed : (p : ℕ → Bool) (s : List ℕ) {t : Bool} → t ≡ lengthAllowed (length s) → t ≡ true → PassedTo (allowed p s) p s 0
+passed-allowed p s e q = record { inside = omega arith; left = rw (← e, q) }
 
-module _ {p : ℕ → Bool} {s : List ℕ} {i : ℕ} (h : AllowedFrom p s i) where
+pub passed-none : (p : ℕ → Bool) (s : List ℕ) → PassedTo (everyByte p s) p s 0
+passed-none p s = record { inside = omega arith; left = refl }
+
+module _ {whole : Bool} {p : ℕ → Bool} {s : List ℕ} {i : ℕ} (h : PassedTo whole p s i) where
   -- the byte at `i` passes
-  pub allowed-next : {t : Bool} → i < length s → t ≡ p (getD s i 0) → t ≡ true → AllowedFrom p s (i + 1)
+  pub passed-next : {t : Bool} → i < length s → t ≡ p (getD s i 0) → t ≡ true → PassedTo whole p s (i + 1)
   unfolding everyByte
-  allowed-next l e q = record { inside = omega arith; left = h .left ∙ rw (drop-cons s i 0 l, add-one, ← e, q) }
+  passed-next l e q = record { inside = omega arith; left = h .left ∙ rw (drop-cons s i 0 l, add-one, ← e, q) }
 
   -- the byte at `i` does not pass
-  pub allowed-fails : {t : Bool} → i < length s → t ≡ p (getD s i 0) → t ≡ false → false ≡ allowed p s
+  pub passed-fails : {t : Bool} → i < length s → t ≡ p (getD s i 0) → t ≡ false → false ≡ whole
   unfolding everyByte
-  allowed-fails l e q = sym (h .left ∙ rw (drop-cons s i 0 l, ← e, q))
+  passed-fails l e q = sym (h .left ∙ rw (drop-cons s i 0 l, ← e, q))
 
   -- no byte is left
-  pub allowed-end : length s ≤ i → true ≡ allowed p s
+  pub passed-end : length s ≤ i → true ≡ whole
   unfolding everyByte
-  allowed-end l = sym (h .left ∙ rw (drop-of-length-le s {i = i} l))
+  passed-end l = sym (h .left ∙ rw (drop-of-length-le s {i = i} l))
+
+-- a part of bytes that pass
+every-drop : (p : ℕ → Bool) (n : ℕ) (s : List ℕ) → everyByte p s ≡ true → everyByte p (drop n s) ≡ true
+unfolding everyByte
+every-drop p zero s h = h
+every-drop p (suc n) [] h = refl
+every-drop p (suc n) (x ∷ xs) h = every-drop p n xs (both-hold (p x) (everyByte p xs) h .1)
+
+every-take : (p : ℕ → Bool) (n : ℕ) (s : List ℕ) → everyByte p s ≡ true → everyByte p (take n s) ≡ true
+unfolding everyByte
+every-take p zero s h = refl
+every-take p (suc n) [] h = refl
+every-take p (suc n) (x ∷ xs) h = let (first, after) = both-hold (p x) (everyByte p xs) h in rw (first, every-take p n xs after)
+
+pub every-part : (p : ℕ → Bool) (start len : ℕ) (s : List ℕ) → everyByte p s ≡ true → everyByte p (take len (drop start s)) ≡ true
+every-part p start len s h = every-take p len (drop start s) (every-drop p start s h)
 
 -- ---- equality of lists of bytes, for the layers above
 

@@ -2,7 +2,7 @@
 ghost use mathlib.Core.Path.{_≡_};
 ghost use Prim.Native.Nat.{_+_, _≤_};
 ghost use lib.ListN.{length, take, drop};
-ghost use Rattle.names.specs.Name.{between, digitByte, letterByte, nameByte, upperByte, foldByte, folded, foldedIndex, sameBytes, orderBytes, lengthAllowed, nameAllowed, numberAllowed};
+ghost use Rattle.names.specs.Name.{between, digitByte, letterByte, nameByte, upperByte, foldByte, folded, foldedIndex, sameBytes, orderBytes, everyByte, lengthAllowed, nameAllowed, numberAllowed};
 
 // How two names stand to each other, by the bytes of the folded names.
 pub enum Order {
@@ -153,19 +153,16 @@ pub fn names_order(a: &[u8], b: &[u8]) -> Order
 }
 
 // 1 to 64 bytes.
-fn length_allowed(n: usize) -> bool
+pub fn length_allowed(n: usize) -> bool
     ensures { λ r. ⌜ r ≡ lengthAllowed n ⌝ }
 {
     1 <= n && n <= 64
 }
 
-// Is this a name, identifier or index that a law may spell?
-pub fn is_name(s: &[u8]) -> bool
-    ensures { λ r. ⌜ r ≡ nameAllowed (now (s .entry)) ⌝ }
+// Are all these bytes such as names have?
+pub fn name_bytes(s: &[u8]) -> bool
+    ensures { λ r. ⌜ r ≡ everyByte nameByte (now (s .entry)) ⌝ }
 {
-    if !length_allowed(s.len()) {
-        return false;
-    }
     let mut i = 0;
     while i < s.len() {
         if !name_byte(s[i]) {
@@ -174,6 +171,13 @@ pub fn is_name(s: &[u8]) -> bool
         i += 1;
     }
     true
+}
+
+// Is this a name, identifier or index that a law may spell?
+pub fn is_name(s: &[u8]) -> bool
+    ensures { λ r. ⌜ r ≡ nameAllowed (now (s .entry)) ⌝ }
+{
+    length_allowed(s.len()) && name_bytes(s)
 }
 
 // Is this a number that a law may spell?

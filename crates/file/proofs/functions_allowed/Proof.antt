@@ -13,10 +13,10 @@ use Rattle.file.proofs.functions_allowed.Statement.{statement}
 use Rattle.file.proofs.functions_allowed.Tie as tie
 
 abbrev Inv-loop : tie.InvT-loop
-Inv-loop text functions count i₀ i = (i ≤ count) × (every i (λ k. functionFieldsAt text functions (20 * k)) ≡ true)
+Inv-loop text named functions count i₀ i = (i ≤ count) × (every i (λ k. functionFieldsAt text functions (20 * k)) ≡ true)
 
 abbrev μ-loop : tie.MeasureT-loop
-μ-loop text functions count i₀ i = count - i
+μ-loop text named functions count i₀ i = count - i
 
 pub functions-allowed-spec : {M : Type 1} → statement M
 functions-allowed-spec =

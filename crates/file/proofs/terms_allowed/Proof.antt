@@ -13,10 +13,10 @@ use Rattle.file.proofs.terms_allowed.Statement.{statement}
 use Rattle.file.proofs.terms_allowed.Tie as tie
 
 abbrev Inv-loop : tie.InvT-loop
-Inv-loop text terms count i₀ i = (i ≤ count) × (every i (λ k. termFieldsAt text terms (24 * k)) ≡ true)
+Inv-loop text named terms count i₀ i = (i ≤ count) × (every i (λ k. termFieldsAt text terms (24 * k)) ≡ true)
 
 abbrev μ-loop : tie.MeasureT-loop
-μ-loop text terms count i₀ i = count - i
+μ-loop text named terms count i₀ i = count - i
 
 pub terms-allowed-spec : {M : Type 1} → statement M
 terms-allowed-spec =

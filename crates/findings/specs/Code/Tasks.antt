@@ -77,9 +77,9 @@ functionEvents law formats task ss =
     cond (eqb (task .lint) 4) (remarkEvents task (openIn ss))
     (when (eqb (task .lint) 1) (remarkEvents task (ownDead ss)) ++ insideEvents law formats task ss)
 
--- lint 1 where the functions have all sentences, by the words of the index: no block has any
-abbrev pub ownAlone : List ℕ → ℕ → Bool
-ownAlone index lint = eqb lint 1 && eqb (getD index (8 + getD index 4 0) 0) (getD index 5 0)
+-- by the words of the index and the slots: the functions have all sentences, so that no block has any (lint 1); there is no call (lints 2 and 3)
+abbrev pub noneInside : List ℕ → List ℕ → ℕ → Bool
+noneInside index slots lint = cond (eqb lint 1) (eqb (getD index (8 + getD index 4 0) 0) (getD index 5 0)) (eqb (getD slots 577 0) 0)
 
 -- a task at another position
 abbrev pub atPosition : Task → ℕ → Task

@@ -1,7 +1,8 @@
--- Where a law's names stand in the store: 577 bytes, filled once, so that no call's name is looked up again in each round.
+-- Where a law's names stand in the store: 578 bytes, filled once, so that no call's name is looked up again in each round.
 --   f          the place of the name of function f among the law's sorted folded names
 --   64 + t     the place of the name of the call at term record t; the number of names where no function has it
 --   576        the number of names
+--   577        1 where a term record is a call
 -- Every other slot is 0.
 use Prim.Native.Nat.{ℕ, zero, suc, _+_, _*_, _-_, _≤_, _<_}
 use mathlib.Core.List.{List, [], _∷_}
@@ -33,16 +34,18 @@ module _ (file : File) where
   abbrev pub fileNames : List (List ℕ)
   fileNames = namesOf (treeOf file)
 
-  -- a slot of no function, of no call among the first n term records, and not that of the number of names
+  -- a slot of no function, of no call among the first n term records, and not that of the number of names or of whether there is a call
   pub record Unused (n j : ℕ) : Type 0 where
     pub past : file .functions .count ≤ j
     pub noCall : (t : ℕ) → t < n → wordAt (file .terms .records) (24 * t) ≡ 7 → j ≡ 64 + t → ⊥
     pub noCount : j ≡ 576 → ⊥
+    pub noMark : j ≡ 577 → ⊥
 
   pub record SlotsOf (slots : List ℕ) : Type 0 where
     pub functions : (f : ℕ) → f < file .functions .count → getD slots f 0 ≡ position fileNames (functionFolded f)
     pub calls : (t : ℕ) → t < file .terms .count → wordAt (file .terms .records) (24 * t) ≡ 7 → getD slots (64 + t) 0 ≡ position fileNames (callFolded t)
     pub count : getD slots 576 0 ≡ length fileNames
+    pub marked : (t : ℕ) → t < file .terms .count → wordAt (file .terms .records) (24 * t) ≡ 7 → getD slots 577 0 ≡ 1
     pub others : (j : ℕ) → Unused (file .terms .count) j → getD slots j 0 ≡ 0
 
 -- ---- what the functions that fill the slots promise
@@ -100,6 +103,7 @@ module _ (file : File) where
   pub record SlotsUpTo (slots : List ℕ) (n : ℕ) : Type 0 where
     pub functions : Places slots
     pub count : getD slots 576 0 ≡ length (fileNames file)
+    pub marked : (t : ℕ) → t < n → wordAt (file .terms .records) (24 * t) ≡ 7 → getD slots 577 0 ≡ 1
     pub calls : (t : ℕ) → t < n → wordAt (file .terms .records) (24 * t) ≡ 7 → getD slots (64 + t) 0 ≡ position (fileNames file) (callFolded file t)
     pub others : (j : ℕ) → Unused file n j → getD slots j 0 ≡ 0
 

@@ -1,16 +1,16 @@
--- Rests on the invariant `AllowedFrom`, that the bytes left from `i` on decide, and on one law of it for each way through the loop.
+-- Rests on the invariant `PassedTo`, that the bytes left from `i` on decide, and on one law of it for each way through the loop.
 use borrow.Author.Needs.{needs}
 use native.Mathlib.Omega.{arith}
 use Prim.Native.Nat.{_-_}
 use borrow.Author.Tests.{not-true, not-false}
 use lib.ListN.{length}
 use Rattle.names.specs.Name.{digitByte}
-use Rattle.names.proofs.Laws.{AllowedFrom, allowed-length, allowed-start, allowed-next, allowed-fails, allowed-end}
+use Rattle.names.proofs.Laws.{allowed, allowed-length, PassedTo, passed-allowed, passed-next, passed-fails, passed-end}
 use Rattle.names.proofs.is_number.Statement.{statement}
 use Rattle.names.proofs.is_number.Tie as tie
 
 abbrev Inv-loop : tie.InvT-loop
-Inv-loop s i₀ i = AllowedFrom digitByte s i
+Inv-loop s i₀ i = PassedTo (allowed digitByte s) digitByte s i
 
 abbrev μ-loop : tie.MeasureT-loop
 μ-loop s i₀ i = length s - i
@@ -23,11 +23,11 @@ is-number-spec =
     μ-loop
     (λ c κs. search needs)
     (λ c. allowed-length digitByte (c .before .before .before .args .s .now) (c .before .length-allowed .ensures) (not-true _ (c .if1 .taken)))
-    (λ c. allowed-start digitByte (c .before .before .before .args .s .now) (c .before .length-allowed .ensures) (not-false _ (c .if1 .left)))
+    (λ c. passed-allowed digitByte (c .before .before .before .args .s .now) (c .before .length-allowed .ensures) (not-false _ (c .if1 .left)))
     (λ c. omega arith)
     (λ c κs. search needs)
-    (λ c. allowed-fails (c .before .before .before .before .loop .inv) (omega arith) (c .before .digit-byte .ensures) (not-true _ (c .if2 .taken)))
+    (λ c. passed-fails (c .before .before .before .before .loop .inv) (omega arith) (c .before .digit-byte .ensures) (not-true _ (c .if2 .taken)))
     (λ c. omega arith)
     (λ c. omega arith)
-    (λ c. allowed-next (c .before .before .before .before .loop .inv) (omega arith) (c .before .digit-byte .ensures) (not-false _ (c .if2 .left)))
-    (λ c. allowed-end (c .before .loop .inv) (c .loop-test .left)))
+    (λ c. passed-next (c .before .before .before .before .loop .inv) (omega arith) (c .before .digit-byte .ensures) (not-false _ (c .if2 .left)))
+    (λ c. passed-end (c .before .loop .inv) (c .loop-test .left)))

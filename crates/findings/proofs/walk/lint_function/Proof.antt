@@ -57,8 +57,8 @@ lint-function-spec =
     let the-first-sentence2 = c .before .before .before .before .before .before .before .before .first-sentence2 in
     let the-if1 = c .before .before .before .before .before .before .if1 in
     let the-note-block = c .before .before .before .before .note-block in
-    let alone = sym (c .before .own-alone .ensures) ∙ c .if2 .taken in
-    steps.function-steps (fileOf (start .args .law .now)) (formatsIn (fileOf (start .args .law .now)) (start .args .task .limit) (start .args .store .now)) (start .args .task) (start .args .f) (the-first-sentence2 .result - the-first-sentence .result) (the-first-sentence .result) (steps.sentences-count (start .pre .0) (start .args .f) (start .pre .1) (the-first-sentence .result) (the-first-sentence2 .result) (the-first-sentence .ensures) (the-first-sentence2 .ensures)) (steps.sentences-first-reads (start .pre .0) (start .args .f) (start .pre .1) (the-first-sentence .result) (the-first-sentence2 .result) (the-first-sentence .ensures) (the-first-sentence2 .ensures)) (sinkOf (start .args .tally) (start .args .out .now)) (sinkOf (the-note-block .result) (the-note-block .last .1 .1 .1 .1 .1 .0)) (sinkOf (the-note-block .result) (the-note-block .last .1 .1 .1 .1 .1 .0)) (the-if1 .left) (the-note-block .ensures) (nothing-inside (start .args .law .now) (start .args .index .now) (treeOf (fileOf (start .args .law .now))) (formatsIn (fileOf (start .args .law .now)) (start .args .task .limit) (start .args .store .now)) (start .args .task) (start .pre .0 .asked .indexed) (start .pre .0 .asked .readable) alone (the-first-sentence2 .result - the-first-sentence .result) (the-first-sentence .result) (steps.sentences-inside (start .pre .0) (start .args .f) (start .pre .1) (the-first-sentence .result) (the-first-sentence2 .result) (the-first-sentence .ensures) (the-first-sentence2 .ensures)) (sinkOf (the-note-block .result) (the-note-block .last .1 .1 .1 .1 .1 .0))))
+    let alone = sym (c .before .none-inside .ensures) ∙ c .if2 .taken in
+    steps.function-steps (fileOf (start .args .law .now)) (formatsIn (fileOf (start .args .law .now)) (start .args .task .limit) (start .args .store .now)) (start .args .task) (start .args .f) (the-first-sentence2 .result - the-first-sentence .result) (the-first-sentence .result) (steps.sentences-count (start .pre .0) (start .args .f) (start .pre .1) (the-first-sentence .result) (the-first-sentence2 .result) (the-first-sentence .ensures) (the-first-sentence2 .ensures)) (steps.sentences-first-reads (start .pre .0) (start .args .f) (start .pre .1) (the-first-sentence .result) (the-first-sentence2 .result) (the-first-sentence .ensures) (the-first-sentence2 .ensures)) (sinkOf (start .args .tally) (start .args .out .now)) (sinkOf (the-note-block .result) (the-note-block .last .1 .1 .1 .1 .1 .0)) (sinkOf (the-note-block .result) (the-note-block .last .1 .1 .1 .1 .1 .0)) (the-if1 .left) (the-note-block .ensures) (nothing-inside (start .args .law .now) (start .args .index .now) (start .args .slots .now) (treeOf (fileOf (start .args .law .now))) (formatsIn (fileOf (start .args .law .now)) (start .args .task .limit) (start .args .store .now)) (start .args .task) (start .pre .0 .asked .indexed) (start .pre .0 .asked .readable) (start .pre .0 .asked .places .marked) alone (start .args .f) (the-first-sentence2 .result - the-first-sentence .result) (the-first-sentence .result) (start .pre .1) (steps.sentences-count (start .pre .0) (start .args .f) (start .pre .1) (the-first-sentence .result) (the-first-sentence2 .result) (the-first-sentence .ensures) (the-first-sentence2 .ensures)) (steps.sentences-first-reads (start .pre .0) (start .args .f) (start .pre .1) (the-first-sentence .result) (the-first-sentence2 .result) (the-first-sentence .ensures) (the-first-sentence2 .ensures)) (steps.sentences-inside (start .pre .0) (start .args .f) (start .pre .1) (the-first-sentence .result) (the-first-sentence2 .result) (the-first-sentence .ensures) (the-first-sentence2 .ensures)) (sinkOf (the-note-block .result) (the-note-block .last .1 .1 .1 .1 .1 .0))))
     (λ c κs.
     let start = c .before .before .before .before .before .before .before .before .before .before .before .before .before .before in
     let the-first-sentence = c .before .before .before .before .before .before .before .before .before .before .first-sentence in

@@ -5,8 +5,8 @@ use native.Mathlib.Omega.{arith}
 use borrow.Author.Needs.{needs}
 use lib.ListN.{length, length-set}
 use Rattle.file.proofs.Below.{total-none}
-use Rattle.law.specs.Code.Filling.{Table, blockWord, blockSum, asWord}
-use Rattle.law.proofs.Tables.{sum-next, table-none, table-next}
+use Rattle.law.specs.Code.Filling.{Table, blockSum, asWord}
+use Rattle.law.proofs.Tables.{table-none, table-next}
 use Rattle.law.proofs.index.fill_blocks.Statement.{statement}
 use Rattle.law.proofs.index.fill_blocks.Tie as tie
 
@@ -30,17 +30,16 @@ fill-blocks-spec =
     (λ c. search needs)
     (λ c. search needs)
     (λ c. omega arith)
-    (λ c κs. omega arith)
-    (λ c. search needs)
+    (λ c κs. let l = c .before .loop in (omega arith, omega arith, l .inv .3, l .inv .1))
     (λ c. search needs)
     (λ c. omega arith)
     (λ c.
     let a = c .before .before .before .before .args in
     let l = c .before .before .loop in (
       omega arith,
-      omega arith,
+      c .add-block .ensures .1,
       length-set (l .index) _ _ ∙ l .inv .2,
-      sum-next (blockWord (a .terms .now)) (l .t) (l .sum) (c .block-size .result) (l .inv .3) (c .block-size .ensures .0),
+      c .add-block .ensures .0,
       table-next _ (l .index) (a .from) (l .t) _ _ (l .inv .4) (omega arith) (rw (l .inv .3)),
     ))
     (λ c.

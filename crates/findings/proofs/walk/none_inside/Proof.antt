@@ -1,13 +1,15 @@
+use native.Mathlib.Omega.{arith}
 use borrow.Author.Needs.{needs}
 use borrow.Author.Tests.{eq-eqb, ne-eqb}
-use Rattle.findings.proofs.walk.own_alone.Statement.{statement}
-use Rattle.findings.proofs.walk.own_alone.Tie as tie
+use Rattle.findings.proofs.walk.none_inside.Statement.{statement}
+use Rattle.findings.proofs.walk.none_inside.Tie as tie
 
-pub own-alone-spec : {M : Type 1} → statement M
-own-alone-spec =
+pub none-inside-spec : {M : Type 1} → statement M
+none-inside-spec =
     tie.close
     (tie.spec
-    (λ c. rw (ne-eqb _ 1 (c .if1 .taken)))
+    (λ c. omega arith)
+    (λ c. rw (ne-eqb _ 1 (c .before .if1 .taken)))
     (λ c κs. search needs)
     (λ c κs. search needs)
     (λ c κs. search needs)
