@@ -79,7 +79,7 @@ const USAGE: &str = "usage:
   oracle runs LAWS SEED       random laws run on random arguments: no finding is false
   oracle rerun SEED LAW       one of these laws again, with what is listed and its runs
   oracle pairs PAIRS SEED     random small patterns and rows through the library and through a plain search
-  oracle texts TEXTS SEED     random texts through the read call and through a reader of its own
+  oracle texts TEXTS SEED     random texts through the read call and through the reader here
   oracle read FILE            one text: its law, or its refusal
   oracle small                document 01's small laws
   oracle law NOTATION         one law, such as 'F { s.A = <F 1>; }'

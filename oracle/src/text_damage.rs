@@ -1,6 +1,6 @@
 //! Damage to texts, byte by byte and token by token.
 use crate::random::Random;
-use crate::text_pieces::{Piece, pieces_of};
+use crate::text_pieces::{Piece, Sort, pieces_of};
 
 /// Bytes that begin, end or join tokens, and some of each other sort.
 const BYTES: &[u8] = b"'\\/*.-_$<>(){}[];:,= \t\n\r\x00\x0b\x0c\x7f\"steSTExyAZ019@`!+#&|~^%?";
@@ -134,7 +134,7 @@ pub fn tokens(pieces: &mut Vec<Piece>, random: &mut Random) {
 fn one_token(pieces: &mut Vec<Piece>, random: &mut Random) {
     let place = random.below(pieces.len() + 1);
     let other = random.pick(&pieces_of(TOKENS)).clone();
-    match random.below(6) {
+    match random.below(7) {
         0 => pieces.insert(place, other),
         1 => {
             let some = pieces_of(*random.pick(&PHRASES));
@@ -147,6 +147,19 @@ fn one_token(pieces: &mut Vec<Piece>, random: &mut Random) {
             let next = random.below(pieces.len());
             pieces.swap(place, next);
         }
-        _ => pieces[place] = other,
+        5 => pieces[place] = other,
+        _ => in_quotes(pieces, place, random),
+    }
+}
+
+/// The first run of characters from a place on gets another character first, or has none.
+fn in_quotes(pieces: &mut [Piece], place: usize, random: &mut Random) {
+    let quoted = |piece: &&mut Piece| piece.sort == Sort::Quoted;
+    let Some(run) = pieces[place..].iter_mut().find(quoted) else {
+        return;
+    };
+    match *random.pick(&["", "\\", "'", "\n", "\u{0}", "/*", "é"]) {
+        "" => run.spelled = "''".into(),
+        first => run.spelled.insert_str(1, first),
     }
 }

@@ -18,7 +18,7 @@ pub const KINDS: [&str; 8] = [
 ];
 
 /// How often each comes, in a hundred.
-const PERCENT: [usize; 8] = [36, 4, 24, 14, 7, 8, 5, 2];
+const PERCENT: [usize; 8] = [35, 5, 24, 14, 7, 8, 5, 2];
 
 /// A text, and the place of its kind in `KINDS`.
 pub fn text(random: &mut Random) -> (usize, Vec<u8>) {

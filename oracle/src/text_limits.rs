@@ -14,9 +14,13 @@ const FILE_BYTES: usize = 16_384;
 /// Characters in one run past which the file is too long, about.
 const FILE_CHARACTERS: usize = 652;
 
-/// A text near a limit of the file. It is laid out tightly where it would be too long a text otherwise.
+/// A text near a limit of the file, or near two. It is laid out tightly where it would be too long a text otherwise.
 pub fn text(random: &mut Random) -> Vec<u8> {
-    let tokens = pieces_of(&tokens(random));
+    let mut all = tokens(random);
+    if random.chance(50) {
+        all = format!("{all} {}", tokens(random));
+    }
+    let tokens = pieces_of(&all);
     let layout = Layout::random(random);
     let text = laid_out(&tokens, layout, random);
     match text.len() > TEXT_BYTES {
@@ -106,14 +110,15 @@ fn nested(count: usize, random: &mut Random) -> String {
     }
 }
 
-/// Distinct variables, some of which stand there twice, in another case.
+/// Distinct variables, some of which stand there twice, in another case. Two at a time differ in `-` and `_` alone.
 fn several(count: usize, random: &mut Random) -> String {
     let mut all = String::new();
     for number in 0..count {
-        let letter = random.pick(&['s', 't', 'e']);
-        all += &format!("{letter}.v{number} ");
+        let (letter, sign) = (['s', 't', 'e'][number / 2 % 3], ['-', '_'][number % 2]);
+        let index = format!("v{sign}{}", number / 2);
+        all += &format!("{letter}.{index} ");
         if random.chance(10) {
-            all += &format!("( {letter}.V{number} ) ");
+            all += &format!("( {letter}.{} ) ", index.to_uppercase());
         }
     }
     all
