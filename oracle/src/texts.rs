@@ -5,7 +5,7 @@ use std::process::ExitCode;
 
 use crate::compare::{compare, guarded, same};
 use crate::counts::Counts;
-use crate::decode::decode;
+use crate::decode::{WORDS, decode, sections};
 use crate::encode::{Encoded, Layout, encode};
 use crate::ours::Buffers;
 use crate::random::Random;
@@ -18,16 +18,20 @@ use crate::text_corners;
 use crate::text_counts::TextCounts;
 use crate::text_kinds;
 
+/// Places of sections in a file.
+const FUNCTIONS: usize = 1;
+const TERMS: usize = 4;
 /// After so many differences the run ends.
 const SHOWN: usize = 10;
 /// A run of so many texts must meet everything that is counted.
 const MEETS_ALL: u64 = 100_000;
 
 pub fn run(texts: u64, seed: u64) -> ExitCode {
+    // What the corners show is not counted: the random texts must meet it.
+    let mut differences = text_corners::differences(&mut Tried::new());
     let mut tried = Tried::new();
-    let mut differences = text_corners::differences(&mut tried);
     for number in 0..texts {
-        if differences.len() == SHOWN {
+        if differences.len() >= SHOWN {
             break;
         }
         let mut random = Random::of(seed, number);
@@ -146,12 +150,33 @@ impl Tried {
             junk: false,
             bytes: None,
         };
+        let written = encode(&program, layout, random);
+        let records = [&within.file, &written.bytes].map(|file| without_places(file));
+        same("records", &records[0], &records[1])?;
         let encoded = Encoded {
             bytes: within.file.clone(),
             refusal: None,
-            ..encode(&program, layout, random)
+            ..written
         };
         let (settings, buffers) = (Settings::strict(), &mut self.buffers);
         compare(&program, &encoded, &settings, &mut self.listed, buffers)
     }
+}
+
+/// The records of a file but for where names are spelled: `encode.rs` has another text.
+fn without_places(file: &[u8]) -> Result<Vec<Vec<u32>>, u32> {
+    let mut all = Vec::new();
+    for (section, range) in sections(file)?.into_iter().enumerate().skip(1) {
+        let word = |four: &[u8]| u32::from_le_bytes(four.try_into().expect("four bytes"));
+        for record in file[range].chunks_exact(4 * WORDS[section]) {
+            let mut words: Vec<u32> = record.chunks_exact(4).map(word).collect();
+            match (section, words[0]) {
+                (FUNCTIONS, _) => words[0] = 0,
+                (TERMS, 1..=5 | 7) => words[1] = 0,
+                _ => {}
+            }
+            all.push(words);
+        }
+    }
+    Ok(all)
 }
