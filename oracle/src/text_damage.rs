@@ -51,11 +51,12 @@ pub const TOKENS: &str =
     "F Go s e.X s.1 t.A-b 0 12 'a' 'bc' ( ) < > { } ; , : = = = $ENTRY $EXTERN";
 
 /// Tokens that belong together, in some places.
-const PHRASES: [&str; 8] = [
+const PHRASES: [&str; 9] = [
     "< F >",
     "( < G 1 > )",
     "( )",
     ", :",
+    ", : ( < G > )",
     "; =",
     "$EXTERN F ;",
     "F { = }",
