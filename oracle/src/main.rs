@@ -28,6 +28,14 @@ mod parse;
 mod places;
 mod plain;
 mod random;
+mod read_bench;
+mod read_call;
+mod read_file;
+mod read_limits;
+mod read_phrase;
+mod read_program;
+mod read_tokens;
+mod reader;
 mod records;
 mod reduce;
 mod refal;
@@ -42,8 +50,18 @@ mod shape;
 mod small;
 mod stack;
 mod store;
+mod text_corners;
+mod text_counts;
+mod text_damage;
+mod text_features;
+mod text_kinds;
+mod text_laws;
+mod text_limits;
+mod text_pieces;
+mod texts;
 mod watch;
 mod worker;
+mod worst_texts;
 
 use std::env;
 use std::process::ExitCode;
@@ -52,6 +70,7 @@ const QUICK_LAWS: u64 = 8_000;
 const QUICK_FILES: u64 = 8_000;
 const QUICK_RUN_LAWS: u64 = 6_000;
 const QUICK_PAIRS: u64 = 80_000;
+const QUICK_TEXTS: u64 = 20_000;
 
 const USAGE: &str = "usage:
   oracle compare LAWS SEED    random laws through both
@@ -60,13 +79,16 @@ const USAGE: &str = "usage:
   oracle runs LAWS SEED       random laws run on random arguments: no finding is false
   oracle rerun SEED LAW       one of these laws again, with what is listed and its runs
   oracle pairs PAIRS SEED     random small patterns and rows through the library and through a plain search
+  oracle texts TEXTS SEED     random texts through the read call and through the reader here
+  oracle read FILE            one text: its law, or its refusal
   oracle small                document 01's small laws
   oracle law NOTATION         one law, such as 'F { s.A = <F 1>; }'
   oracle quick                a few seconds of all these
   oracle bench LAWS SEED      how long both take
   oracle rows                 how long both take for rows as long as the limits allow
   oracle families             how long the findings call takes where a plain search takes for ever
-  oracle stack LAWS SEED      how much stack the two calls take
+  oracle read-bench           how long the read call takes, over the check of what it writes
+  oracle stack LAWS SEED      how much stack the calls take
   oracle sample               writes the stored sample of the Rust's answers
   oracle sample --check       whether the stored sample is what would be written
   oracle sample --show        its laws in Refal notation";
@@ -85,11 +107,14 @@ fn main() -> ExitCode {
         (Some("runs"), [laws, seed]) => runs::run(*laws, *seed),
         (Some("rerun"), [seed, law]) => runs::show(*seed, *law),
         (Some("pairs"), [pairs, seed]) => fast::run(*pairs, *seed),
+        (Some("texts"), [texts, seed]) => texts::run(*texts, *seed),
         (Some("bench"), [laws, seed]) => bench::run(*laws, *seed),
         (Some("stack"), [laws, seed]) => stack::run(*laws, *seed),
         (Some("quick"), []) => quick(),
         (Some("small"), []) => small::run(),
         (Some("law"), []) if arguments.len() == 2 => small::show(&arguments[1]),
+        (Some("read-bench"), []) if arguments.len() == 1 => read_bench::run(),
+        (Some("read"), []) if arguments.len() == 2 => texts::show(&arguments[1]),
         (Some("rows"), []) if arguments.len() == 1 => rows::run(),
         (Some("families"), []) if arguments.len() == 1 => families::run(),
         (Some("families"), []) if arguments[1] == worker::SERVES => worker::serve(),
@@ -114,12 +139,13 @@ fn sample(what: Option<&String>) -> ExitCode {
 
 /// For the gate: all of them, the first that fails ends it.
 fn quick() -> ExitCode {
-    let all: [fn() -> ExitCode; 5] = [
+    let all: [fn() -> ExitCode; 6] = [
         small::run,
         || compare::run(QUICK_LAWS, 1),
         || damage::run(QUICK_FILES, 1),
         || runs::run(QUICK_RUN_LAWS, 1),
         || fast::run(QUICK_PAIRS, 1),
+        || texts::run(QUICK_TEXTS, 1),
     ];
     all.iter()
         .map(|one| one())

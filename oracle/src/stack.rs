@@ -1,4 +1,4 @@
-//! How much stack each of the two calls takes, at most, over random laws and laws at the limits.
+//! How much stack each of the three calls takes, at most, over random laws, laws at the limits and texts at the limits.
 //!
 //! The memory below the caller's frame is given a value before a call; the deepest byte that has another value after it
 //! tells how far the call went. This goes past what the language promises of memory below a frame, and serves to measure
@@ -13,7 +13,9 @@ use crate::generate;
 use crate::ours::Buffers;
 use crate::parse::parse;
 use crate::random::Random;
+use crate::read_call::{ROOM, read};
 use crate::settings::Settings;
+use crate::worst_texts::{FAMILIES, ordinary};
 
 /// The stack of the measuring thread, and how much of it is looked at.
 const THREAD: usize = 4 << 20;
@@ -37,6 +39,7 @@ pub fn run(laws: u64, seed: u64) -> ExitCode {
                 hand[0].max(random[0]),
                 hand[1].max(random[1])
             );
+            reading();
         })
         .map(|thread| thread.join());
     match measured {
@@ -226,6 +229,22 @@ fn at_random(laws: u64, seed: u64) -> Taken {
         }
     }
     most
+}
+
+/// The most of texts that may go deep.
+fn reading() {
+    let mut all = vec![("bytes of an ordinary law", ordinary().into_bytes())];
+    all.extend(FAMILIES.map(|family| (family.what, family.text(family.most))));
+    let (texts, mut law) = (all.len(), vec![0; ROOM]);
+    let mut taken = |text: &[u8]| {
+        depth(&mut || {
+            black_box(read(text, &mut law, &mut 0));
+        })
+    };
+    let deepest = all.iter().map(|(what, text)| (taken(text), what)).max();
+    if let Some((bytes, what)) = deepest {
+        println!("{texts} texts: read call {bytes} bytes at most ({what})");
+    }
 }
 
 fn taken(law: &[u8], buffers: &mut Buffers) -> Taken {
