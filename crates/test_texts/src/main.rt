@@ -1,4 +1,4 @@
-// Puts texts through the reading call, and says what it answers and what every lent byte holds then.
+// Puts texts through the exported reading call, as an editor makes it, and says what it answers and what every lent byte holds then.
 //
 // A case is a label as the crate `test_cases` reads it; a word, the bytes of the buffer that is lent; and a text, which stands
 // there as a law does.
@@ -6,9 +6,7 @@
 // Before each call every lent byte is given a value. After the answer come all bytes in order, as numbers and as `kept` where a
 // byte has its value still, with `*` and a number for so many in a row.
 use libc::STDOUT_FILENO;
-use reader::Reading;
-use reader::read;
-use reader::unread_number;
+use loader::read;
 use std::num::wrapping_add_u64;
 use test_cases::LABEL;
 use test_cases::LAW;
@@ -20,6 +18,9 @@ use test_cases::read_law;
 const BYTE_FIRST: u8 = 128;
 
 const BYTE_LAST: u8 = 250;
+
+// What the answer's word holds before a call.
+const ANSWER: u64 = 99999;
 
 // What stands for a byte that has its value still.
 const KEPT: u64 = 256;
@@ -108,18 +109,24 @@ fn print_said(said: &[u8], number: u64) {
     io::write_all(STDOUT_FILENO, b"\n");
 }
 
-// Writes the answer of the call.
-fn print_reading(answer: Reading) {
-    match answer {
-        Reading::Refused(why) => print_said(b"  refused ", unread_number(why) as u64),
-        Reading::Written(bytes) => print_said(b"  written ", bytes as u64),
+// Writes the number that the call returned, or its answer. After a refusal the answer's word is written only where it changed.
+fn print_returned(number: u32, answer: u64) {
+    if number == 0 {
+        print_said(b"  written ", answer);
+        return;
+    }
+    print_said(b"  refused ", number as u64);
+    if answer != ANSWER {
+        print_said(b"  answer ", answer);
     }
 }
 
 // Makes the call.
 fn call_read(text: &[u8], law: &mut [u8]) {
+    let mut answer = ANSWER;
     fill_bytes(law);
-    print_reading(read(text, law));
+    let number = read(text, law, &mut answer);
+    print_returned(number, answer);
     io::write_all(STDOUT_FILENO, b"    bytes");
     print_bytes(law);
 }
