@@ -156,7 +156,7 @@ fn timed(law: &[u8], buffers: &mut Buffers) -> (Duration, Listed) {
 fn counted(words: &[u32]) -> Listed {
     let count = |lint: u32, a: Option<u32>| {
         let fits = |one: &Finding| one.lint.number() == lint && a.is_none_or(|a| a == one.a);
-        bilzarko::read(words).filter(fits).count() as u32
+        bilzarko::decode(words).filter(fits).count() as u32
     };
     Listed {
         refusal: 0,

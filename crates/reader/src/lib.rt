@@ -143,7 +143,16 @@ fn read_lent(
     match lex_text(text, kinds, starts, ends) {
         Tokens::Refused => Reading::Refused(Unread::Outside),
         Tokens::Count(n) => deliver_text(
-            text, n, kinds, starts, ends, stack, closers, sums, file, law,
+            text,
+            n,
+            kinds,
+            starts,
+            ends,
+            stack,
+            closers,
+            sums,
+            file,
+            law,
         ),
     }
 }

@@ -104,7 +104,13 @@ pub fn sum_records(text: &[u8], kinds: &[u8], starts: &[u16], ends: &[u16], sums
     while i > 0 {
         i -= 1;
         let called = called_at(kinds, i);
-        sum += token_weight(text, kinds[i], short_at(starts, i), short_at(ends, i), called);
+        sum += token_weight(
+            text,
+            kinds[i],
+            short_at(starts, i),
+            short_at(ends, i),
+            called,
+        );
         sums[i] = sum;
     }
 }

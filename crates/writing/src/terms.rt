@@ -138,7 +138,18 @@ fn put_terms(
     let mut state: u8 = 0;
     let mut i = 0;
     while i < kinds.len() {
-        next = put_term(text, kinds, starts, ends, closers, sums, state, i, out, next);
+        next = put_term(
+            text,
+            kinds,
+            starts,
+            ends,
+            closers,
+            sums,
+            state,
+            i,
+            out,
+            next,
+        );
         state = where_after(state, kinds[i]);
         i += 1;
     }
