@@ -61,12 +61,15 @@ fn refused_texts_keep_the_buffer() {
 
 #[test]
 fn no_text_is_too_deep_for_the_stack() {
-    let deep = "(".repeat(2_000) + &")".repeat(2_000);
-    let read_deep = thread::Builder::new()
-        .stack_size(bilzarko::STACK_BYTES)
-        .spawn(move || law_file(format!("F{{={deep}}}").as_bytes()))
-        .unwrap();
-    assert_eq!(read_deep.join().unwrap(), Err(Refusal::FileOver));
+    // The file of 512 brackets is looked at whole, that of 2,000 is too long.
+    for (brackets, refusal) in [(512, Refusal::Depth), (2_000, Refusal::FileOver)] {
+        let deep = "(".repeat(brackets) + &")".repeat(brackets);
+        let read_deep = thread::Builder::new()
+            .stack_size(bilzarko::STACK_BYTES)
+            .spawn(move || law_file(format!("F{{={deep}}}").as_bytes()))
+            .unwrap();
+        assert_eq!(read_deep.join().unwrap(), Err(refusal));
+    }
 }
 
 #[test]

@@ -53,7 +53,7 @@ fn after_blanks(text: &str) -> Option<&str> {
     }
 }
 
-/// "A token is the longest that fits."
+/// "a token is the longest that fits"
 fn longest(rest: &str) -> Fits {
     let all = [word, mark, quoted, identifier, number, variable];
     all.iter()

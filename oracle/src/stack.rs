@@ -163,7 +163,7 @@ fn deep_shadows() -> [Named; 7] {
     ]
 }
 
-fn deep_literals() -> [Named; 8] {
+fn deep_literals() -> [Named; 9] {
     let empty = |times: usize| again("()", times);
     let brackets = |times: usize| format!("{}{}", repeated(1), empty(times));
     let inside = format!("{}{}", repeated(0), again("(e.1)", 159));
@@ -201,6 +201,15 @@ fn deep_literals() -> [Named; 8] {
         (
             "lint 2: 32 e. variables, one of them again and 7 times 31 brackets in each other, and a call with as many",
             in_call(bracketed, 0, &format!("{}{nested}", repeated(1)), &nested),
+        ),
+        (
+            "lint 2 inside 30 blocks: 32 e. variables and () 223 times in a bracket, one of them again, and a call with ()",
+            in_call(
+                blocks,
+                30,
+                &format!("({}{}) e.1", repeated(0), empty(223)),
+                &format!("({})", empty(223)),
+            ),
         ),
     ]
 }

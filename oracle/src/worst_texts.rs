@@ -65,7 +65,7 @@ const fn family(what: &'static str, most: usize, parts: [&'static [u8]; 5]) -> F
 }
 
 /// The first are read, the others refused.
-pub const FAMILIES: [Family; 40] = [
+pub const FAMILIES: [Family; 44] = [
     family("spaces", TEXT, [b"", b" ", b"", b"", b""]),
     family("stars in a comment", 4_092, [b"/*", b"*", b"", b"", b"*/"]),
     family("comments", 1_024, [b"", b"/**/", b"", b"", b""]),
@@ -184,6 +184,26 @@ pub const FAMILIES: [Family; 40] = [
         "variables in a pattern",
         700,
         [b"F{", b"e.# ", b"", b"", b"=}"],
+    ),
+    family(
+        "variables in a pattern of a file",
+        512,
+        [b"F{", b"e.# ", b"", b"", b"=}"],
+    ),
+    family(
+        "variables in a pattern of a file that begin alike",
+        380,
+        [b"F{", b"e.Class# ", b"", b"", b"=}"],
+    ),
+    family(
+        "brackets in each other in a file",
+        512,
+        [b"F{=", b"(", b"", b")", b"}"],
+    ),
+    family(
+        "calls in each other in a file",
+        512,
+        [b"F{=", b"<F", b"", b">", b"}"],
     ),
     family("functions, too many", 1_024, [b"", b"F{=}", b"", b"", b""]),
     family("sentences, too many", 2_046, [b"F{", b"=;", b"", b"", b"}"]),

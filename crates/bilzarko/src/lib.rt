@@ -1,5 +1,6 @@
 // The three calls for programs in other languages, as functions of C. A slice crosses as a pointer and a number of elements. Each call returns 0 or a refusal's
-// number; what it answers stands in lent words, which keep their values where it is refused.
+// number; what it answers stands in lent words, which keep their values where it is refused. include/bilzarko.h says what stack a call is given, and that the first
+// two can take for ever.
 use listing::Found;
 use listing::Told;
 use listing::turned_number;

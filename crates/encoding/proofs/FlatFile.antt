@@ -9,7 +9,7 @@ use lib.ListN.{length}
 use Rattle.law.specs.Tree.{symbolKind, termKind, expressionKind}
 use Rattle.tokens.specs.Token.{rightBrace, rightBracket, rightAngle, colon, equals, semicolon, Atom, identifier, number, variable, quoted, Placed}
 use Rattle.grammar.specs.Grammar.{signAt, atomAt, Terms, nothing, atomic, bracket, call, Conditions, noCondition, condition, Sentence, Sentences, last, lastClosed, more, Function, Names, lastName, moreNames, Text, done, extern, function, entry, spellTerms, spellConditions, spellSentence, spellSentences, spellFunction, spellNames, spellText}
-use Rattle.encoding.specs.Encode.{listed, sentencesIn, functionRecord, functionSection, encode}
+use Rattle.encoding.specs.Encode.{sentenceList, sentencesIn, functionRecord, functionSection, encode}
 use Rattle.encoding.specs.Code.FlatFile.{firstIs, endOfKind, countTo, flatFunctions, flatFile}
 use Rattle.encoding.proofs.FlatTerms.{flat-text}
 use Rattle.encoding.proofs.FlatRuns.{end-of-terms, count-terms, first-terms}
@@ -43,7 +43,7 @@ end-of-sentence x after =
     end-of-terms 125 refl (x .pattern) (spellConditions (x .conditions) (signAt (x .equalsAt) equals ∷ ys))
     ∙ (end-of-conditions (x .equalsAt) ys (x .conditions) ∙ end-of-terms 125 refl (x .result) after)
 
-count-sentences : (ss : Sentences) (r : ℕ) (after : List Placed) → countTo 61 125 (spellSentences ss (signAt r rightBrace ∷ after)) ≡ length (listed ss)
+count-sentences : (ss : Sentences) (r : ℕ) (after : List Placed) → countTo 61 125 (spellSentences ss (signAt r rightBrace ∷ after)) ≡ length (sentenceList ss)
 count-sentences (last x) r after = count-sentence x (signAt r rightBrace ∷ after)
 count-sentences (lastClosed x c) r after = count-sentence x (signAt c semicolon ∷ signAt r rightBrace ∷ after)
 count-sentences (more x c rest) r after =

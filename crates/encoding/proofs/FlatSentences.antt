@@ -9,7 +9,7 @@ use lib.ListN.{length}
 use lib.Dec.{eqb}
 use Rattle.tokens.specs.Token.{rightBrace, colon, equals, semicolon, Placed}
 use Rattle.grammar.specs.Grammar.{signAt, Terms, Conditions, noCondition, condition, Sentence, Sentences, last, lastClosed, more, Function, Names, lastName, moreNames, Text, done, extern, function, entry, spellTerms, spellConditions, spellSentence, spellSentences, spellFunction, spellNames, spellText}
-use Rattle.encoding.specs.Encode.{termRecords, startOf, endOf, conditionRecords, conditionsStart, sentenceRecord, listed, sentencesIn, sentencesOf, sentenceSection, conditionSection}
+use Rattle.encoding.specs.Encode.{termRecords, startOf, endOf, conditionRecords, conditionsStart, sentenceRecord, sentenceList, sentencesIn, sentencesOf, sentenceSection, conditionSection}
 use Rattle.encoding.specs.Code.FlatTerms.{inside, kindAt, firstStart}
 use Rattle.encoding.specs.Code.FlatFile.{partRecords, partEnd, firstIs, afterKind, endOfKind, countTo, sentenceHere, conditionHere, sentencesAfter, flatSentences, flatConditions}
 use Rattle.encoding.proofs.Lists.{flatMap-append}
@@ -138,7 +138,7 @@ sentence-flat x after h k =
 
 sentences-flat : (ss : Sentences) (r : ℕ) (after : List Placed)
     → sentencesAfter true 123 (spellSentences ss (signAt r rightBrace ∷ after)) ++ flatSentences true (spellSentences ss (signAt r rightBrace ∷ after))
-    ≡ map sentenceRecord (listed ss) ++ flatSentences false after
+    ≡ map sentenceRecord (sentenceList ss) ++ flatSentences false after
 sentences-flat (last x) r after = sentence-flat x (signAt r rightBrace ∷ after) refl (λ e. refl)
 sentences-flat (lastClosed x c) r after = sentence-flat x (signAt c semicolon ∷ signAt r rightBrace ∷ after) refl (λ e. refl)
 sentences-flat (more x c rest) r after =
@@ -170,13 +170,13 @@ sentence-conditions x after =
     ∙ rw (conditions-flat (x .equalsAt) (spellTerms (x .result) after) (x .conditions), conditions-terms true (x .result) after)
 
 conditions-of-sentences : (ss : Sentences) (r : ℕ) (after : List Placed)
-    → flatConditions true (spellSentences ss (signAt r rightBrace ∷ after)) ≡ flatMap conditionsIn (listed ss) ++ flatConditions false after
+    → flatConditions true (spellSentences ss (signAt r rightBrace ∷ after)) ≡ flatMap conditionsIn (sentenceList ss) ++ flatConditions false after
 unfolding flatMap
 conditions-of-sentences (last x) r after = sentence-conditions x (signAt r rightBrace ∷ after) ∙ rw (append-nil (conditionsIn x))
 conditions-of-sentences (lastClosed x c) r after = sentence-conditions x (signAt c semicolon ∷ signAt r rightBrace ∷ after) ∙ rw (append-nil (conditionsIn x))
 conditions-of-sentences (more x c rest) r after =
     sentence-conditions x (signAt c semicolon ∷ spellSentences rest (signAt r rightBrace ∷ after))
-    ∙ rw (conditions-of-sentences rest r after) (sym (append-assoc (conditionsIn x) (flatMap conditionsIn (listed rest)) (flatConditions false after)))
+    ∙ rw (conditions-of-sentences rest r after) (sym (append-assoc (conditionsIn x) (flatMap conditionsIn (sentenceList rest)) (flatConditions false after)))
 
 names-conditions : (names : Names) (after : List Placed) → flatConditions false (spellNames names after) ≡ flatConditions false after
 names-conditions (lastName i c) after = refl

@@ -8,7 +8,7 @@ use lib.ListN.{length, length-append}
 use Rattle.law.specs.Tree.{symbolKind, termKind, expressionKind}
 use Rattle.tokens.specs.Token.{rightBrace, rightBracket, rightAngle, colon, equals, semicolon, Atom, identifier, number, variable, quoted, Placed}
 use Rattle.grammar.specs.Grammar.{signAt, atomAt, Terms, nothing, atomic, bracket, call, Conditions, noCondition, condition, Sentence, Sentences, last, lastClosed, more, Function, Names, lastName, moreNames, Text, done, extern, function, entry, spellTerms, spellConditions, spellSentence, spellSentences, spellFunction, spellNames, spellText}
-use Rattle.encoding.specs.Encode.{atomRecords, termRecords, conditionTerms, sentenceTerms, listed, sentencesIn, sentencesOf, termSection}
+use Rattle.encoding.specs.Encode.{atomRecords, termRecords, conditionTerms, sentenceTerms, sentenceList, sentencesIn, sentencesOf, termSection}
 use Rattle.encoding.specs.Code.FlatTerms.{outside, inside, Contents, add, scan, flatTerms}
 use Rattle.encoding.proofs.Lists.{flatMap-append}
 
@@ -114,13 +114,13 @@ flat-sentence x after =
       append-assoc (termRecords (x .pattern)) (conditionTerms (x .conditions)) (termRecords (x .result) ++ flatTerms inside after),
     )
 
-flat-sentences : (ss : Sentences) (after : List Placed) → flatTerms inside (spellSentences ss after) ≡ flatMap sentenceTerms (listed ss) ++ flatTerms inside after
+flat-sentences : (ss : Sentences) (after : List Placed) → flatTerms inside (spellSentences ss after) ≡ flatMap sentenceTerms (sentenceList ss) ++ flatTerms inside after
 unfolding flatMap
 flat-sentences (last x) after = flat-sentence x after ∙ rw (append-nil (sentenceTerms x))
 flat-sentences (lastClosed x c) after = flat-sentence x (signAt c semicolon ∷ after) ∙ rw (append-nil (sentenceTerms x))
 flat-sentences (more x c rest) after =
     flat-sentence x (signAt c semicolon ∷ spellSentences rest after)
-    ∙ rw (flat-sentences rest after) (sym (append-assoc (sentenceTerms x) (flatMap sentenceTerms (listed rest)) (flatTerms inside after)))
+    ∙ rw (flat-sentences rest after) (sym (append-assoc (sentenceTerms x) (flatMap sentenceTerms (sentenceList rest)) (flatTerms inside after)))
 
 flat-names : (names : Names) (after : List Placed) → flatTerms outside (spellNames names after) ≡ flatTerms outside after
 flat-names (lastName i c) after = refl

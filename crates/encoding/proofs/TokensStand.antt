@@ -14,7 +14,7 @@ use Rattle.file.proofs.Below.{both, both-first, both-second}
 use Rattle.law.specs.Tree.{Kind}
 use Rattle.tokens.specs.Token.{rightBrace, rightBracket, rightAngle, colon, equals, semicolon, Atom, identifier, number, variable, quoted, quotable, atomAllowed, atomBytes, kindByte, tokenAllowed, tokenBytes, Piece, blank, comment, token, pieceBytes, piecesBytes, Lexed, Placed, placed}
 use Rattle.grammar.specs.Grammar.{signAt, atomAt, Terms, nothing, atomic, bracket, call, Conditions, noCondition, condition, Sentence, Sentences, last, lastClosed, more, Function, Names, lastName, moreNames, Text, done, extern, function, entry, spellTerms, spellConditions, spellSentence, spellSentences, spellFunction, spellNames, spellText, Written}
-use Rattle.encoding.specs.Encode.{startOf, endOf, conditionsStart, listed, sentencesIn, functionsOf, sentencesOf}
+use Rattle.encoding.specs.Encode.{startOf, endOf, conditionsStart, sentenceList, sentencesIn, functionsOf, sentencesOf}
 use Rattle.encoding.specs.LawOfText.{short}
 use Rattle.encoding.proofs.Lists.{All, all-append}
 use Rattle.encoding.proofs.TermsRead.{Spelled, Word, AtomWithin, Within}
@@ -169,7 +169,7 @@ module _ (b : List ℕ) where
         r .1,
       )
 
-  sentences-within : (ss : Sentences) (after : List Placed) → Stand (spellSentences ss after) → All (WithinSentence b) (listed ss) × Stand after
+  sentences-within : (ss : Sentences) (after : List Placed) → Stand (spellSentences ss after) → All (WithinSentence b) (sentenceList ss) × Stand after
   sentences-within (last x) after h = let r = sentence-within x after h in ((r .0, tt), r .1)
   sentences-within (lastClosed x c) after h = let r = sentence-within x (signAt c semicolon ∷ after) h in ((r .0, tt), r .1 .1)
   sentences-within (more x c rest) after h =

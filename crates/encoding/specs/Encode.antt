@@ -1,7 +1,7 @@
 -- The law file of a text. Document 02, R-1: "The text is UTF-8 and becomes the text section unaltered. Each character between quotes is one term. Spans are byte
 -- offsets, end excluded: a character's covers its own bytes, a sentence's goes from its first token to its last before the semicolon, a condition's from the token
 -- after its comma to its last, a function's from its name through `}`."
--- Records have document 01's words, in its order: docs/SPECIFICATION.md, 1.3 to 1.12.
+-- Records have document 01's words, in its order: docs/SPECIFICATION.md, 1.3 to 1.12, 19.6, 19.7.
 use Prim.Native.Nat.{ℕ, _+_, _/_, _%_}
 use mathlib.Core.List.{List, [], _∷_, _++_, map, flatMap}
 use lib.ListN.{length}
@@ -87,15 +87,15 @@ sentenceRecord x =
 abbrev pub sentenceTerms : Sentence → List Record
 sentenceTerms x = termRecords (x .pattern) ++ conditionTerms (x .conditions) ++ termRecords (x .result)
 
-abbrev pub listed : Sentences → List Sentence
-listed (last x) = x ∷ []
-listed (lastClosed x c) = x ∷ []
-listed (more x c rest) = x ∷ listed rest
+abbrev pub sentenceList : Sentences → List Sentence
+sentenceList (last x) = x ∷ []
+sentenceList (lastClosed x c) = x ∷ []
+sentenceList (more x c rest) = x ∷ sentenceList rest
 
 -- ---- functions: name, sentences, span
 
 abbrev pub sentencesIn : Function → List Sentence
-sentencesIn f = listed (f .sentences)
+sentencesIn f = sentenceList (f .sentences)
 
 abbrev pub functionRecord : Function → Record
 functionRecord f = f .name .start ∷ length (f .name .spelled) ∷ length (sentencesIn f) ∷ f .name .start ∷ (f .rightAt + 1) ∷ []

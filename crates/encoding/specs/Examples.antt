@@ -131,6 +131,10 @@ quotedRun n = bytesOf "F{'" ++ replicate n 97 ++ bytesOf "'=}"
 abbrev letters : ℕ → List ℕ
 letters n = bytesOf "F{" ++ replicate n 97 ++ bytesOf "=}"
 
+-- n letters or digits after others, and what follows
+abbrev long : String → ℕ → ℕ → String → List ℕ
+long before n byte after = bytesOf before ++ replicate n byte ++ bytesOf after
+
 abbrev nested : ℕ → List ℕ → List ℕ
 nested n inside = bytesOf "F{" ++ replicate n 40 ++ inside ++ replicate n 41 ++ bytesOf "=}"
 
@@ -158,6 +162,14 @@ refusals =
     ∷ (sentences 65 1, refused 5)
     ∷ (letters 64, given tt)
     ∷ (letters 65, refused 5)
+    -- a number, an index and the name of a call; a name in an `$EXTERN` list has no record, and may be longer
+    ∷ (long "F{" 64 55 "=}", given tt)
+    ∷ (long "F{" 65 55 "=}", refused 5)
+    ∷ (long "F{e." 64 97 "=}", given tt)
+    ∷ (long "F{e." 65 97 "=}", refused 5)
+    ∷ (long "F{=<" 64 97 ">}", given tt)
+    ∷ (long "F{=<" 65 97 ">}", refused 5)
+    ∷ (long "$EXTERN " 65 97 ";F{=}", given tt)
     -- 5 before 8
     ∷ (nested 33 (replicate 65 97), refused 5)
     ∷ (nested 32 (bytesOf "a"), given tt)

@@ -1,5 +1,6 @@
 -- The law that a text means, or a refusal. Document 02, R-1: a text of the grammar is refused "with 1, 4, 5, 8 or 9 in document 01's order".
 -- `encoded-law` of proofs/EncodedLaw.antt: this is what `lawOf` says of the text's law file.
+-- docs/SPECIFICATION.md, 19.9, 19.10.
 use Prim.Native.Nat.{ℕ}
 use mathlib.Core.List.{List, [], _∷_, _++_}
 use mathlib.Core.Bool.{Bool, true, not, _&&_, _||_}

@@ -1,4 +1,5 @@
 -- The tree of a text: its phrase as a law, with records numbered as document 01 numbers them in a file and with the spans of specs/Encode.antt.
+-- docs/SPECIFICATION.md, 19.6, 19.7.
 use Prim.Native.Nat.{ℕ, _+_}
 use mathlib.Core.List.{List, [], _∷_, flatMap}
 use lib.ListN.{length}

@@ -1,4 +1,4 @@
--- Laws of what is collected in a buffer (specs/Events.antt): a finding's eight words, one finding, and events one after another.
+-- Laws of what is collected in a buffer (specs/Code/Events.antt): a finding's eight words, one finding, and events one after another.
 use Prim.Native.Nat.{ℕ, zero, suc, _+_, _*_, _-_, _≤_, _<_, _/_}
 use mathlib.Core.List.{List, [], _∷_, _++_}
 use mathlib.Core.Path.{_≡_, refl}

@@ -1,4 +1,4 @@
--- Laws of the way through a law (specs/Walk.antt and Tasks.antt) on trees: the size of a tree, what is met at a term record, and the words of dead
+-- Laws of the way through a law (specs/Code/Walk.antt and Tasks.antt) on trees: the size of a tree, what is met at a term record, and the words of dead
 -- sentences.
 use Prim.Native.Nat.{ℕ, zero, suc, _+_, _<_}
 use mathlib.Core.Bool.{Bool, true, false}

@@ -20,7 +20,7 @@ use Rattle.law.specs.Code.Terms.{Owns, sentencesIn}
 use Rattle.law.specs.Runs.{endOf}
 use Rattle.law.specs.Reading.{markAt, runOf, own, sentencesAt, conditionsFrom, treeOf}
 use Rattle.law.specs.Code.Index.{Indexed, Readable, PartAt}
-use Rattle.law.proofs.Parts.{part-word, terms-word, terms-end, terms-contents}
+use Rattle.law.proofs.Parts.{part-word, terms-word, terms-contents}
 use Rattle.law.proofs.RunLaws.{end-high, run-empty, run-node, fits-first}
 use Rattle.law.proofs.Functions.{functionsAt, tree-functions, function-reads, functions-end as functions-over, kept-reads}
 use Rattle.law.proofs.PartLaws.{part-length, part-at, part-inside, part-leaf, part-end, part-sentences, contents-part, rest-part, part-small, pattern-part, result-part, condition-result-part, condition-pattern-part}

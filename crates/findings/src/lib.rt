@@ -13,7 +13,7 @@ mod open;
 mod walk;
 
 // The count of findings, one number so that it is passed on in a register: it ended at an argument that has too many shapes to be compared (0), there are
-// more findings than there is room for (1), or it has come so far (2 and more). specs/Events.antt has these as `Over`, `Full` and `Upto`.
+// more findings than there is room for (1), or it has come so far (2 and more). specs/Code/Events.antt has these as `Over`, `Full` and `Upto`.
 pub type Tally = usize;
 
 pub const OVER: Tally = 0;

@@ -1,4 +1,4 @@
--- The functions' turns one after the other (specs/Turns.antt): what the store holds after the first f functions, for the arguments and for a round.
+-- The functions' turns one after the other (specs/Code/Turns.antt): what the store holds after the first f functions, for the arguments and for a round.
 use Prim.Native.Nat.{ℕ, _+_, _*_, _≤_, _<_}
 use mathlib.Core.Bool.{Bool, true, false, not, _||_, or-true, or-false}
 use mathlib.Core.List.{List}

@@ -24,7 +24,7 @@ use Rattle.formats.specs.FormatOf.{patternShapes, Results, resultShapes}
 use Rattle.formats.specs.Infer.{Entry, namesOf, find, orNever, allAt, joinResults, joinPatterns, round, Rounds, roundsFrom, arguments, Inferred, inferWithin, infer, roundLimit}
 use Rattle.formats.specs.Code.Entries.{entryNames}
 use Rattle.formats.proofs.EntryLaws.{names-all-at, names-renew, nameOf, updated, changes, round-turn, arguments-turn, rounds-first, rounds-hold}
-use Rattle.formats.proofs.TableLaws.{defines, found, found-defined, found-some, find-renew, find-renew-other, renew-same}
+use Rattle.formats.proofs.TableLaws.{defines, found-defined, found-some, find-renew, find-renew-other, renew-same}
 
 -- ---- what holds of every sentence, and of every function
 

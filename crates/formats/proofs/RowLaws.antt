@@ -1,4 +1,4 @@
--- Laws of the rows that are written (specs/Rows.antt): ends, leaves, brackets, one row after another, what the store has for a call, and the first record
+-- Laws of the rows that are written (specs/Code/Rows.antt): ends, leaves, brackets, one row after another, what the store has for a call, and the first record
 -- of a part of the term records before the rest.
 use Prim.Native.Nat.{ℕ, zero, suc, _+_, _*_, _-_, _%_, _≤_, _<_}
 use mathlib.Core.Bool.{Bool, true, false, cond}

@@ -1,4 +1,4 @@
--- Laws of the rows of a law's sentences (specs/Turns.antt): the results that a store says, the row of one sentence, and the rows of sentences joined one
+-- Laws of the rows of a law's sentences (specs/Code/Turns.antt): the results that a store says, the row of one sentence, and the rows of sentences joined one
 -- by one.
 use Prim.Native.Nat.{ℕ, suc, _+_, _*_, _-_, _≤_, _<_}
 use mathlib.Core.Bool.{Bool, true, false}

@@ -1,4 +1,4 @@
--- Laws of the sorted distinct names of a law and of their places (specs/Infer.antt, specs/Slots.antt): a place is the number of names
+-- Laws of the sorted distinct names of a law and of their places (specs/Infer.antt, specs/Code/Slots.antt): a place is the number of names
 -- before it, and each name is counted at the last function that has it.
 use Prim.Native.Nat.{ℕ, zero, suc, _+_, _*_, _-_, _≤_, _<_}
 use mathlib.Core.Bool.{Bool, true, false, cond, _||_, true≢false, or-true}

@@ -30,41 +30,41 @@ listed-names (f ∷ fs) n = listed-insert (folded (f .name .spelled)) (namesOf f
 -- ---- what is found
 
 -- was a format found?
-abbrev pub found : Option Format → Bool
-found none = false
-found (some f) = true
+abbrev pub isFound : Option Format → Bool
+isFound none = false
+isFound (some f) = true
 
 -- a format is found where the name is among the table's
-pub found-listed : (es : List Entry) (n : List ℕ) → found (find es n) ≡ isAmong (entryNames es) n
+pub found-listed : (es : List Entry) (n : List ℕ) → isFound (find es n) ≡ isAmong (entryNames es) n
 unfolding find isAmong
 found-listed [] n = refl
 found-listed (e ∷ es) n = go (sameBytes (e .name) n) (found-listed es n)
   where
-    go : (b : Bool) → found (find es n) ≡ isAmong (entryNames es) n → found (cond b (some (e .format)) (find es n)) ≡ b || isAmong (entryNames es) n
+    go : (b : Bool) → isFound (find es n) ≡ isAmong (entryNames es) n → isFound (cond b (some (e .format)) (find es n)) ≡ b || isAmong (entryNames es) n
     go true ih = refl
     go false ih = ih
 
 -- in a table of the law's names: where a function has the name, and nowhere else
-pub found-defined : (law : Law) (es : List Entry) (n : List ℕ) → entryNames es ≡ namesOf law → found (find es n) ≡ defines law n
+pub found-defined : (law : Law) (es : List Entry) (n : List ℕ) → entryNames es ≡ namesOf law → isFound (find es n) ≡ defines law n
 found-defined law es n e = found-listed es n ∙ rw e (listed-names law n)
 
 -- then there is one
-pub found-some : (o : Option Format) → found o ≡ true → (f : Format) × (o ≡ some f)
+pub found-some : (o : Option Format) → isFound o ≡ true → (f : Format) × (o ≡ some f)
 found-some none h = absurd (false≢true h)
 found-some (some f) h = (f, refl)
 
 -- else there is none
-pub found-none : (o : Option Format) → found o ≡ false → o ≡ none
+pub found-none : (o : Option Format) → isFound o ≡ false → o ≡ none
 found-none none h = refl
 found-none (some f) h = absurd (false≢true (sym h))
 
 -- what is found under a name whose format was changed
-pub find-renew : (n : List ℕ) (f : Format) (es : List Entry) → found (find es n) ≡ true → find (renew n f es) n ≡ some f
+pub find-renew : (n : List ℕ) (f : Format) (es : List Entry) → isFound (find es n) ≡ true → find (renew n f es) n ≡ some f
 unfolding find renew
 find-renew n f [] h = absurd (false≢true h)
 find-renew n f (e ∷ es) h = go (sameBytes (e .name) n) refl h (find-renew n f es)
   where
-    go : (b : Bool) → sameBytes (e .name) n ≡ b → found (cond b (some (e .format)) (find es n)) ≡ true → (found (find es n) ≡ true → find (renew n f es) n ≡ some f)
+    go : (b : Bool) → sameBytes (e .name) n ≡ b → isFound (cond b (some (e .format)) (find es n)) ≡ true → (isFound (find es n) ≡ true → find (renew n f es) n ≡ some f)
         → find (cond b (record { name = e .name; format = f } ∷ es) (e ∷ renew n f es)) n ≡ some f
     go true q k ih = rw q refl
     go false q k ih = rw q (ih k)

@@ -1,4 +1,4 @@
--- Laws of what the functions that infer formats promise (specs/Turns.antt): a format that was made of a row, and the join of two formats by a local buffer.
+-- Laws of what the functions that infer formats promise (specs/Code/Turns.antt): a format that was made of a row, and the join of two formats by a local buffer.
 use Prim.Native.Nat.{ℕ, _+_, _*_, _-_, _≤_}
 use mathlib.Core.Bool.{Bool, true, false, cond, not}
 use mathlib.Core.List.{List, _++_, append-assoc}

@@ -22,7 +22,7 @@ use Rattle.law.specs.Reading.{forestRun, conditionsFrom, sentencesFrom, functio
 use Rattle.law.specs.Depth.{deepest, depthOf}
 use Rattle.law.specs.Variables.{variablesFrom, occurs, distinct, patternsAllowed}
 use Rattle.law.specs.Law.{lawOf}
-use Rattle.law.specs.Examples.{bytesOf, unusedTerm, listed}
+use Rattle.law.specs.Examples.{bytesOf, unusedTerm, exampleFile}
 use Rattle.shapes.specs.Leaf.{character, number, anySymbol}
 use Rattle.shapes.specs.Format.{item, of, size, isOpen}
 use Rattle.shapes.specs.Join.{joinRows}
@@ -145,14 +145,14 @@ before n = replicate n 7
 abbrev Calls : Type 0
 Calls =
     -- a store that is too short, by far and by one word
-    (callOutcome 64 listed (7 ∷ 8 ∷ []) ≡ record { answer = refused 15; store = 7 ∷ 8 ∷ [] })
-    × (callOutcome 1 listed (before 255) ≡ record { answer = refused 15; store = before 255 })
+    (callOutcome 64 exampleFile (7 ∷ 8 ∷ []) ≡ record { answer = refused 15; store = 7 ∷ 8 ∷ [] })
+    × (callOutcome 1 exampleFile (before 255) ≡ record { answer = refused 15; store = before 255 })
     -- a file that is refused comes first
     × (callOutcome 64 (unusedTerm 9) (7 ∷ 8 ∷ []) ≡ record { answer = refused 5; store = 7 ∷ 8 ∷ [] })
     -- over the limit on shapes: zeros, and the words past the store stay
-    × (callOutcome 0 listed (before 130) ≡ record { answer = refused 10; store = replicate 128 0 ++ before 2 })
+    × (callOutcome 0 exampleFile (before 130) ≡ record { answer = refused 10; store = replicate 128 0 ++ before 2 })
     -- `F { e.X = 'a'; s.A = <F 1>; } H { 'q' = <H 2>; }`, two words for a format: F's argument and result are [..], H's argument [C] and its result []
-    × (callOutcome 1 listed (before 258)
+    × (callOutcome 1 exampleFile (before 258)
     ≡ record {
       answer = given (record { rounds = 2; settled = true });
       store = (256 ∷ 0 ∷ 256 ∷ 0 ∷ 1 ∷ 0 ∷ 0 ∷ 0 ∷ []) ++ replicate 248 0 ++ before 2;

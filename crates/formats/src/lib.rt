@@ -28,7 +28,7 @@ pub enum Row {
     Ends(usize, bool),
 }
 
-// What the inference call answers. `answerOf` of specs/Call.antt gives document 01's number for each refusal.
+// What the inference call answers. `inferAnswer` of specs/Call.antt gives document 01's number for each refusal.
 pub enum Answered {
     Refused(Refusal),
     ShapesOver,

@@ -31,8 +31,8 @@ abbrev isText : Option Text → Bool
 isText none = false
 isText (some x) = true
 
-abbrev found : List Row → List Bool
-found rows = map (λ (r : Row). isText (phraseOf (r .0))) rows
+abbrev textsFound : List Row → List Bool
+textsFound rows = map (λ (r : Row). isText (phraseOf (r .0))) rows
 
 abbrev wanted : List Row → List Bool
 wanted rows = map (λ (r : Row). r .1) rows
@@ -150,7 +150,7 @@ deep = (nested 99 99, true) ∷ (nested 99 98, false) ∷ (nested 98 99, false) 
 abbrev corners : List Row
 corners = functions ++ conditions ++ calls ++ declarations ++ deep
 
-syntactic-corners : found corners ≡ wanted corners
+syntactic-corners : textsFound corners ≡ wanted corners
 unfolding
     bytesOf everyByte utf8 charactersBytes unclosed placed leading begins characterIn charactersTo indexAfter guess next lexFrom lex
     rowsFrom readText phrase phraseOf

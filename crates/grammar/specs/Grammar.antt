@@ -12,6 +12,7 @@
 --   atom       = identifier | number | variable | quoted
 --
 -- Patterns and results are both `Terms`; that a pattern holds no call is asked by `textAllowed`.
+-- docs/SPECIFICATION.md, 19.5.
 use Prim.Native.Nat.{ℕ}
 use mathlib.Core.List.{List, [], _∷_}
 use mathlib.Core.Bool.{Bool, true, false, _&&_}

@@ -19,7 +19,7 @@ pub enum Mode {
     ResultCall,
 }
 
-// What a token does: nothing that may be; on to a mode; on to a mode where nothing is open; it opens or closes a bracket (0) or a call (1).
+// What a token does: it is refused; on to a mode; on to a mode where nothing is open; it opens or closes a bracket (0) or a call (1).
 pub enum Move {
     Refuse,
     Stay(Mode),

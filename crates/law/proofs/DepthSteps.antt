@@ -25,7 +25,7 @@ use Rattle.law.specs.Depth.{deepest, deepestSentences, deepestConditions
 use Rattle.law.specs.Code.Index.{Readable, PartAt}
 use Rattle.law.proofs.RunLaws.{run-empty, run-node}
 use Rattle.law.proofs.Terms.{InsideAllowed}
-use Rattle.law.proofs.Functions.{functionsAt, functionAt, tree-functions, function-reads, functions-end, kept-reads}
+use Rattle.law.proofs.Functions.{functionsAt, tree-functions, function-reads, functions-end, kept-reads}
 use Rattle.law.proofs.Parts.{from, from-all, from-length, from-from, part-word}
 use Rattle.law.proofs.PartLaws.{part-length, part-inside, part-end, part-within, rest-part, part-leaf}
 

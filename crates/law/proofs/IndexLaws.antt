@@ -1,4 +1,4 @@
--- What the words of an index (specs/Index.antt) tell of the bytes that they index.
+-- What the words of an index (specs/Code/Index.antt) tell of the bytes that they index.
 use Prim.Native.Nat.{ℕ, suc, _+_, _*_, _-_, _≤_, _<_}
 use mathlib.Core.List.{List}
 use mathlib.Core.Path.{_≡_}

@@ -1,4 +1,4 @@
--- A part of the term records that is a run or the rest of one (`PartAt`, specs/Index.antt): its first record, its contents and its rest.
+-- A part of the term records that is a run or the rest of one (`PartAt`, specs/Code/Index.antt): its first record, its contents and its rest.
 use Prim.Native.Nat.{ℕ, zero, suc, _+_, _*_, _-_, _≤_, _<_}
 use mathlib.Core.List.{List}
 use mathlib.Core.Bool.{true}

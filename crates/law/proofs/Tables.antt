@@ -1,4 +1,4 @@
--- Laws of the index's tables (specs/Index.antt): how they are filled, that they do not overlap, and when they are the index of a file.
+-- Laws of the index's tables (specs/Code/Index.antt): how they are filled, that they do not overlap, and when they are the index of a file.
 use Prim.Native.Nat.{ℕ, _+_, _*_, _-_, _≤_, _<_}
 use mathlib.Core.List.{List, _++_}
 use mathlib.Core.Bool.{Bool, true, false, _&&_}

@@ -59,8 +59,8 @@ abbrev pub marked : ℕ → ℕ → ℕ → Mark
 marked at spanStart spanEnd = record { at = at; spanStart = spanStart; spanEnd = spanEnd }
 
 -- document 01's example of a listing
-abbrev pub listed : List ℕ
-listed =
+abbrev pub exampleFile : List ℕ
+exampleFile =
     fileBytes "F { e.X = 'a'; s.A = <F 1>; } H { 'q' = <H 2>; }"
     (functionWords 0 1 2 0 29
     ∷ functionWords 30 1 1 30 48
@@ -80,8 +80,8 @@ listed =
     ∷ termWords 2 43 1 0 43 44
     ∷ [])
 
-abbrev pub listedLaw : Law
-listedLaw =
+abbrev pub exampleLaw : Law
+exampleLaw =
     record {
       name = named 0 "F";
       sentences =
@@ -192,7 +192,7 @@ blockLaw inside =
 -- block is around its sentences
 pub meanings :
     (map lawOf
-    (listed
+    (exampleFile
     ∷ withBlock
     ∷ unusedTerm 0
     ∷ unusedTerm 9
@@ -200,7 +200,7 @@ pub meanings :
     ∷ nestedFile 33 []
     ∷ nestedFile 33 (termWords 0 97 0 0 0 0 ∷ [])
     ∷ [])
-    ≡ given listedLaw
+    ≡ given exampleLaw
     ∷ given withBlockLaw
     ∷ refused 6
     ∷ refused 5

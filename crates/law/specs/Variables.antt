@@ -11,7 +11,7 @@ use Rattle.file.specs.Below.{every}
 use Rattle.file.specs.Sections.{File}
 use Rattle.file.specs.Head.{termAt}
 use Rattle.file.specs.declared.Term as terms
-use Rattle.law.specs.Tree.{Kind, symbolKind, termKind, expressionKind, Run, empty, symbol, variable, bracket, call, block}
+use Rattle.law.specs.Tree.{Kind, symbolKind, termKind, expressionKind}
 use Rattle.law.specs.Places.{patternAt, patternSize}
 
 -- a variable: its kind and its folded index

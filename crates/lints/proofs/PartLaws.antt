@@ -1,4 +1,4 @@
--- Laws of a part of the term records as an argument (specs/Part.antt): what its first record adds to what the rest says, and that neither records'
+-- Laws of a part of the term records as an argument (specs/Code/Part.antt): what its first record adds to what the rest says, and that neither records'
 -- numbers nor blocks' sentences matter.
 use Prim.Native.Nat.{ℕ, zero, suc, _+_, _*_, _-_, _≤_, _<_}
 use mathlib.Core.Bool.{Bool, true, false, cond, _&&_}

@@ -15,7 +15,7 @@ use Rattle.lints.specs.Finding.{Failure, twoIntegersWanted, divisionByZe
 use Rattle.lints.specs.Calls.{Call, callee, sentenceCalls}
 
 -- ---- two integers: `ADD`, `SUB`, `MUL`, `DIV`, `MOD`, `DIVMOD`, `COMPARE`
--- "an integer operand is an optional sign symbol followed by one or more macrodigit literals"; the first operand is one macrodigit with its sign, the
+-- As the Rust says: "an integer operand is an optional sign symbol followed by one or more macrodigit literals"; the first operand is one macrodigit with its sign, the
 -- rest is the second. Nothing is decided where there is anything else.
 
 -- something before what was found, if anything was

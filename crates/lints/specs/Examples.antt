@@ -10,7 +10,7 @@ use Rattle.names.specs.Name.{everyByte, sameBytes, orderBytes}
 use Rattle.file.specs.Answer.{Answer, refused, given, mapAnswer}
 use Rattle.law.specs.Tree.{Run, empty, bracket, call, block, Sentences, noSentence, sentence, noCondition, condition, Function, Law}
 use Rattle.law.specs.Definition.{definition}
-use Rattle.law.specs.Examples.{bytesOf, named, marked, listedLaw, withBlockLaw}
+use Rattle.law.specs.Examples.{bytesOf, named, marked, exampleLaw, withBlockLaw}
 use Rattle.shapes.specs.Format.{size}
 use Rattle.shapes.specs.Join.{joinRows}
 use Rattle.shapes.specs.Disjoint.{disjointRows}
@@ -52,8 +52,8 @@ abbrev answered : Settings → Law → Answer (List ℕ × ℕ × Bool)
 answered s law = mapAnswer (λ (l : Listing). (listingWords s (l .findings), l .inferred .rounds, l .inferred .settled)) (listing 64 s law)
 
 -- lint, a and subject of each finding, strict
-abbrev found : Law → Answer (List (ℕ × ℕ × ℕ))
-found law =
+abbrev summaryOf : Law → Answer (List (ℕ × ℕ × ℕ))
+summaryOf law =
     mapAnswer
     (λ (l : Listing). map {B = ℕ × ℕ × ℕ} (λ (f : Finding). (lintNumber (lintOf (f .claim)), wordA (f .claim), f .subject .at)) (l .findings))
     (listing 64 strict law)
@@ -91,21 +91,21 @@ asking pattern argument = function "F" (plain 0 pattern empty noSentence) ∷ ca
 abbrev DocumentLaws : Type 0
 DocumentLaws =
     -- `F { e.X = 'a'; s.A = <F 1>; } H { 'q' = <H 2>; }`, as the listing program prints it
-    (answered strict listedLaw ≡ given (1 ∷ 1 ∷ 15 ∷ 26 ∷ 2 ∷ 1 ∷ 0 ∷ 1 ∷ 2 ∷ 1 ∷ 40 ∷ 45 ∷ 1 ∷ 0 ∷ 1 ∷ 6 ∷ [], 2, true))
+    (answered strict exampleLaw ≡ given (1 ∷ 1 ∷ 15 ∷ 26 ∷ 2 ∷ 1 ∷ 0 ∷ 1 ∷ 2 ∷ 1 ∷ 40 ∷ 45 ∷ 1 ∷ 0 ∷ 1 ∷ 6 ∷ [], 2, true))
     -- "No functions: no findings, 1 round, settled."
     × (answered strict [] ≡ given ([], 1, true))
     -- "`<Add 1>` and `<Div 1 '-' 0>` are findings; `<Add 1 2 3>` is not; `<Numb>` is."
-    × (found (calls-only "Add" (ones 1)) ≡ given ((3, 1, 0) ∷ []))
-    × (found (calls-only "Div" (digits "1" (text "-" (digits "0" empty)))) ≡ given ((3, 2, 0) ∷ []))
-    × (found (calls-only "Add" (digits "1" (digits "2" (digits "3" empty)))) ≡ given [])
-    × (found (calls-only "Numb" empty) ≡ given ((3, 3, 0) ∷ []))
+    × (summaryOf (calls-only "Add" (ones 1)) ≡ given ((3, 1, 0) ∷ []))
+    × (summaryOf (calls-only "Div" (digits "1" (text "-" (digits "0" empty)))) ≡ given ((3, 2, 0) ∷ []))
+    × (summaryOf (calls-only "Add" (digits "1" (digits "2" (digits "3" empty)))) ≡ given [])
+    × (summaryOf (calls-only "Numb" empty) ≡ given ((3, 3, 0) ∷ []))
 
 -- ---- lint 1
 
 abbrev DeadLaws : Type 0
 DeadLaws =
     -- the earliest that shadows: `F { 'a' = ; s.A = ; e.X, : = ; t.B = ; 'b' = ; e.Y = ; }`; the third has a condition, and nothing shadows the sixth
-    (found
+    (summaryOf
     (function "F"
     (plain 0 (text "a" empty) empty
     (plain 1 (sVariable "A" empty) empty
@@ -121,7 +121,7 @@ DeadLaws =
     ≡ given (1 ∷ 1 ∷ 0 ∷ 0 ∷ 2 ∷ 1 ∷ 1 ∷ 3 ∷ [], 2, true))
     -- the order: the function's own sentences, pattern, a condition's result and pattern, result; in these, calls' arguments and brackets; at a block
     -- its argument, its own sentences, then inside them
-    × (found
+    × (summaryOf
     (function "F"
     (sentence (marked 0 0 0) (deadBlock 2 empty empty)
     (condition (calling 0 "G" (deadBlock 4 empty empty) empty) (bracket (deadBlock 6 empty empty) empty) noCondition)
@@ -129,40 +129,40 @@ DeadLaws =
     (plain 1 (eVariable "X" empty) empty (plain 14 empty empty noSentence))) ∷ [])
     ≡ given ((1, 3, 14) ∷ (1, 2, 3) ∷ (1, 2, 5) ∷ (1, 2, 7) ∷ (1, 2, 11) ∷ (1, 2, 9) ∷ (1, 2, 13) ∷ []))
     -- an outer variable is free in a block: `F { s.A e.X = [e.X : s.A = 1; s.B = 2;]; }`, here with a condition
-    × (found withBlockLaw ≡ given ((1, 2, 2) ∷ []))
+    × (summaryOf withBlockLaw ≡ given ((1, 2, 2) ∷ []))
 
 -- ---- lint 2
 
 abbrev RecognitionLaws : Type 0
 RecognitionLaws =
     -- a literal argument that matches is no finding, else formats, else literals: `F { 'a' = ; }` with `'a'`, `1`, `'b'`
-    (found (asking (text "a" empty) (text "a" empty)) ≡ given [])
-    × (found (asking (text "a" empty) (digits "1" empty)) ≡ given ((2, 1, 0) ∷ []))
-    × (found (asking (text "a" empty) (text "b" empty)) ≡ given ((2, 2, 0) ∷ []))
+    (summaryOf (asking (text "a" empty) (text "a" empty)) ≡ given [])
+    × (summaryOf (asking (text "a" empty) (digits "1" empty)) ≡ given ((2, 1, 0) ∷ []))
+    × (summaryOf (asking (text "a" empty) (text "b" empty)) ≡ given ((2, 2, 0) ∷ []))
     -- every sentence is looked at: `F { 'a' = ; 'b' = ; } G { = <F 'b'>; }`
-    × (found (function "F" (plain 0 (text "a" empty) empty (plain 1 (text "b" empty) empty noSentence)) ∷ calls-only "F" (text "b" empty)) ≡ given [])
+    × (summaryOf (function "F" (plain 0 (text "a" empty) empty (plain 1 (text "b" empty) empty noSentence)) ∷ calls-only "F" (text "b" empty)) ≡ given [])
     -- brackets are literal: `F { ('a') = ; } G { = <F ('b')>; }`; a bracket is gone back into: `F { (e.A e.B) e.A = ; }` with `('x') 'x'`
-    × (found (asking (bracket (text "a" empty) empty) (bracket (text "b" empty) empty)) ≡ given ((2, 2, 0) ∷ []))
-    × (found (asking (bracket (eVariable "A" (eVariable "B" empty)) (eVariable "A" empty)) (bracket (text "x" empty) (text "x" empty)))
+    × (summaryOf (asking (bracket (text "a" empty) empty) (bracket (text "b" empty) empty)) ≡ given ((2, 2, 0) ∷ []))
+    × (summaryOf (asking (bracket (eVariable "A" (eVariable "B" empty)) (eVariable "A" empty)) (bracket (text "x" empty) (text "x" empty)))
     ≡ given ((4, 3, 0) ∷ []))
     -- numbers by text: `F { 007 = ; }` with `7`
-    × (found (asking (digits "007" empty) (digits "7" empty)) ≡ given ((2, 2, 0) ∷ []))
+    × (summaryOf (asking (digits "007" empty) (digits "7" empty)) ≡ given ((2, 2, 0) ∷ []))
     -- what is not literal: `s.X 'b'` is longer than `'a'`, `s.X` may match it
-    × (found (asking (text "a" empty) (sVariable "X" (text "b" empty))) ≡ given ((2, 1, 0) ∷ []))
-    × (found (asking (text "a" empty) (sVariable "X" empty)) ≡ given [])
+    × (summaryOf (asking (text "a" empty) (sVariable "X" (text "b" empty))) ≡ given ((2, 1, 0) ∷ []))
+    × (summaryOf (asking (text "a" empty) (sVariable "X" empty)) ≡ given [])
     -- a function that is not defined, and one without sentences
-    × (found (calls-only "F" (text "b" empty)) ≡ given [])
-    × (found (function "f_1" noSentence ∷ calls-only "F-1" (eVariable "X" empty)) ≡ given ((2, 1, 0) ∷ []))
+    × (summaryOf (calls-only "F" (text "b" empty)) ≡ given [])
+    × (summaryOf (function "f_1" noSentence ∷ calls-only "F-1" (eVariable "X" empty)) ≡ given ((2, 1, 0) ∷ []))
     -- conditions are not looked at: `F { 'a', : 'b' = ; } G { = <F 'a'>; }`
-    × (found
+    × (summaryOf
     (function "F" (sentence (marked 0 0 0) (text "a" empty) (condition empty (text "b" empty) noCondition) empty noSentence)
     ∷ calls-only "F" (text "a" empty))
     ≡ given [])
     -- a name defined twice: literal matching by the last, formats join: `F { 'a' = ; } F { 1 = ; }` with `'a'` and with `1`
-    × (found (function "F" (plain 0 (text "a" empty) empty noSentence) ∷ asking (digits "1" empty) (text "a" empty)) ≡ given ((2, 2, 0) ∷ []))
-    × (found (function "F" (plain 0 (text "a" empty) empty noSentence) ∷ asking (digits "1" empty) (digits "1" empty)) ≡ given [])
+    × (summaryOf (function "F" (plain 0 (text "a" empty) empty noSentence) ∷ asking (digits "1" empty) (text "a" empty)) ≡ given ((2, 2, 0) ∷ []))
+    × (summaryOf (function "F" (plain 0 (text "a" empty) empty noSentence) ∷ asking (digits "1" empty) (digits "1" empty)) ≡ given [])
     -- a call before its argument, in conditions' results and in blocks too, and not in patterns: `F { 'a' = 1; }`, and a function with calls everywhere
-    × (found
+    × (summaryOf
     (function "F" (plain 0 (text "a" empty) (ones 1) noSentence)
     ∷ function "G"
     (sentence (marked 1 0 0) (calling 0 "F" empty empty) (condition (calling 1 "F" empty empty) (calling 2 "F" empty empty) noCondition)
@@ -174,10 +174,10 @@ RecognitionLaws =
     ∷ [])
     ≡ given ((2, 1, 1) ∷ (2, 1, 3) ∷ (2, 1, 4) ∷ (2, 1, 6) ∷ (2, 1, 8) ∷ (2, 1, 9) ∷ (2, 1, 10) ∷ []))
     -- refusal 10 by an argument that is compared: 65 characters where `e.X` matches them, where `'b'` does not, and where the function is not defined
-    × (found (asking (eVariable "X" empty) (characters (replicate 65 97) empty)) ≡ given [])
-    × (found (asking (text "b" empty) (characters (replicate 65 97) empty)) ≡ refused 10)
-    × (found (asking (text "b" empty) (characters (replicate 64 97) empty)) ≡ given ((2, 1, 0) ∷ []))
-    × (found (calls-only "F" (characters (replicate 65 97) empty)) ≡ given [])
+    × (summaryOf (asking (eVariable "X" empty) (characters (replicate 65 97) empty)) ≡ given [])
+    × (summaryOf (asking (text "b" empty) (characters (replicate 65 97) empty)) ≡ refused 10)
+    × (summaryOf (asking (text "b" empty) (characters (replicate 64 97) empty)) ≡ given ((2, 1, 0) ∷ []))
+    × (summaryOf (calls-only "F" (characters (replicate 65 97) empty)) ≡ given [])
 
 -- ---- lint 3
 
@@ -222,7 +222,7 @@ BuiltinLaws =
     ∷ [])
     ≡ 1 ∷ 1 ∷ 1 ∷ 1 ∷ 1 ∷ 2 ∷ 2 ∷ 0 ∷ 0 ∷ 2 ∷ 0 ∷ 2 ∷ 0 ∷ 0 ∷ 0 ∷ 0 ∷ 0 ∷ 0 ∷ 3 ∷ 0 ∷ 0 ∷ 0 ∷ [])
     -- also where the law defines the name: `Add { e.X = ; } G { = <Add 1>; }`
-    × (found (function "ADD" (plain 0 (eVariable "X" empty) empty noSentence) ∷ calls-only "Add" (ones 1)) ≡ given ((3, 1, 0) ∷ []))
+    × (summaryOf (function "ADD" (plain 0 (eVariable "X" empty) empty noSentence) ∷ calls-only "Add" (ones 1)) ≡ given ((3, 1, 0) ∷ []))
 
 -- ---- lint 4
 
@@ -248,9 +248,9 @@ fourLints =
 
 abbrev OpenLaws : Type 0
 OpenLaws =
-    (found openLaw ≡ given ((4, 2, 0) ∷ (4, 3, 3) ∷ []))
+    (summaryOf openLaw ≡ given ((4, 2, 0) ∷ (4, 3, 3) ∷ []))
     -- lint by lint, in the order of their numbers
-    × (found fourLints ≡ given ((1, 2, 1) ∷ (2, 1, 1) ∷ (3, 1, 0) ∷ (4, 2, 1) ∷ []))
+    × (summaryOf fourLints ≡ given ((1, 2, 1) ∷ (2, 1, 1) ∷ (3, 1, 0) ∷ (4, 2, 1) ∷ []))
 
 -- ---- levels and mode
 
@@ -296,7 +296,7 @@ LevelLaws =
 
 abbrev TextLaws : Type 0
 TextLaws =
-    (texts listedLaw
+    (texts exampleLaw
     ≡ given
     (bytesOf "sentence 2 of `F` is unreachable: sentence 1 has no conditions and already matches every argument this one matches"
     ∷ bytesOf "`<H ...>` always fails: `H` accepts [C], but this call passes [N]"

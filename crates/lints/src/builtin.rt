@@ -13,7 +13,7 @@ ghost use Rattle.names.specs.Name.{folded, digitByte, everyByte};
 ghost use Rattle.lints.specs.Builtin.{macrodigits, allZero, secondFails, firstFails, integersFail, charactersOf, digitsFail, builtins, domainIn, failure};
 ghost use Rattle.lints.specs.Code.Part.{argumentOf, failureIn, domainFrom, signOperand, numberOperand, symbolOperand, operandOf, SignTaken, decidedBy, allOf, both, zeroOf, symbolDigit, digitOf};
 
-// Why a call fails, if that is certain. `failureIn` of specs/Part.antt gives the failure.
+// Why a call fails, if that is certain. `failureIn` of specs/Code/Part.antt gives the failure.
 pub enum Fails {
     No,
     TwoIntegersWanted,

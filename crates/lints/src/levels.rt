@@ -6,7 +6,7 @@ ghost use Rattle.lints.specs.Lint.{Lint, lintNumber, ownSeverity};
 ghost use Rattle.lints.specs.Levels.{overrideFrom, settingsFrom, overridesAllowed, settingsAllowed, overrideOf, severityOf, isShown};
 ghost use Rattle.lints.specs.Code.Overrides.{overrideAllowed, levelFrom, shownItself};
 
-// What the overrides say of a lint: nothing, or its severity. `levelFrom` of specs/Overrides.antt gives the severity.
+// What the overrides say of a lint: nothing, or its severity. `levelFrom` of specs/Code/Overrides.antt gives the severity.
 enum Level {
     Unsaid,
     Severity(u32),

@@ -1,7 +1,7 @@
 -- What collecting all lints comes to is what the listing says.
 use Prim.Native.Nat.{ℕ, _*_, _≤_, _<_}
 use mathlib.Core.Bool.{Bool, true, false}
-use mathlib.Core.List.{List, [], _∷_, map}
+use mathlib.Core.List.{List, map}
 use mathlib.Core.Logic.{_⊎_, inl, inr}
 use mathlib.Core.Path.{_≡_, refl, ap, _∙_}
 use native.Mathlib.Omega.{arith}
@@ -9,10 +9,10 @@ use native.Mathlib.Nat.{zero-add}
 use lib.ListN.{length}
 use Rattle.file.specs.Answer.{refused, given}
 use Rattle.law.specs.Tree.{Law}
-use Rattle.formats.specs.Infer.{Entry, Inferred, infer}
+use Rattle.formats.specs.Infer.{Inferred, infer}
 use Rattle.buffers.specs.Written.{written}
 use Rattle.lints.specs.Finding.{Finding, findingWords}
-use Rattle.lints.specs.Recognition.{judged, recognitionRemarks, recognitionFindings, someOver, argumentsOver}
+use Rattle.lints.specs.Recognition.{argumentsOver}
 use Rattle.lints.specs.Levels.{Settings, shown, listingWords}
 use Rattle.lints.specs.Findings.{findingsOf, formatsOf, listing}
 use Rattle.findings.specs.Code.Events.{Over, Full, Upto, Sink, sinkOf, collect}

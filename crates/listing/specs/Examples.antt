@@ -22,7 +22,7 @@ use Rattle.law.specs.Reading.{forestRun, conditionsFrom, sentencesFrom, functio
 use Rattle.law.specs.Depth.{deepest, depthOf}
 use Rattle.law.specs.Variables.{distinct, occurs, variablesFrom, patternsAllowed}
 use Rattle.law.specs.Law.{lawOf}
-use Rattle.law.specs.Examples.{listed, fileBytes, functionWords, sentenceWords, termWords}
+use Rattle.law.specs.Examples.{exampleFile, fileBytes, functionWords, sentenceWords, termWords}
 use Rattle.shapes.specs.Format.{size}
 use Rattle.shapes.specs.Join.{joinRows}
 use Rattle.shapes.specs.Disjoint.{disjointRows}
@@ -72,15 +72,15 @@ short = replicate 255 7
 -- document 01's example, strict: two findings, two rounds, settled; of 17 words the last is kept
 abbrev pub FindingsCalls : Type 0
 FindingsCalls =
-    (findingsOutcome 1 (settingsFrom 1 []) listed lent (replicate 17 9) .answer ≡ given (record { findings = 2; rounds = 2; settled = true }))
-    × (findingsOutcome 1 (settingsFrom 1 []) listed lent (replicate 17 9) .findings
+    (findingsOutcome 1 (settingsFrom 1 []) exampleFile lent (replicate 17 9) .answer ≡ given (record { findings = 2; rounds = 2; settled = true }))
+    × (findingsOutcome 1 (settingsFrom 1 []) exampleFile lent (replicate 17 9) .findings
     ≡ 1 ∷ 1 ∷ 15 ∷ 26 ∷ 2 ∷ 1 ∷ 0 ∷ 1 ∷ 2 ∷ 1 ∷ 40 ∷ 45 ∷ 1 ∷ 0 ∷ 1 ∷ 6 ∷ 9 ∷ [])
     -- one word short: 11, and the store is filled
-    × (findingsOutcome 1 (settingsFrom 1 []) listed lent (replicate 15 9) .answer ≡ refused 11)
-    × (findingsOutcome 1 (settingsFrom 1 []) listed lent (replicate 15 9) .findings ≡ replicate 15 9)
-    × (findingsOutcome 1 (settingsFrom 1 []) listed lent (replicate 15 9) .store ≡ findingsOutcome 1 (settingsFrom 1 []) listed lent (replicate 17 9) .store)
+    × (findingsOutcome 1 (settingsFrom 1 []) exampleFile lent (replicate 15 9) .answer ≡ refused 11)
+    × (findingsOutcome 1 (settingsFrom 1 []) exampleFile lent (replicate 15 9) .findings ≡ replicate 15 9)
+    × (findingsOutcome 1 (settingsFrom 1 []) exampleFile lent (replicate 15 9) .store ≡ findingsOutcome 1 (settingsFrom 1 []) exampleFile lent (replicate 17 9) .store)
     -- lint 1 hidden by an override of 3, lint 2 given the severity 2
-    × (findingsOutcome 1 (settingsFrom 1 (259 ∷ 514 ∷ [])) listed lent (replicate 8 9) .findings ≡ 2 ∷ 2 ∷ 40 ∷ 45 ∷ 1 ∷ 0 ∷ 1 ∷ 6 ∷ [])
+    × (findingsOutcome 1 (settingsFrom 1 (259 ∷ 514 ∷ [])) exampleFile lent (replicate 8 9) .findings ≡ 2 ∷ 2 ∷ 40 ∷ 45 ∷ 1 ∷ 0 ∷ 1 ∷ 6 ∷ [])
     -- no functions: no findings, one round, settled
     × (findingsOutcome 1 (settingsFrom 0 []) noFunctions lent (9 ∷ [])
     ≡ record {
@@ -94,17 +94,17 @@ abbrev pub Refusals : Type 0
 Refusals =
     (findingsOutcome 1 (settingsFrom 2 []) [] short [] ≡ record { answer = refused 14; store = short; findings = [] })
     × (findingsOutcome 1 (settingsFrom 1 []) [] short [] ≡ record { answer = refused 2; store = short; findings = [] })
-    × (findingsOutcome 1 (settingsFrom 1 []) listed short [] ≡ record { answer = refused 15; store = short; findings = [] })
-    × (findingsOutcome 0 (settingsFrom 1 (515 ∷ [])) listed lent (9 ∷ []) ≡ record { answer = refused 10; store = replicate 128 0 ++ replicate 129 7; findings = 9 ∷ [] })
+    × (findingsOutcome 1 (settingsFrom 1 []) exampleFile short [] ≡ record { answer = refused 15; store = short; findings = [] })
+    × (findingsOutcome 0 (settingsFrom 1 (515 ∷ [])) exampleFile lent (9 ∷ []) ≡ record { answer = refused 10; store = replicate 128 0 ++ replicate 129 7; findings = 9 ∷ [] })
 
 abbrev pub TextCalls : Type 0
 TextCalls =
-    (textOutcome 1 (settingsFrom 1 []) listed lent 1 (replicate 66 9) .answer ≡ given 65)
-    × (textOutcome 1 (settingsFrom 1 []) listed lent 1 (replicate 66 9) .text
+    (textOutcome 1 (settingsFrom 1 []) exampleFile lent 1 (replicate 66 9) .answer ≡ given 65)
+    × (textOutcome 1 (settingsFrom 1 []) exampleFile lent 1 (replicate 66 9) .text
     ≡ bytesOf "`<H ...>` always fails: `H` accepts [C], but this call passes [N]" ++ 9 ∷ [])
-    × (textOutcome 1 (settingsFrom 1 []) listed lent 2 [] .answer ≡ refused 12)
-    × (textOutcome 1 (settingsFrom 1 []) listed lent 1 (replicate 64 9) .answer ≡ refused 13)
-    × (textOutcome 1 (settingsFrom 1 []) listed lent 1 (replicate 64 9) .text ≡ replicate 64 9)
+    × (textOutcome 1 (settingsFrom 1 []) exampleFile lent 2 [] .answer ≡ refused 12)
+    × (textOutcome 1 (settingsFrom 1 []) exampleFile lent 1 (replicate 64 9) .answer ≡ refused 13)
+    × (textOutcome 1 (settingsFrom 1 []) exampleFile lent 1 (replicate 64 9) .text ≡ replicate 64 9)
     -- a text that fits exactly and ends in a digit, and a buffer that is one byte short
     × (textOutcome 1 (settingsFrom 1 []) twoOpen lent 0 (replicate (length power) 9) .answer ≡ given (length power))
     × (textOutcome 1 (settingsFrom 1 []) twoOpen lent 0 (replicate (length power) 9) .text ≡ power)

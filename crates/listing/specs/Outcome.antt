@@ -72,7 +72,7 @@ pub record FindingsOutcome : Type 0 where
   pub store : List ℕ
   pub findings : List ℕ
 
--- 11, "they do not fit": they fit where 8 × count is at most the lent words (docs/DECISIONS.md); "words past the last finding [..] keep their values"
+-- 11, "they do not fit": they fit where 8 × count is at most the lent words (docs/SPECIFICATION.md, 12.3); "words past the last finding [..] keep their values"
 abbrev pub listed : Settings → List ℕ → Listing → Answer Count × List ℕ
 listed settings words l =
     cond (leb (8 * length (l .findings)) (length words)) (

@@ -21,7 +21,7 @@ use Rattle.encoding.specs.Encode.{sentencesOf, encode}
 use Rattle.encoding.specs.TextTree.{treeOfText}
 use Rattle.encoding.specs.LawOfText.{allOf, countOver, spellingsShort, fewVariables, lawOfText}
 use Rattle.encoding.proofs.EncodedLaw.{encoded-law, encoded-tree}
-use Rattle.reader.specs.Outcome.{phraseFile, textFile, readBy, readOutcome}
+use Rattle.reader.specs.Outcome.{textFile, readBy, readOutcome}
 use Rattle.bilzarko.specs.Exported.{ReadExit, readExit}
 use Rattle.loader.specs.Rows.{After, returned}
 use Rattle.loader.specs.Typed.{Phrased, Typed}

@@ -1,5 +1,5 @@
 -- What a loader relies on: the findings call's answer, every lent word after it, and demand 3 in terms of a run.
--- docs/SPECIFICATION.md, 12.3 to 12.5, 13.1, 16.4.
+-- docs/SPECIFICATION.md, 12.3 to 12.5, 13.1, 16.3, 16.4.
 use Prim.Native.Nat.{ℕ, _+_, _*_, _≤_, _<_}
 use mathlib.Core.Bool.{true, cond}
 use mathlib.Core.List.{List, [], _∷_, _++_, List·Memᴰ}

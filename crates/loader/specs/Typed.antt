@@ -1,6 +1,7 @@
 -- What an editor relies on when a law is typed: the reading call's answer, and every lent byte after it, by the grammar alone and by no reader.
 -- Document 02, R-1: "It refuses with 4 a text over 4,096 bytes, with 16 one outside the grammar, then with 1, 4, 5, 8 or 9 in document 01's order, then with 17 an
 -- output buffer too short."
+-- docs/SPECIFICATION.md, 19.8 to 19.10.
 use Prim.Native.Nat.{ℕ, _≤_, _<_}
 use mathlib.Core.List.{List, [], _∷_, _++_}
 use mathlib.Core.Path.{_≡_}

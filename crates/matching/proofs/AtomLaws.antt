@@ -1,4 +1,4 @@
--- The first records of two parts as atoms (specs/Part.antt): whether they are the same, word by word.
+-- The first records of two parts as atoms (specs/Code/Part.antt): whether they are the same, word by word.
 use Prim.Native.Nat.{ℕ, zero, suc, _+_, _-_, _≤_, _<_, min}
 use mathlib.Core.Bool.{Bool, true, false}
 use mathlib.Core.List.{List}

@@ -1,4 +1,4 @@
--- What `Bindings` means (specs/Bound.antt) when one variable more has a value, and the place of a variable's value.
+-- What `Bindings` means (specs/Code/Bound.antt) when one variable more has a value, and the place of a variable's value.
 use Prim.Native.Nat.{ℕ, zero, suc, _+_, _-_, _≤_, _<_}
 use mathlib.Core.Bool.{Bool, true, false, cond}
 use mathlib.Core.List.{List}

@@ -1,4 +1,4 @@
--- The symbols and the variables with a value that a pattern begins with (`KnownFront` of specs/Step.antt): what `known_front` has gone through.
+-- The symbols and the variables with a value that a pattern begins with (`KnownFront` of specs/Code/Step.antt): what `known_front` has gone through.
 use Prim.Native.Nat.{ℕ, _+_, _-_, _≤_, _<_}
 use mathlib.Core.Bool.{Bool, false}
 use mathlib.Core.List.{List, []}

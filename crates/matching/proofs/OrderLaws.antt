@@ -14,7 +14,7 @@ use Rattle.law.specs.Symbol.{Symbol, literalOf}
 use Rattle.matching.specs.Pattern.{literal, variable, other, Pattern, sameLiteral}
 use Rattle.matching.specs.Match.{Values, bound, when, each, all-or-first, valueIn, splits, noted, sameTerms, after, choices, matches, anyLiteral, runMatches}
 use Rattle.matching.specs.Fill.{Plain, Agrees, runFilled, RunKinded}
-use Rattle.matching.specs.Order.{variablesIn, termsIn, Shorter, Before, InOrder}
+use Rattle.matching.specs.Order.{variablesIn, termsIn, Before, InOrder}
 use Rattle.matching.proofs.SameLaws.{variable-sound, literal-refl}
 use Rattle.matching.proofs.SearchLaws.{in-when, in-all-or-first, in-each, in-map, bound-own, match-complete}
 

@@ -1,4 +1,4 @@
--- Parts of the term records as rows (specs/Part.antt): the first record with its contents and the rest.
+-- Parts of the term records as rows (specs/Code/Part.antt): the first record with its contents and the rest.
 use Prim.Native.Nat.{ℕ, _+_, _≤_, _<_}
 use mathlib.Core.List.{List}
 use mathlib.Core.Path.{_≡_, refl}

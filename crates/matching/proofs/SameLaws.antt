@@ -1,7 +1,7 @@
 -- What the tests of symbols, variables and rows say is the same is equal, and what is equal they say is the same. Calls and blocks are not the same
 -- as themselves, so atoms have only the first half.
 use Prim.Native.Nat.{ℕ}
-use mathlib.Core.Bool.{Bool, true, false, _&&_}
+use mathlib.Core.Bool.{Bool, true, false}
 use mathlib.Core.Path.{_≡_, refl, ap, ap₂}
 use native.Mathlib.Omega.{arith}
 use lib.Dec.{T}

@@ -1,4 +1,4 @@
--- What the first record of a pattern leaves of the search (`Leaves`, specs/Step.antt), for each kind of record and each return of the code.
+-- What the first record of a pattern leaves of the search (`Leaves`, specs/Code/Step.antt), for each kind of record and each return of the code.
 use Prim.Native.Nat.{ℕ, zero, suc, _+_, _*_, _-_, _≤_, _<_, min}
 use mathlib.Core.Bool.{Bool, true, false}
 use mathlib.Core.List.{List, [], _∷_, append-nil}

@@ -46,11 +46,11 @@ shadowed q = shadows (patternOf (q .0)) (patternOf (q .1))
 abbrev pub literally : Pair → Bool
 literally q = isLiteral (q .1) && literalMatches (patternOf (q .0)) (literalTerms (q .1))
 
-abbrev pub found : Pair → List (Values Literal)
-found q = runMatches (patternOf (q .0)) (expressionOf (literalTerms (q .1))) none-bound
+abbrev pub matchesOf : Pair → List (Values Literal)
+matchesOf q = runMatches (patternOf (q .0)) (expressionOf (literalTerms (q .1))) none-bound
 
 abbrev pub inRun : Pair → Bool
-inRun q = some-in (found q)
+inRun q = some-in (matchesOf q)
 
 -- shadowing, literal matching, matching in a run
 abbrev pub allThree : Pair → Bool × Bool × Bool
@@ -76,7 +76,7 @@ match-examples :
     ∷ (false, false, true)
     ∷ [])
     -- the matches of `e.1 e.2` with `'a' 'b'`, in order
-    × (found (eVariable "1" (eVariable "2" empty), text "ab" empty)
+    × (matchesOf (eVariable "1" (eVariable "2" empty), text "ab" empty)
     ≡ valued "2" "ab" (valued "1" "" none-bound)
     ∷ valued "2" "b" (valued "1" "a" none-bound)
     ∷ valued "2" "" (valued "1" "ab" none-bound)

@@ -19,7 +19,7 @@ use Rattle.law.specs.Reading.{functionName, treeOf}
 use Rattle.law.specs.Definition.{definition}
 use Rattle.law.specs.Code.Index.{Readable}
 use Rattle.law.proofs.Functions.{functionAt, functionsAt, tree-functions, functions-end, function-reads}
-use Rattle.shapes.specs.Format.{of, size}
+use Rattle.shapes.specs.Format.{size}
 use Rattle.matching.specs.Pattern.{patternOf}
 use Rattle.matching.specs.Match.{when, each}
 use Rattle.sentences.specs.Entry.{argumentPart, argumentIn}

@@ -50,6 +50,11 @@ pub examples :
     -- outside the grammar, before the buffer is looked at
     × (readOutcome (bytesOf "F { }") [] ≡ unread 16 0)
     × (readOutcome (bytesOf "/*") (lent 3) ≡ unread 16 3)
+    -- and before all that is asked of a file: 700 terms, 513 terms, a name of 65 bytes, 33 brackets in each other
+    × (readOutcome (bytesOf "F{'" ++ replicate 700 97 ++ bytesOf "'=") [] ≡ unread 16 0)
+    × (readOutcome (bytesOf "F{'" ++ replicate 513 97 ++ bytesOf "'=") [] ≡ unread 16 0)
+    × (readOutcome (replicate 65 65 ++ bytesOf "{=") [] ≡ unread 16 0)
+    × (readOutcome (bytesOf "F{" ++ replicate 33 40 ++ bytesOf "a" ++ replicate 33 41 ++ bytesOf "=") [] ≡ unread 16 0)
     -- a name of 65 bytes, before the buffer is looked at
     × (readOutcome (replicate 65 65 ++ bytesOf "{=}") [] ≡ unread 5 0)
     -- 4,097 blanks
@@ -62,4 +67,4 @@ unfolding
     decode forestOf endOf termAt termFrom treeOf functionsFrom sentencesFrom conditionsFrom forestRun keep skip deepest depthOf
     utf8 charactersBytes unclosed placed leading begins characterIn charactersTo indexAfter guess next lexFrom lex rowsFrom readText phrase phraseOf
     characterRecords termRecords conditionRecords conditionTerms encode written textFile readBy readOutcome
-examples = (refl, refl, refl, refl, refl, refl, refl, refl, refl)
+examples = (refl, refl, refl, refl, refl, refl, refl, refl, refl, refl, refl, refl, refl)

@@ -1,5 +1,6 @@
 -- What the call that reads a text answers, and every byte of the lent buffer after it. Document 02, R-1: "It refuses with 4 a text over 4,096 bytes, with 16 one
 -- outside the grammar, then with 1, 4, 5, 8 or 9 in document 01's order, then with 17 an output buffer too short."
+-- docs/SPECIFICATION.md, 19.8, 19.9.
 use Prim.Native.Nat.{ℕ}
 use mathlib.Core.Bool.{cond}
 use mathlib.Core.List.{List}

@@ -48,7 +48,7 @@ pub fn unread_number(why: Unread) -> u32
     }
 }
 
-// A file put at the start of a buffer that has room for it.
+// Puts a file at the start of a buffer; refused where the buffer is too short.
 fn deliver(file: &[u8], law: &mut [u8]) -> Reading
     requires { ⌜ length (now file) ≤ 16384 ⌝ }
     ensures { λ r. ⌜ readAfter r (now (law .exit)) ≡ readBy (now (law .entry)) (given (now (file .entry))) ⌝ }
@@ -60,7 +60,7 @@ fn deliver(file: &[u8], law: &mut [u8]) -> Reading
     Reading::Written(end)
 }
 
-// The same of a file that is a law.
+// The same, once the file is found to be a law.
 fn deliver_law(file: &[u8], law: &mut [u8]) -> Reading
     requires { ⌜ length (now file) ≤ 16384 ⌝ }
     ensures { λ r. ⌜ readAfter r (now (law .exit)) ≡ readBy (now (law .entry)) (lawFile (now (file .entry))) ⌝ }

@@ -1,6 +1,6 @@
 -- Runs through conditions, by computation. Document 01, "A run of a law".
 -- docs/SPECIFICATION.md, 15.4 to 15.8.
-use mathlib.Core.List.{List, [], _∷_}
+use mathlib.Core.List.{[], _∷_}
 use mathlib.Core.Path.{_≡_, refl}
 use Rattle.names.specs.Name.{sameBytes}
 use Rattle.law.specs.Tree.{symbolKind, expressionKind, Run, empty, block, Sentences, noSentence, sentence, Conditions, noCondition, condition, Law}
@@ -12,7 +12,7 @@ use Rattle.matching.specs.Match.{none-bound, bound, valueIn, splits, sameTerms,
 use Rattle.matching.specs.Literal.{literalTerms, changed}
 use Rattle.matching.specs.Examples.{characters, text, sVariable, eVariable}
 use Rattle.runs.specs.Machine.{Env, sentences, ways, Stack, over, inPlace, inCondition}
-use Rattle.runs.specs.Machine.{State, working, called, entered, trying, chosen, finished, stopped, give, answered, step, steps, run}
+use Rattle.runs.specs.Machine.{working, called, entered, trying, chosen, finished, stopped, give, answered, step, steps, run}
 use Rattle.runs.specs.Examples.{said, function, plain, calling, runF}
 
 -- ---- two conditions, and several matches of a condition's pattern

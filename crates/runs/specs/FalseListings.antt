@@ -9,7 +9,7 @@ use mathlib.Core.Logic.{inl, inr}
 use mathlib.Core.Path.{refl}
 use native.Mathlib.Omega.{arith}
 use Rattle.names.specs.Name.{sameBytes}
-use Rattle.law.specs.Tree.{Run, empty, bracket, block, Sentences, noSentence, sentence, noCondition, condition, Function, Law}
+use Rattle.law.specs.Tree.{Run, empty, bracket, block, noSentence, sentence, noCondition, condition, Function, Law}
 use Rattle.law.specs.Definition.{definition}
 use Rattle.law.specs.Expression.{nothing}
 use Rattle.law.specs.Examples.{bytesOf, marked}

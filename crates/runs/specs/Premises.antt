@@ -26,7 +26,7 @@ use Rattle.law.specs.Reading.{forestRun, conditionsFrom, sentencesFrom, functio
 use Rattle.law.specs.Depth.{deepest, depthOf}
 use Rattle.law.specs.Variables.{variablesFrom, occurs, distinct, patternsAllowed}
 use Rattle.law.specs.Law.{lawOf}
-use Rattle.law.specs.Examples.{listed, listedLaw, withBlock, withBlockLaw, bytesOf, named, marked, fileBytes, functionWords, sentenceWords, termWords}
+use Rattle.law.specs.Examples.{exampleFile, exampleLaw, withBlock, withBlockLaw, bytesOf, named, marked, fileBytes, functionWords, sentenceWords, termWords}
 use Rattle.shapes.specs.Format.{size}
 use Rattle.shapes.specs.Join.{joinRows}
 use Rattle.shapes.specs.Disjoint.{disjointRows}
@@ -167,7 +167,7 @@ abbrev unsettledWords : List ℕ
 unsettledWords = 2 ∷ 1 ∷ 98 ∷ 114 ∷ 1 ∷ 0 ∷ 1 ∷ 26 ∷ []
 
 pub files-read :
-    (readOf listed ≡ given (record { law = listedLaw; settled = true; plain = true; words = listedWords }))
+    (readOf exampleFile ≡ given (record { law = exampleLaw; settled = true; plain = true; words = listedWords }))
     × (readOf withBlock ≡ given (record { law = withBlockLaw; settled = true; plain = true; words = blockWords }))
     × (readOf zeros ≡ given (record { law = zerosLaw; settled = true; plain = false; words = zerosWords }))
     × (readOf unsettled ≡ given (record { law = unsettledLaw; settled = false; plain = true; words = unsettledWords }))
@@ -210,8 +210,8 @@ valued n = expression.Terms.symbol (expression.Literal.number n) nothing
 
 -- in document 01's example `<H 2>`, record 6, is listed: it is reached, and ends the run
 pub listed-reached :
-    (run listedLaw (functionAt listedLaw 1) (said "q") [] 6 ≡ called 6 (bytesOf "H") (valued 2) (inPlace nothing empty none-bound over) [])
-    × (run listedLaw (functionAt listedLaw 1) (said "q") [] 10 ≡ stopped)
+    (run exampleLaw (functionAt exampleLaw 1) (said "q") [] 6 ≡ called 6 (bytesOf "H") (valued 2) (inPlace nothing empty none-bound over) [])
+    × (run exampleLaw (functionAt exampleLaw 1) (said "q") [] 10 ≡ stopped)
 unfolding
     bytesOf characters sameBytes patternOf literalTerms changed valueIn splits sameTerms after choices matches
     definition give answered step steps run

@@ -1,7 +1,7 @@
 -- Runs through every kind of term in a result, through blocks in blocks, and through calls whose function has variables of the caller's names, by
 -- computation. Document 01, "A run of a law".
 -- docs/SPECIFICATION.md, 15.4, 15.5.
-use mathlib.Core.List.{List, [], _∷_}
+use mathlib.Core.List.{[], _∷_}
 use mathlib.Core.Path.{_≡_, refl}
 use Rattle.names.specs.Name.{sameBytes}
 use Rattle.law.specs.Tree.{Run, empty, bracket, block, noSentence, Law}

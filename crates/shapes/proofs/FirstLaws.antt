@@ -1,4 +1,4 @@
--- Laws of the first shapes of two rows (specs/First.antt): both rows are split at them, and a law for each return of the code that goes through both rows.
+-- Laws of the first shapes of two rows (specs/Code/First.antt): both rows are split at them, and a law for each return of the code that goes through both rows.
 use Prim.Native.Nat.{ℕ, _+_, _-_, _≤_, _<_}
 use mathlib.Core.Bool.{Bool, true, false, not, _||_}
 use mathlib.Core.List.{List, _++_, append-nil}

@@ -31,15 +31,15 @@ shownAnswer (At next) = given next
 shownAnswer NoRoom = refused 13
 
 -- what is answered, and the buffer after it
-pub record TextOutcome : Type 0 where
+pub record ShownOutcome : Type 0 where
   pub answer : Answer ℕ
   pub buffer : List ℕ
 
-abbrev pub shownOutcome : Shown → List ℕ → TextOutcome
+abbrev pub shownOutcome : Shown → List ℕ → ShownOutcome
 shownOutcome r bytes = record { answer = shownAnswer r; buffer = bytes }
 
 -- a text at a position of a buffer: all of it is written; where there is no room for all of it the buffer stays as it is
-abbrev pub textAt : List ℕ → ℕ → List ℕ → TextOutcome
+abbrev pub textAt : List ℕ → ℕ → List ℕ → ShownOutcome
 textAt buffer at text =
     cond (leb (at + length text) (length buffer))
     (record { answer = given (at + length text); buffer = written buffer at text })

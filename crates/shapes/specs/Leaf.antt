@@ -1,6 +1,6 @@
 -- The shapes of single terms that are no brackets of a format. Document 01, "Formats": "Shapes: character, number, identifier, symbol (all three), bracket of a
 -- format, unknown." What they hold, how they join, when they share nothing or are the same, their store words and how they are displayed stand here.
--- docs/SPECIFICATION.md, 3.1, 3.5, 3.6, 5.2, 6.1.
+-- docs/SPECIFICATION.md, 3.1, 3.5, 3.6, 4.2, 5.2, 6.1.
 use Prim.Native.Nat.{ℕ}
 use mathlib.Core.Bool.{Bool, true, false}
 use mathlib.Core.List.{[], _∷_}

@@ -54,8 +54,8 @@ abbrev tokensIn : Option (List Piece) → Option (List Token)
 tokensIn none = none
 tokensIn (some ps) = some (map (λ (p : Placed). p .what) (placed 0 ps))
 
-abbrev found : List Row → List (Option (List Token))
-found rows = map (λ (r : Row). tokensIn (lex (r .0))) rows
+abbrev tokensFound : List Row → List (Option (List Token))
+tokensFound rows = map (λ (r : Row). tokensIn (lex (r .0))) rows
 
 abbrev wanted : List Row → List (Option (List Token))
 wanted rows = map (λ (r : Row). r .1) rows
@@ -99,6 +99,7 @@ atoms =
     -- no token is limited in length
     ∷ bytes (replicate 65 65) (atom (identifier (replicate 65 65)) ∷ [])
     ∷ bytes (replicate 65 55) (atom (number (replicate 65 55)) ∷ [])
+    ∷ bytes (115 ∷ 46 ∷ replicate 65 65) (atom (variable symbolKind (replicate 65 65)) ∷ [])
     ∷ []
 
 -- ---- signs
@@ -215,6 +216,6 @@ characters =
 abbrev corners : List Row
 corners = longest ++ atoms ++ signs ++ blanks ++ quotes ++ characters
 
-lexical-corners : found corners ≡ wanted corners
+lexical-corners : tokensFound corners ≡ wanted corners
 unfolding bytesOf everyByte utf8 charactersBytes unclosed placed leading begins characterIn charactersTo indexAfter guess next lexFrom lex
 lexical-corners = refl

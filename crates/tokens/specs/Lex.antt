@@ -1,5 +1,6 @@
 -- A lexer: at each place a piece is guessed by its first bytes, and taken if it is allowed and the bytes begin with it. What it takes is `Lexed`, and the only such
 -- reading: `found-lexed`, `lexed-found` and `lexed-once` of proofs/Lexing.antt.
+-- docs/SPECIFICATION.md, 19.4.
 use Prim.Native.Nat.{ℕ, zero, suc, _+_, _*_, _-_}
 use mathlib.Core.List.{List, [], _∷_}
 use mathlib.Core.Bool.{Bool, true, false, cond, _&&_}

@@ -14,6 +14,7 @@
 --
 -- Whatever is more than ASCII stands in quotes and comments, and these hold characters, given by their scalar values. So no clause is needed for bytes that are not
 -- UTF-8: no character has an overlong form, a surrogate's or one past 0x10FFFF.
+-- docs/SPECIFICATION.md, 19.1 to 19.4.
 use Prim.Native.Nat.{ℕ, _+_, _/_, _%_, _≤_}
 use mathlib.Core.List.{List, [], _∷_, _++_}
 use mathlib.Core.Bool.{Bool, true, false, cond, not, _&&_}

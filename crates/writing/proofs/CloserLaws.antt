@@ -1,7 +1,7 @@
 -- Laws for the arrays of closing signs and of numbers of records.
 use Prim.Native.Nat.{ℕ, zero, suc, _+_, _-_, _≤_, _<_}
 use mathlib.Core.List.{List, [], _∷_}
-use mathlib.Core.Bool.{Bool, true, false, cond, _||_, true≢false, false≢true}
+use mathlib.Core.Bool.{Bool, true, false, cond}
 use mathlib.Core.Path.{_≡_, refl, sym, ap, _∙_}
 use native.Mathlib.Omega.{arith}
 use native.Mathlib.Numerals.{add-one}
@@ -9,12 +9,10 @@ use native.Mathlib.Nat.{zero-add, add-zero}
 use lib.ListN.{length, drop, getD, set, drop-of-length-le, length-drop}
 use lib.Seq.{drop-cons, drop-drop, getD-drop, getD-set-same, getD-set-other}
 use lib.Dec.{eqb, ltb}
-use borrow.Author.Tests.{ne-eqb, eqb-true, eqb-false, lt-ltb, le-ltb, ltb-true, ltb-false}
-use Rattle.law.specs.Tree.{symbolKind, termKind, expressionKind}
-use Rattle.tokens.specs.Token.{Atom, identifier, number, variable, quoted, Token, sign, atom, Placed}
-use Rattle.tokens.specs.Code.TokenKind.{atomKind, tokenKind}
+use borrow.Author.Tests.{eqb-true, eqb-false, lt-ltb, le-ltb, ltb-true, ltb-false}
+use Rattle.tokens.specs.Token.{Placed}
 use Rattle.tokens.specs.Code.Arrays.{kindsOf, endsOf}
-use Rattle.encoding.specs.Code.FlatTerms.{Where, inside, stateAfter, opens, closes, ownRecords, kindAt, endAt, weight, Contents, add, closed, scan}
+use Rattle.encoding.specs.Code.FlatTerms.{Where, inside, stateAfter, opens, closes, kindAt, endAt, weight, add, closed, scan}
 use Rattle.writing.specs.Code.Held.{Held, Stands, Stand}
 use Rattle.writing.specs.Code.Found.{runState}
 use Rattle.writing.specs.Code.Closers.{unlessLast, before, closerOf, From, ClosedFrom, total, calledAt, sumOf, SummedFrom, heldBefore, Nested}

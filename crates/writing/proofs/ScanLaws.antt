@@ -1,22 +1,15 @@
 -- Laws for the scan from an opening sign to its closing sign.
-use Prim.Native.Nat.{ℕ, zero, suc, _+_, _-_, _≤_, _<_}
+use Prim.Native.Nat.{ℕ, suc, _-_}
 use mathlib.Core.List.{List, [], _∷_}
-use mathlib.Core.Bool.{Bool, true, false, cond, _&&_, _||_, true≢false, false≢true}
-use mathlib.Core.Path.{_≡_, refl, sym, ap, _∙_}
-use native.Mathlib.Omega.{arith}
-use native.Mathlib.Numerals.{add-one}
-use native.Mathlib.Nat.{zero-add}
-use lib.ListN.{length, drop, getD}
+use mathlib.Core.Bool.{Bool, true, false, cond, _||_, true≢false, false≢true}
+use mathlib.Core.Path.{_≡_, refl, sym, _∙_}
+use lib.ListN.{length}
 use lib.Dec.{eqb}
 use borrow.Author.Tests.{ne-eqb, eqb-true}
 use Rattle.law.specs.Tree.{symbolKind, termKind, expressionKind}
 use Rattle.tokens.specs.Token.{Atom, identifier, number, variable, quoted, Token, sign, atom, Placed}
 use Rattle.tokens.specs.Code.TokenKind.{atomKind, tokenKind}
-use Rattle.encoding.specs.Code.FlatTerms.{Where, inside, stateAfter, opens, closes, ownRecords, kindAt, endAt, weight, Contents, add, closed, scan}
-use Rattle.writing.specs.Code.Held.{Held, Stands, Stand}
-use Rattle.writing.specs.Code.Found.{runState, depthAfter}
-use Rattle.writing.proofs.HeldLaws.{none-left, token-at}
-use Rattle.writing.proofs.PartLaws.{stands-at}
+use Rattle.encoding.specs.Code.FlatTerms.{Where, inside, stateAfter, opens, closes, ownRecords, kindAt, endAt, weight, add, closed, scan}
 
 -- ---- a closing sign
 

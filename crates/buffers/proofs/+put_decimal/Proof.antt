@@ -38,15 +38,17 @@ pub +put-decimal-spec : {M : Type 1} → statement M
     (λ c κs. omega arith)
     (λ c. search needs)
     (λ c.
+    let the-if1 = c .before .before .before .before .if1 in
     let x = c .before .before .before .before .before .before .args in
     let digit = c .before .before .put-byte .ensures in
-    (omega (arith, digit .end), rw (decimal-alone (x .n) (omega (arith, c .before .before .before .before .if1 .taken))) digit))
+    (omega (arith, digit .end), rw (decimal-alone (x .n) (omega (arith, the-if1 .taken))) digit))
     (λ c κs. (omega arith, omega arith))
     (λ c. search needs)
     (λ c. search needs)
     (λ c κs.
+    let the-put-decimal = c .before .before .before .put-decimal in
     let start = c .before .before .before .before .before .before .before in
-    omega (arith, c .before .before .before .put-decimal .ensures .1 .end, decimal-few (start .args .n) (omega (arith, start .fits .n .fits))))
+    omega (arith, the-put-decimal .ensures .1 .end, decimal-few (start .args .n) (omega (arith, start .fits .n .fits))))
     (λ c. search needs)
     (λ c.
     let start = c .before .before .before .before .before .before .before .before .before .before in

@@ -27,6 +27,10 @@ clear-words-spec =
     (λ c. omega arith)
     (λ c. omega arith)
     (λ c. omega arith)
-    (λ c. (omega arith, length-set (c .before .loop .words) _ _ ∙ c .before .loop .inv .1, rw (c .before .loop .inv .2) (fill-more (c .before .loop .i) 0 (c .before .before .args .words .now) (omega arith))))
+    (λ c.
+    let the-args = c .before .before .args in
+    (omega arith, length-set (c .before .loop .words) _ _ ∙ c .before .loop .inv .1, rw (c .before .loop .inv .2) (fill-more (c .before .loop .i) 0 (the-args .words .now) (omega arith))))
     (λ c. omega arith)
-    (λ c. cleared (c .before .before .args .words .now) (c .before .loop .words) (c .before .loop .i) (c .before .loop .inv .0) (omega arith) (c .before .loop .inv .2)))
+    (λ c.
+    let the-args = c .before .before .args in
+    cleared (the-args .words .now) (c .before .loop .words) (c .before .loop .i) (c .before .loop .inv .0) (omega arith) (c .before .loop .inv .2)))

@@ -71,7 +71,9 @@ fields-allowed-spec =
     (λ c.
     let start = c .before .before .before .before .before .before .before .before .before .before .before in
     omega (arith, counts-known (start .args .law .now) (start .args .sections) (start .pre .0) (start .pre .1)))
-    (λ c κs. (search needs, c .before .before .before .before .is-named .ensures))
+    (λ c κs.
+    let the-is-named = c .before .before .before .before .is-named in
+    (search needs, the-is-named .ensures))
     (λ c.
     let start = c .before .before .before .before .before .before .before .before .before .before .before .before .before in
     let the-functions-allowed = c .before .before .before .functions-allowed in

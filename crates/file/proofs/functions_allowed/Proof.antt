@@ -31,13 +31,18 @@ functions-allowed-spec =
     (λ c κs. omega arith)
     (λ c κs. search needs)
     (λ c.
+    let the-loop-test = c .before .before .before .before .loop-test in
+    let the-word-at = c .before .before .before .word-at in
     let i = c .before .before .before .before .before .loop .i in
-    sym (every-fails _ _ i (c .before .before .before .before .loop-test .taken) (function-tested _ _ _ _ _ _ (c .before .before .before .word-at .ensures) (c .before .before .word-at2 .ensures) (c .before .spelled-name .ensures) ∙ not-true _ (c .if1 .taken))))
+    sym (every-fails _ _ i (the-loop-test .taken) (function-tested _ _ _ _ _ _ (the-word-at .ensures) (c .before .before .word-at2 .ensures) (c .before .spelled-name .ensures) ∙ not-true _ (c .if1 .taken))))
     (λ c. omega arith)
     (λ c. omega arith)
-    (λ c. let the-loop = c .before .before .before .before .before .loop in
-    let i = c .before .before .before .before .before .loop .i in
-    (omega arith, every-next i _ (the-loop .inv .1) (function-tested _ _ _ _ _ _ (c .before .before .before .word-at .ensures) (c .before .before .word-at2 .ensures) (c .before .spelled-name .ensures) ∙ not-false _ (c .if1 .left))))
     (λ c.
-    let e : c .before .loop .i ≡ c .before .before .before .before .args .count = omega arith in
+    let the-word-at = c .before .before .before .word-at in
+    let the-loop = c .before .before .before .before .before .loop in
+    let i = c .before .before .before .before .before .loop .i in
+    (omega arith, every-next i _ (the-loop .inv .1) (function-tested _ _ _ _ _ _ (the-word-at .ensures) (c .before .before .word-at2 .ensures) (c .before .spelled-name .ensures) ∙ not-false _ (c .if1 .left))))
+    (λ c.
+    let the-args = c .before .before .before .before .args in
+    let e : c .before .loop .i ≡ the-args .count = omega arith in
     sym (rw e at (c .before .loop .inv .1))))

@@ -91,40 +91,47 @@ sections-of-spec =
     (λ c. file-over _ (c .if1 .taken))
     (λ c κs. search needs)
     (λ c. search needs)
-    (λ c. text-refused _ (c .before .before .before .before .if1 .left) _ _ (c .before .r .given .1) (c .before .before .before .section-at .ensures))
+    (λ c.
+    let the-if1 = c .before .before .before .before .if1 in
+    let the-section-at = c .before .before .before .section-at in
+    text-refused _ (the-if1 .left) _ _ (c .before .r .given .1) (the-section-at .ensures))
     (λ c. search needs)
     (λ c κs. (text c .inside, omega arith, omega arith))
     (λ c. search needs)
     (λ c.
+    let the-section-at2 = c .before .before .before .section-at2 in
     let text-found = c .before .before .before .before in
-    functions-refused _ (law-small text-found) _ _ (c .before .r2 .given .1) _ (text text-found) (c .before .before .before .section-at2 .ensures))
+    functions-refused _ (law-small text-found) _ _ (c .before .r2 .given .1) _ (text text-found) (the-section-at2 .ensures))
     (λ c. search needs)
     (λ c κs. (functions c .inside, omega arith, omega arith))
     (λ c. search needs)
     (λ c.
+    let the-section-at3 = c .before .before .before .section-at3 in
     let functions-found = c .before .before .before .before in
     let text-found = before-functions functions-found in
     sentences-refused _ (law-small text-found) _ _ (c .before .r3 .given .1) _ (text text-found) _ (functions functions-found)
-    (c .before .before .before .section-at3 .ensures))
+    (the-section-at3 .ensures))
     (λ c. search needs)
     (λ c κs. (sentences c .inside, omega arith, omega arith))
     (λ c. search needs)
     (λ c.
+    let the-section-at4 = c .before .before .before .section-at4 in
     let sentences-found = c .before .before .before .before in
     let functions-found = before-sentences sentences-found in
     let text-found = before-functions functions-found in
     conditions-refused _ (law-small text-found) _ _ (c .before .r4 .given .1) _ (text text-found) _ (functions functions-found) _ (sentences sentences-found)
-    (c .before .before .before .section-at4 .ensures))
+    (the-section-at4 .ensures))
     (λ c. search needs)
     (λ c κs. (conditions c .inside, omega arith, omega arith))
     (λ c. search needs)
     (λ c.
+    let the-section-at5 = c .before .before .before .section-at5 in
     let conditions-found = c .before .before .before .before in
     let sentences-found = before-conditions conditions-found in
     let functions-found = before-sentences sentences-found in
     let text-found = before-functions functions-found in
     terms-refused _ (law-small text-found) _ _ (c .before .r5 .given .1) _ (text text-found) _ (functions functions-found) _ (sentences sentences-found) _
-    (conditions conditions-found) (c .before .before .before .section-at5 .ensures))
+    (conditions conditions-found) (the-section-at5 .ensures))
     (λ c. search needs)
     (λ c.
     let terms-found = c .before .before in

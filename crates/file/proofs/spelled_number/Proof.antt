@@ -16,6 +16,7 @@ spelled-number-spec =
     (λ c κs. leb-true _ _ (sym (c .before .inside .ensures) ∙ not-false _ (c .if1 .left)))
     (λ c κs. search needs)
     (λ c.
+    let the-inside = c .before .before .before .inside in
     let s = c .before .before .before .before .before .args in
-    let fits = sym (c .before .before .before .inside .ensures) ∙ not-false _ (c .before .before .if1 .left) in
+    let fits = sym (the-inside .ensures) ∙ not-false _ (c .before .before .if1 .left) in
     c .is-number .ensures ∙ spelled-test numberAllowed (s .text .now) _ (s .start) (s .len) fits (c .before .name-in .ensures)))

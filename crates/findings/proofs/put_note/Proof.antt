@@ -46,6 +46,7 @@ put-note-spec =
     (λ c. search needs)
     (λ c. same-length c)
     (λ c.
+    let the-if1 = c .before .before .before .if1 in
     let entry = start c in
     note-one (entry .args .task .room) (entry .args .tally - 2) (entry .args .tally) (entry .args .out .now) (c .if3 .out) (finding entry)
-    (omega (arith, c .before .before .before .if1 .left)) (c .before .if2 .left) (after c)))
+    (omega (arith, the-if1 .left)) (c .before .if2 .left) (after c)))

@@ -1,7 +1,7 @@
 -- What each lint meets, by the task that the code is given: the lint's number, the severity that its findings have, whether they are shown, the position
 -- of the function that is gone through, the words that there is room for, and the most shapes of a format.
 use Prim.Native.Nat.{ℕ, suc, _+_, _*_}
-use mathlib.Core.Bool.{Bool, cond, _&&_}
+use mathlib.Core.Bool.{Bool, cond}
 use mathlib.Core.List.{List, [], _∷_, _++_, map}
 use lib.ListN.{getD}
 use lib.Dec.{eqb, ltb}

@@ -8,7 +8,9 @@ pub infer-accepted-spec : {M : Type 1} → statement M
 infer-accepted-spec =
     tie.close
     (tie.spec
-    (λ c. outcome-short 64 _ (c .before .before .before .args .store .now) (c .if1 .taken))
+    (λ c.
+    let the-args = c .before .before .before .args in
+    outcome-short 64 _ (the-args .store .now) (c .if1 .taken))
     (λ c κs. search needs)
     (λ c κs. search needs)
     (λ c. search needs)

@@ -12,9 +12,10 @@ infer-formats-spec =
     (λ c. search needs)
     (λ c. search needs)
     (λ c κs.
+    let the-enum-told = c .before .before .enum-told in
     let start = c .before .before .before .before .before .before .before .before in
     let read = c .before .before .before .before .read-law in
-    call-accepted (start .args .law .now) _ _ (c .before .before .enum-told .given .1) (read .ensures .0) (read .ensures .1))
+    call-accepted (start .args .law .now) _ _ (the-enum-told .given .1) (read .ensures .0) (read .ensures .1))
     (λ c.
     let start = c .before .before .before .before .before .before .before in
     let read = c .before .before .before .read-law in

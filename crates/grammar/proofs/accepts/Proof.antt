@@ -42,4 +42,6 @@ accepts-spec =
     left-next (the-loop (moved performed) .loop .inv) (omega arith) (performed .perform .ensures .0) (moved performed .move-of .ensures) (performed .perform .ensures .1) (c .before .step .given .1))
     (λ c. left-open (c .before .before .loop .inv) (c .before .loop-test .left) (c .if1 .taken))
     (λ c κs. search needs)
-    (λ c. left-end (c .before .before .before .loop .inv) (c .before .before .loop-test .left) (c .before .if1 .left) (c .may-end .ensures)))
+    (λ c.
+    let the-loop = c .before .before .before .loop in
+    left-end (the-loop .inv) (c .before .before .loop-test .left) (c .before .if1 .left) (c .may-end .ensures)))

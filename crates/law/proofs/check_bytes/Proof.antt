@@ -13,9 +13,10 @@ check-bytes-spec =
     (λ c. search needs)
     (λ c. search needs)
     (λ c κs.
+    let the-sections = c .before .before .sections in
     let start = c .before .before .before .before .before .before in
     let the-sections-of = c .before .before .before .before .sections-of in
-    let cut = cut-whole (start .args .law .now) _ _ (the-sections-of .ensures) (c .before .before .sections .given .1) in
+    let cut = cut-whole (start .args .law .now) _ _ (the-sections-of .ensures) (the-sections .given .1) in
     (cut .file, cut .counts, start .pre))
     (λ c.
     let start = c .before .before .before .before .before in

@@ -17,6 +17,7 @@ read-law-spec =
     let the-check-bytes = c .before .before .check-bytes in
     verdict.accepted-checked (start .args .law .now) _ _ (c .enum-told .given .1) (the-check-bytes .ensures .1) (the-check-bytes .ensures .0))
     (λ c.
+    let the-check = c .before .before .check in
     let start = c .before .before .before .before .before .before .before in
     let the-check-bytes = c .before .before .before .before .check-bytes in
-    (verdict.refused-checked (start .args .law .now) _ _ (c .before .before .check .given .1) (the-check-bytes .ensures .0), refl)))
+    (verdict.refused-checked (start .args .law .now) _ _ (the-check .given .1) (the-check-bytes .ensures .0), refl)))

@@ -15,20 +15,23 @@ findings-spec =
     (λ c κs. search needs)
     (λ c κs. search needs)
     (λ c. search needs)
-    (λ c. let the-is-empty = c .before .before .before .before .before .is-empty in
+    (λ c.
+    let the-if1 = c .before .before .before .before .if1 in
+    let the-is-empty = c .before .before .before .before .before .is-empty in
     let start = c .before .before .before .before .before .before .before .before .before .before in
     let settings = settingsFrom (start .args .mode) (start .args .overrides .now) in
     let the-none = c .before .before .findings-none in
     promise 64 settings (start .args .law .now) (start .args .store .now) (start .args .words .now) _ _ (the-none .result)
-    (the-none .ensures (start .args .law .now) (start .args .words .now) (empty-law (start .args .law .now) (sym (the-is-empty .ensures) ∙ c .before .before .before .before .if1 .taken))))
+    (the-none .ensures (start .args .law .now) (start .args .words .now) (empty-law (start .args .law .now) (sym (the-is-empty .ensures) ∙ the-if1 .taken))))
     (λ c κs. search needs)
     (λ c. search needs)
     (λ c. search needs)
     (λ c κs.
+    let the-enum-told = c .before .before .before .enum-told in
     let start = c .before .before .before .before .before .before .before .before .before .before .before .before .before in
     let settings = settingsFrom (start .args .mode) (start .args .overrides .now) in
     let front = c .before .before .before .before .before .check-front in
-    front-ready 64 settings (start .args .law .now) (start .args .store .now) _ _ (front .ensures .0 _ refl) (c .before .before .before .enum-told .given .1))
+    front-ready 64 settings (start .args .law .now) (start .args .store .now) _ _ (front .ensures .0 _ refl) (the-enum-told .given .1))
     (λ c.
     let start = c .before .before .before .before .before .before .before .before .before .before .before in
     let settings = settingsFrom (start .args .mode) (start .args .overrides .now) in

@@ -13,14 +13,18 @@ findings-none-spec =
     (λ c. let a = c .before .before .before .before .args in
     λ bytes words empty. none-settings (a .limit) (settingsFrom (a .mode) (a .overrides .now)) bytes (a .store .now) words empty (c .before .settings-allowed .ensures) (c .if1 .taken))
     (λ c κs. search needs)
-    (λ c. let a = c .before .before .before .before .before .before .args in
-    λ bytes words empty. none-short (a .limit) (settingsFrom (a .mode) (a .overrides .now)) bytes (a .store .now) words empty (c .before .before .before .settings-allowed .ensures)
+    (λ c.
+    let the-settings-allowed = c .before .before .before .settings-allowed in
+    let a = c .before .before .before .before .before .before .args in
+    λ bytes words empty. none-short (a .limit) (settingsFrom (a .mode) (a .overrides .now)) bytes (a .store .now) words empty (the-settings-allowed .ensures)
     (c .before .before .if1 .left) (omega (arith, c .if2 .taken, c .before .store-words .ensures)))
     (λ c κs. search needs)
     (λ c. search needs)
-    (λ c. let a = c .before .before .before .before .before .before .before .before .before .before .args in
+    (λ c.
+    let the-if2 = c .before .before .before .before .if2 in
+    let a = c .before .before .before .before .before .before .before .before .before .before .args in
     let allowed = c .before .before .before .before .before .before .before .settings-allowed in
     let the-if1 = c .before .before .before .before .before .before .if1 in
     let size = c .before .before .before .before .before .store-words in
     λ bytes words empty. none-found (a .limit) (settingsFrom (a .mode) (a .overrides .now)) bytes (a .store .now) words empty (allowed .ensures) (the-if1 .left) _
-    (omega (arith, c .before .before .before .before .if2 .left, size .ensures)) (c .before .before .clear-store .ensures)))
+    (omega (arith, the-if2 .left, size .ensures)) (c .before .before .clear-store .ensures)))

@@ -22,14 +22,18 @@ tell-spec =
     let start = c .before .before .before .before .before .before .before in
     (start .pre .0 .1 .prepared, spoken (start .pre .0 .0) (start .pre .0 .1) (start .pre .1) (start .args .position) (c .before .before .if1 .left)))
     (λ c. search needs)
-    (λ c. let the-if1 = c .before .before .before .before .before .before .if1 in
+    (λ c.
+    let the-put-message = c .before .before .before .put-message in
+    let the-if1 = c .before .before .before .before .before .before .if1 in
     let start = c .before .before .before .before .before .before .before .before .before .before .before in
-    λ settings held. tell-short settings held (start .pre .1) (start .args .position) (the-if1 .left) (start .args .text .now) (c .before .before .before .put-message .kept .1 .1 .1 .1 .1 .1 .0) (c .before .before .before .put-message .ensures) (c .if2 .taken))
+    λ settings held. tell-short settings held (start .pre .1) (start .args .position) (the-if1 .left) (start .args .text .now) (the-put-message .kept .1 .1 .1 .1 .1 .1 .0) (the-put-message .ensures) (c .if2 .taken))
     (λ c κs. let the-if1 = c .before .before .before .before .before .before .before .if1 in
     let start = c .before .before .before .before .before .before .before .before .before .before .before .before in
     (start .pre .0 .1 .prepared, spoken (start .pre .0 .0) (start .pre .0 .1) (start .pre .1) (start .args .position) (the-if1 .left)))
     (λ c. search needs)
-    (λ c. let the-if1 = c .before .before .before .before .before .before .before .before .before .before .if1 in
+    (λ c.
+    let the-if2 = c .before .before .before .before .if2 in
+    let the-if1 = c .before .before .before .before .before .before .before .before .before .before .if1 in
     let the-put-message = c .before .before .before .before .before .before .before .put-message in
     let start = c .before .before .before .before .before .before .before .before .before .before .before .before .before .before .before in
-    λ settings held. tell-written settings held (start .pre .1) (start .args .position) (the-if1 .left) (start .args .text .now) _ (the-put-message .kept .1 .1 .1 .1 .1 .1 .0) (the-put-message .ensures) (c .before .before .before .before .if2 .left) (c .before .before .put-message2 .ensures)))
+    λ settings held. tell-written settings held (start .pre .1) (start .args .position) (the-if1 .left) (start .args .text .now) _ (the-put-message .kept .1 .1 .1 .1 .1 .1 .0) (the-put-message .ensures) (the-if2 .left) (c .before .before .put-message2 .ensures)))

@@ -14,10 +14,11 @@ text-spec =
     (λ c. search needs)
     (λ c. search needs)
     (λ c κs.
+    let the-enum-told = c .before .before .before .enum-told in
     let start = c .before .before .before .before .before .before .before .before .before .before .before in
     let settings = settingsFrom (start .args .mode) (start .args .overrides .now) in
     let front = c .before .before .before .before .before .check-front in
-    front-ready 64 settings (start .args .law .now) (start .args .store .now) _ _ (front .ensures .0 _ refl) (c .before .before .before .enum-told .given .1))
+    front-ready 64 settings (start .args .law .now) (start .args .store .now) _ _ (front .ensures .0 _ refl) (the-enum-told .given .1))
     (λ c.
     let start = c .before .before .before .before .before .before .before .before .before in
     let settings = settingsFrom (start .args .mode) (start .args .overrides .now) in

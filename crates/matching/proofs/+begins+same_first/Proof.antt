@@ -71,11 +71,15 @@ pub +begins+same-first-spec : {M : Type 1} → statement M
     (λ c κs. let start = c .before .before .before .before .before .before .before .before in
     let at-loop = c .before .before .before .before .loop in
     (omega (arith, from-length (at-loop .i) (start .args .value .now), start .pre .0), (c .before .if1 .left, c .if2 .left)))
-    (λ c κs. c .before .before .before .if1 .left)
+    (λ c κs.
+    let the-if1 = c .before .before .before .if1 in
+    the-if1 .left)
     (λ c. let start = c .before .before .before .before .before .before .before .before .before .before .before in
     let at-loop = c .before .before .before .before .before .before .before .loop in
     omega (arith, from-length (at-loop .i) (start .args .value .now), c .end-of .ensures .2))
-    (λ c κs. c .before .before .before .if2 .left)
+    (λ c κs.
+    let the-if2 = c .before .before .before .if2 in
+    the-if2 .left)
     (λ c. let start = c .before .before .before .before .before .before .before .before .before .before .before .before in
     let at-loop = c .before .before .before .before .before .before .before .before .loop in
     omega (arith, from-length (at-loop .j) (start .args .row .now), c .end-of2 .ensures .2))
@@ -89,8 +93,12 @@ pub +begins+same-first-spec : {M : Type 1} → statement M
     let same-first = c .before .before .before .same-first in
     laws.begins-next (at-loop .inv) (if1 .left) (if2 .left) (same-first .ensures) (not-false (same-first .result) (c .before .before .if3 .left))
     (c .before .end-of .ensures .0) (c .before .end-of .ensures .2) (c .end-of2 .ensures .0) (c .end-of2 .ensures .2))
-    (λ c. laws.begins-after (c .before .before .before .loop .inv) (c .if1 .taken))
-    (λ c. laws.begins-short (c .before .before .before .before .loop .inv) (c .before .if1 .left) (c .if2 .taken))
+    (λ c.
+    let the-loop = c .before .before .before .loop in
+    laws.begins-after (the-loop .inv) (c .if1 .taken))
+    (λ c.
+    let the-loop = c .before .before .before .before .loop in
+    laws.begins-short (the-loop .inv) (c .before .if1 .left) (c .if2 .taken))
     (λ c. let at-loop = c .before .before .before .before .before .before .loop in
     let if1 = c .before .before .before .if1 in
     laws.begins-differs (at-loop .inv) (if1 .left) (c .before .before .if2 .left) (c .before .same-first .ensures)
@@ -107,7 +115,9 @@ pub +begins+same-first-spec : {M : Type 1} → statement M
     )
     (same-first-at t)
     same-first.Post
-    (λ c κs. c .before .before .before .pre .1 .0)
+    (λ c κs.
+    let the-pre = c .before .before .before .pre in
+    the-pre .1 .0)
     (λ c κs. let the-pre = c .before .before .before .before .before .pre in
     the-pre .1)
     (λ c. let start = c .before .before .before .before .before .before in

@@ -7,7 +7,9 @@ use Rattle.matching.proofs.bracket_first.Tie as tie
 
 pub bracket-first-spec : {M : Type 1} → statement M
 bracket-first-spec = tie.close (tie.spec
-    (λ c. λ text pattern vs some e. laws.bracket-short text pattern (c .before .before .args .row .now) vs some e (c .if1 .taken))
+    (λ c.
+    let the-args = c .before .before .args in
+    λ text pattern vs some e. laws.bracket-short text pattern (the-args .row .now) vs some e (c .if1 .taken))
     (λ c κs. search needs)
     (λ c. let start = c .before .before .before .before in
     λ text pattern vs some e. laws.bracket-differs text pattern (start .args .row .now) vs some e (c .before .before .if1 .left)

@@ -7,4 +7,6 @@ use Rattle.matching.proofs.is_bracket.Tie as tie
 pub is-bracket-spec : {M : Type 1} → statement M
 is-bracket-spec = tie.close (tie.spec
     (λ c κs. search needs)
-    (λ c. laws.bracket-kind (c .before .before .args .part .now) (c .word-at .ensures)))
+    (λ c.
+    let the-args = c .before .before .args in
+    laws.bracket-kind (the-args .part .now) (c .word-at .ensures)))

@@ -33,24 +33,41 @@ known-front-spec =
     (λ c κs. let the-pre = c .before .before .before .before .before .before .before .before .pre in
     (the-pre, c .if1 .left))
     (λ c. search needs)
-    (λ c. let the-loop = c .before .before .before .before .before .before .before .loop in
-    omega (arith, laws.passed-falls (the-loop .inv) (c .before .before .before .first-of .ensures) _ _ (c .before .m .given .1) .1))
-    (λ c. let the-loop = c .before .before .before .before .before .before .before .loop in
-    omega (arith, laws.passed-falls (the-loop .inv) (c .before .before .before .first-of .ensures) _ _ (c .before .m .given .1) .2))
-    (λ c. let the-loop = c .before .before .before .before .before .before .before .loop in
-    laws.passed-falls (the-loop .inv) (c .before .before .before .first-of .ensures) _ _ (c .before .m .given .1) .0)
-    (λ c. let the-loop = c .before .before .before .before .before .before .before .loop in
-    laws.passed-more (the-loop .inv) (c .before .before .before .first-of .ensures) _ _ (c .before .m .given .1))
+    (λ c.
+    let the-first-of = c .before .before .before .first-of in
+    let the-loop = c .before .before .before .before .before .before .before .loop in
+    omega (arith, laws.passed-falls (the-loop .inv) (the-first-of .ensures) _ _ (c .before .m .given .1) .1))
+    (λ c.
+    let the-first-of = c .before .before .before .first-of in
+    let the-loop = c .before .before .before .before .before .before .before .loop in
+    omega (arith, laws.passed-falls (the-loop .inv) (the-first-of .ensures) _ _ (c .before .m .given .1) .2))
+    (λ c.
+    let the-first-of = c .before .before .before .first-of in
+    let the-loop = c .before .before .before .before .before .before .before .loop in
+    laws.passed-falls (the-loop .inv) (the-first-of .ensures) _ _ (c .before .m .given .1) .0)
+    (λ c.
+    let the-first-of = c .before .before .before .first-of in
+    let the-loop = c .before .before .before .before .before .before .before .loop in
+    laws.passed-more (the-loop .inv) (the-first-of .ensures) _ _ (c .before .m .given .1))
     (λ c. search needs)
     (λ c. search needs)
     (λ c. search needs)
     (λ c. search needs)
-    (λ c. record { front = (c .before .before .before .loop .inv, c .if1 .taken) })
+    (λ c.
+    let the-loop = c .before .before .before .loop in
+    record { front = (the-loop .inv, c .if1 .taken) })
     (λ c. let the-loop = c .before .before .before .before .before .before .loop in
     record { front = laws.passed-fails (the-loop .inv) (c .before .before .first-of .ensures) (c .enum-told .given .1) })
-    (λ c. let the-loop = c .before .before .before .before .before .before .before .loop in
-    laws.passed-stop (the-loop .inv) (c .before .before .before .first-of .ensures) (c .before .before .before .before .if1 .left) _ (c .before .n .given .1) tt)
-    (λ c. let the-loop = c .before .before .before .before .before .before .loop in
-    laws.passed-stop (the-loop .inv) (c .before .before .first-of .ensures) (c .before .before .before .if1 .left) _ (c .enum-told2 .given .1) tt)
-    (λ c. let the-loop = c .before .before .before .before .before .before .loop in
-    laws.passed-stop (the-loop .inv) (c .before .before .first-of .ensures) (c .before .before .before .if1 .left) _ (c .enum-told3 .given .1) tt))
+    (λ c.
+    let the-if1 = c .before .before .before .before .if1 in
+    let the-first-of = c .before .before .before .first-of in
+    let the-loop = c .before .before .before .before .before .before .before .loop in
+    laws.passed-stop (the-loop .inv) (the-first-of .ensures) (the-if1 .left) _ (c .before .n .given .1) tt)
+    (λ c.
+    let the-if1 = c .before .before .before .if1 in
+    let the-loop = c .before .before .before .before .before .before .loop in
+    laws.passed-stop (the-loop .inv) (c .before .before .first-of .ensures) (the-if1 .left) _ (c .enum-told2 .given .1) tt)
+    (λ c.
+    let the-if1 = c .before .before .before .if1 in
+    let the-loop = c .before .before .before .before .before .before .loop in
+    laws.passed-stop (the-loop .inv) (c .before .before .first-of .ensures) (the-if1 .left) _ (c .enum-told3 .given .1) tt))

@@ -28,25 +28,38 @@ place-of-spec =
     (λ c. let the-pre = c .before .before .before .before .before .pre in
     omega (arith, c .before .loop .inv .0, the-pre .0))
     (λ c κs. search needs)
-    (λ c. let the-args = c .before .before .before .before .before .before .before .args in
+    (λ c.
+    let the-loop = c .before .before .before .loop in
+    let the-args = c .before .before .before .before .before .before .before .args in
     let the-pre = c .before .before .before .before .before .before .before .pre in
-    omega (arith, laws.key-inside (the-args .terms .now) (the-args .keys .now) (the-pre .1) (c .before .before .before .loop .inv .0) (c .before .before .if1 .left) (c .wide .ensures .0)))
-    (λ c. let the-args = c .before .before .before .before .before .before .before .args in
+    omega (arith, laws.key-inside (the-args .terms .now) (the-args .keys .now) (the-pre .1) (the-loop .inv .0) (c .before .before .if1 .left) (c .wide .ensures .0)))
+    (λ c.
+    let the-loop = c .before .before .before .loop in
+    let the-args = c .before .before .before .before .before .before .before .args in
     let the-pre = c .before .before .before .before .before .before .before .pre in
-    omega (arith, laws.key-inside (the-args .terms .now) (the-args .keys .now) (the-pre .1) (c .before .before .before .loop .inv .0) (c .before .before .if1 .left) (c .wide .ensures .0)))
-    (λ c. let the-args = c .before .before .before .before .before .before .before .args in
+    omega (arith, laws.key-inside (the-args .terms .now) (the-args .keys .now) (the-pre .1) (the-loop .inv .0) (c .before .before .if1 .left) (c .wide .ensures .0)))
+    (λ c.
+    let the-loop = c .before .before .before .loop in
+    let the-args = c .before .before .before .before .before .before .before .args in
     let the-pre = c .before .before .before .before .before .before .before .pre in
-    omega (arith, laws.key-inside (the-args .terms .now) (the-args .keys .now) (the-pre .1) (c .before .before .before .loop .inv .0) (c .before .before .if1 .left) (c .wide .ensures .0)))
-    (λ c κs. let the-args = c .before .before .before .before .before .before .before .before .args in
+    omega (arith, laws.key-inside (the-args .terms .now) (the-args .keys .now) (the-pre .1) (the-loop .inv .0) (c .before .before .if1 .left) (c .wide .ensures .0)))
+    (λ c κs.
+    let the-loop = c .before .before .before .before .loop in
+    let the-if1 = c .before .before .before .if1 in
+    let the-args = c .before .before .before .before .before .before .before .before .args in
     let the-pre = c .before .before .before .before .before .before .before .before .pre in
-    (laws.key-record (the-args .terms .now) (the-args .keys .now) (the-pre .1) (c .before .before .before .before .loop .inv .0) (c .before .before .before .if1 .left) (c .before .wide .ensures .0), the-pre .2))
+    (laws.key-record (the-args .terms .now) (the-args .keys .now) (the-pre .1) (the-loop .inv .0) (the-if1 .left) (c .before .wide .ensures .0), the-pre .2))
     (λ c. omega arith)
-    (λ c. let the-if1 = c .before .before .before .before .before .if1 in
+    (λ c.
+    let the-wide = c .before .before .before .wide in
+    let the-if1 = c .before .before .before .before .before .if1 in
     let so-far = c .before .before .before .before .before .before .loop .inv in (
       omega (arith, so-far .0),
-      λ starts sizes kept. laws.place-next (so-far .1 starts sizes kept) kept (the-if1 .left) (c .before .before .before .wide .ensures .0) (c .before .atoms-same .ensures) (c .if2 .left),
+      λ starts sizes kept. laws.place-next (so-far .1 starts sizes kept) kept (the-if1 .left) (the-wide .ensures .0) (c .before .atoms-same .ensures) (c .if2 .left),
     ))
     (λ c. λ starts sizes kept. laws.place-free (c .before .loop .inv .1 starts sizes kept) (c .if1 .taken))
-    (λ c. let the-loop = c .before .before .before .before .before .before .loop in
+    (λ c.
+    let the-wide = c .before .before .before .wide in
+    let the-loop = c .before .before .before .before .before .before .loop in
     let the-if1 = c .before .before .before .before .before .if1 in
-    λ starts sizes kept. laws.place-here (the-loop .inv .1 starts sizes kept) kept (the-if1 .left) (c .before .before .before .wide .ensures .0) (c .before .atoms-same .ensures) (c .if2 .taken)))
+    λ starts sizes kept. laws.place-here (the-loop .inv .1 starts sizes kept) kept (the-if1 .left) (the-wide .ensures .0) (c .before .atoms-same .ensures) (c .if2 .taken)))

@@ -15,5 +15,6 @@ call-name-spec =
     let p = c .before .before .before .before .pre in
     call-inside (p .0) (p .2) (c .before .before .term-word .ensures) (c .before .term-word2 .ensures) (c .text .ensures) (p .1))
     (λ c.
+    let the-term-word = c .before .before .before .term-word in
     let p = c .before .before .before .before .before .pre in
-    call-read (p .0) (p .2) (c .before .before .before .term-word .ensures) (c .before .before .term-word2 .ensures) (c .before .text .ensures) (c .name-in .ensures)))
+    call-read (p .0) (p .2) (the-term-word .ensures) (c .before .before .term-word2 .ensures) (c .before .text .ensures) (c .name-in .ensures)))

@@ -14,11 +14,17 @@ put-dead-sentence-spec =
     (tie.spec
     (λ c κs. search needs)
     (λ c κs. search needs)
-    (λ c κs. functions-few (c .before .before .before .before .pre .0) (c .functions .ensures))
-    (λ c κs. let start = c .before .before .before .before .before .before in omega (arith, owner-short (start .pre .0) (start .args .position) (c .before .before .before .function-name .ensures)))
+    (λ c κs.
+    let the-pre = c .before .before .before .before .pre in
+    functions-few (the-pre .0) (c .functions .ensures))
+    (λ c κs.
+    let the-function-name = c .before .before .before .function-name in
+    let start = c .before .before .before .before .before .before in omega (arith, owner-short (start .pre .0) (start .args .position) (the-function-name .ensures)))
     (λ c. search needs)
-    (λ c. let the-functions = c .before .before .before .before .before .functions in
+    (λ c.
+    let the-first-sentence = c .before .before .before .before .first-sentence in
+    let the-functions = c .before .before .before .before .before .functions in
     let the-function-name = c .before .before .before .before .before .before .function-name in
     let start = c .before .before .before .before .before .before .before .before .before in
-    rw (first-in-block (start .pre .0) (the-functions .ensures) (c .before .before .before .before .first-sentence .ensures)) at
+    rw (first-in-block (start .pre .0) (the-functions .ensures) (the-first-sentence .ensures)) at
     (c .before .before .put-dead .ensures (functionName (fileOf (start .args .law .now)) (start .args .position)) (sym (the-function-name .ensures)))))

@@ -51,7 +51,9 @@ pub put-message-spec : {M : Type 1} → statement M
 put-message-spec =
     tie.close
     (tie.spec
-    (λ c κs. omega (arith, eight-words (c .before .before .before .before .pre .1)))
+    (λ c κs.
+    let the-pre = c .before .before .before .before .pre in
+    omega (arith, eight-words (the-pre .1)))
     (λ c κs. omega (arith, eight-words (start-from-first c .pre .1)))
     (λ c κs. omega (arith, eight-words (start-from-first (c .before) .pre .1)))
     (λ c κs. omega (arith, eight-words (start-from-first (c .before .before) .pre .1)))

@@ -22,12 +22,20 @@ is-number-spec =
     Inv-loop
     μ-loop
     (λ c κs. search needs)
-    (λ c. allowed-length digitByte (c .before .before .before .args .s .now) (c .before .length-allowed .ensures) (not-true _ (c .if1 .taken)))
-    (λ c. passed-allowed digitByte (c .before .before .before .args .s .now) (c .before .length-allowed .ensures) (not-false _ (c .if1 .left)))
+    (λ c.
+    let the-args = c .before .before .before .args in
+    allowed-length digitByte (the-args .s .now) (c .before .length-allowed .ensures) (not-true _ (c .if1 .taken)))
+    (λ c.
+    let the-args = c .before .before .before .args in
+    passed-allowed digitByte (the-args .s .now) (c .before .length-allowed .ensures) (not-false _ (c .if1 .left)))
     (λ c. omega arith)
     (λ c κs. search needs)
-    (λ c. passed-fails (c .before .before .before .before .loop .inv) (omega arith) (c .before .digit-byte .ensures) (not-true _ (c .if2 .taken)))
+    (λ c.
+    let the-loop = c .before .before .before .before .loop in
+    passed-fails (the-loop .inv) (omega arith) (c .before .digit-byte .ensures) (not-true _ (c .if2 .taken)))
     (λ c. omega arith)
     (λ c. omega arith)
-    (λ c. passed-next (c .before .before .before .before .loop .inv) (omega arith) (c .before .digit-byte .ensures) (not-false _ (c .if2 .left)))
+    (λ c.
+    let the-loop = c .before .before .before .before .loop in
+    passed-next (the-loop .inv) (omega arith) (c .before .digit-byte .ensures) (not-false _ (c .if2 .left)))
     (λ c. passed-end (c .before .loop .inv) (c .loop-test .left)))

@@ -24,8 +24,12 @@ name-bytes-spec =
     (λ c. passed-none nameByte (c .before .args .s .now))
     (λ c. omega arith)
     (λ c κs. search needs)
-    (λ c. passed-fails (c .before .before .before .before .loop .inv) (omega arith) (c .before .name-byte .ensures) (not-true _ (c .if1 .taken)))
+    (λ c.
+    let the-loop = c .before .before .before .before .loop in
+    passed-fails (the-loop .inv) (omega arith) (c .before .name-byte .ensures) (not-true _ (c .if1 .taken)))
     (λ c. omega arith)
     (λ c. omega arith)
-    (λ c. passed-next (c .before .before .before .before .loop .inv) (omega arith) (c .before .name-byte .ensures) (not-false _ (c .if1 .left)))
+    (λ c.
+    let the-loop = c .before .before .before .before .loop in
+    passed-next (the-loop .inv) (omega arith) (c .before .name-byte .ensures) (not-false _ (c .if1 .left)))
     (λ c. passed-end (c .before .loop .inv) (c .loop-test .left)))

@@ -24,11 +24,14 @@ numbers-equal-spec =
     (λ c. omega arith)
     (λ c. omega arith)
     (λ c.
+    let the-loop = c .before .before .before .before .loop in
     let start = c .before .before .before .before .before .before in
-    same-differ (c .before .before .before .before .loop .inv) (omega arith) refl refl (c .if2 .taken) ∙ same-plain (start .args .a .now) (start .args .b .now))
+    same-differ (the-loop .inv) (omega arith) refl refl (c .if2 .taken) ∙ same-plain (start .args .a .now) (start .args .b .now))
     (λ c. omega arith)
     (λ c. omega arith)
-    (λ c. same-next (c .before .before .before .before .loop .inv) (omega arith) refl refl (c .if2 .left))
+    (λ c.
+    let the-loop = c .before .before .before .before .loop in
+    same-next (the-loop .inv) (omega arith) refl refl (c .if2 .left))
     (λ c.
     let start = c .before .before .before in
     same-end (c .before .loop .inv) (c .loop-test .left) ∙ same-plain (start .args .a .now) (start .args .b .now)))

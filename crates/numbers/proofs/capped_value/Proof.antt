@@ -23,9 +23,15 @@ capped-value-spec =
     (λ c. omega (arith, c .before .loop .inv .small))
     (λ c. omega arith)
     (λ c κs. search needs)
-    (λ c. omega (arith, c .before .before .before .loop .inv .small, c .digit-value .ensures .1))
-    (λ c. value-over (c .before .before .before .before .loop .inv) (omega arith) (c .before .digit-value .ensures .0) (c .if1 .taken))
+    (λ c.
+    let the-loop = c .before .before .before .loop in
+    omega (arith, the-loop .inv .small, c .digit-value .ensures .1))
+    (λ c.
+    let the-loop = c .before .before .before .before .loop in
+    value-over (the-loop .inv) (omega arith) (c .before .digit-value .ensures .0) (c .if1 .taken))
     (λ c. omega arith)
     (λ c. omega arith)
-    (λ c. value-next (c .before .before .before .before .loop .inv) (omega arith) (c .before .digit-value .ensures .0) (omega arith))
+    (λ c.
+    let the-loop = c .before .before .before .before .loop in
+    value-next (the-loop .inv) (omega arith) (c .before .digit-value .ensures .0) (omega arith))
     (λ c. value-end (c .before .loop .inv) (omega arith)))

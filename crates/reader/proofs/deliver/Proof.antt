@@ -12,4 +12,6 @@ deliver-spec =
     (λ c. too-short _ _ (c .if1 .taken))
     (λ c κs. search needs)
     (λ c. search needs)
-    (λ c. delivered _ _ _ _ (omega (arith, c .before .before .before .before .if1 .left)) (c .before .before .put .ensures)))
+    (λ c.
+    let the-if1 = c .before .before .before .before .if1 in
+    delivered _ _ _ _ (omega (arith, the-if1 .left)) (c .before .before .put .ensures)))

@@ -12,7 +12,9 @@ deliver-law-spec =
     (λ c. search needs)
     (λ c. search needs)
     (λ c κs. search needs)
-    (λ c. law-refused _ _ _ _ (c .before .why .given .1) (c .before .before .before .check-law .ensures))
+    (λ c.
+    let the-check-law = c .before .before .before .check-law in
+    law-refused _ _ _ _ (c .before .why .given .1) (the-check-law .ensures))
     (λ c. search needs)
     (λ c.
     let accepted = c .before .before .before .before in

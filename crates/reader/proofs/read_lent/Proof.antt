@@ -21,7 +21,9 @@ read-lent-spec =
     let begun = start found in
     let lexed = found .lex-text .ensures in
     (begun .pre .0, lexed .0, begun .pre .2, counted _ _ _ _ _ _ (number .n .given .1) (lexed .1)))
-    (λ c. lexer-outside _ _ _ _ _ _ (c .enum-told .given .1) (c .before .before .lex-text .ensures .1))
+    (λ c.
+    let the-lex-text = c .before .before .lex-text in
+    lexer-outside _ _ _ _ _ _ (c .enum-told .given .1) (the-lex-text .ensures .1))
     (λ c. search needs)
     (λ c. search needs)
     (λ c. search needs)

@@ -19,12 +19,17 @@ literal-sentence-spec =
     (λ c κs. search needs)
     (λ c κs. search needs)
     (λ c κs. search needs)
-    (λ c κs. let the-terms = c .before .before .before .before .before .terms in
+    (λ c κs.
+    let the-records = c .before .before .before .before .records in
+    let the-pattern-at = c .before .before .before .pattern-at in
+    let the-terms = c .before .before .before .before .before .terms in
     let p = c .before .before .before .before .before .before .before .pre in
-    literal-asks _ _ (p .0 .0) (p .0 .1) _ _ (the-terms .ensures) (c .before .before .before .before .records .ensures) _ (c .before .before .text .ensures) _ _ _ _ _
-    (p .1 .0) (p .1 .1) (p .1 .2) (c .before .before .before .pattern-at .ensures) (c .before .pattern .ensures) (c .argument .ensures))
-    (λ c. let the-terms = c .before .before .before .before .before .before .terms in
+    literal-asks _ _ (p .0 .0) (p .0 .1) _ _ (the-terms .ensures) (the-records .ensures) _ (c .before .before .text .ensures) _ _ _ _ _
+    (p .1 .0) (p .1 .1) (p .1 .2) (the-pattern-at .ensures) (c .before .pattern .ensures) (c .argument .ensures))
+    (λ c.
+    let the-text = c .before .before .before .text in
+    let the-terms = c .before .before .before .before .before .before .terms in
     let the-records = c .before .before .before .before .before .records in
     let p = c .before .before .before .before .before .before .before .before .pre in
-    literal-is _ _ (p .0 .0) (p .0 .1) _ _ (the-terms .ensures) (the-records .ensures) _ (c .before .before .before .text .ensures) _ _ _ _ _
+    literal-is _ _ (p .0 .0) (p .0 .1) _ _ (the-terms .ensures) (the-records .ensures) _ (the-text .ensures) _ _ _ _ _
     (c .before .before .pattern .ensures) (c .before .argument .ensures) (c .literal .ensures)))

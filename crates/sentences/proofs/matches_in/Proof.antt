@@ -14,5 +14,10 @@ matches-in-spec =
     (λ c κs.
     let read = c .before .before .before .read-law in
     law-asked _ _ (read .ensures .0) _ (read .ensures .1) (c .before .enum-told .given .1))
-    (λ c. recognise-refused _ _ (c .before .before .before .read-law .ensures .0) _ _ _ (c .before .why .given .1))
-    (λ c. recognise-accepted _ _ (c .before .before .before .before .read-law .ensures .0) _ _ (c .recognise-accepted .result) (c .before .before .enum-told .given .1) (c .recognise-accepted .ensures)))
+    (λ c.
+    let the-read-law = c .before .before .before .read-law in
+    recognise-refused _ _ (the-read-law .ensures .0) _ _ _ (c .before .why .given .1))
+    (λ c.
+    let the-read-law = c .before .before .before .before .read-law in
+    let the-enum-told = c .before .before .enum-told in
+    recognise-accepted _ _ (the-read-law .ensures .0) _ _ (c .recognise-accepted .result) (the-enum-told .given .1) (c .recognise-accepted .ensures)))

@@ -14,5 +14,10 @@ shadows-in-spec =
     (λ c κs.
     let read = c .before .before .before .read-law in
     law-asked _ _ (read .ensures .0) _ (read .ensures .1) (c .before .enum-told .given .1))
-    (λ c. shadow-refused _ _ (c .before .before .before .read-law .ensures .0) _ _ _ (c .before .why .given .1))
-    (λ c. shadow-accepted _ _ (c .before .before .before .before .read-law .ensures .0) _ _ (c .shadow-accepted .result) (c .before .before .enum-told .given .1) (c .shadow-accepted .ensures)))
+    (λ c.
+    let the-read-law = c .before .before .before .read-law in
+    shadow-refused _ _ (the-read-law .ensures .0) _ _ _ (c .before .why .given .1))
+    (λ c.
+    let the-read-law = c .before .before .before .before .read-law in
+    let the-enum-told = c .before .before .enum-told in
+    shadow-accepted _ _ (the-read-law .ensures .0) _ _ (c .shadow-accepted .result) (the-enum-told .given .1) (c .shadow-accepted .ensures)))

@@ -72,7 +72,9 @@ pub +disjoint-rows+disjoint-shapes-spec : {M : Type 1} → statement M
     (λ c. let x = c .before .before .before .before .args in disjoint-none-some (x .a .now) (x .a-open) (x .b .now) (x .b-open) (c .before .if1 .taken) (c .if2 .left))
     (λ c. let x = c .before .before .before .before .args in disjoint-some-none (x .a .now) (x .a-open) (x .b .now) (x .b-open) (c .before .if1 .left) (c .if3 .taken))
     (λ c κs. (omega arith, (c .before .if1 .left, c .if3 .left)))
-    (λ c. let x = c .before .before .before .before .before .before .args in disjoint-first (x .a .now) (x .a-open) (x .b .now) (x .b-open) _ (c .before .before .before .if1 .left) (c .before .before .if3 .left) (c .before .disjoint-shapes .ensures) (c .if4 .taken))
+    (λ c.
+    let the-if1 = c .before .before .before .if1 in
+    let x = c .before .before .before .before .before .before .args in disjoint-first (x .a .now) (x .a-open) (x .b .now) (x .b-open) _ (the-if1 .left) (c .before .before .if3 .left) (c .before .disjoint-shapes .ensures) (c .if4 .taken))
     (λ c κs. omega arith)
     (λ c κs. omega arith)
     (λ c. search needs)
@@ -83,14 +85,19 @@ pub +disjoint-rows+disjoint-shapes-spec : {M : Type 1} → statement M
     (λ c. omega arith)
     (λ c. omega arith)
     (λ c. search needs)
-    (λ c κs. let the-args = c .before .before .before .before .before .before .before .before .before .before .args in
+    (λ c κs.
+    let the-end-of = c .before .before .before .end-of in
+    let the-args = c .before .before .before .before .before .before .before .before .before .before .args in
     let the-if1 = c .before .before .before .before .before .before .before .if1 in
-    (omega (arith, shapes-rest-falls (the-args .a .now) (c .before .before .before .end-of .result) (the-if1 .left) (c .before .before .before .end-of .ensures .0)), tt))
-    (λ c. let the-if1 = c .before .before .before .before .before .before .before .before .if1 in
+    (omega (arith, shapes-rest-falls (the-args .a .now) (the-end-of .result) (the-if1 .left) (the-end-of .ensures .0)), tt))
+    (λ c.
+    let the-end-of = c .before .before .before .before .end-of in
+    let the-end-of2 = c .before .before .before .end-of2 in
+    let the-if1 = c .before .before .before .before .before .before .before .before .if1 in
     let the-if3 = c .before .before .before .before .before .before .before .if3 in
     let the-disjoint-shapes = c .before .before .before .before .before .before .disjoint-shapes in
     let the-if4 = c .before .before .before .before .before .if4 in
-    let x = c .before .before .before .before .before .before .before .before .before .before .before .args in disjoint-rest (x .a .now) (x .a-open) (x .b .now) (x .b-open) _ _ _ _ (the-if1 .left) (the-if3 .left) (the-disjoint-shapes .ensures) (the-if4 .left) (c .before .before .before .before .end-of .ensures .0) (c .before .before .before .end-of2 .ensures .0) (c .disjoint-rows .ensures)))
+    let x = c .before .before .before .before .before .before .before .before .before .before .before .args in disjoint-rest (x .a .now) (x .a-open) (x .b .now) (x .b-open) _ _ _ _ (the-if1 .left) (the-if3 .left) (the-disjoint-shapes .ensures) (the-if4 .left) (the-end-of .ensures .0) (the-end-of2 .ensures .0) (c .disjoint-rows .ensures)))
     λ t. disjoint-shapes-lts.spec (
       is-bracket-reads.Asked,
       is-bracket-reads.Learnt,
@@ -124,17 +131,28 @@ pub +disjoint-rows+disjoint-shapes-spec : {M : Type 1} → statement M
     (λ c κs. let the-end-of = c .before .before .before .before .before .end-of in
     let start = c .before .before .before .before .before .before .before .before .before .before .before .before .before .before in
     (omega (arith, shapes-contents-falls (start .args .a .now) (the-end-of .result) (start .pre .1 .0) (the-end-of .ensures .0)), tt))
-    (λ c. let the-is-bracket = c .before .before .before .before .before .before .before .before .before .before .is-bracket in
+    (λ c.
+    let the-inside-open = c .before .before .before .inside-open in
+    let the-is-bracket = c .before .before .before .before .before .before .before .before .before .before .is-bracket in
     let the-is-bracket2 = c .before .before .before .before .before .before .before .before .is-bracket2 in
     let the-if1 = c .before .before .before .before .before .before .before .before .before .if1 in
     let the-if2 = c .before .before .before .before .before .before .before .if2 in
     let the-end-of = c .before .before .before .before .before .before .end-of in
     let the-end-of2 = c .before .before .before .before .before .end-of2 in
-    let x = c .before .before .before .before .before .before .before .before .before .before .before .before .before .before .before .args in apart-brackets (x .a .now) (x .b .now) _ _ (the-is-bracket .ensures) (the-is-bracket2 .ensures) _ _ _ _ _ (the-if1 .taken) (the-if2 .taken) (the-end-of .ensures .0) (the-end-of2 .ensures .0) (c .before .before .before .inside-open .ensures) (c .before .inside-open2 .ensures) (c .disjoint-rows .ensures))
+    let x = c .before .before .before .before .before .before .before .before .before .before .before .before .before .before .before .args in apart-brackets (x .a .now) (x .b .now) _ _ (the-is-bracket .ensures) (the-is-bracket2 .ensures) _ _ _ _ _ (the-if1 .taken) (the-if2 .taken) (the-end-of .ensures .0) (the-end-of2 .ensures .0) (the-inside-open .ensures) (c .before .inside-open2 .ensures) (c .disjoint-rows .ensures))
     (λ c κs. search needs)
-    (λ c. let x = c .before .before .before .before .before .before .before .before .before .args in apart-bracket-leaf (x .a .now) (x .b .now) _ _ (c .before .before .before .before .is-bracket .ensures) (c .before .before .is-bracket2 .ensures) _ (c .before .before .before .if1 .taken) (c .before .if2 .left) (c .holds-brackets .ensures))
+    (λ c.
+    let the-is-bracket = c .before .before .before .before .is-bracket in
+    let the-if1 = c .before .before .before .if1 in
+    let x = c .before .before .before .before .before .before .before .before .before .args in apart-bracket-leaf (x .a .now) (x .b .now) _ _ (the-is-bracket .ensures) (c .before .before .is-bracket2 .ensures) _ (the-if1 .taken) (c .before .if2 .left) (c .holds-brackets .ensures))
     (λ c κs. search needs)
     (λ c κs. search needs)
-    (λ c. let x = c .before .before .before .before .before .before .before .before .before .args in apart-leaf-bracket (x .a .now) (x .b .now) _ _ (c .before .before .before .before .is-bracket .ensures) (c .before .before .is-bracket3 .ensures) _ (c .before .before .before .if1 .left) (c .before .if3 .taken) (c .holds-brackets2 .ensures))
+    (λ c.
+    let the-is-bracket = c .before .before .before .before .is-bracket in
+    let the-if1 = c .before .before .before .if1 in
+    let x = c .before .before .before .before .before .before .before .before .before .args in apart-leaf-bracket (x .a .now) (x .b .now) _ _ (the-is-bracket .ensures) (c .before .before .is-bracket3 .ensures) _ (the-if1 .left) (c .before .if3 .taken) (c .holds-brackets2 .ensures))
     (λ c κs. search needs)
-    (λ c. let x = c .before .before .before .before .before .before .before .before .before .args in apart-leaves (x .a .now) (x .b .now) _ _ (c .before .before .before .before .is-bracket .ensures) (c .before .before .is-bracket3 .ensures) _ (c .before .before .before .if1 .left) (c .before .if3 .left) (c .leaves-apart .ensures))
+    (λ c.
+    let the-is-bracket = c .before .before .before .before .is-bracket in
+    let the-if1 = c .before .before .before .if1 in
+    let x = c .before .before .before .before .before .before .before .before .before .args in apart-leaves (x .a .now) (x .b .now) _ _ (the-is-bracket .ensures) (c .before .before .is-bracket3 .ensures) _ (the-if1 .left) (c .before .if3 .left) (c .leaves-apart .ensures))

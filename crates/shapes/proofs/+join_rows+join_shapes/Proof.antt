@@ -210,11 +210,12 @@ pub +join-rows+join-shapes-spec : {M : Type 1} → statement M
     (λ c. omega arith)
     (λ c. search needs)
     (λ c.
+    let the-is-bracket = c .before .before .before .is-bracket in
     let start = shapes-start t (c .before .before .before) in
     let args = start .args in
     let joined =
     join-bracket-leaf (args .a .now) (args .b .now) (args .out .now) (args .at) _ _
-    (c .before .before .before .is-bracket .ensures) (c .before .is-bracket2 .ensures) (c .before .before .if1 .taken) (c .if2 .left) (omega arith) in
+    (the-is-bracket .ensures) (c .before .is-bracket2 .ensures) (c .before .before .if1 .taken) (c .if2 .left) (omega arith) in
     (omega (arith, shapes-end-low (args .a .now) (start .pre .1 .0)), joined .0, joined .1))
     (λ c κs. search needs)
     (λ c. search needs)
@@ -222,11 +223,12 @@ pub +join-rows+join-shapes-spec : {M : Type 1} → statement M
     (λ c. omega arith)
     (λ c. search needs)
     (λ c.
+    let the-is-bracket = c .before .before .before .is-bracket in
     let start = shapes-start t (c .before .before .before) in
     let args = start .args in
     let joined =
     join-leaf-bracket (args .a .now) (args .b .now) (args .out .now) (args .at) _ _
-    (c .before .before .before .is-bracket .ensures) (c .before .is-bracket3 .ensures) (c .before .before .if1 .left) (c .if3 .taken) (omega arith) in
+    (the-is-bracket .ensures) (c .before .is-bracket3 .ensures) (c .before .before .if1 .left) (c .if3 .taken) (omega arith) in
     (omega (arith, shapes-end-low (args .a .now) (start .pre .1 .0)), joined .0, joined .1))
     (λ c κs. search needs)
     (λ c. search needs)
@@ -234,10 +236,12 @@ pub +join-rows+join-shapes-spec : {M : Type 1} → statement M
     (λ c. omega arith)
     (λ c. search needs)
     (λ c.
+    let the-is-bracket = c .before .before .before .before .is-bracket in
+    let the-if1 = c .before .before .before .if1 in
     let start = shapes-start t (c .before .before .before .before) in
     let args = start .args in
     let joined =
     join-leaves (args .a .now) (args .b .now) (args .out .now) (args .at) _ _
-    (c .before .before .before .before .is-bracket .ensures) (c .before .before .is-bracket3 .ensures) _ (c .before .before .before .if1 .left)
+    (the-is-bracket .ensures) (c .before .before .is-bracket3 .ensures) _ (the-if1 .left)
     (c .before .if3 .left) (omega arith) (c .join-leaves .ensures) in
     (omega (arith, shapes-end-low (args .a .now) (start .pre .1 .0)), joined .0, joined .1))

@@ -23,17 +23,21 @@ join-formats-spec =
     let start = c .before .before .before .before .before .before .before .before in
     omega (arith, start .pre .3, format-in-length (start .args .limit) (start .args .b .now) (start .pre .2)))
     (λ c. search needs)
-    (λ c. let the-pre = c .before .before .before .before .before .before .before .before .before .before .before .pre in
+    (λ c.
+    let the-if1 = c .before .before .before .before .if1 in
+    let the-pre = c .before .before .before .before .before .before .before .before .before .before .before .pre in
     let the-is-never = c .before .before .before .before .before .is-never in
-    let x = c .before .before .before .before .before .before .before .before .before .before .before .args in join-never-left (x .limit) (x .a .now) (x .b .now) _ _ (the-pre .0) (the-pre .2) (the-is-never .ensures) (c .before .before .before .before .if1 .taken) (c .before .before .copy-words .ensures))
+    let x = c .before .before .before .before .before .before .before .before .before .before .before .args in join-never-left (x .limit) (x .a .now) (x .b .now) _ _ (the-pre .0) (the-pre .2) (the-is-never .ensures) (the-if1 .taken) (c .before .before .copy-words .ensures))
     (λ c κs. search needs)
     (λ c κs.
     let start = c .before .before .before .before .before .before .before .before .before .before in
     omega (arith, start .pre .3, format-in-length (start .args .limit) (start .args .a .now) (start .pre .1)))
     (λ c. search needs)
-    (λ c. let the-pre = c .before .before .before .before .before .before .before .before .before .before .before .before .before .pre in
+    (λ c.
+    let the-if2 = c .before .before .before .before .if2 in
+    let the-pre = c .before .before .before .before .before .before .before .before .before .before .before .before .before .pre in
     let the-is-never2 = c .before .before .before .before .before .is-never2 in
-    let x = c .before .before .before .before .before .before .before .before .before .before .before .before .before .args in join-never-right (x .limit) (x .a .now) (x .b .now) _ _ (the-pre .0) (the-pre .1) (the-is-never2 .ensures) (c .before .before .before .before .if2 .taken) (c .before .before .copy-words2 .ensures))
+    let x = c .before .before .before .before .before .before .before .before .before .before .before .before .before .args in join-never-right (x .limit) (x .a .now) (x .b .now) _ _ (the-pre .0) (the-pre .1) (the-is-never2 .ensures) (the-if2 .taken) (c .before .before .copy-words2 .ensures))
     (λ c κs.
     let start = c .before .before .before .before .before .before .before .before .before in
     omega (arith, format-in-length (start .args .limit) (start .args .a .now) (start .pre .1)))
@@ -54,13 +58,19 @@ join-formats-spec =
     let start = c .before .before .before .before .before .before .before .before .before .before .before .before .before .before .before .before .before .before .before .before in
     omega (arith, start .pre, the-row-end .ensures, the-clear-words .kept, format-in-length (start .args .limit) (start .args .a .now) (start .pre .1)))
     (λ c. search needs)
-    (λ c κs. let the-row-end = c .before .before .before .before .before .before .before .before .before .before .before .before .before .before .row-end in
+    (λ c κs.
+    let the-join-rows = c .before .before .before .join-rows in
+    let the-row-end = c .before .before .before .before .before .before .before .before .before .before .before .before .before .before .row-end in
     let start = c .before .before .before .before .before .before .before .before .before .before .before .before .before .before .before .before .before .before .before .before .before .before .before .before in
-    omega (arith, start .pre, the-row-end .ensures, c .before .before .before .join-rows .ensures .0, format-in-length (start .args .limit) (start .args .a .now) (start .pre .1)))
+    omega (arith, start .pre, the-row-end .ensures, the-join-rows .ensures .0, format-in-length (start .args .limit) (start .args .a .now) (start .pre .1)))
     (λ c. search needs)
-    (λ c. let the-clear-words = c .before .before .before .before .before .before .before .before .before .before .before .before .clear-words in
-    simp length-set (omega (arith, the-clear-words .kept, c .before .before .before .before .join-rows .kept)))
-    (λ c. let the-is-never = c .before .before .before .before .before .before .before .before .before .before .before .before .before .before .before .before .before .before .before .is-never in
+    (λ c.
+    let the-join-rows = c .before .before .before .before .join-rows in
+    let the-clear-words = c .before .before .before .before .before .before .before .before .before .before .before .before .clear-words in
+    simp length-set (omega (arith, the-clear-words .kept, the-join-rows .kept)))
+    (λ c.
+    let the-join-rows = c .before .before .before .before .join-rows in
+    let the-is-never = c .before .before .before .before .before .before .before .before .before .before .before .before .before .before .before .before .before .before .before .is-never in
     let the-if1 = c .before .before .before .before .before .before .before .before .before .before .before .before .before .before .before .before .before .before .if1 in
     let the-row-end = c .before .before .before .before .before .before .before .before .before .before .before .before .before .before .before .row-end in
     let the-row-open = c .before .before .before .before .before .before .before .before .row-open in
@@ -76,6 +86,6 @@ join-formats-spec =
     (read-row (x .a .now) _ _ _ (omega arith) (the-is-never .ensures) (the-if1 .left) (the-row-end .ensures .0) (the-row-open .ensures))
     (read-row (x .b .now) _ _ _ (omega arith) (the-is-never2 .ensures) (the-if2 .left) (the-row-end2 .ensures .0) (the-row-open2 .ensures))
     (the-clear-words .ensures ∙ ap (λ n. replicate n 0) (p .3))
-    (omega (arith, the-row-end .ensures, c .before .before .before .before .join-rows .ensures .0))
-    (c .before .before .before .before .join-rows .ensures .1)
+    (omega (arith, the-row-end .ensures, the-join-rows .ensures .0))
+    (the-join-rows .ensures .1)
     (c .header-word .ensures)))

@@ -24,9 +24,16 @@ same-words-spec =
     (λ c. search needs)
     (λ c. omega arith)
     (λ c. search needs)
-    (λ c. omega (arith, c .before .before .before .loop .inv .long))
-    (λ c. let x = c .before .before .before .before .before .before .args in same-differ (x .a .now) (x .b .now) (c .before .before .before .before .loop .i) (c .if2 .taken))
+    (λ c.
+    let the-loop = c .before .before .before .loop in
+    omega (arith, the-loop .inv .long))
+    (λ c.
+    let the-loop = c .before .before .before .before .loop in
+    let x = c .before .before .before .before .before .before .args in same-differ (x .a .now) (x .b .now) (the-loop .i) (c .if2 .taken))
     (λ c. omega arith)
     (λ c. omega arith)
-    (λ c. let x = c .before .before .before .before .before .before .args in same-next (x .a .now) (x .b .now) (c .before .before .before .before .loop .i) (c .before .before .before .before .loop .inv) (c .before .before .before .loop-test .taken) (c .if2 .left))
+    (λ c.
+    let the-loop = c .before .before .before .before .loop in
+    let the-loop-test = c .before .before .before .loop-test in
+    let x = c .before .before .before .before .before .before .args in same-next (x .a .now) (x .b .now) (the-loop .i) (the-loop .inv) (the-loop-test .taken) (c .if2 .left))
     (λ c. let x = c .before .before .before .args in same-end (x .a .now) (x .b .now) (c .before .loop .i) (c .before .loop .inv) (c .loop-test .left)))

@@ -8,9 +8,13 @@ pub shapes-of-spec : {M : Type 1} → statement M
 shapes-of-spec =
     tie.close
     (tie.spec
-    (λ c. shapes-of-none (c .before .before .args .f .now) (c .if1 .taken))
+    (λ c.
+    let the-args = c .before .before .args in
+    shapes-of-none (the-args .f .now) (c .if1 .taken))
     (λ c κs. search needs)
     (λ c. search needs)
     (λ c. search needs)
     (λ c. search needs)
-    (λ c. shapes-of-some (c .before .before .before .before .args .f .now) _ (c .before .before .if1 .left) (c .before .row-end .ensures .0)))
+    (λ c.
+    let the-args = c .before .before .before .before .args in
+    shapes-of-some (the-args .f .now) _ (c .before .before .if1 .left) (c .before .row-end .ensures .0)))

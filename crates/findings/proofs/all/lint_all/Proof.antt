@@ -27,8 +27,10 @@ lint-all-spec =
     (λ c. let a = c .before .before .before .before .args in
     (refl, laws.linted-begun (settingsFrom (a .mode) (a .overrides .now)) (a .room) (a .limit) (fileOf (a .law .now)) (a .store .now) (sinkOf 2 (a .out .now))))
     (λ c κs. search needs)
-    (λ c κs. let start = c .before .before .before .before .before .before .before .before in
-    laws.linted-asks (c .before .before .before .loop .inv .1) (c .before .before .loop-test .taken) (c .before .task-of .ensures) (start .pre))
+    (λ c κs.
+    let the-loop = c .before .before .before .loop in
+    let start = c .before .before .before .before .before .before .before .before in
+    laws.linted-asks (the-loop .inv .1) (c .before .before .loop-test .taken) (c .before .task-of .ensures) (start .pre))
     (λ c. let the-loop-test = c .before .before .before .before .before .loop-test in
     omega (arith, the-loop-test .taken))
     (λ c. let the-loop-test = c .before .before .before .before .before .loop-test in

@@ -22,10 +22,12 @@ note-builtin-spec =
     (λ c κs. search needs)
     (λ c κs. search needs)
     (λ c. search needs)
-    (λ c. let the-text = c .before .before .before .before .before .before .before .before .before .text in
+    (λ c.
+    let the-builtin-fails = c .before .before .before .before .builtin-fails in
+    let the-text = c .before .before .before .before .before .before .before .before .before .text in
     let the-term-word = c .before .before .before .before .before .before .before .before .term-word in
     let the-term-word2 = c .before .before .before .before .before .before .before .term-word2 in
     let the-name-in = c .before .before .before .before .before .before .name-in in
     let the-argument = c .before .before .before .before .before .argument in
     let a = c .before .before .before .before .before .before .before .before .before .before .before .before .args in
-    builtin-met (fileOf (a .law .now)) (a .t) (a .task) (treeOf (fileOf (a .law .now))) (a .task .room) (sinkOf (a .tally) (a .out .now)) (the-text .ensures) (the-term-word .ensures) (the-term-word2 .ensures) (the-name-in .ensures) (the-argument .ensures) (c .before .before .before .before .builtin-fails .ensures) (c .before .before .note-failure .ensures)))
+    builtin-met (fileOf (a .law .now)) (a .t) (a .task) (treeOf (fileOf (a .law .now))) (a .task .room) (sinkOf (a .tally) (a .out .now)) (the-text .ensures) (the-term-word .ensures) (the-term-word2 .ensures) (the-name-in .ensures) (the-argument .ensures) (the-builtin-fails .ensures) (c .before .before .note-failure .ensures)))

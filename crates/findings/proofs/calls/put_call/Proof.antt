@@ -13,5 +13,6 @@ put-call-spec =
     (λ c κs. search needs)
     (λ c. search needs)
     (λ c.
+    let the-call-note = c .before .before .before .before .call-note in
     let a = c .before .before .before .before .before .before .before .args in
-    put-met (fileOf (a .law .now)) (a .task) (a .t) (a .a) (a .task .room) (a .tally) (a .out .now) (c .before .before .before .before .call-note .ensures) (c .before .before .put-note .ensures)))
+    put-met (fileOf (a .law .now)) (a .task) (a .t) (a .a) (a .task .room) (a .tally) (a .out .now) (the-call-note .ensures) (c .before .before .put-note .ensures)))

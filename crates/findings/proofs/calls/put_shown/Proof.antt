@@ -16,5 +16,6 @@ put-shown-spec = tie.close (tie.spec
     (λ c κs. search needs)
     (λ c. search needs)
     (λ c.
+    let the-if1 = c .before .before .before .before .if1 in
     let a = c .before .before .before .before .before .before .before .before .args in
-    shown-one (a .task .room) (callFound (fileOf (a .law .now)) (a .task) (a .t) (a .a)) (a .tally) (a .out .now) (a .task .shown) (c .before .before .before .before .if1 .left) (c .before .before .put-call .ensures)))
+    shown-one (a .task .room) (callFound (fileOf (a .law .now)) (a .task) (a .t) (a .a)) (a .tally) (a .out .now) (a .task .shown) (the-if1 .left) (c .before .before .put-call .ensures)))

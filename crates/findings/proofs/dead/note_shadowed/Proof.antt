@@ -28,6 +28,8 @@ note-shadowed-spec =
     omega (arith, start .pre .2, sentences-limit (start .args .law .now) (start .args .index .now) (start .pre .0)))
     (λ c κs. search needs)
     (λ c. search needs)
-    (λ c. let the-earliest-shadow = c .before .before .before .before .before .earliest-shadow in
+    (λ c.
+    let the-if1 = c .before .before .before .before .if1 in
+    let the-earliest-shadow = c .before .before .before .before .before .earliest-shadow in
     let start = c .before .before .before .before .before .before .before .before in
-    laws.is-dead (fileOf (start .args .law .now)) (start .args .task) (start .args .first) (start .args .out .now) (start .args .tally) (start .args .later) (the-earliest-shadow .ensures .0) (c .before .before .before .before .if1 .left) (c .before .before .put-sentence .ensures)))
+    laws.is-dead (fileOf (start .args .law .now)) (start .args .task) (start .args .first) (start .args .out .now) (start .args .tally) (start .args .later) (the-earliest-shadow .ensures .0) (the-if1 .left) (c .before .before .put-sentence .ensures)))

@@ -17,6 +17,8 @@ put-sentence-spec =
     omega (arith, start .pre .1, sentences-limit (start .args .law .now) (start .args .index .now) (start .pre .0)))
     (λ c κs. search needs)
     (λ c. search needs)
-    (λ c. let the-field = c .before .before .before .before .before .field in
+    (λ c.
+    let the-field2 = c .before .before .before .before .field2 in
+    let the-field = c .before .before .before .before .before .field in
     let start = c .before .before .before .before .before .before .before .before in
-    laws.sentence-noted (fileOf (start .args .law .now)) (start .args .task) (start .args .s) (start .args .a) (start .args .b) (the-field .result) (c .before .before .before .before .field2 .result) (start .args .tally) (start .args .out .now) (the-field .ensures) (c .before .before .before .before .field2 .ensures) (c .before .before .put-note .ensures)))
+    laws.sentence-noted (fileOf (start .args .law .now)) (start .args .task) (start .args .s) (start .args .a) (start .args .b) (the-field .result) (the-field2 .result) (start .args .tally) (start .args .out .now) (the-field .ensures) (the-field2 .ensures) (c .before .before .put-note .ensures)))

@@ -36,14 +36,20 @@ note-open-spec =
     let start = c .before .before .before .before .before in
     (start .pre .0, start .pre .1, omega (arith, c .before .loop-test .taken, start .pre .2)))
     (λ c.
+    let the-loop-test = c .before .before .before .before .loop-test in
     let start = c .before .before .before .before .before .before .before .before in
-    omega (arith, c .before .before .before .before .loop-test .taken, start .pre .2, sentences-limit (start .args .law .now) (start .args .index .now) (start .pre .0)))
-    (λ c. omega (arith, c .before .before .before .before .loop-test .taken))
-    (λ c. let the-loop = c .before .before .before .before .before .loop in
+    omega (arith, the-loop-test .taken, start .pre .2, sentences-limit (start .args .law .now) (start .args .index .now) (start .pre .0)))
+    (λ c.
+    let the-loop-test = c .before .before .before .before .loop-test in
+    omega (arith, the-loop-test .taken))
+    (λ c.
+    let the-loop-test = c .before .before .before .before .loop-test in
+    let the-note-pattern = c .before .before .note-pattern in
+    let the-loop = c .before .before .before .before .before .loop in
     let start = c .before .before .before .before .before .before .before .before in (
-      omega (arith, c .before .before .before .before .loop-test .taken),
-      c .before .before .note-pattern .kept .1 .1 .1 .1 .0 ∙ the-loop .inv .1,
-      laws.open-again (fileOf (start .args .law .now)) (accepted-readable (start .args .law .now) (start .pre .1)) (start .args .task) (start .args .first) (start .args .count) (the-loop .i) (c .before .before .before .before .loop-test .taken) (start .pre .2) _ _ _ (the-loop .inv .2) (c .before .before .note-pattern .ensures),
+      omega (arith, the-loop-test .taken),
+      the-note-pattern .kept .1 .1 .1 .1 .0 ∙ the-loop .inv .1,
+      laws.open-again (fileOf (start .args .law .now)) (accepted-readable (start .args .law .now) (start .pre .1)) (start .args .task) (start .args .first) (start .args .count) (the-loop .i) (the-loop-test .taken) (start .pre .2) _ _ _ (the-loop .inv .2) (c .before .before .note-pattern .ensures),
     ))
     (λ c. c .before .loop .inv .1)
     (λ c.

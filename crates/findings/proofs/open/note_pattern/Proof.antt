@@ -20,7 +20,9 @@ note-pattern-spec =
     omega (arith, laws.occurrences-few (start .args .law .now) (start .args .index .now) (start .pre .0) (accepted-readable (start .args .law .now) (start .pre .1)) (start .args .s) (c .before .e-occurrences .result) _ (c .before .before .pattern .ensures) (c .before .e-occurrences .ensures .1)))
     (λ c κs. search needs)
     (λ c. search needs)
-    (λ c. let the-e-occurrences = c .before .before .before .before .before .e-occurrences in
+    (λ c.
+    let the-if1 = c .before .before .before .before .if1 in
+    let the-e-occurrences = c .before .before .before .before .before .e-occurrences in
     let the-pattern = c .before .before .before .before .before .before .pattern in
     let start = c .before .before .before .before .before .before .before .before .before in
-    laws.open-many (fileOf (start .args .law .now)) (accepted-readable (start .args .law .now) (start .pre .1)) (start .args .task) (start .args .s) (the-e-occurrences .result) _ (start .args .out .now) (start .args .tally) (start .pre .2) (the-pattern .ensures) (the-e-occurrences .ensures .0) _ (omega (arith, c .before .before .before .before .if1 .left)) (c .before .before .put-sentence .ensures)))
+    laws.open-many (fileOf (start .args .law .now)) (accepted-readable (start .args .law .now) (start .pre .1)) (start .args .task) (start .args .s) (the-e-occurrences .result) _ (start .args .out .now) (start .args .tally) (start .pre .2) (the-pattern .ensures) (the-e-occurrences .ensures .0) _ (omega (arith, the-if1 .left)) (c .before .before .put-sentence .ensures)))

@@ -355,8 +355,9 @@ pub +walk-conditions+walk-pattern+walk-run+walk-sentence+walk-sentences+walk-ter
     let start = c .before .before .before .before .before .before in
     omega (arith, steps.left-more (c .before .loop .inv .1) (start .pre .1 .0 .asked .readable) (c .loop-test .taken)))
     (λ c.
+    let the-loop = c .before .before .before .loop in
     let start = c .before .before .before .before .before .before .before .before in
-    omega (arith, steps.left-more (c .before .before .before .loop .inv .1) (start .pre .1 .0 .asked .readable) (c .before .before .loop-test .taken)))
+    omega (arith, steps.left-more (the-loop .inv .1) (start .pre .1 .0 .asked .readable) (c .before .before .loop-test .taken)))
     (λ c. omega (arith, c .before .before .loop-test .taken))
     (λ c.
     let start = c .before .before .before .before .before .before .before .before in
@@ -364,18 +365,25 @@ pub +walk-conditions+walk-pattern+walk-run+walk-sentence+walk-sentences+walk-ter
     let readable = start .pre .1 .0 .asked .readable in
     let the-word-at = c .before .word-at in
     (the-loop .inv .0, steps.leaf-next (the-loop .inv .1) (steps.left-more (the-loop .inv .1) readable (c .before .before .loop-test .taken)) readable (start .pre .1 .1) (the-word-at .result) (the-word-at .ensures) (c .if1 .taken)))
-    (λ c. c .before .before .before .loop .inv .1 .within)
-    (λ c. c .before .before .before .loop .inv .1 .within)
+    (λ c.
+    let the-loop = c .before .before .before .loop in
+    the-loop .inv .1 .within)
+    (λ c.
+    let the-loop = c .before .before .before .loop in
+    the-loop .inv .1 .within)
     (λ c. search needs)
     (λ c.
+    let the-loop = c .before .before .before .before .loop in
+    let the-loop-test = c .before .before .before .loop-test in
     let start = c .before .before .before .before .before .before .before .before .before in
     let the-left = c .before .before .before .before .loop .inv .1 in
-    let more = steps.left-more the-left (start .pre .1 .0 .asked .readable) (c .before .before .before .loop-test .taken) in
-    omega (arith, steps.at-small (start .pre .1 .0) (start .args .at + c .before .before .before .before .loop .i / 24) (from (c .before .before .before .before .loop .i) (start .args .part .now)) (the-left .part) (steps.left-some the-left more)))
+    let more = steps.left-more the-left (start .pre .1 .0 .asked .readable) (the-loop-test .taken) in
+    omega (arith, steps.at-small (start .pre .1 .0) (start .args .at + the-loop .i / 24) (from (the-loop .i) (start .args .part .now)) (the-left .part) (steps.left-some the-left more)))
     (λ c κs.
+    let the-loop-test = c .before .before .before .before .loop-test in
     let start = c .before .before .before .before .before .before .before .before .before .before in
     let the-left = c .before .before .before .before .before .loop .inv .1 in
-    let more = steps.left-more the-left (start .pre .1 .0 .asked .readable) (c .before .before .before .before .loop-test .taken) in
+    let more = steps.left-more the-left (start .pre .1 .0 .asked .readable) (the-loop-test .taken) in
     (steps.first-less the-left more t (start .pre .0), (start .pre .1 .0, the-left .part, steps.left-some the-left more)))
     (λ c κs. let the-loop-test = c .before .before .before .before .before .before .before .loop-test in
     let start = c .before .before .before .before .before .before .before .before .before .before .before .before .before in

@@ -14,4 +14,5 @@ none-inside-spec =
     (λ c κs. search needs)
     (λ c κs. search needs)
     (λ c.
-    rw (eq-eqb _ 1 (c .before .before .before .if1 .left), c .sentences .ensures, c .before .first-sentence .ensures, c .before .before .functions .ensures)))
+    let the-if1 = c .before .before .before .if1 in
+    rw (eq-eqb _ 1 (the-if1 .left), c .sentences .ensures, c .before .first-sentence .ensures, c .before .before .functions .ensures)))

@@ -16,5 +16,7 @@ note-block-spec =
     block-passed (start .args .task) (keep (start .args .count) (sentencesAt (fileOf (start .args .law .now)) (start .args .first))) (sinkOf (start .args .tally) (start .args .out .now)) (c .if1 .taken))
     (λ c κs. search needs)
     (λ c. search needs)
-    (λ c. let start = c .before .before .before .before .before .before .before .before in
-    block-noted (start .args .task) (keep (start .args .count) (sentencesAt (fileOf (start .args .law .now)) (start .args .first))) (sinkOf (start .args .tally) (start .args .out .now)) _ (c .before .before .before .before .if1 .left) (c .before .before .note-dead .ensures true)))
+    (λ c.
+    let the-if1 = c .before .before .before .before .if1 in
+    let start = c .before .before .before .before .before .before .before .before in
+    block-noted (start .args .task) (keep (start .args .count) (sentencesAt (fileOf (start .args .law .now)) (start .args .first))) (sinkOf (start .args .tally) (start .args .out .now)) _ (the-if1 .left) (c .before .before .note-dead .ensures true)))

@@ -26,12 +26,13 @@ infer-store-spec =
     (λ c. search needs)
     (λ c. search needs)
     (λ c.
+    let the-enum-told = c .before .before .before .before .enum-told in
     let start = c .before .before .before .before .before .before .before .before .before .before .before .before .before .before .before .before .before .before in
     let names = c .before .before .before .before .before .before .before .before .before .before .before .before .before .before .wide in
     let begun = c .before .before .before .before .before .before .before .before .before .before .before .before .start-store in
     let started = c .before .before .before .before .before .before .before .before .infer-started in
     let held = store-started (start .pre .0) (start .pre .1) (start .pre .4) (start .pre .2) (names .result) (names .ensures .0) _ _ (begun .ensures) in
-    infer-cleared (start .args .limit) _ (start .args .store .now) _ (started .result) (started .ensures _ held) _ (c .before .before .before .before .enum-told .given .1) (c .before .before .clear-store .ensures))
+    infer-cleared (start .args .limit) _ (start .args .store .now) _ (started .result) (started .ensures _ held) _ (the-enum-told .given .1) (c .before .before .clear-store .ensures))
     (λ c. search needs)
     (λ c.
     let start = c .before .before .before .before .before .before .before .before .before .before .before .before .before .before .before in

@@ -46,6 +46,7 @@ start-store-spec =
     (omega (arith, c .loop-test .taken), simp length-set (c .before .loop .inv .1), rw (c .before .loop .inv .2) (start-next (start .args .limit) (c .before .loop .k) (c .before .loop .k + 1) _ (omega (arith, c .loop-test .taken, start .pre .1)) (omega arith))))
     (λ c. search needs)
     (λ c.
+    let the-clear-store = c .before .before .before .before .clear-store in
     let start = c .before .before .before .before .before .before .before in
     let last : c .before .loop .k ≡ start .args .most = omega (arith, c .loop-test .left, c .before .loop .inv .0) in
-    c .before .loop .inv .2 ∙ rw (last, c .before .before .before .before .clear-store .ensures, cleared-past (start .args .limit) (start .args .store .now))))
+    c .before .loop .inv .2 ∙ rw (last, the-clear-store .ensures, cleared-past (start .args .limit) (start .args .store .now))))

@@ -25,8 +25,9 @@ function-turn-spec =
     let start = c .before .before .before .before .before in
     omega (arith, c .before .first-sentence .ensures, c .first-sentence2 .ensures, turn-first (start .pre .0) (start .args .f) (start .pre .2), turn-next (start .pre .0) (start .args .f) (start .pre .2)))
     (λ c κs.
+    let the-first-sentence = c .before .before .before .first-sentence in
     let start = c .before .before .before .before .before .before .before in
-    (start .pre .0, start .pre .1, omega (arith, c .before .before .before .first-sentence .ensures, c .before .before .first-sentence2 .ensures, turn-first (start .pre .0) (start .args .f) (start .pre .2), turn-next (start .pre .0) (start .args .f) (start .pre .2), turn-inside (start .pre .0) (start .args .f) (start .pre .2)), start .pre .3))
+    (start .pre .0, start .pre .1, omega (arith, the-first-sentence .ensures, c .before .before .first-sentence2 .ensures, turn-first (start .pre .0) (start .args .f) (start .pre .2), turn-next (start .pre .0) (start .args .f) (start .pre .2), turn-inside (start .pre .0) (start .args .f) (start .pre .2)), start .pre .3))
     (λ c. search needs)
     (λ c. search needs)
     (λ c.

@@ -26,12 +26,14 @@ infer-arguments-spec =
     (λ c.
     let start = c .before .before .before .before in
     (arguments-start (start .args .limit) (fileOf (start .args .law .now)) (start .args .store .now), start .pre .2))
-    (λ c κs. let the-pre = c .before .before .before .before .before .before .before .before .pre in
+    (λ c κs.
+    let the-functions = c .before .before .before .before .functions in
+    let the-pre = c .before .before .before .before .before .before .before .before .pre in
     let now = c .before .before .before .loop in
     let start = c .before .before .before .before .before .before .before .before in (
       start .pre .0,
       arguments-holding (now .inv .0) (start .pre .1),
-      (omega (arith, c .before .before .loop-test .taken, functions-read (the-pre .0) (c .before .before .before .before .functions .result) (c .before .before .before .before .functions .ensures))),
+      (omega (arith, c .before .before .loop-test .taken, functions-read (the-pre .0) (the-functions .result) (the-functions .ensures))),
       now .inv .1,
     ))
     (λ c. c .match .keys1)

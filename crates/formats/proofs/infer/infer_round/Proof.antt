@@ -29,12 +29,14 @@ infer-round-spec =
     (λ c.
     let start = c .before .before .before .before in
     (round-start (start .args .limit) (fileOf (start .args .law .now)) (start .args .store .now), start .pre .2))
-    (λ c κs. let the-pre = c .before .before .before .before .before .before .before .before .pre in
+    (λ c κs.
+    let the-functions = c .before .before .before .before .functions in
+    let the-pre = c .before .before .before .before .before .before .before .before .pre in
     let now = c .before .before .before .loop in
     let start = c .before .before .before .before .before .before .before .before in (
       start .pre .0,
       round-holding (now .inv .0) (start .pre .1),
-      (omega (arith, c .before .before .loop-test .taken, functions-read (the-pre .0) (c .before .before .before .before .functions .result) (c .before .before .before .before .functions .ensures))),
+      (omega (arith, c .before .before .loop-test .taken, functions-read (the-pre .0) (the-functions .result) (the-functions .ensures))),
       now .inv .1,
     ))
     (λ c. c .match .keys1)
@@ -70,15 +72,29 @@ infer-round-spec =
       round-more (the-loop .inv .0) (turn .last .1 .1 .1 .0) (turn .result) (turn .ensures) (c .match .changed) marked (omega (arith, the-loop-test .taken, functions-read (the-pre .0) (the-functions .result) (the-functions .ensures))) (the-pre .0 .small),
       turn .kept .1 .1 .1 .1 .1 .1 .1 .1 .0 ∙ the-loop .inv .1,
     ))
-    (λ c. let the-pre = c .before .before .before .before .before .before .before .pre in
-    round-long (c .before .before .loop .inv .0) (the-pre .1))
-    (λ c. let the-pre = c .before .before .before .before .before .before .before .pre in
-    c .before .before .loop .inv .1 ∙ sym (the-pre .2))
-    (λ c. let the-pre = c .before .before .before .before .before .before .before .pre in
-    round-all (c .before .before .loop .inv .0) Changed (rw (c .if1 .taken)) (omega (arith, c .before .loop-test .left, functions-read (the-pre .0) (c .before .before .before .functions .result) (c .before .before .before .functions .ensures))))
-    (λ c. let the-pre = c .before .before .before .before .before .before .before .pre in
-    round-long (c .before .before .loop .inv .0) (the-pre .1))
-    (λ c. let the-pre = c .before .before .before .before .before .before .before .pre in
-    c .before .before .loop .inv .1 ∙ sym (the-pre .2))
-    (λ c. let the-pre = c .before .before .before .before .before .before .before .pre in
-    round-all (c .before .before .loop .inv .0) Same (rw (c .if1 .left)) (omega (arith, c .before .loop-test .left, functions-read (the-pre .0) (c .before .before .before .functions .result) (c .before .before .before .functions .ensures)))))
+    (λ c.
+    let the-loop = c .before .before .loop in
+    let the-pre = c .before .before .before .before .before .before .before .pre in
+    round-long (the-loop .inv .0) (the-pre .1))
+    (λ c.
+    let the-loop = c .before .before .loop in
+    let the-pre = c .before .before .before .before .before .before .before .pre in
+    the-loop .inv .1 ∙ sym (the-pre .2))
+    (λ c.
+    let the-functions = c .before .before .before .functions in
+    let the-loop = c .before .before .loop in
+    let the-pre = c .before .before .before .before .before .before .before .pre in
+    round-all (the-loop .inv .0) Changed (rw (c .if1 .taken)) (omega (arith, c .before .loop-test .left, functions-read (the-pre .0) (the-functions .result) (the-functions .ensures))))
+    (λ c.
+    let the-loop = c .before .before .loop in
+    let the-pre = c .before .before .before .before .before .before .before .pre in
+    round-long (the-loop .inv .0) (the-pre .1))
+    (λ c.
+    let the-loop = c .before .before .loop in
+    let the-pre = c .before .before .before .before .before .before .before .pre in
+    the-loop .inv .1 ∙ sym (the-pre .2))
+    (λ c.
+    let the-functions = c .before .before .before .functions in
+    let the-loop = c .before .before .loop in
+    let the-pre = c .before .before .before .before .before .before .before .pre in
+    round-all (the-loop .inv .0) Same (rw (c .if1 .left)) (omega (arith, c .before .loop-test .left, functions-read (the-pre .0) (the-functions .result) (the-functions .ensures)))))

@@ -25,7 +25,9 @@ infer-rounds-spec =
     Inv-loop
     μ-loop
     (λ c. let start = c .before .before .before in (start .pre .2, rounds-start (start .args .limit) (start .args .most) (treeOf (fileOf (start .args .law .now))) (start .args .store .now)))
-    (λ c κs. let p = c .before .before .before .before .before .before .before .pre in (p .0, rounds-holding (c .before .before .before .loop .inv .1) (p .1), c .before .before .before .loop .inv .0))
+    (λ c κs.
+    let the-loop = c .before .before .before .loop in
+    let p = c .before .before .before .before .before .before .before .pre in (p .0, rounds-holding (the-loop .inv .1) (p .1), the-loop .inv .0))
     (λ c. search needs)
     (λ c. let the-infer-round = c .before .before .before .before .before .before .infer-round in
     let the-loop = c .before .before .before .before .before .before .before .before .before .before .loop in
@@ -61,7 +63,9 @@ infer-rounds-spec =
     let the-loop-test = c .before .before .before .before .before .before .before .before .before .loop-test in
     let one = c .before .before .before .before .before .before .infer-round in
     rounds-settled (the-loop .inv .1) (one .last .1 .1 .1 .0) (one .result) (one .ensures) (c .enum-told3 .given .1) (the-loop-test .taken))
-    (λ c. c .before .loop .inv .1 .long)
+    (λ c.
+    let the-loop = c .before .loop in
+    the-loop .inv .1 .long)
     (λ c. let the-pre = c .before .before .before .before .before .pre in
     c .before .loop .inv .0 ∙ sym (the-pre .2))
     (λ c. rounds-out (c .before .loop .inv .1) (c .loop-test .left)))

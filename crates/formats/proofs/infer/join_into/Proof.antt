@@ -16,7 +16,9 @@ join-into-spec =
     (λ c.
     let start = c .before .before .before .before in
     sym (lent-length (start .args .limit) (start .pre .0)))
-    (λ c κs. let p = c .before .before .before .before .pre in (omega (arith, p .0), p .1, p .2, lent-length (c .before .before .before .before .args .limit) (p .0)))
+    (λ c κs.
+    let the-args = c .before .before .before .before .args in
+    let p = c .before .before .before .before .pre in (omega (arith, p .0), p .1, p .2, lent-length (the-args .limit) (p .0)))
     (λ c. let the-pre = c .before .before .before .before .before .before .pre in
     let joined = c .before .join-formats in back-inside (the-pre .0) (joined .last .1 .1 .1 .0) _ (joined .kept .1 .1 .1 .0))
     (λ c. let the-pre = c .before .before .before .before .before .before .before .pre in

@@ -40,7 +40,9 @@ join-sentences-spec =
     (tie.spec
     Inv-loop
     μ-loop
-    (λ c. omega (arith, c .before .before .before .pre .0 .small))
+    (λ c.
+    let the-pre = c .before .before .before .pre in
+    omega (arith, the-pre .0 .small))
     (λ c. let start = c .before .before .before in (refl, rows-start (start .pre .0 .small) (start .pre .3)))
     (λ c.
     let start = c .before .before .before .before .before in
@@ -62,10 +64,12 @@ join-sentences-spec =
     (λ c. let the-loop = c .before .before .before .before .before .loop in
     let start = c .before .before .before .before .before .before .before .before .before in
     rows-length (the-loop .inv .1) ∙ sym (format-in-length (start .args .limit) (start .args .joined .now) (start .pre .3)))
-    (λ c. let the-loop = c .before .before .before .before .before .loop in
+    (λ c.
+    let the-loop-test = c .before .before .before .before .loop-test in
+    let the-loop = c .before .before .before .before .before .loop in
     let p = c .before .before .before .before .before .before .before .before .before .pre in
     rows-refused (the-loop .inv .1) (c .before .before .sentence-format .ensures) (not-true _ (c .if1 .taken)) (p .0 .readable) (p .2)
-    (c .before .before .before .before .loop-test .taken))
+    (the-loop-test .taken))
     (λ c.
     let made = c .before .before .before .sentence-format in
     let now = c .before .before .before .before .before .before .loop in

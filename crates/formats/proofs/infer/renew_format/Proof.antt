@@ -31,10 +31,12 @@ renew-format-spec =
     omega (arith, format-in-length (start .args .limit) (start .args .other .now) (start .pre .4)))
     (λ c κs. search needs)
     (λ c. search needs)
-    (λ c. let the-is-never = c .before .before .before .before .before .before .before .is-never in
+    (λ c.
+    let the-copy-words = c .before .before .before .before .copy-words in
+    let the-is-never = c .before .before .before .before .before .before .before .is-never in
     let the-if1 = c .before .before .before .before .before .before .if1 in
     let start = c .before .before .before .before .before .before .before .before .before .before .before in (
-      started-words (start .args .limit) (start .args .store .now) (start .args .k) (start .args .other .now) (start .pre .0) (start .pre .4) (the-is-never .ensures) (the-if1 .taken) (c .before .before .before .before .copy-words .ensures),
+      started-words (start .args .limit) (start .args .store .now) (start .args .k) (start .args .other .now) (start .pre .0) (start .pre .4) (the-is-never .ensures) (the-if1 .taken) (the-copy-words .ensures),
       started-test (start .args .limit) (start .args .store .now) (start .args .k) (start .args .other .now) (start .pre .0) (start .pre .4) (the-is-never .ensures) (the-if1 .taken) (c .is-never2 .ensures),
     ))
     (λ c κs.
@@ -48,8 +50,9 @@ renew-format-spec =
     (λ c. search needs)
     (λ c. search needs)
     (λ c.
+    let the-row-end = c .before .before .row-end in
     let start = c .before .before .before .before .before .before .before .before in
-    omega (arith, c .before .before .row-end .ensures .2, format-in-length (start .args .limit) (start .args .other .now) (start .pre .4), start .pre .2))
+    omega (arith, the-row-end .ensures .2, format-in-length (start .args .limit) (start .args .other .now) (start .pre .4), start .pre .2))
     (λ c κs. search needs)
     (λ c. search needs)
     (λ c.

@@ -14,7 +14,9 @@ row-format-spec =
     (tie.spec
     (λ c κs. search needs)
     (λ c. search needs)
-    (λ c κs. let p = c .before .before .before .before .before .before .before .before .before .pre in (row-cleared (p .0) (c .before .before .before .clear-words .kept .0) refl, p .2))
+    (λ c κs.
+    let the-clear-words = c .before .before .before .clear-words in
+    let p = c .before .before .before .before .before .before .before .before .before .pre in (row-cleared (p .0) (the-clear-words .kept .0) refl, p .2))
     (λ c. search needs)
     (λ c κs. search needs)
     (λ c. search needs)
@@ -35,8 +37,10 @@ row-format-spec =
     (λ c. let the-write-row = c .before .before .before .before .before .before .write-row in
     let the-clear-words = c .before .before .before .before .before .before .before .before .before .before .clear-words in
     length-set (the-write-row .last .1 .1 .1 .1 .1 .1 .1 .0) _ _ ∙ the-write-row .kept .1 .1 .1 .1 .1 .1 .1 .0 ∙ the-clear-words .kept .0)
-    (λ c. let the-args = c .before .before .before .before .before .before .before .before .before .before .before .before .before .before .before .before .args in
+    (λ c.
+    let the-next = c .before .before .next in
+    let the-args = c .before .before .before .before .before .before .before .before .before .before .before .before .before .before .before .before .args in
     let the-clear-words = c .before .before .before .before .before .before .before .before .before .before .clear-words in
     let the-write-row = c .before .before .before .before .before .before .write-row in
     let p = c .before .before .before .before .before .before .before .before .before .before .before .before .before .before .before .before .pre in
-    λ t knows. made-written (the-args .limit) _ _ _ (the-clear-words .ensures ∙ ap (λ n. replicate n 0) (p .1)) refl (c .before .before .next .given .1) (c .header-word .ensures) (the-write-row .ensures .1 t knows)))
+    λ t knows. made-written (the-args .limit) _ _ _ (the-clear-words .ensures ∙ ap (λ n. replicate n 0) (p .1)) refl (the-next .given .1) (c .header-word .ensures) (the-write-row .ensures .1 t knows)))

@@ -27,11 +27,12 @@ sentence-format-spec =
     (row-asked asked here (stored-none (a .store .now) (a .limit) (asked .small)) (start .pre .3) refl, start .pre .3, asked .places))
     (λ c. search needs)
     (λ c.
+    let the-pattern = c .before .before .before .before .pattern in
     let begins = c .before .before .before .before .before in
     let a = begins .before .before .before .before .before .args in
     let file = fileOf (a .law .now) in
     pattern-made file (a .s) (c .before .before .row-format .ensures) (find (resultsIn (a .limit) (fileNames file) (a .store .now))) refl (begins .before .if1 .taken)
-    (begins .pattern-at .ensures) (c .before .before .before .before .pattern .ensures))
+    (begins .pattern-at .ensures) (the-pattern .ensures))
     (λ c κs. search needs)
     (λ c κs. search needs)
     (λ c κs.
@@ -42,6 +43,7 @@ sentence-format-spec =
     (row-asked asked here (holding-stored (a .count) (start .pre .1) (asked .names) (asked .small)) (start .pre .3) refl, start .pre .3, asked .places))
     (λ c. search needs)
     (λ c.
+    let the-result = c .before .before .before .before .result in
     let begins = c .before .before .before .before .before in
     let start = begins .before .before .before .before .before in
     let a = start .args in
@@ -49,4 +51,4 @@ sentence-format-spec =
     let file = fileOf (a .law .now) in
     result-made file (a .s) (c .before .before .row-format2 .ensures) (find (resultsIn (a .limit) (fileNames file) (a .store .now)))
     (holding-knows file (a .slots .now) (a .count) (asked .places) (start .pre .1) (asked .names) (asked .small)) (begins .before .if1 .left)
-    (begins .result-at .ensures) (c .before .before .before .before .result .ensures)))
+    (begins .result-at .ensures) (the-result .ensures)))

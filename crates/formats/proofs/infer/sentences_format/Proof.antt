@@ -18,23 +18,36 @@ sentences-format-spec =
     tie.close
     (tie.spec
     (λ c κs. search needs)
-    (λ c. let the-pre = c .before .before .before .before .before .before .before .before .pre in
-    omega (arith, c .before .before .clear-words .kept .0, the-pre .3))
-    (λ c. length-set (c .before .before .clear-words .last .0) _ _ ∙ c .before .before .clear-words .kept .0)
     (λ c.
+    let the-clear-words = c .before .before .clear-words in
+    let the-pre = c .before .before .before .before .before .before .before .before .pre in
+    omega (arith, the-clear-words .kept .0, the-pre .3))
+    (λ c.
+    let the-clear-words = c .before .before .clear-words in
+    length-set (the-clear-words .last .0) _ _ ∙ the-clear-words .kept .0)
+    (λ c.
+    let the-if1 = c .before .before .before .before .if1 in
     let start = c .before .before .before .before .before .before .before .before in
-    rows-none (start .args .limit) (fileOf (start .args .law .now)) (start .args .patterns) (find (resultsIn (start .args .limit) (fileNames (fileOf (start .args .law .now))) (start .args .store .now))) (start .args .from) (start .args .number) (length (start .args .out .now)) (c .before .before .before .before .if1 .taken) (c .before .before .clear-words .ensures) (start .pre .3))
+    rows-none (start .args .limit) (fileOf (start .args .law .now)) (start .args .patterns) (find (resultsIn (start .args .limit) (fileNames (fileOf (start .args .law .now))) (start .args .store .now))) (start .args .from) (start .args .number) (length (start .args .out .now)) (the-if1 .taken) (c .before .before .clear-words .ensures) (start .pre .3))
     (λ c κs.
     let start = c .before .before .before .before .before in
     (start .pre .0, start .pre .1, omega (arith, c .before .if1 .left, start .pre .2), start .pre .3))
-    (λ c. c .before .before .before .sentence-format .kept .1 .1 .1 .1 .1 .1 .1 .1 .0)
-    (λ c. let the-if1 = c .before .before .before .before .before .if1 in
+    (λ c.
+    let the-sentence-format = c .before .before .before .sentence-format in
+    the-sentence-format .kept .1 .1 .1 .1 .1 .1 .1 .1 .0)
+    (λ c.
+    let the-sentence-format = c .before .before .before .sentence-format in
+    let the-if1 = c .before .before .before .before .before .if1 in
     let start = c .before .before .before .before .before .before .before .before .before in
-    first-refused (start .args .limit) (fileOf (start .args .law .now)) (start .args .patterns) (find (resultsIn (start .args .limit) (fileNames (fileOf (start .args .law .now))) (start .args .store .now))) (start .args .from) (start .args .number) (c .before .before .before .sentence-format .ensures) (start .pre .0 .readable) (start .pre .2) (omega (arith, the-if1 .left)) (not-true _ (c .if2 .taken)))
-    (λ c. c .before .before .before .before .sentence-format .kept .1 .1 .1 .1 .1 .1 .1 .1 .0)
-    (λ c. let the-if1 = c .before .before .before .before .before .before .if1 in
+    first-refused (start .args .limit) (fileOf (start .args .law .now)) (start .args .patterns) (find (resultsIn (start .args .limit) (fileNames (fileOf (start .args .law .now))) (start .args .store .now))) (start .args .from) (start .args .number) (the-sentence-format .ensures) (start .pre .0 .readable) (start .pre .2) (omega (arith, the-if1 .left)) (not-true _ (c .if2 .taken)))
+    (λ c.
+    let the-sentence-format = c .before .before .before .before .sentence-format in
+    the-sentence-format .kept .1 .1 .1 .1 .1 .1 .1 .1 .0)
+    (λ c.
+    let the-sentence-format = c .before .before .before .before .sentence-format in
+    let the-if1 = c .before .before .before .before .before .before .if1 in
     let start = c .before .before .before .before .before .before .before .before .before .before in
-    first-alone (start .args .limit) (fileOf (start .args .law .now)) (start .args .patterns) (find (resultsIn (start .args .limit) (fileNames (fileOf (start .args .law .now))) (start .args .store .now))) (start .args .from) (start .args .number) (c .before .before .before .before .sentence-format .ensures) (start .pre .0 .readable) (start .pre .2) (omega (arith, the-if1 .left)) (start .pre .0 .small) (not-false _ (c .before .if2 .left)) (c .if3 .taken))
+    first-alone (start .args .limit) (fileOf (start .args .law .now)) (start .args .patterns) (find (resultsIn (start .args .limit) (fileNames (fileOf (start .args .law .now))) (start .args .store .now))) (start .args .from) (start .args .number) (the-sentence-format .ensures) (start .pre .0 .readable) (start .pre .2) (omega (arith, the-if1 .left)) (start .pre .0 .small) (not-false _ (c .before .if2 .left)) (c .if3 .taken))
     (λ c. let the-if1 = c .before .before .before .before .before .before .if1 in
     let start = c .before .before .before .before .before .before .before .before .before .before in
     omega (arith, the-if1 .left, start .pre .2, sentences-limit (start .args .law .now) (start .args .index .now) (start .pre .0 .indexed)))
@@ -48,8 +61,10 @@ sentences-format-spec =
       omega (arith, the-if1 .left, start .pre .2),
       first-format (start .args .limit) (fileOf (start .args .law .now)) (start .args .patterns) (find (resultsIn (start .args .limit) (fileNames (fileOf (start .args .law .now))) (start .args .store .now))) (start .args .from) (start .args .number) (the-sentence-format .ensures) (start .pre .0 .readable) (start .pre .2) (omega (arith, the-if1 .left)) (start .pre .0 .small) (not-false _ (c .before .before .if2 .left)),
     ))
-    (λ c. let the-sentence-format = c .before .before .before .before .before .before .before .before .sentence-format in
-    c .before .before .join-sentences .kept .1 .1 .1 .1 .1 .1 .1 .1 .1 .0 ∙ the-sentence-format .kept .1 .1 .1 .1 .1 .1 .1 .1 .0)
+    (λ c.
+    let the-join-sentences = c .before .before .join-sentences in
+    let the-sentence-format = c .before .before .before .before .before .before .before .before .sentence-format in
+    the-join-sentences .kept .1 .1 .1 .1 .1 .1 .1 .1 .1 .0 ∙ the-sentence-format .kept .1 .1 .1 .1 .1 .1 .1 .1 .0)
     (λ c. let the-sentence-format = c .before .before .before .before .before .before .before .before .sentence-format in
     let the-if1 = c .before .before .before .before .before .before .before .before .before .before .if1 in
     let the-if2 = c .before .before .before .before .before .if2 in

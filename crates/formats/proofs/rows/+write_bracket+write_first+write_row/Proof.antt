@@ -90,11 +90,13 @@ pub +write-bracket+write-first+write-row-spec : {M : Type 1} → statement M
     omega (arith, laws.asked-small (start .pre .1 .0) (start .pre .1 .1)))
     (λ c. let start = c .before .before .before .before .before .before .before in
     omega (arith, c .before .before .if1 .left, start .pre .1 .0 .small))
-    (λ c κs. let start = c .before .before .before .before .before .before .before .before in
+    (λ c κs.
+    let the-if1 = c .before .before .before .if1 in
+    let start = c .before .before .before .before .before .before .before .before in
     let the-end = c .before .before .end-of in
     let part = start .args .part .now in (
       omega (arith, inside-falls part (the-end .result) (length part) (start .pre .1 .1) (the-end .ensures .0) refl, start .pre .0),
-      (laws.asked-inside (start .pre .1 .0) (start .pre .1 .1) (the-end .ensures .0) (c .before .before .before .if1 .left), start .pre .1 .2),
+      (laws.asked-inside (start .pre .1 .0) (start .pre .1 .1) (the-end .ensures .0) (the-if1 .left), start .pre .1 .2),
     ))
     (λ c. search needs)
     (λ c. search needs)
@@ -110,7 +112,9 @@ pub +write-bracket+write-first+write-row-spec : {M : Type 1} → statement M
     let the-write-row = c .before .before .before .before .before .before .write-row in
     let start = c .before .before .before .before .before .before .before .before .before .before .before .before .before .before .before in
     omega (arith, the-if1 .left, start .pre .1 .0 .room, the-write-row .kept .1 .1 .1 .1 .1 .1 .1 .0))
-    (λ c. c .before .before .before .before .write-row .kept .1 .1 .1 .1 .1 .1 .1 .0)
+    (λ c.
+    let the-write-row = c .before .before .before .before .write-row in
+    the-write-row .kept .1 .1 .1 .1 .1 .1 .1 .0)
     (λ c. let the-end-of = c .before .before .before .before .before .before .before .end-of in
     let start = c .before .before .before .before .before .before .before .before .before .before .before .before .before in
     let inside = c .before .before .before .before .write-row in (
@@ -146,10 +150,13 @@ pub +write-bracket+write-first+write-row-spec : {M : Type 1} → statement M
     (λ c κs. search needs)
     (λ c κs. search needs)
     (λ c. search needs)
-    (λ c κs. let the-term-at = c .before .before .before .before .before .term-at in
+    (λ c κs.
+    let the-step-of = c .before .before .before .before .step-of in
+    let the-word = c .before .before .word in
+    let the-term-at = c .before .before .before .before .before .term-at in
     let start = c .before .before .before .before .before .before .before .before .before .before in
     let part = start .args .part .now in (
-      laws.step-leaf-word part _ (laws.step-is part (the-term-at .ensures) (c .before .before .before .before .step-of .ensures) (c .before .before .word .given .1)),
+      laws.step-leaf-word part _ (laws.step-is part (the-term-at .ensures) (the-step-of .ensures) (the-word .given .1)),
       start .pre .1 .0 .begins,
       start .pre .1 .0 .room,
     ))
@@ -165,38 +172,54 @@ pub +write-bracket+write-first+write-row-spec : {M : Type 1} → statement M
     (λ c κs. search needs)
     (λ c κs. let start = c .before .before .before .before .before .before .before .before .before .before .before in
     (start .pre .1 .0 .stored, c .before .wide .ensures .1, start .pre .1 .0 .begins, start .pre .1 .0 .room))
-    (λ c. c .before .before .write-leaf .kept .1 .0)
-    (λ c. let the-term-at = c .before .before .before .before .before .before .before .before .term-at in
+    (λ c.
+    let the-write-leaf = c .before .before .write-leaf in
+    the-write-leaf .kept .1 .0)
+    (λ c.
+    let the-write-leaf = c .before .before .write-leaf in
+    let the-term-at = c .before .before .before .before .before .before .before .before .term-at in
     let the-step-of = c .before .before .before .before .before .before .before .step-of in
     let the-word = c .before .before .before .before .before .word in
     let start = c .before .before .before .before .before .before .before .before .before .before .before .before .before in
     let step = laws.step-is (start .args .part .now) (the-term-at .ensures) (the-step-of .ensures) (the-word .given .1) in (
-      c .before .before .write-leaf .ensures .0,
-      λ results knows. laws.first-leaf (start .pre .1 .0) (start .pre .1 .1) results step (c .before .before .write-leaf .ensures .1),
+      the-write-leaf .ensures .0,
+      λ results knows. laws.first-leaf (start .pre .1 .0) (start .pre .1 .1) results step (the-write-leaf .ensures .1),
     ))
-    (λ c. let start = c .before .before .before .before .before .before .before .before in
+    (λ c.
+    let the-term-at = c .before .before .before .term-at in
+    let start = c .before .before .before .before .before .before .before .before in
     let a = start .args in
     let asked = start .pre .1 .0 in
-    let step = laws.step-is (a .part .now) (c .before .before .before .term-at .ensures) (c .before .before .step-of .ensures) (c .enum-told .given .1) in (
+    let step = laws.step-is (a .part .now) (the-term-at .ensures) (c .before .before .step-of .ensures) (c .enum-told .given .1) in (
       (omega arith, asked .begins),
       λ results knows. laws.first-open _ results _ (a .part .now) (a .out .now) (a .to) (a .most) (asked .begins) (asked .room) step,
     ))
-    (λ c. c .before .before .write-bracket .kept .1 .1 .1 .1 .1 .1 .1 .0)
-    (λ c. let the-term-at = c .before .before .before .before .before .before .before .term-at in
+    (λ c.
+    let the-write-bracket = c .before .before .write-bracket in
+    the-write-bracket .kept .1 .1 .1 .1 .1 .1 .1 .0)
+    (λ c.
+    let the-enum-told2 = c .before .before .before .before .enum-told2 in
+    let the-write-bracket = c .before .before .write-bracket in
+    let the-term-at = c .before .before .before .before .before .before .before .term-at in
     let the-step-of = c .before .before .before .before .before .before .step-of in
     let start = c .before .before .before .before .before .before .before .before .before .before .before .before in
-    let step = laws.step-is (start .args .part .now) (the-term-at .ensures) (the-step-of .ensures) (c .before .before .before .before .enum-told2 .given .1) in (
-      c .before .before .write-bracket .ensures .0,
-      λ results knows. laws.first-bracket (start .pre .1 .0) (start .pre .1 .1) results step (c .before .before .write-bracket .ensures .1 results knows),
+    let step = laws.step-is (start .args .part .now) (the-term-at .ensures) (the-step-of .ensures) (the-enum-told2 .given .1) in (
+      the-write-bracket .ensures .0,
+      λ results knows. laws.first-bracket (start .pre .1 .0) (start .pre .1 .1) results step (the-write-bracket .ensures .1 results knows),
     ))
-    (λ c. c .before .before .write-call .kept .1 .1 .1 .1 .0)
-    (λ c. let the-term-at = c .before .before .before .before .before .before .before .before .before .term-at in
+    (λ c.
+    let the-write-call = c .before .before .write-call in
+    the-write-call .kept .1 .1 .1 .1 .0)
+    (λ c.
+    let the-wide = c .before .before .before .before .wide in
+    let the-write-call = c .before .before .write-call in
+    let the-term-at = c .before .before .before .before .before .before .before .before .before .term-at in
     let the-step-of = c .before .before .before .before .before .before .before .before .step-of in
     let the-enum-told3 = c .before .before .before .before .before .before .enum-told3 in
     let start = c .before .before .before .before .before .before .before .before .before .before .before .before .before .before in
     let step = laws.step-is (start .args .part .now) (the-term-at .ensures) (the-step-of .ensures) (the-enum-told3 .given .1) in (
-      c .before .before .write-call .ensures .0,
-      λ results knows. laws.first-call (start .pre .1 .0) (start .pre .1 .1) results step (c .before .before .before .before .wide .ensures .0) knows (c .before .before .write-call .ensures .1),
+      the-write-call .ensures .0,
+      λ results knows. laws.first-call (start .pre .1 .0) (start .pre .1 .1) results step (the-wide .ensures .0) knows (the-write-call .ensures .1),
     )))
     λ t. write-row-lts.spec (
       write-leaves-reads.Asked,
@@ -214,16 +237,24 @@ pub +write-bracket+write-first+write-row-spec : {M : Type 1} → statement M
     write-row.Post
     (λ c κs. let asked = c .before .before .before .before .before .pre .1 .0 in
     (asked .begins, asked .room))
-    (λ c. omega (arith, c .before .before .write-leaves .ensures .0))
-    (λ c. c .before .before .write-leaves .ensures .0)
+    (λ c.
+    let the-write-leaves = c .before .before .write-leaves in
+    omega (arith, the-write-leaves .ensures .0))
+    (λ c.
+    let the-write-leaves = c .before .before .write-leaves in
+    the-write-leaves .ensures .0)
     (λ c. search needs)
     (λ c. search needs)
     (λ c. let start = c .before .before .before .before .before .before .before .before .before in
     let leaves = c .before .before .before .write-leaves in
     let onward = leaves .ensures .2 _ (start .args .at) (start .args .store .now) (start .args .limit) (start .args .count) (start .pre .1 .0) in
     omega (arith, laws.asked-place (onward .asked)))
-    (λ c. omega (arith, c .before .before .before .write-leaves .ensures .1))
-    (λ c. c .before .before .before .before .write-leaves .kept .1 .0)
+    (λ c.
+    let the-write-leaves = c .before .before .before .write-leaves in
+    omega (arith, the-write-leaves .ensures .1))
+    (λ c.
+    let the-write-leaves = c .before .before .before .before .write-leaves in
+    the-write-leaves .kept .1 .0)
     (λ c. let start = c .before .before .before .before .before .before .before .before .before .before in
     let leaves = c .before .before .before .before .write-leaves in
     let onward = leaves .ensures .2 _ (start .args .at) (start .args .store .now) (start .args .limit) (start .args .count) (start .pre .1 .0) in
@@ -237,13 +268,17 @@ pub +write-bracket+write-first+write-row-spec : {M : Type 1} → statement M
     (omega (arith, laws.left-length (leaves .result) (start .args .part .now), start .pre .0), (onward .asked, c .before .if1 .left, start .pre .1 .1)))
     (λ c. search needs)
     (λ c. search needs)
-    (λ c. let the-write-leaves = c .before .before .before .before .before .before .before .before .before .before .write-leaves in
-    c .before .before .before .before .write-first .kept .1 .1 .1 .1 .1 .1 .1 .0 ∙ the-write-leaves .kept .1 .0)
-    (λ c. let the-if1 = c .before .before .before .before .before .before .if1 in
+    (λ c.
+    let the-write-first = c .before .before .before .before .write-first in
+    let the-write-leaves = c .before .before .before .before .before .before .before .before .before .before .write-leaves in
+    the-write-first .kept .1 .1 .1 .1 .1 .1 .1 .0 ∙ the-write-leaves .kept .1 .0)
+    (λ c.
+    let the-write-first = c .before .before .before .before .write-first in
+    let the-if1 = c .before .before .before .before .before .before .if1 in
     let start = c .before .before .before .before .before .before .before .before .before .before .before .before .before .before .before .before in
     let leaves = c .before .before .before .before .before .before .before .before .before .before .write-leaves in
     let onward = leaves .ensures .2 _ (start .args .at) (start .args .store .now) (start .args .limit) (start .args .count) (start .pre .1 .0) in
-    (tt, λ results knows. onward .goes results _ _ (laws.row-first-over (onward .asked) (the-if1 .left) results (c .enum-told .given .1) (c .before .before .before .before .write-first .ensures .1 results knows))))
+    (tt, λ results knows. onward .goes results _ _ (laws.row-first-over (onward .asked) (the-if1 .left) results (c .enum-told .given .1) (the-write-first .ensures .1 results knows))))
     (λ c. let the-write-first = c .before .before .before .before .before .before .write-first in
     let the-write-leaves = c .before .before .before .before .before .before .before .before .before .before .before .before .write-leaves in
     the-write-first .kept .1 .1 .1 .1 .1 .1 .1 .0 ∙ the-write-leaves .kept .1 .0)
@@ -284,10 +319,14 @@ pub +write-bracket+write-first+write-row-spec : {M : Type 1} → statement M
       omega (arith, after-falls left (the-end .result) (length left) some (the-end .ensures .0) refl, laws.left-length (leaves .result) (start .args .part .now), start .pre .0),
       (laws.asked-rest (onward .asked) some (the-end .ensures .0) (c .before .word-at .ensures) (laws.ends-between (the-first .given .1) (first .ensures .0) .1) (first .kept .1 .1 .1 .1 .1 .1 .1 .0), start .pre .1 .1),
     ))
-    (λ c. let the-write-first = c .before .before .before .before .before .before .before .before .before .before .before .before .before .write-first in
+    (λ c.
+    let the-write-row = c .before .before .write-row in
+    let the-write-first = c .before .before .before .before .before .before .before .before .before .before .before .before .before .write-first in
     let the-write-leaves = c .before .before .before .before .before .before .before .before .before .before .before .before .before .before .before .before .before .before .before .write-leaves in
-    c .before .before .write-row .kept .1 .1 .1 .1 .1 .1 .1 .0 ∙ the-write-first .kept .1 .1 .1 .1 .1 .1 .1 .0 ∙ the-write-leaves .kept .1 .0)
-    (λ c. let the-if1 = c .before .before .before .before .before .before .before .before .before .before .before .before .before .before .before .if1 in
+    the-write-row .kept .1 .1 .1 .1 .1 .1 .1 .0 ∙ the-write-first .kept .1 .1 .1 .1 .1 .1 .1 .0 ∙ the-write-leaves .kept .1 .0)
+    (λ c.
+    let the-word-at = c .before .before .before .before .word-at in
+    let the-if1 = c .before .before .before .before .before .before .before .before .before .before .before .before .before .before .before .if1 in
     let the-if2 = c .before .before .before .before .before .before .before .if2 in
     let the-end-of = c .before .before .before .before .before .before .end-of in
     let start = c .before .before .before .before .before .before .before .before .before .before .before .before .before .before .before .before .before .before .before .before .before .before .before .before .before in
@@ -297,5 +336,5 @@ pub +write-bracket+write-first+write-row-spec : {M : Type 1} → statement M
     let rest = c .before .before .write-row in
     let ends = c .before .before .before .before .before .before .before .before .before .first .given .1 in (
       laws.between-later _ (start .args .most) _ (rest .result) (omega (arith, laws.ends-between ends (first .ensures .0) .0)) (rest .ensures .0),
-      λ results knows. onward .goes results _ _ (laws.row-first-rest (onward .asked) (the-if1 .left) results ends (the-if2 .left) (the-end-of .ensures .0) (c .before .before .before .before .word-at .ensures) (first .ensures .1 results knows) (rest .ensures .1 results knows)),
+      λ results knows. onward .goes results _ _ (laws.row-first-rest (onward .asked) (the-if1 .left) results ends (the-if2 .left) (the-end-of .ensures .0) (the-word-at .ensures) (first .ensures .1 results knows) (rest .ensures .1 results knows)),
     ))

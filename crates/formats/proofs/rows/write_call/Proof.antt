@@ -35,25 +35,31 @@ write-call-spec =
     (λ c. search needs)
     (λ c. search needs)
     (λ c.
+    let the-if1 = c .before .before .before .if1 in
     let start = c .before .before .before .before .before .before in
     let a = start .args in
-    (tt, row-callee-over (a .store .now) (a .limit) (a .count) (a .place) (start .pre .0) (c .before .before .before .if1 .left) (a .out .now) (a .to) (a .most) (omega arith) (omega arith) (c .before .if2 .left) (c .if3 .taken)))
+    (tt, row-callee-over (a .store .now) (a .limit) (a .count) (a .place) (start .pre .0) (the-if1 .left) (a .out .now) (a .to) (a .most) (omega arith) (omega arith) (c .before .if2 .left) (c .if3 .taken)))
     (λ c.
+    let the-if1 = c .before .before .before .if1 in
     let start = c .before .before .before .before .before .before in
     let a = start .args in
-    omega (arith, callee-inside (a .store .now) (a .limit) (a .count) (a .place) (start .pre .0) (c .before .before .before .if1 .left)))
+    omega (arith, callee-inside (a .store .now) (a .limit) (a .count) (a .place) (start .pre .0) (the-if1 .left)))
     (λ c κs.
+    let the-if1 = c .before .before .before .before .if1 in
     let start = c .before .before .before .before .before .before .before in
     let a = start .args in
-    let known : a .place < a .count = c .before .before .before .before .if1 .left in
+    let known : a .place < a .count = the-if1 .left in
     let found = callee-shapes (a .store .now) (a .limit) (a .count) (a .place) (start .pre .0) known (c .before .before .if2 .left) in (
       omega (arith, callee-inside (a .store .now) (a .limit) (a .count) (a .place) (start .pre .0) known, found .number, found .few),
       omega (arith, c .before .if3 .left, start .pre),
     ))
     (λ c. search needs)
     (λ c. search needs)
-    (λ c. let the-if1 = c .before .before .before .before .before .before .before .if1 in
+    (λ c.
+    let the-if3 = c .before .before .before .before .if3 in
+    let the-copy-row = c .before .before .copy-row in
+    let the-if1 = c .before .before .before .before .before .before .before .if1 in
     let the-if2 = c .before .before .before .before .before .if2 in
     let start = c .before .before .before .before .before .before .before .before .before .before in
     let a = start .args in
-    ((omega arith, omega arith), row-callee (a .store .now) (a .limit) (a .count) (a .place) (start .pre .0) (the-if1 .left) (a .out .now) (a .to) (a .most) (omega arith) (omega arith) (c .before .before .copy-row .last .1 .1 .1 .0) (the-if2 .left) (c .before .before .before .before .if3 .left) (c .before .before .copy-row .ensures))))
+    ((omega arith, omega arith), row-callee (a .store .now) (a .limit) (a .count) (a .place) (start .pre .0) (the-if1 .left) (a .out .now) (a .to) (a .most) (omega arith) (omega arith) (the-copy-row .last .1 .1 .1 .0) (the-if2 .left) (the-if3 .left) (c .before .before .copy-row .ensures))))

@@ -32,8 +32,10 @@ write-leaves-spec =
     (λ c. omega arith)
     (λ c. search needs)
     (λ c. search needs)
-    (λ c κs. let the-args = c .before .before .before .before .before .before .args in
-    omega (arith, leb-true (24 * c .before .before .before .loop .n + 24) (length (the-args .part .now)) (c .before .if1 .taken), left-length (c .before .before .before .loop .n) (the-args .part .now)))
+    (λ c κs.
+    let the-loop = c .before .before .before .loop in
+    let the-args = c .before .before .before .before .before .before .args in
+    omega (arith, leb-true (24 * the-loop .n + 24) (length (the-args .part .now)) (c .before .if1 .taken), left-length (the-loop .n) (the-args .part .now)))
     (λ c. let the-loop = c .before .before .before .before .before .loop in
     the-loop .inv .2)
     (λ c.
@@ -46,16 +48,19 @@ write-leaves-spec =
     (λ c. omega arith)
     (λ c. omega arith)
     (λ c.
+    let the-if1 = c .before .before .before .before .if1 in
     let a = c .before .before .before .before .before .before .before .before .before .args in
     let loop = c .before .before .before .before .before .before .loop in
     let kind = c .before .before .word-at in
-    let enough = leb-true (24 * loop .n + 24) (length (a .part .now)) (c .before .before .before .before .if1 .taken) in (
+    let enough = leb-true (24 * loop .n + 24) (length (a .part .now)) (the-if1 .taken) in (
       omega (arith, enough),
       omega arith,
       length-set (loop .out) _ _ ∙ loop .inv .2,
       leaves-next (a .part .now) (a .out .now) (loop .out) (a .to) (a .most) (loop .n) (c .leaf-word .result) (loop .inv .3) (omega arith) (omega (arith, enough)) (omega (arith, kind .ensures)) (rw (kind .ensures) at (c .leaf-word .ensures)),
     ))
-    (λ c. c .before .before .loop .inv .2)
+    (λ c.
+    let the-loop = c .before .before .loop in
+    the-loop .inv .2)
     (λ c.
     let inv = c .before .before .loop .inv in
     (inv .0, inv .1, inv .3))

@@ -54,7 +54,11 @@ fill-calls-spec =
     omega (arith, terms-limit _ _ (the-pre .0)))
     (λ c. omega arith)
     (λ c. omega arith)
-    (λ c. (c .before .before .before .loop .inv .0, omega arith, passed c .0, passed c .1))
-    (λ c. let i = c .before .loop .inv in
-    let e : c .before .loop .t ≡ fileOf (c .before .before .before .before .args .law .now) .terms .count = omega arith in
+    (λ c.
+    let the-loop = c .before .before .before .loop in
+    (the-loop .inv .0, omega arith, passed c .0, passed c .1))
+    (λ c.
+    let the-args = c .before .before .before .before .args in
+    let i = c .before .loop .inv in
+    let e : c .before .loop .t ≡ fileOf (the-args .law .now) .terms .count = omega arith in
     rw e at (i .3)))

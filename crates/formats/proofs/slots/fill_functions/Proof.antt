@@ -33,12 +33,14 @@ fill-functions-spec =
     omega (arith, functions-limit _ _ (the-pre .0)))
     (λ c. omega arith)
     (λ c. omega arith)
-    (λ c. let the-pre = c .before .before .before .before .before .pre in
+    (λ c.
+    let the-args = c .before .before .before .before .before .args in
+    let the-pre = c .before .before .before .before .before .pre in
     let l = c .before .before .loop in (
       l .inv .0,
       omega arith,
       length-set (l .slots) _ _ ∙ l .inv .2,
       filled-next (l .slots) (l .f) _ _ (l .inv .3) (omega (arith, functions-limit _ _ (the-pre .0))) (c .place .ensures),
-      kept-next (c .before .before .before .before .before .args .slots .now) (l .slots) (l .f) _ _ (l .inv .4) (omega arith),
+      kept-next (the-args .slots .now) (l .slots) (l .f) _ _ (l .inv .4) (omega arith),
     ))
     (λ c. let l = c .before .loop in (l .inv .2, λ i k. l .inv .3 i (omega arith), l .inv .4)))

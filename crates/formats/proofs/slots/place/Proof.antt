@@ -26,13 +26,17 @@ place-spec =
     μ-loop
     (λ c κs. search needs)
     (λ c κs. tt)
-    (λ c. (c .functions .ensures ∙ c .before .before .before .pre .0 .words .functions, count-start _ _))
+    (λ c.
+    let the-pre = c .before .before .before .pre in
+    (c .functions .ensures ∙ the-pre .0 .words .functions, count-start _ _))
     (λ c κs. let p = c .before .before .before .before .before .pre in (p .0, p .1, p .2, omega arith))
     (λ c. let the-pre = c .before .before .before .before .before .before .pre in
     omega (arith, functions-limit _ _ (the-pre .0)))
     (λ c. omega arith)
     (λ c. omega arith)
-    (λ c. let l = c .before .before .loop in
-    (l .inv .0, count-next _ _ (l .found) (l .g) _ (l .inv .1) (omega arith) (rw (c .before .before .before .before .function-name .ensures) at (c .counted .ensures .0)) (c .counted .ensures .1)))
+    (λ c.
+    let the-function-name = c .before .before .before .before .function-name in
+    let l = c .before .before .loop in
+    (l .inv .0, count-next _ _ (l .found) (l .g) _ (l .inv .1) (omega arith) (rw (the-function-name .ensures) at (c .counted .ensures .0)) (c .counted .ensures .1)))
     (λ c. let the-pre = c .before .before .before .before .before .pre in
     let l = c .before .loop in count-before _ _ (the-pre .3) (l .found) (l .g) (l .inv .1) (omega arith)))

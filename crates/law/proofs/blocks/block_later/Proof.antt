@@ -12,7 +12,13 @@ block-later-spec =
     tie.close
     (tie.spec
     (λ c κs. search needs)
-    (λ c. later-empty (fileOf (c .before .before .before .args .law .now)) _ _ _ (c .before .block-size .ensures) (c .if1 .taken))
-    (λ c κs. omega (arith, terms-limit _ _ (c .before .before .before .pre .0)))
-    (λ c. let p = c .before .before .before .before .pre in
-    later-first (fileOf (c .before .before .before .before .args .law .now)) _ _ _ _ (c .before .before .block-size .ensures) (c .before .if1 .left) (block-place _ _ (p .0) _ _ (p .1) (c .block-first .ensures))))
+    (λ c.
+    let the-args = c .before .before .before .args in
+    later-empty (fileOf (the-args .law .now)) _ _ _ (c .before .block-size .ensures) (c .if1 .taken))
+    (λ c κs.
+    let the-pre = c .before .before .before .pre in
+    omega (arith, terms-limit _ _ (the-pre .0)))
+    (λ c.
+    let the-args = c .before .before .before .before .args in
+    let p = c .before .before .before .before .pre in
+    later-first (fileOf (the-args .law .now)) _ _ _ _ (c .before .before .block-size .ensures) (c .before .if1 .left) (block-place _ _ (p .0) _ _ (p .1) (c .block-first .ensures))))

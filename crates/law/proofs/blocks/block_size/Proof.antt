@@ -10,6 +10,10 @@ block-size-spec =
     tie.close
     (tie.spec
     (λ c κs. search needs)
-    (λ c. no-block (fileOf (c .before .before .before .args .law .now)) _ _ (c .before .term-word .ensures) (c .if1 .taken))
+    (λ c.
+    let the-args = c .before .before .before .args in
+    no-block (fileOf (the-args .law .now)) _ _ (c .before .term-word .ensures) (c .if1 .taken))
     (λ c κs. search needs)
-    (λ c. some-block (fileOf (c .before .before .before .before .args .law .now)) _ _ _ (c .before .before .term-word .ensures) (c .before .if1 .left) (c .term-word2 .ensures)))
+    (λ c.
+    let the-args = c .before .before .before .before .args in
+    some-block (fileOf (the-args .law .now)) _ _ _ (c .before .before .term-word .ensures) (c .before .if1 .left) (c .term-word2 .ensures)))

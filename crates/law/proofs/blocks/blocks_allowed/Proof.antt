@@ -31,8 +31,9 @@ blocks-allowed-spec =
     (λ c κs. tt)
     (λ c κs. let p = c .before .before .before .pre in omega (arith, p .words .functions, c .functions .ensures, functions-limit _ _ p))
     (λ c.
+    let the-sentences = c .before .before .before .sentences in
     let start = c .before .before .before .before .before in
-    functions-have-all _ _ (start .pre) _ _ _ (c .before .before .functions .ensures) (c .before .first-sentence .ensures) (c .before .before .before .sentences .ensures) (c .if1 .taken))
+    functions-have-all _ _ (start .pre) _ _ _ (c .before .before .functions .ensures) (c .before .first-sentence .ensures) (the-sentences .ensures) (c .if1 .taken))
     (λ c. (omega arith, every-none _))
     (λ c κs.
     let called = c .before .before .before .before .before in

@@ -34,18 +34,28 @@ sentence-blocks-spec =
     (λ c κs.
     let start = c .before .before in
     (start .pre .0, omega (arith, start .pre .1)))
-    (λ c. let s = c .before .before .before .args .s in
-    omega (arith, pattern-grows (fileOf (c .before .before .before .args .law .now)) s (s + 1) (omega arith), c .before .pattern-at .ensures, c .pattern-at2 .ensures))
+    (λ c.
+    let the-args = c .before .before .before .args in
+    let s = c .before .before .before .args .s in
+    omega (arith, pattern-grows (fileOf (the-args .law .now)) s (s + 1) (omega arith), c .before .pattern-at .ensures, c .pattern-at2 .ensures))
     (λ c. (omega arith, every-none _))
-    (λ c. let p = c .before .before .before .before .before .pre in omega (arith, terms-limit _ _ (p .0), c .before .before .before .pattern-at .ensures, c .before .before .pattern-at2 .ensures))
-    (λ c κs. let p = c .before .before .before .before .before .pre in (p .0, sentence-term _ _ (p .0) _ _ _ _ (p .1) (c .before .before .before .pattern-at .ensures) (c .before .before .pattern-at2 .ensures) (c .loop-test .taken)))
-    (λ c. let the-pattern-at = c .before .before .before .before .before .pattern-at in
+    (λ c.
+    let the-pattern-at = c .before .before .before .pattern-at in
+    let p = c .before .before .before .before .before .pre in omega (arith, terms-limit _ _ (p .0), the-pattern-at .ensures, c .before .before .pattern-at2 .ensures))
+    (λ c κs.
+    let the-pattern-at = c .before .before .before .pattern-at in
+    let p = c .before .before .before .before .before .pre in (p .0, sentence-term _ _ (p .0) _ _ _ _ (p .1) (the-pattern-at .ensures) (c .before .before .pattern-at2 .ensures) (c .loop-test .taken)))
+    (λ c.
+    let the-pattern-at2 = c .before .before .before .before .pattern-at2 in
+    let the-pattern-at = c .before .before .before .before .before .pattern-at in
     let a = c .before .before .before .before .before .before .before .args in
-    sentence-fails (fileOf (a .law .now)) (a .s) _ _ (the-pattern-at .ensures) (c .before .before .before .before .pattern-at2 .ensures) _ _ (c .before .before .loop-test .taken) (c .before .block-later .ensures) (not-true _ (c .if1 .taken)))
+    sentence-fails (fileOf (a .law .now)) (a .s) _ _ (the-pattern-at .ensures) (the-pattern-at2 .ensures) _ _ (c .before .before .loop-test .taken) (c .before .block-later .ensures) (not-true _ (c .if1 .taken)))
     (λ c. omega arith)
     (λ c. omega arith)
     (λ c.
     let the-loop = c .before .before .before .loop in
     (omega arith, every-next (the-loop .i) _ (the-loop .inv .1) (sym (c .before .block-later .ensures) ∙ not-false _ (c .if1 .left))))
-    (λ c. let a = c .before .before .before .before .before .args in
-    sentence-holds (fileOf (a .law .now)) (a .s) _ _ (c .before .before .before .pattern-at .ensures) (c .before .before .pattern-at2 .ensures) (c .before .loop .i) (c .before .loop .inv .0) (c .loop-test .left) (c .before .loop .inv .1)))
+    (λ c.
+    let the-pattern-at = c .before .before .before .pattern-at in
+    let a = c .before .before .before .before .before .args in
+    sentence-holds (fileOf (a .law .now)) (a .s) _ _ (the-pattern-at .ensures) (c .before .before .pattern-at2 .ensures) (c .before .loop .i) (c .before .loop .inv .0) (c .loop-test .left) (c .before .loop .inv .1)))

@@ -310,22 +310,35 @@ pub +conditions-depth+run-depth+sentence-depth+sentences-depth+term-depth-spec :
     (λ c κs.
     let start = c .before .before .before .before .before .before in
     omega (arith, steps.left-room (fileOf (start .args .law .now)) (start .pre .1 .1) (c .before .loop .inv) (c .loop-test .taken)))
-    (λ c. omega (arith, c .before .before .before .loop .inv .within))
+    (λ c.
+    let the-loop = c .before .before .before .loop in
+    omega (arith, the-loop .inv .within))
     (λ c. omega (arith, c .before .before .loop-test .taken))
     (λ c.
+    let the-if2 = c .before .before .before .before .if2 in
+    let the-loop = c .before .before .before .loop in
     let start = c .before .before .before .before .before .before .before .before in
-    steps.left-leaf (fileOf (start .args .law .now)) (start .pre .1 .1) (c .before .before .before .loop .inv) (c .before .before .loop-test .taken) (omega (arith, c .before .before .before .before .if2 .left)) (c .before .word-at .ensures) (c .if3 .taken))
-    (λ c. omega (arith, c .before .before .before .loop .inv .within))
-    (λ c. c .before .before .before .loop .inv .within)
-    (λ c. omega (arith, c .before .before .before .loop .inv .within))
+    steps.left-leaf (fileOf (start .args .law .now)) (start .pre .1 .1) (the-loop .inv) (c .before .before .loop-test .taken) (omega (arith, the-if2 .left)) (c .before .word-at .ensures) (c .if3 .taken))
+    (λ c.
+    let the-loop = c .before .before .before .loop in
+    omega (arith, the-loop .inv .within))
+    (λ c.
+    let the-loop = c .before .before .before .loop in
+    the-loop .inv .within)
+    (λ c.
+    let the-loop = c .before .before .before .loop in
+    omega (arith, the-loop .inv .within))
     (λ c. search needs)
     (λ c.
+    let the-loop = c .before .before .before .before .loop in
     let start = c .before .before .before .before .before .before .before .before .before in
-    omega (arith, c .before .before .before .before .loop .inv .part .inside, laws.terms-limit (start .args .law .now) (start .args .index .now) (start .pre .1 .0)))
-    (λ c κs. let the-if2 = c .before .before .before .before .before .if2 in
+    omega (arith, the-loop .inv .part .inside, laws.terms-limit (start .args .law .now) (start .args .index .now) (start .pre .1 .0)))
+    (λ c κs.
+    let the-loop-test = c .before .before .before .loop-test in
+    let the-if2 = c .before .before .before .before .before .if2 in
     let start = c .before .before .before .before .before .before .before .before .before in
     let the-loop = c .before .before .before .before .loop in
-    (omega (arith, start .pre .0), (start .pre .1 .0, start .pre .1 .1, the-loop .inv .part, steps.left-some (fileOf (start .args .law .now)) (start .pre .1 .1) (the-loop .inv) (c .before .before .before .loop-test .taken), omega (arith, the-if2 .left))))
+    (omega (arith, start .pre .0), (start .pre .1 .0, start .pre .1 .1, the-loop .inv .part, steps.left-some (fileOf (start .args .law .now)) (start .pre .1 .1) (the-loop .inv) (the-loop-test .taken), omega (arith, the-if2 .left))))
     (λ c. let the-loop = c .before .before .before .before .before .before .loop in
     let the-loop-test = c .before .before .before .before .before .loop-test in
     let start = c .before .before .before .before .before .before .before .before .before .before .before in
@@ -453,7 +466,9 @@ pub +conditions-depth+run-depth+sentence-depth+sentences-depth+term-depth-spec :
     )
     (term-depth-at t)
     term-depth.Post
-    (λ c κs. c .before .before .pre .1 .3)
+    (λ c κs.
+    let the-pre = c .before .before .pre in
+    the-pre .1 .3)
     (λ c. omega arith)
     (λ c. omega arith)
     (λ c. omega arith)
@@ -468,18 +483,22 @@ pub +conditions-depth+run-depth+sentence-depth+sentences-depth+term-depth-spec :
     let contents = parts.contents-part (fileOf (start .args .law .now)) (start .pre .1 .1) (start .args .at) (start .args .part .now) (start .pre .1 .2) (start .pre .1 .3) in
     (omega (arith, start .pre .0, start .pre .1 .4), (start .pre .1 .0, start .pre .1 .1, rw (c .before .end-of .ensures .0) contents, omega (arith, start .pre .1 .4))))
     (λ c.
+    let the-end-of = c .before .before .before .end-of in
     let start = c .before .before .before .before .before .before in
     let over = not-true _ (c .if1 .taken) in
-    steps.term-over (fileOf (start .args .law .now)) (start .pre .1 .1) (start .pre .1 .2) (start .pre .1 .3) (start .pre .1 .4) (c .before .before .before .end-of .ensures .0) (c .before .run-depth .ensures) over)
+    steps.term-over (fileOf (start .args .law .now)) (start .pre .1 .1) (start .pre .1 .2) (start .pre .1 .3) (start .pre .1 .4) (the-end-of .ensures .0) (c .before .run-depth .ensures) over)
     (λ c κs.
     let start = c .before .before .before .before .before .before in
     omega (arith, start .pre .1 .3))
     (λ c κs. search needs)
-    (λ c. let the-end-of = c .before .before .before .before .before .before .end-of in
+    (λ c.
+    let the-run-depth = c .before .before .before .before .run-depth in
+    let the-if1 = c .before .before .before .if1 in
+    let the-end-of = c .before .before .before .before .before .before .end-of in
     let start = c .before .before .before .before .before .before .before .before .before in
-    let inside = not-false _ (c .before .before .before .if1 .left) in
+    let inside = not-false _ (the-if1 .left) in
     let counted = c .before .sentences-in .ensures ∙ ap sentencesIn (c .before .before .term-at .ensures) in
-    steps.term-alone (fileOf (start .args .law .now)) (start .pre .1 .1) (start .pre .1 .2) (start .pre .1 .3) (start .pre .1 .4) (the-end-of .ensures .0) (c .before .before .before .before .run-depth .ensures) inside counted (c .if2 .taken))
+    steps.term-alone (fileOf (start .args .law .now)) (start .pre .1 .1) (start .pre .1 .2) (start .pre .1 .3) (start .pre .1 .4) (the-end-of .ensures .0) (the-run-depth .ensures) inside counted (c .if2 .taken))
     (λ c κs.
     let start = c .before .before .before .before .before .before .before .before .before in
     omega (arith, parts.part-at (fileOf (start .args .law .now)) (start .pre .1 .1) (start .args .at) (start .args .part .now) (start .pre .1 .2) (start .pre .1 .3), laws.terms-limit (start .args .law .now) (start .args .index .now) (start .pre .1 .0)))
@@ -487,16 +506,20 @@ pub +conditions-depth+run-depth+sentence-depth+sentences-depth+term-depth-spec :
     let start = c .before .before .before .before .before .before .before .before .before .before in
     omega (arith, start .pre .1 .4))
     (λ c κs.
+    let the-term-at = c .before .before .before .term-at in
     let start = c .before .before .before .before .before .before .before .before .before .before in
     let first = c .block-first .ensures ∙ start .pre .1 .0 .words .blocks (start .args .at) (parts.part-at (fileOf (start .args .law .now)) (start .pre .1 .1) (start .args .at) (start .args .part .now) (start .pre .1 .2) (start .pre .1 .3)) in
-    let counted = c .before .before .sentences-in .ensures ∙ ap sentencesIn (c .before .before .before .term-at .ensures) in
+    let counted = c .before .before .sentences-in .ensures ∙ ap sentencesIn (the-term-at .ensures) in
     let inside = parts.part-sentences (fileOf (start .args .law .now)) (start .pre .1 .1) (start .args .at) (start .args .part .now) (start .pre .1 .2) (start .pre .1 .3) in
     (omega (arith, start .pre .0, start .pre .1 .4), (start .pre .1 .0, start .pre .1 .1, rw (first, counted) inside, omega (arith, start .pre .1 .4))))
-    (λ c. let the-if1 = c .before .before .before .before .before .if1 in
+    (λ c.
+    let the-term-at = c .before .before .before .before .term-at in
+    let the-sentences-in = c .before .before .before .sentences-in in
+    let the-if1 = c .before .before .before .before .before .if1 in
     let the-end-of = c .before .before .before .before .before .before .before .before .end-of in
     let the-run-depth = c .before .before .before .before .before .before .run-depth in
     let start = c .before .before .before .before .before .before .before .before .before .before .before in
     let first = c .before .block-first .ensures ∙ start .pre .1 .0 .words .blocks (start .args .at) (parts.part-at (fileOf (start .args .law .now)) (start .pre .1 .1) (start .args .at) (start .args .part .now) (start .pre .1 .2) (start .pre .1 .3)) in
     let inside = not-false _ (the-if1 .left) in
-    let counted = c .before .before .before .sentences-in .ensures ∙ ap sentencesIn (c .before .before .before .before .term-at .ensures) in
+    let counted = the-sentences-in .ensures ∙ ap sentencesIn (the-term-at .ensures) in
     steps.term-sentences (fileOf (start .args .law .now)) (start .pre .1 .1) (start .pre .1 .2) (start .pre .1 .3) (start .pre .1 .4) (the-end-of .ensures .0) (the-run-depth .ensures) inside counted first (c .sentences-depth .ensures))

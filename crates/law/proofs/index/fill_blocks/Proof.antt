@@ -43,6 +43,7 @@ fill-blocks-spec =
       table-next _ (l .index) (a .from) (l .t) _ _ (l .inv .4) (omega arith) (rw (l .inv .3)),
     ))
     (λ c.
+    let the-args = c .before .before .before .args in
     let l = c .before .loop in
-    let e : l .t ≡ c .before .before .before .args .count = omega arith in
+    let e : l .t ≡ the-args .count = omega arith in
     (rw e at (l .inv .3), omega arith, l .inv .2, rw e at (l .inv .4))))

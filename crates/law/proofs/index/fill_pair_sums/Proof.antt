@@ -63,6 +63,7 @@ fill-pair-sums-spec =
       table-next _ (l .index) (a .from) (l .i + 1) _ _ (l .inv .4) (omega arith) (ap asWord e),
     ))
     (λ c.
+    let the-args = c .before .before .before .args in
     let l = c .before .loop in
-    let e : l .i ≡ c .before .before .before .args .count = omega arith in
+    let e : l .i ≡ the-args .count = omega arith in
     (rw e at (l .inv .3), omega arith, l .inv .2, table-over _ _ _ _ _ _ (rw e at (l .inv .4)))))

@@ -68,8 +68,11 @@ fill-tables-spec =
     (λ c. let the-pre = c .before .before .before .before .before .before .before .before .before .before .before .before .before .before .before .before .before .before .before .pre in
     let the-fill-sums = c .before .before .before .before .before .before .before .before .fill-sums in
     omega (arith, the-pre .1, the-fill-sums .ensures .1, c .fill-blocks .ensures .1))
-    (λ c. let the-pre = c .before .before .before .before .before .before .before .before .before .before .before .before .before .before .before .before .before .before .before .pre in
-    omega (arith, the-pre .1, c .before .before .before .before .fill-pair-sums .ensures .1, c .before .before .fill-pair-sums2 .ensures .1))
+    (λ c.
+    let the-fill-pair-sums = c .before .before .before .before .fill-pair-sums in
+    let the-fill-pair-sums2 = c .before .before .fill-pair-sums2 in
+    let the-pre = c .before .before .before .before .before .before .before .before .before .before .before .before .before .before .before .before .before .before .before .pre in
+    omega (arith, the-pre .1, the-fill-pair-sums .ensures .1, the-fill-pair-sums2 .ensures .1))
     (λ c κs. search needs)
     (λ c.
     let start = c .before .before .before .before .before .before .before .before .before .before .before .before .before .before .before .before .before .before .before .before in

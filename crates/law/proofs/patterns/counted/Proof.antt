@@ -11,17 +11,25 @@ counted-spec =
     (tie.spec
     (λ c. search needs)
     (λ c κs. search needs)
-    (λ c. let a = c .before .before .before .before .args in
+    (λ c.
+    let the-pre = c .before .before .before .before .pre in
+    let a = c .before .before .before .before .args in
     let none = variable-below (a .text .now) (a .pattern .now) (a .i) _ (c .before .word-at .ensures) (c .if1 .taken) in
-    (distinct-skip (a .text .now) (a .pattern .now) (a .count) (a .i) (c .before .before .before .before .pre .2) none, omega arith))
+    (distinct-skip (a .text .now) (a .pattern .now) (a .count) (a .i) (the-pre .2) none, omega arith))
     (λ c. let the-pre = c .before .before .before .before .before .pre in
     let a = c .before .before .before .before .before .args in
     let none = variable-above (a .text .now) (a .pattern .now) (a .i) _ (c .before .before .word-at .ensures) (c .if2 .taken) in
     (distinct-skip (a .text .now) (a .pattern .now) (a .count) (a .i) (the-pre .2) none, omega arith))
     (λ c κs. search needs)
-    (λ c. let the-pre = c .before .before .before .before .before .before .before .pre in
+    (λ c.
+    let the-word-at = c .before .before .before .before .word-at in
+    let the-if1 = c .before .before .before .if1 in
+    let the-pre = c .before .before .before .before .before .before .before .pre in
     let a = c .before .before .before .before .before .before .before .args in
-    (distinct-repeated (a .text .now) (a .pattern .now) (a .count) (a .i) _ _ (the-pre .2) (c .before .before .before .before .word-at .ensures) (c .before .before .before .if1 .left) (c .before .before .if2 .left) (c .before .repeated .ensures) (c .if3 .taken), omega arith))
-    (λ c. let the-pre = c .before .before .before .before .before .before .before .pre in
+    (distinct-repeated (a .text .now) (a .pattern .now) (a .count) (a .i) _ _ (the-pre .2) (the-word-at .ensures) (the-if1 .left) (c .before .before .if2 .left) (c .before .repeated .ensures) (c .if3 .taken), omega arith))
+    (λ c.
+    let the-word-at = c .before .before .before .before .word-at in
+    let the-if1 = c .before .before .before .if1 in
+    let the-pre = c .before .before .before .before .before .before .before .pre in
     let a = c .before .before .before .before .before .before .before .args in
-    (distinct-new (a .text .now) (a .pattern .now) (a .count) (a .i) _ _ (the-pre .2) (c .before .before .before .before .word-at .ensures) (c .before .before .before .if1 .left) (c .before .before .if2 .left) (c .before .repeated .ensures) (c .if3 .left), omega arith)))
+    (distinct-new (a .text .now) (a .pattern .now) (a .count) (a .i) _ _ (the-pre .2) (the-word-at .ensures) (the-if1 .left) (c .before .before .if2 .left) (c .before .repeated .ensures) (c .if3 .left), omega arith)))

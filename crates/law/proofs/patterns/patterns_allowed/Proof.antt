@@ -30,11 +30,14 @@ patterns-allowed-spec =
     (λ c. (omega arith, every-none _))
     (λ c κs. let p = c .before .before .before .before .pre in (p .0, p .1, omega (arith, p .0 .words .sentences, c .before .before .sentences .ensures)))
     (λ c.
+    let the-sentences = c .before .before .before .before .sentences in
     let start = c .before .before .before .before .before .before in
-    sentences-fail _ _ (start .pre .0) (λ s. leb (distinct (patternVariables (fileOf (start .args .law .now)) s)) 32) _ _ _ (c .before .before .before .before .sentences .ensures) (c .before .before .loop-test .taken) (c .before .sentence-pattern .ensures) (not-true _ (c .if1 .taken)))
+    sentences-fail _ _ (start .pre .0) (λ s. leb (distinct (patternVariables (fileOf (start .args .law .now)) s)) 32) _ _ _ (the-sentences .ensures) (c .before .before .loop-test .taken) (c .before .sentence-pattern .ensures) (not-true _ (c .if1 .taken)))
     (λ c. omega arith)
     (λ c. omega arith)
     (λ c.
     let the-loop = c .before .before .before .loop in
     (omega arith, every-next (the-loop .s) _ (the-loop .inv .1) (sym (c .before .sentence-pattern .ensures) ∙ not-false _ (c .if1 .left))))
-    (λ c. sentences-hold _ _ (c .before .before .before .before .pre .0) _ _ _ (c .before .before .sentences .ensures) (c .before .loop .inv .0) (c .loop-test .left) (c .before .loop .inv .1)))
+    (λ c.
+    let the-pre = c .before .before .before .before .pre in
+    sentences-hold _ _ (the-pre .0) _ _ _ (c .before .before .sentences .ensures) (c .before .loop .inv .0) (c .loop-test .left) (c .before .loop .inv .1)))

@@ -27,11 +27,15 @@ repeated-spec =
     (λ c. omega arith)
     (λ c. (omega arith, λ v e. refl))
     (λ c κs. let p = c .before .before .before .before .pre in (p .0, (p .1 .0, p .1 .1, p .1 .2, c .loop-test .taken)))
-    (λ c. let a = c .before .before .before .before .before .before .args in
-    λ v e. sym (c .before .before .before .loop .inv .1 v e ∙ occurs-here (a .text .now) (a .pattern .now) (a .count) v (c .before .before .before .loop .j) (c .before .before .loop-test .taken) (sym (c .before .same-variable .ensures v e) ∙ c .if1 .taken)))
+    (λ c.
+    let the-loop = c .before .before .before .loop in
+    let a = c .before .before .before .before .before .before .args in
+    λ v e. sym (the-loop .inv .1 v e ∙ occurs-here (a .text .now) (a .pattern .now) (a .count) v (the-loop .j) (c .before .before .loop-test .taken) (sym (c .before .same-variable .ensures v e) ∙ c .if1 .taken)))
     (λ c. omega arith)
     (λ c. omega arith)
-    (λ c. let a = c .before .before .before .before .before .before .args in
-    (omega arith, λ v e. c .before .before .before .loop .inv .1 v e ∙ occurs-next (a .text .now) (a .pattern .now) (a .count) v (c .before .before .before .loop .j) (c .before .before .loop-test .taken) (sym (c .before .same-variable .ensures v e) ∙ c .if1 .left)))
+    (λ c.
+    let the-loop = c .before .before .before .loop in
+    let a = c .before .before .before .before .before .before .args in
+    (omega arith, λ v e. the-loop .inv .1 v e ∙ occurs-next (a .text .now) (a .pattern .now) (a .count) v (the-loop .j) (c .before .before .loop-test .taken) (sym (c .before .same-variable .ensures v e) ∙ c .if1 .left)))
     (λ c. let a = c .before .before .before .before .args in
     λ v e. sym (c .before .loop .inv .1 v e ∙ occurs-end (a .text .now) (a .pattern .now) (a .count) v (c .before .loop .j) (c .loop-test .left))))

@@ -24,7 +24,10 @@ same-variable-spec =
     let p = c .before .before .before .before .before .before .pre in
     (omega arith, index-inside (a .text .now) (a .pattern .now) (a .count) (a .j) _ (p .0 .1) (p .1 .3) (c .before .before .word-at2 .ensures) (omega arith) (omega arith)))
     (λ c κs. search needs)
-    (λ c. let the-word-at = c .before .before .before .before .before .word-at in
+    (λ c.
+    let the-word-at2 = c .before .before .before .before .word-at2 in
+    let the-if1 = c .before .before .before .if1 in
+    let the-word-at = c .before .before .before .before .before .word-at in
     let a = c .before .before .before .before .before .before .before .before .args in
     let p = c .before .before .before .before .before .before .before .before .pre .1 in
-    λ v e. (search needs) ∙ one-kind (a .text .now) (a .pattern .now) (a .i) (a .j) _ _ _ _ (the-word-at .ensures) (c .before .before .before .before .word-at2 .ensures) (p .1) (p .2) (c .before .before .before .if1 .left) (c .before .before .index-at .ensures) (c .before .index-at2 .ensures) v e))
+    λ v e. (search needs) ∙ one-kind (a .text .now) (a .pattern .now) (a .i) (a .j) _ _ _ _ (the-word-at .ensures) (the-word-at2 .ensures) (p .1) (p .2) (the-if1 .left) (c .before .before .index-at .ensures) (c .before .index-at2 .ensures) v e))

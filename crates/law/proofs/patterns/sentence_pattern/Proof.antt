@@ -14,5 +14,7 @@ sentence-pattern-spec =
     (λ c κs. search needs)
     (λ c κs. let p = c .before .before .before .before .pre in
     (rw (c .before .before .pattern-size .ensures, c .pattern .ensures) (pattern-length _ _ (p .0) _ (p .2)), rw (c .before .text .ensures, c .pattern .ensures, c .before .before .pattern-size .ensures) (pattern-allowed _ _ (p .0) _ (p .2) (p .1))))
-    (λ c. let p = c .before .before .before .before .before .pre in
-    c .pattern-allowed .ensures ∙ rw (c .before .before .text .ensures, c .before .pattern .ensures, c .before .before .before .pattern-size .ensures, pattern-variables _ _ (p .0) _ (p .2))))
+    (λ c.
+    let the-pattern-size = c .before .before .before .pattern-size in
+    let p = c .before .before .before .before .before .pre in
+    c .pattern-allowed .ensures ∙ rw (c .before .before .text .ensures, c .before .pattern .ensures, the-pattern-size .ensures, pattern-variables _ _ (p .0) _ (p .2))))

@@ -48,27 +48,39 @@ pub +run-fits-spec : {M : Type 1} → statement M
     (λ c. omega arith)
     (λ c. omega arith)
     (λ c. omega arith)
-    (λ c. forests.left-leaf (c .before .before .before .loop .inv) (c .before .before .loop-test .taken) (c .before .word-at .ensures) (c .if1 .taken))
+    (λ c.
+    let the-loop = c .before .before .before .loop in
+    forests.left-leaf (the-loop .inv) (c .before .before .loop-test .taken) (c .before .word-at .ensures) (c .if1 .taken))
     (λ c. omega arith)
     (λ c. omega arith)
     (λ c. omega arith)
-    (λ c. forests.left-over (c .before .before .before .before .loop .inv) (c .before .before .before .loop-test .taken) (c .before .before .word-at .ensures) (c .if2 .taken))
+    (λ c.
+    let the-loop = c .before .before .before .before .loop in
+    let the-loop-test = c .before .before .before .loop-test in
+    forests.left-over (the-loop .inv) (the-loop-test .taken) (c .before .before .word-at .ensures) (c .if2 .taken))
     (λ c. omega arith)
     (λ c. omega arith)
     (λ c. omega arith)
     (λ c. omega arith)
     (λ c. omega arith)
-    (λ c κs. let the-loop = c .before .before .before .before .before .loop in
+    (λ c κs.
+    let the-loop-test = c .before .before .before .before .loop-test in
+    let the-word-at = c .before .before .before .word-at in
+    let the-loop = c .before .before .before .before .before .loop in
     let the-pre = c .before .before .before .before .before .before .before .pre in
-    (omega (arith, forests.inside-shorter (the-loop .inv) (c .before .before .before .before .loop-test .taken) (c .before .before .before .word-at .ensures) (c .before .if2 .left), the-pre .0), tt))
-    (λ c. let the-loop = c .before .before .before .before .before .before .before .loop in
+    (omega (arith, forests.inside-shorter (the-loop .inv) (the-loop-test .taken) (the-word-at .ensures) (c .before .if2 .left), the-pre .0), tt))
+    (λ c.
+    let the-if2 = c .before .before .before .if2 in
+    let the-loop = c .before .before .before .before .before .before .before .loop in
     let the-loop-test = c .before .before .before .before .before .before .loop-test in
     let the-word-at = c .before .before .before .before .before .word-at in
-    forests.left-unfit (the-loop .inv) (the-loop-test .taken) (the-word-at .ensures) (c .before .before .before .if2 .left) (sym (c .before .run-fits .ensures) ∙ not-true _ (c .if3 .taken)))
+    forests.left-unfit (the-loop .inv) (the-loop-test .taken) (the-word-at .ensures) (the-if2 .left) (sym (c .before .run-fits .ensures) ∙ not-true _ (c .if3 .taken)))
     (λ c. omega arith)
     (λ c. omega arith)
-    (λ c. let the-loop = c .before .before .before .before .before .before .before .loop in
+    (λ c.
+    let the-if2 = c .before .before .before .if2 in
+    let the-loop = c .before .before .before .before .before .before .before .loop in
     let the-loop-test = c .before .before .before .before .before .before .loop-test in
     let the-word-at = c .before .before .before .before .before .word-at in
-    forests.left-after (the-loop .inv) (the-loop-test .taken) (the-word-at .ensures) (c .before .before .before .if2 .left) (sym (c .before .run-fits .ensures) ∙ not-false _ (c .if3 .left)))
+    forests.left-after (the-loop .inv) (the-loop-test .taken) (the-word-at .ensures) (the-if2 .left) (sym (c .before .run-fits .ensures) ∙ not-false _ (c .if3 .left)))
     (λ c. forests.left-none (c .before .loop .inv) (c .loop-test .left))

@@ -26,8 +26,12 @@ runs-fit-spec =
     Inv-loop
     μ-loop
     (λ c κs. search needs)
-    (λ c. (c .sentences .ensures ∙ c .before .before .pre .words .sentences, omega arith, every-none _))
-    (λ c κs. (c .before .before .before .before .pre, omega (arith, c .before .loop .inv .0)))
+    (λ c.
+    let the-pre = c .before .before .pre in
+    (c .sentences .ensures ∙ the-pre .words .sentences, omega arith, every-none _))
+    (λ c κs.
+    let the-pre = c .before .before .before .before .pre in
+    (the-pre, omega (arith, c .before .loop .inv .0)))
     (λ c.
     let start = c .before .before .before .before .before .before in
     let loop = c .before .before .before .loop in

@@ -14,8 +14,12 @@ builtin-fails-spec =
     (λ c. search needs)
     (λ c κs. search needs)
     (λ c. search needs)
-    (λ c. c .integers-fail .ensures ∙ rw (← c .before .before .before .before .domain-of .ensures, c .before .before .divides .given .1))
     (λ c.
+    let the-domain-of = c .before .before .before .before .domain-of in
+    let the-divides = c .before .before .divides in
+    c .integers-fail .ensures ∙ rw (← the-domain-of .ensures, the-divides .given .1))
+    (λ c.
+    let the-domain-of = c .before .before .before .domain-of in
     let text = c .before .before .before .before .before .before .before .args .text .now in
-    c .digits-fail .ensures text ∙ rw (← c .before .before .before .domain-of .ensures, c .before .enum-told .given .1))
+    c .digits-fail .ensures text ∙ rw (← the-domain-of .ensures, c .before .enum-told .given .1))
     (λ c. rw (← c .before .before .domain-of .ensures, c .enum-told2 .given .1)))

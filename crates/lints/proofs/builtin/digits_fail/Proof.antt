@@ -13,6 +13,12 @@ digits-fail-spec =
     (λ c. search needs)
     (λ c. search needs)
     (λ c. search needs)
-    (λ c. digits-long _ (c .before .before .before .if1 .left) (c .before .before .all-digits .ensures) (c .enum-told .given .1))
-    (λ c. digits-long _ (c .before .before .before .if1 .left) (c .before .before .all-digits .ensures) (c .enum-told2 .given .1))
-    (λ c. digits-long _ (c .before .before .before .if1 .left) (c .before .before .all-digits .ensures) (c .enum-told3 .given .1)))
+    (λ c.
+    let the-if1 = c .before .before .before .if1 in
+    digits-long _ (the-if1 .left) (c .before .before .all-digits .ensures) (c .enum-told .given .1))
+    (λ c.
+    let the-if1 = c .before .before .before .if1 in
+    digits-long _ (the-if1 .left) (c .before .before .all-digits .ensures) (c .enum-told2 .given .1))
+    (λ c.
+    let the-if1 = c .before .before .before .if1 in
+    digits-long _ (the-if1 .left) (c .before .before .all-digits .ensures) (c .enum-told3 .given .1)))

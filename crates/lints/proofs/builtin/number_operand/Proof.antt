@@ -10,5 +10,9 @@ number-operand-spec =
     tie.close
     (tie.spec
     (λ c κs. search needs)
-    (λ c. number-over (c .before .before .before .args .digits .now) (c .before .capped-value .ensures) (c .if1 .taken))
-    (λ c. number-macrodigit (c .before .before .before .args .digits .now) (c .before .capped-value .ensures) (omega arith)))
+    (λ c.
+    let the-args = c .before .before .before .args in
+    number-over (the-args .digits .now) (c .before .capped-value .ensures) (c .if1 .taken))
+    (λ c.
+    let the-args = c .before .before .before .args in
+    number-macrodigit (the-args .digits .now) (c .before .capped-value .ensures) (omega arith)))

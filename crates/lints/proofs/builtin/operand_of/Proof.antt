@@ -16,7 +16,9 @@ operand-of-spec =
     (λ c. search needs)
     (λ c. search needs)
     (λ c. search needs)
-    (λ c. c .symbol-operand .ensures ∙ rw (c .before .before .term .given .1))
+    (λ c.
+    let the-term = c .before .before .term in
+    c .symbol-operand .ensures ∙ rw (the-term .given .1))
     (λ c. search needs)
     (λ c. search needs)
     (λ c. search needs)

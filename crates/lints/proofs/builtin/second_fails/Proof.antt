@@ -10,23 +10,28 @@ second-fails-spec =
     tie.close
     (tie.spec
     (λ c. second-none _ _ _ (c .if1 .taken))
-    (λ c. second-decides _ (c .before .before .before .before .args .part .now) (c .before .if1 .left) (not-true _ (c .if2 .taken)))
+    (λ c.
+    let the-args = c .before .before .before .before .args in
+    second-decides _ (the-args .part .now) (c .before .if1 .left) (not-true _ (c .if2 .taken)))
     (λ c κs. search needs)
     (λ c. search needs)
     (λ c. search needs)
     (λ c. search needs)
     (λ c.
+    let the-if2 = c .before .before .before .if2 in
     let start = c .before .before .before .before .before .before .before in
     let some = c .before .before .before .before .if1 .left in
-    let divides = not-false _ (c .before .before .before .if2 .left) in
+    let divides = not-false _ (the-if2 .left) in
     second-zeros _ (start .args .part .now) some divides (c .before .before .zeros .ensures) (c .enum-told .given .1))
     (λ c.
+    let the-if2 = c .before .before .before .if2 in
     let start = c .before .before .before .before .before .before .before in
     let some = c .before .before .before .before .if1 .left in
-    let divides = not-false _ (c .before .before .before .if2 .left) in
+    let divides = not-false _ (the-if2 .left) in
     second-zeros _ (start .args .part .now) some divides (c .before .before .zeros .ensures) (c .enum-told2 .given .1))
     (λ c.
+    let the-if2 = c .before .before .before .if2 in
     let start = c .before .before .before .before .before .before .before in
     let some = c .before .before .before .before .if1 .left in
-    let divides = not-false _ (c .before .before .before .if2 .left) in
+    let divides = not-false _ (the-if2 .left) in
     second-zeros _ (start .args .part .now) some divides (c .before .before .zeros .ensures) (c .enum-told3 .given .1)))

@@ -12,6 +12,8 @@ symbol-digit-spec =
     (λ c κs. search needs)
     (λ c. search needs)
     (λ c. search needs)
-    (λ c. c .decided-by .ensures ∙ rw (c .before .is-digit .ensures, c .before .before .before .symbol .given .1))
+    (λ c.
+    let the-symbol = c .before .before .before .symbol in
+    c .decided-by .ensures ∙ rw (c .before .is-digit .ensures, the-symbol .given .1))
     (λ c. search needs)
     (λ c. search needs))

@@ -14,6 +14,10 @@ symbol-operand-spec =
     (λ c. search needs)
     (λ c κs. search needs)
     (λ c κs. search needs)
-    (λ c. c .sign-operand .ensures ∙ rw (c .before .before .symbol .given .1))
+    (λ c.
+    let the-symbol = c .before .before .symbol in
+    c .sign-operand .ensures ∙ rw (the-symbol .given .1))
     (λ c. search needs)
-    (λ c. c .number-operand .ensures ∙ rw (c .before .spelled .ensures, c .before .before .before .symbol2 .given .1)))
+    (λ c.
+    let the-symbol2 = c .before .before .before .symbol2 in
+    c .number-operand .ensures ∙ rw (c .before .spelled .ensures, the-symbol2 .given .1)))

@@ -20,11 +20,12 @@ without-sign-spec =
     (λ c. search needs)
     (λ c. search needs)
     (λ c.
+    let the-enum-told = c .before .before .enum-told in
     let start = c .before .before .before .before .before .before .before .before .before in
     let some = c .before .before .before .before .before .before .if1 .left in
     let term = c .before .before .before .before .before .term-at in
     let first = c .before .before .before .before .operand-of in
-    sign-taken _ (start .args .part .now) some (c .before .end-of .ensures .0) (term .ensures) (first .ensures) (c .before .before .enum-told .given .1))
+    sign-taken _ (start .args .part .now) some (c .before .end-of .ensures .0) (term .ensures) (first .ensures) (the-enum-told .given .1))
     (λ c.
     let start = c .before .before .before .before .before .before .before in
     let some = c .before .before .before .before .if1 .left in

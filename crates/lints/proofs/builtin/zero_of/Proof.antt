@@ -12,5 +12,7 @@ zero-of-spec =
     (λ c κs. search needs)
     (λ c. search needs)
     (λ c. search needs)
-    (λ c. c .decided-by .ensures ∙ rw (c .before .before .operand .given .1))
+    (λ c.
+    let the-operand = c .before .before .operand in
+    c .decided-by .ensures ∙ rw (the-operand .given .1))
     (λ c. search needs))

@@ -12,8 +12,10 @@ is-shown-spec =
     (λ c κs. search needs)
     (λ c. search needs)
     (λ c.
+    let the-level-of = c .before .before .before .level-of in
     let start = c .before .before .before .before .before in
-    shown-own (start .args .overrides .now) (c .before .before .before .level-of .ensures) (start .args .mode) (c .before .enum-told .given .1) (c .is-shown-itself .ensures))
+    shown-own (start .args .overrides .now) (the-level-of .ensures) (start .args .mode) (c .before .enum-told .given .1) (c .is-shown-itself .ensures))
     (λ c.
+    let the-level-of = c .before .before .before .level-of in
     let start = c .before .before .before .before .before in
-    shown-said (start .args .overrides .now) (c .before .before .before .level-of .ensures) (start .args .mode) (c .before .severity .given .1)))
+    shown-said (start .args .overrides .now) (the-level-of .ensures) (start .args .mode) (c .before .severity .given .1)))

@@ -22,8 +22,12 @@ level-of-spec =
     (λ c. level-start (c .args .overrides .now) (c .args .lint))
     (λ c. search needs)
     (λ c. omega arith)
-    (λ c. level-found (c .before .before .before .loop .inv) (c .before .before .loop-test .taken) refl (c .if1 .taken))
+    (λ c.
+    let the-loop = c .before .before .before .loop in
+    level-found (the-loop .inv) (c .before .before .loop-test .taken) refl (c .if1 .taken))
     (λ c. omega arith)
     (λ c. omega arith)
-    (λ c. level-next (c .before .before .before .loop .inv) (c .before .before .loop-test .taken) refl (c .if1 .left))
+    (λ c.
+    let the-loop = c .before .before .before .loop in
+    level-next (the-loop .inv) (c .before .before .loop-test .taken) refl (c .if1 .left))
     (λ c. level-end (c .before .loop .inv) (c .loop-test .left)))

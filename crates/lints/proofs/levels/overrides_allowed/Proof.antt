@@ -23,8 +23,14 @@ overrides-allowed-spec =
     (λ c. search needs)
     (λ c. omega arith)
     (λ c κs. search needs)
-    (λ c. allowed-fails (c .before .before .before .before .loop .inv) (c .before .before .before .loop-test .taken) (c .before .override-allowed .ensures) (not-true _ (c .if1 .taken)))
+    (λ c.
+    let the-loop = c .before .before .before .before .loop in
+    let the-loop-test = c .before .before .before .loop-test in
+    allowed-fails (the-loop .inv) (the-loop-test .taken) (c .before .override-allowed .ensures) (not-true _ (c .if1 .taken)))
     (λ c. omega arith)
     (λ c. omega arith)
-    (λ c. allowed-next (c .before .before .before .before .loop .inv) (c .before .before .before .loop-test .taken) (c .before .override-allowed .ensures) (not-false _ (c .if1 .left)))
+    (λ c.
+    let the-loop = c .before .before .before .before .loop in
+    let the-loop-test = c .before .before .before .loop-test in
+    allowed-next (the-loop .inv) (the-loop-test .taken) (c .before .override-allowed .ensures) (not-false _ (c .if1 .left)))
     (λ c. allowed-end (c .before .loop .inv) (c .loop-test .left)))

@@ -11,7 +11,11 @@ severity-of-spec =
     (λ c. search needs)
     (λ c κs. search needs)
     (λ c. search needs)
-    (λ c. let the-args = c .before .before .before .before .before .args in
-    severity-own (the-args .overrides .now) (c .before .before .before .level-of .ensures) (c .before .enum-told .given .1) (c .own-severity .ensures))
-    (λ c. let the-args = c .before .before .before .before .before .args in
-    severity-said (the-args .overrides .now) (c .before .before .before .level-of .ensures) (c .before .severity .given .1)))
+    (λ c.
+    let the-level-of = c .before .before .before .level-of in
+    let the-args = c .before .before .before .before .before .args in
+    severity-own (the-args .overrides .now) (the-level-of .ensures) (c .before .enum-told .given .1) (c .own-severity .ensures))
+    (λ c.
+    let the-level-of = c .before .before .before .level-of in
+    let the-args = c .before .before .before .before .before .args in
+    severity-said (the-args .overrides .now) (the-level-of .ensures) (c .before .severity .given .1)))

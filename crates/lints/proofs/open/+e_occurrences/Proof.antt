@@ -64,16 +64,20 @@ pub +e-occurrences-spec : {M : Type 1} → statement M
     let so-far = c .before .before .before .before .loop .inv in
     omega (arith, so-far .few, so-far .within))
     (λ c κs.
+    let the-loop = c .before .before .before .before .loop in
+    let the-loop-test = c .before .before .before .loop-test in
     let start = c .before .before .before .before .before .before in
-    omega (arith, from-length (c .before .before .before .before .loop .i) (start .args .part .now), c .before .before .before .loop-test .taken))
+    omega (arith, from-length (the-loop .i) (start .args .part .now), the-loop-test .taken))
     (λ c. let the-loop-test = c .before .before .before .before .before .loop-test in
     omega (arith, the-loop-test .taken))
     (λ c. let the-loop-test = c .before .before .before .before .before .loop-test in
     omega (arith, the-loop-test .taken))
-    (λ c. let the-loop = c .before .before .before .before .before .before .loop in
+    (λ c.
+    let the-word-at = c .before .before .before .word-at in
+    let the-loop = c .before .before .before .before .before .before .loop in
     let the-loop-test = c .before .before .before .before .before .loop-test in
     let own = ⊎-elim (λ w. e-self (w .0 .taken) (w .1)) (λ w. e-not-self (w .0 .left) (w .1)) (c .before .before .if1 .came) in
-    e-empty (the-loop .inv) (the-loop-test .taken) (c .before .before .before .word-at .ensures) own (c .before .word-at2 .ensures) (c .if2 .taken))
+    e-empty (the-loop .inv) (the-loop-test .taken) (the-word-at .ensures) own (c .before .word-at2 .ensures) (c .if2 .taken))
     (λ c κs. let the-loop = c .before .before .before .before .before .before .loop in
     let the-loop-test = c .before .before .before .before .before .loop-test in
     let start = c .before .before .before .before .before .before .before .before in
@@ -101,7 +105,8 @@ pub +e-occurrences-spec : {M : Type 1} → statement M
     (λ c. let the-loop-test = c .before .before .before .before .before .before .before .loop-test in
     omega (arith, c .before .end-of .ensures .1, the-loop-test .taken))
     (λ c.
-    let own = ⊎-elim (λ w. e-self (w .0 .taken) (w .1)) (λ w. e-not-self (w .0 .left) (w .1)) (c .before .before .before .before .if1 .came) in
+    let the-if1 = c .before .before .before .before .if1 in
+    let own = ⊎-elim (λ w. e-self (w .0 .taken) (w .1)) (λ w. e-not-self (w .0 .left) (w .1)) (the-if1 .came) in
     let so-far = c .before .before .before .before .before .before .before .before .loop .inv in
     let more = c .before .before .before .before .before .before .before .loop-test .taken in
     let word = c .before .before .before .before .before .word-at .ensures in

@@ -29,14 +29,17 @@ compare-call-spec =
     let a = c .before .before .before .before .before .before .args in
     sym (lent-length (a .limit) (p .0 .0 .asked .small)))
     (λ c κs.
+    let the-argument = c .before .before .before .argument in
     let p = c .before .before .before .before .before .before .pre in
     let a = c .before .before .before .before .before .before .args in
     let long = lent-length (a .limit) (p .0 .0 .asked .small) in
-    (argument-asked (p .0 .0) (a .t) (p .0 .1) refl (c .before .before .before .argument .ensures) (c .before .wide .ensures .0) long refl, long, p .0 .0 .asked .places))
-    (λ c. let the-argument = c .before .before .before .before .before .before .argument in
+    (argument-asked (p .0 .0) (a .t) (p .0 .1) refl (the-argument .ensures) (c .before .wide .ensures .0) long refl, long, p .0 .0 .asked .places))
+    (λ c.
+    let the-wide = c .before .before .before .before .wide in
+    let the-argument = c .before .before .before .before .before .before .argument in
     let p = c .before .before .before .before .before .before .before .before .before .pre in
     let a = c .before .before .before .before .before .before .before .before .before .args in
-    let made = argument-made (p .0 .0) (a .t) refl (the-argument .ensures) (c .before .before .before .before .wide .ensures .0) (c .before .before .row-format .ensures) in
+    let made = argument-made (p .0 .0) (a .t) refl (the-argument .ensures) (the-wide .ensures .0) (c .before .before .row-format .ensures) in
     compared-wide (p .0 .0) (a .t) made (not-true _ (c .if1 .taken)))
     (λ c. search needs)
     (λ c.
@@ -48,13 +51,15 @@ compare-call-spec =
     let a = c .before .before .before .before .before .before .before .before .before .args in
     omega (arith, accepted-few (p .0 .0) (a .t) (p .1 .0) (p .1 .1)))
     (λ c.
+    let the-row-format = c .before .before .row-format in
     let p = c .before .before .before .before .before .before .before .before .before .pre in
     let a = c .before .before .before .before .before .before .before .before .before .args in
-    back-inside (p .0 .0 .asked .small) (c .before .before .row-format .last .1 .1 .1 .1 .1 .1 .1 .0) _ (c .before .before .row-format .kept .1 .1 .1 .1 .1 .1 .1 .0))
+    back-inside (p .0 .0 .asked .small) (the-row-format .last .1 .1 .1 .1 .1 .1 .1 .0) _ (the-row-format .kept .1 .1 .1 .1 .1 .1 .1 .0))
     (λ c.
+    let the-row-format = c .before .before .before .row-format in
     let p = c .before .before .before .before .before .before .before .before .before .before .pre in
     let a = c .before .before .before .before .before .before .before .before .before .before .args in
-    sym (back-length (p .0 .0 .asked .small) (c .before .before .before .row-format .last .1 .1 .1 .1 .1 .1 .1 .0) _ (c .before .before .before .row-format .kept .1 .1 .1 .1 .1 .1 .1 .0)))
+    sym (back-length (p .0 .0 .asked .small) (the-row-format .last .1 .1 .1 .1 .1 .1 .1 .0) _ (the-row-format .kept .1 .1 .1 .1 .1 .1 .1 .0)))
     (λ c.
     let p = c .before .before .before .before .before .before .before .before .before .before .pre in
     let a = c .before .before .before .before .before .before .before .before .before .before .args in
@@ -66,13 +71,15 @@ compare-call-spec =
     let a = c .before .before .before .before .before .before .before .before .before .before .args in
     accepted-inside (p .0 .0) (a .t) (p .1 .0) (p .1 .1))
     (λ c κs. search needs)
-    (λ c. let the-argument = c .before .before .before .before .before .before .before .before .before .before .argument in
+    (λ c.
+    let the-if1 = c .before .before .before .before .if1 in
+    let the-argument = c .before .before .before .before .before .before .before .before .before .before .argument in
     let the-wide = c .before .before .before .before .before .before .before .before .wide in
     let the-row-format = c .before .before .before .before .before .before .row-format in
     let p = c .before .before .before .before .before .before .before .before .before .before .before .before .before .pre in
     let a = c .before .before .before .before .before .before .before .before .before .before .before .before .before .args in
     let made = argument-made (p .0 .0) (a .t) refl (the-argument .ensures) (the-wide .ensures .0) (the-row-format .ensures) in
-    compared-apart (p .0 .0) (a .t) (p .1 .0) (p .1 .1) (drop (a .limit + 1) (replicate 65 0)) made (not-false _ (c .before .before .before .before .if1 .left)) (c .before .disjoint-formats .ensures) (p .0 .2) (c .if2 .taken))
+    compared-apart (p .0 .0) (a .t) (p .1 .0) (p .1 .1) (drop (a .limit + 1) (replicate 65 0)) made (not-false _ (the-if1 .left)) (c .before .disjoint-formats .ensures) (p .0 .2) (c .if2 .taken))
     (λ c. let the-argument = c .before .before .before .before .before .before .before .before .before .before .before .argument in
     let the-wide = c .before .before .before .before .before .before .before .before .before .wide in
     let the-row-format = c .before .before .before .before .before .before .before .row-format in

@@ -33,21 +33,28 @@ some-matches-spec =
     let p = c .before .before .pre in
     omega (arith, function-few (p .0 .0) (c .before .before .args .f) (p .1 .0)))
     (λ c.
+    let the-args = c .before .before .before .args in
     let p = c .before .before .before .pre in
-    matches-start (p .0 .0) (c .before .before .before .args .f) (p .1 .0) _ _ (c .first-sentence2 .ensures) (c .before .first-sentence .ensures))
+    matches-start (p .0 .0) (the-args .f) (p .1 .0) _ _ (c .first-sentence2 .ensures) (c .before .first-sentence .ensures))
     (λ c κs. let the-args = c .before .before .before .before .before .args in
     let p = c .before .before .before .before .before .pre in
     (p .0, (omega (arith, c .loop-test .taken, c .before .loop .inv .few), p .1 .1, sym (argument-literal (fileOf (the-args .law .now)) (the-args .t)) ∙ p .1 .2)))
-    (λ c. let the-args = c .before .before .before .before .before .before .before .args in
+    (λ c.
+    let the-loop = c .before .before .before .loop in
+    let the-args = c .before .before .before .before .before .before .before .args in
     let p = c .before .before .before .before .before .before .before .pre in
-    matches-here (the-args .t) (c .before .before .before .loop .inv) (accepted-readable (the-args .law .now) (p .0 .1)) (c .before .before .loop-test .taken) (c .before .literal-sentence .ensures) (c .if1 .taken))
-    (λ c. let the-args = c .before .before .before .before .before .before .before .args in
+    matches-here (the-args .t) (the-loop .inv) (accepted-readable (the-args .law .now) (p .0 .1)) (c .before .before .loop-test .taken) (c .before .literal-sentence .ensures) (c .if1 .taken))
+    (λ c.
+    let the-loop = c .before .before .before .loop in
+    let the-args = c .before .before .before .before .before .before .before .args in
     let p = c .before .before .before .before .before .before .before .pre in
-    omega (arith, c .before .before .loop-test .taken, c .before .before .before .loop .inv .few, sentences-limit (the-args .law .now) (the-args .index .now) (p .0 .0)))
+    omega (arith, c .before .before .loop-test .taken, the-loop .inv .few, sentences-limit (the-args .law .now) (the-args .index .now) (p .0 .0)))
     (λ c. omega (arith, c .before .before .loop-test .taken))
-    (λ c. let the-args = c .before .before .before .before .before .before .before .args in
+    (λ c.
+    let the-loop = c .before .before .before .loop in
+    let the-args = c .before .before .before .before .before .before .before .args in
     let p = c .before .before .before .before .before .before .before .pre in
-    matches-next (the-args .t) (c .before .before .before .loop .inv) (accepted-readable (the-args .law .now) (p .0 .1)) (c .before .before .loop-test .taken) (c .before .literal-sentence .ensures) (c .if1 .left))
+    matches-next (the-args .t) (the-loop .inv) (accepted-readable (the-args .law .now) (p .0 .1)) (c .before .before .loop-test .taken) (c .before .literal-sentence .ensures) (c .if1 .left))
     (λ c. let the-args = c .before .before .before .before .before .args in
     let p = c .before .before .before .before .before .pre in
     matches-end (the-args .t) (c .before .loop .inv) (accepted-readable (the-args .law .now) (p .0 .1)) (c .loop-test .left)))

@@ -20,13 +20,15 @@ check-front-spec =
     (λ c. search needs)
     (λ c. search needs)
     (λ c κs. search needs)
-    (λ c. let start = c .before .before .before .before .before .before .before .before .before .before in
+    (λ c.
+    let the-enum-told = c .before .before .enum-told in
+    let start = c .before .before .before .before .before .before .before .before .before .before in
     let settings = settingsFrom (start .args .mode) (start .args .overrides .now) in
     let allowed = c .before .before .before .before .before .before .before .settings-allowed in
     let the-if1 = c .before .before .before .before .before .before .if1 in
     let read = c .before .before .before .before .read-law in
     turned-store (start .args .limit) settings (start .args .law .now) (start .args .words) (start .args .index .now) (allowed .ensures) (not-false _ (the-if1 .left)) _ (read .ensures .0) (read .ensures .1)
-    (c .before .before .enum-told .given .1) (omega (arith, c .if2 .taken, c .before .store-words .ensures)))
+    (the-enum-told .given .1) (omega (arith, c .if2 .taken, c .before .store-words .ensures)))
     (λ c. let start = c .before .before .before .before .before .before .before .before .before in
     let settings = settingsFrom (start .args .mode) (start .args .overrides .now) in
     let allowed = c .before .before .before .before .before .before .settings-allowed in
@@ -34,10 +36,12 @@ check-front-spec =
     let read = c .before .before .before .read-law in
     turned-file (start .args .limit) settings (start .args .law .now) (start .args .words) (start .args .index .now) (allowed .ensures) (not-false _ (the-if1 .left)) _ (read .ensures .0) (read .ensures .1) _
     (c .before .why .given .1))
-    (λ c. let start = c .before .before .before .before .before .before .before .before .before .before in
+    (λ c.
+    let the-enum-told = c .before .before .enum-told in
+    let start = c .before .before .before .before .before .before .before .before .before .before in
     let settings = settingsFrom (start .args .mode) (start .args .overrides .now) in
     let allowed = c .before .before .before .before .before .before .before .settings-allowed in
     let the-if1 = c .before .before .before .before .before .before .if1 in
     let read = c .before .before .before .before .read-law in
     goes-on (start .args .limit) settings (start .args .law .now) (start .args .words) (start .args .index .now) (allowed .ensures) (not-false _ (the-if1 .left)) _ (read .ensures .0) (read .ensures .1)
-    (c .before .before .enum-told .given .1) (start .pre .1) (omega (arith, c .if2 .left, c .before .store-words .ensures))))
+    (the-enum-told .given .1) (start .pre .1) (omega (arith, c .if2 .left, c .before .store-words .ensures))))

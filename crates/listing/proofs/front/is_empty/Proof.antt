@@ -13,8 +13,11 @@ is-empty-spec =
     (λ c. search needs)
     (λ c. search needs)
     (λ c κs. search needs)
-    (λ c. refused-empty (c .before .before .before .before .args .law .now) _ (cut-refused _ _ _ (c .before .before .sections-of .ensures) (c .enum-told .given .1)))
     (λ c.
+    let the-args = c .before .before .before .before .args in
+    refused-empty (the-args .law .now) _ (cut-refused _ _ _ (c .before .before .sections-of .ensures) (c .enum-told .given .1)))
+    (λ c.
+    let the-sections = c .before .before .sections in
     let start = c .before .before .before .before .before .before in
     let the-sections-of = c .before .before .before .before .sections-of in
-    counts-empty (start .args .law .now) _ _ (cut-whole (start .args .law .now) _ _ (the-sections-of .ensures) (c .before .before .sections .given .1)) (c .no-records .ensures)))
+    counts-empty (start .args .law .now) _ _ (cut-whole (start .args .law .now) _ _ (the-sections-of .ensures) (the-sections .given .1)) (c .no-records .ensures)))

@@ -14,16 +14,21 @@ gather-spec =
     (start .pre .0 .indexed, accepted-readable _ (start .pre .0 .accepted), start .pre .0 .small, start .pre .0 .room, start .pre .1))
     (λ c. search needs)
     (λ c. search needs)
-    (λ c κs. let the-infer-store = c .before .before .before .before .before .before .before .infer-store in
+    (λ c κs.
+    let the-rounds = c .before .before .before .rounds in
+    let the-infer-store = c .before .before .before .before .before .before .before .infer-store in
     let start = c .before .before .before .before .before .before .before .before .before .before .before .before .before in
-    (filled-prepares (start .args .room) (settingsFrom (start .args .mode) (start .args .overrides .now)) _ (the-infer-store .result) (start .pre .0) (start .pre .1) (the-infer-store .ensures) _ _ (c .before .before .before .rounds .given .1), start .pre .1, filled-store (start .args .room) (settingsFrom (start .args .mode) (start .args .overrides .now)) _ (the-infer-store .result) (start .pre .0) (start .pre .1) (the-infer-store .ensures) _ _ (c .before .before .before .rounds .given .1)))
+    (filled-prepares (start .args .room) (settingsFrom (start .args .mode) (start .args .overrides .now)) _ (the-infer-store .result) (start .pre .0) (start .pre .1) (the-infer-store .ensures) _ _ (the-rounds .given .1), start .pre .1, filled-store (start .args .room) (settingsFrom (start .args .mode) (start .args .overrides .now)) _ (the-infer-store .result) (start .pre .0) (start .pre .1) (the-infer-store .ensures) _ _ (the-rounds .given .1)))
     (λ c. search needs)
     (λ c.
+    let the-infer-store = c .before .before .before .before .infer-store in
     let start = c .before .before .before .before .before .before .before .before .before .before in
-    infer-wide (start .args .room) (settingsFrom (start .args .mode) (start .args .overrides .now)) _ (c .before .before .before .before .infer-store .result) (start .pre .0) (start .pre .1) (c .before .before .before .before .infer-store .ensures) _ (c .enum-told .given .1))
+    infer-wide (start .args .room) (settingsFrom (start .args .mode) (start .args .overrides .now)) _ (the-infer-store .result) (start .pre .0) (start .pre .1) (the-infer-store .ensures) _ (c .enum-told .given .1))
     (λ c. search needs)
     (λ c. search needs)
-    (λ c. let the-infer-store = c .before .before .before .before .before .before .before .before .before .before .before .before .infer-store in
+    (λ c.
+    let the-gather-findings = c .before .before .before .before .gather-findings in
+    let the-infer-store = c .before .before .before .before .before .before .before .before .before .before .before .before .infer-store in
     let the-rounds = c .before .before .before .before .before .before .before .before .rounds in
     let start = c .before .before .before .before .before .before .before .before .before .before .before .before .before .before .before .before .before .before in
-    gather-both (start .args .room) (settingsFrom (start .args .mode) (start .args .overrides .now)) _ (the-infer-store .result) (start .pre .0) (start .pre .1) (the-infer-store .ensures) _ _ (the-rounds .given .1) _ _ _ _ (c .before .before .before .before .gather-findings .ensures)))
+    gather-both (start .args .room) (settingsFrom (start .args .mode) (start .args .overrides .now)) _ (the-infer-store .result) (start .pre .0) (start .pre .1) (the-infer-store .ensures) _ _ (the-rounds .given .1) _ _ _ _ (the-gather-findings .ensures)))

@@ -53,7 +53,9 @@ put-by-formats-spec =
     (λ c κs. search needs)
     (λ c κs. search needs)
     (λ c. search needs)
-    (λ c κs. omega (arith, shown-near _ (c .before .before .before .before .show-format .ensures)))
+    (λ c κs.
+    let the-show-format = c .before .before .before .before .show-format in
+    omega (arith, shown-near _ (the-show-format .ensures)))
     (λ c κs. omega (arith, start (called (shown c)) .pre, called (shown c) .put-call .ensures .0, shown-near _ (shown c .show-format .ensures)))
     (λ c. search needs)
     (λ c.

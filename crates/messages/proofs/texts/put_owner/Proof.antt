@@ -28,5 +28,6 @@ put-owner-spec =
     (λ c κs. search needs)
     (λ c. search needs)
     (λ c.
+    let the-if1 = c .before .before .before .before .if1 in
     let only = c .before .before .put4 in
-    (omega (arith, only .ensures .end), λ f e. rw (c .before .before .before .before .if1 .left, e) (only .ensures))))
+    (omega (arith, only .ensures .end), λ f e. rw (the-if1 .left, e) (only .ensures))))

@@ -135,20 +135,27 @@ pub +fits+front+last+leftmost+loose+loose-open-spec : {M : Type 1} → statement
     )
     (fits-at t)
     fits.Post
-    (λ c κs. c .before .before .before .pre .1 .0)
+    (λ c κs.
+    let the-pre = c .before .before .before .pre in
+    the-pre .1 .0)
     (λ c κs. let the-pre = c .before .before .before .before .before .pre in
     the-pre .1 .0)
     (λ c κs. let the-pre = c .before .before .before .before .before .before .pre in
     the-pre .1 .1)
     (λ c κs. tt)
-    (λ c. let the-pre = c .before .before .before .before .before .before .before .before .pre in
+    (λ c.
+    let the-is-bracket = c .before .before .before .before .is-bracket in
+    let the-if1 = c .before .before .before .if1 in
+    let the-pre = c .before .before .before .before .before .before .before .before .pre in
     let a = c .before .before .before .before .before .before .before .before .args in
-    laws.fits-variable (a .text .now) (a .pattern .now) (a .row .now) (c .before .before .before .before .is-bracket .ensures) refl (the-pre .1 .2)
-    (not-true (c .before .before .before .before .is-bracket .result) (c .before .before .before .if1 .taken)) (c .before .before .term-at .ensures) (c .before .term-at2 .ensures) (c .may-stand .ensures))
+    laws.fits-variable (a .text .now) (a .pattern .now) (a .row .now) (the-is-bracket .ensures) refl (the-pre .1 .2)
+    (not-true (the-is-bracket .result) (the-if1 .taken)) (c .before .before .term-at .ensures) (c .before .term-at2 .ensures) (c .may-stand .ensures))
     (λ c κs. let the-pre = c .before .before .before .before .before .pre in
     the-pre .1 .1)
-    (λ c. let a = c .before .before .before .before .before .before .before .args in
-    laws.fits-none (a .text .now) (a .pattern .now) (a .row .now) (c .before .before .before .is-bracket .ensures) (not-false (c .before .before .before .is-bracket .result) (c .before .before .if1 .left))
+    (λ c.
+    let the-is-bracket = c .before .before .before .is-bracket in
+    let a = c .before .before .before .before .before .before .before .args in
+    laws.fits-none (a .text .now) (a .pattern .now) (a .row .now) (the-is-bracket .ensures) (not-false (the-is-bracket .result) (c .before .before .if1 .left))
     (c .before .is-bracket2 .ensures) (not-true (c .before .is-bracket2 .result) (c .if2 .taken)))
     (λ c κs. let the-pre = c .before .before .before .before .before .before .before .pre in
     the-pre .1 .0)
@@ -160,16 +167,21 @@ pub +fits+front+last+leftmost+loose+loose-open-spec : {M : Type 1} → statement
     (λ c. search needs)
     (λ c. search needs)
     (λ c. search needs)
-    (λ c κs. let the-pre = c .before .before .before .before .before .before .before .before .before .before .before .pre in
+    (λ c κs.
+    let the-end-of = c .before .before .before .end-of in
+    let the-pre = c .before .before .before .before .before .before .before .before .before .before .before .pre in
     let pattern = c .before .before .before .before .before .before .before .before .before .before .before .args .pattern .now in
-    (omega (arith, inside-falls pattern (c .before .before .before .end-of .result) (length pattern) (the-pre .1 .0) (c .before .before .before .end-of .ensures .0) refl, the-pre .0), tt))
-    (λ c. let the-is-bracket = c .before .before .before .before .before .before .before .before .is-bracket in
+    (omega (arith, inside-falls pattern (the-end-of .result) (length pattern) (the-pre .1 .0) (the-end-of .ensures .0) refl, the-pre .0), tt))
+    (λ c.
+    let the-end-of = c .before .before .before .before .end-of in
+    let the-end-of2 = c .before .before .before .end-of2 in
+    let the-is-bracket = c .before .before .before .before .before .before .before .before .is-bracket in
     let the-if1 = c .before .before .before .before .before .before .before .if1 in
     let the-is-bracket2 = c .before .before .before .before .before .before .is-bracket2 in
     let the-if2 = c .before .before .before .before .before .if2 in
     let a = c .before .before .before .before .before .before .before .before .before .before .before .before .args in
     laws.fits-inside (a .text .now) (a .pattern .now) (a .row .now) (the-is-bracket .ensures) (not-false (the-is-bracket .result) (the-if1 .left))
-    (the-is-bracket2 .ensures) (not-false (the-is-bracket2 .result) (the-if2 .left)) (c .before .before .before .before .end-of .ensures .0) (c .before .before .before .end-of2 .ensures .0) (c .loose .ensures)))
+    (the-is-bracket2 .ensures) (not-false (the-is-bracket2 .result) (the-if2 .left)) (the-end-of .ensures .0) (the-end-of2 .ensures .0) (c .loose .ensures)))
     (λ t. front-lts.spec (
       word-at-reads.Asked,
       word-at-reads.Learnt,
@@ -192,12 +204,19 @@ pub +fits+front+last+leftmost+loose+loose-open-spec : {M : Type 1} → statement
     (λ c. c .before .loop .inv .row-within)
     (λ c. search needs)
     (λ c κs. omega (arith, c .if1 .left))
-    (λ c κs. (c .before .before .before .before .if1 .left, c .before .if3 .left))
-    (λ c κs. let the-loop = c .before .before .before .before .before .before .before .loop in
+    (λ c κs.
+    let the-if1 = c .before .before .before .before .if1 in
+    (the-if1 .left, c .before .if3 .left))
+    (λ c κs.
+    let the-if1 = c .before .before .before .before .if1 in
+    let the-word-at = c .before .before .before .word-at in
+    let the-loop = c .before .before .before .before .before .before .before .loop in
     let the-args = c .before .before .before .before .before .before .before .before .before .before .before .args in
     let the-pre = c .before .before .before .before .before .before .before .before .before .before .before .pre in
-    (omega (arith, from-length (the-loop .i) (the-args .pattern .now), the-pre .0), (c .before .before .before .before .if1 .left, c .before .if3 .left, omega (arith, c .if4 .left, c .before .before .before .word-at .ensures))))
-    (λ c κs. c .before .before .before .before .if1 .left)
+    (omega (arith, from-length (the-loop .i) (the-args .pattern .now), the-pre .0), (the-if1 .left, c .before .if3 .left, omega (arith, c .if4 .left, the-word-at .ensures))))
+    (λ c κs.
+    let the-if1 = c .before .before .before .before .if1 in
+    the-if1 .left)
     (λ c. let the-loop = c .before .before .before .before .before .before .before .before .loop in
     let the-args = c .before .before .before .before .before .before .before .before .before .before .before .before .args in
     omega (arith, from-length (the-loop .i) (the-args .pattern .now), c .end-of .ensures .2, the-loop .inv .within))
@@ -209,33 +228,46 @@ pub +fits+front+last+leftmost+loose+loose-open-spec : {M : Type 1} → statement
     let the-args = c .before .before .before .before .before .before .before .before .before .before .before .before .before .args in
     let the-if1 = c .before .before .before .before .before .before .if1 in
     omega (arith, from-length (the-loop .i) (the-args .pattern .now), the-if1 .left, c .before .end-of .ensures .1))
-    (λ c. let the-if1 = c .before .before .before .before .before .before .if1 in
+    (λ c.
+    let the-if2 = c .before .before .before .before .if2 in
+    let the-if3 = c .before .before .before .if3 in
+    let the-if1 = c .before .before .before .before .before .before .if1 in
     let the-word-at = c .before .before .before .before .before .word-at in
     let a = c .before .before .before .before .before .before .before .before .before .before .before .before .before .args in
     let at-loop = c .before .before .before .before .before .before .before .before .before .loop in
     ⊎-elim
-    (λ w. laws.front-next (at-loop .inv) (the-if1 .left) (the-word-at .ensures) (c .before .before .before .before .if2 .left) (c .before .before .before .if3 .left)
+    (λ w. laws.front-next (at-loop .inv) (the-if1 .left) (the-word-at .ensures) (the-if2 .left) (the-if3 .left)
     (laws.fits-symbol (a .text .now) (from (at-loop .i) (a .pattern .now)) (from (at-loop .j) (a .row .now)) (the-word-at .ensures) (w .0 .taken) (w .1 .ensures))
     (not-false (w .1 .result) (w .2 .left)) (c .before .end-of .ensures .0) (c .end-of2 .ensures .0))
-    (λ w. laws.front-next (at-loop .inv) (the-if1 .left) (the-word-at .ensures) (c .before .before .before .before .if2 .left) (c .before .before .before .if3 .left) (w .1 .ensures)
+    (λ w. laws.front-next (at-loop .inv) (the-if1 .left) (the-word-at .ensures) (the-if2 .left) (the-if3 .left) (w .1 .ensures)
     (not-false (w .1 .result) (w .2 .left)) (c .before .end-of .ensures .0) (c .end-of2 .ensures .0))
     (c .before .before .if4 .came))
-    (λ c. laws.front-end (c .before .before .before .loop .inv) (c .if1 .taken))
+    (λ c.
+    let the-loop = c .before .before .before .loop in
+    laws.front-end (the-loop .inv) (c .if1 .taken))
     (λ c. let the-loop = c .before .before .before .before .before .loop in
     laws.front-open-term (the-loop .inv) (c .before .before .if1 .left) (c .before .word-at .ensures) (c .if2 .taken))
-    (λ c. let the-loop = c .before .before .before .before .before .before .loop in
-    laws.front-short (the-loop .inv) (c .before .before .before .if1 .left) (c .before .before .word-at .ensures) (c .before .if2 .left) (c .if3 .taken))
-    (λ c. let the-if1 = c .before .before .before .before .before .before .if1 in
+    (λ c.
+    let the-if1 = c .before .before .before .if1 in
+    let the-loop = c .before .before .before .before .before .before .loop in
+    laws.front-short (the-loop .inv) (the-if1 .left) (c .before .before .word-at .ensures) (c .before .if2 .left) (c .if3 .taken))
+    (λ c.
+    let the-if2 = c .before .before .before .before .if2 in
+    let the-if3 = c .before .before .before .if3 in
+    let the-if1 = c .before .before .before .before .before .before .if1 in
     let the-word-at = c .before .before .before .before .before .word-at in
     let a = c .before .before .before .before .before .before .before .before .before .before .before .before .before .args in
     let at-loop = c .before .before .before .before .before .before .before .before .before .loop in
-    laws.front-differs (at-loop .inv) (the-if1 .left) (the-word-at .ensures) (c .before .before .before .before .if2 .left) (c .before .before .before .if3 .left)
+    laws.front-differs (at-loop .inv) (the-if1 .left) (the-word-at .ensures) (the-if2 .left) (the-if3 .left)
     (laws.fits-symbol (a .text .now) (from (at-loop .i) (a .pattern .now)) (from (at-loop .j) (a .row .now)) (the-word-at .ensures) (c .before .before .if4 .taken) (c .before .atoms-same .ensures))
     (not-true (c .before .atoms-same .result) (c .if5 .taken)))
-    (λ c. let the-loop = c .before .before .before .before .before .before .before .before .before .loop in
+    (λ c.
+    let the-if2 = c .before .before .before .before .if2 in
+    let the-if3 = c .before .before .before .if3 in
+    let the-loop = c .before .before .before .before .before .before .before .before .before .loop in
     let the-if1 = c .before .before .before .before .before .before .if1 in
     let the-word-at = c .before .before .before .before .before .word-at in
-    laws.front-differs (the-loop .inv) (the-if1 .left) (the-word-at .ensures) (c .before .before .before .before .if2 .left) (c .before .before .before .if3 .left) (c .before .fits2 .ensures) (not-true (c .before .fits2 .result) (c .if6 .taken))))
+    laws.front-differs (the-loop .inv) (the-if1 .left) (the-word-at .ensures) (the-if2 .left) (the-if3 .left) (c .before .fits2 .ensures) (not-true (c .before .fits2 .result) (c .if6 .taken))))
     (λ t. last-lts.spec (
       terms-in-reads.Asked,
       terms-in-reads.Learnt,
@@ -249,20 +281,25 @@ pub +fits+front+last+leftmost+loose+loose-open-spec : {M : Type 1} → statement
     (λ c. let a = c .before .before .before .before .args in ends.last-empty (a .text .now) (a .pattern .now) (a .row .now) (c .if1 .taken))
     (λ c κs. search needs)
     (λ c κs. search needs)
-    (λ c. let the-pre = c .before .before .before .before .before .before .before .pre in
+    (λ c.
+    let the-terms-in = c .before .before .terms-in in
+    let the-pre = c .before .before .before .before .before .before .before .pre in
     let a = c .before .before .before .before .before .before .before .args in
-    ends.last-few (a .text .now) (a .pattern .now) (a .row .now) (the-pre .1) (c .before .before .terms-in .ensures .0 (a .text .now)) (c .before .terms-in2 .ensures .0 (a .text .now)) (c .if2 .taken))
+    ends.last-few (a .text .now) (a .pattern .now) (a .row .now) (the-pre .1) (the-terms-in .ensures .0 (a .text .now)) (c .before .terms-in2 .ensures .0 (a .text .now)) (c .if2 .taken))
     (λ c κs. λ text. omega (arith, c .before .terms-in2 .ensures .0 text))
     (λ c. c .skip .ensures .within)
     (λ c. c .skip .ensures .within)
     (λ c. search needs)
     (λ c κs. let the-pre = c .before .before .before .before .before .before .before .before .before .pre in
     (omega (arith, the-pre .0), tt))
-    (λ c. let the-pre = c .before .before .before .before .before .before .before .before .before .before .pre in
+    (λ c.
+    let the-terms-in2 = c .before .before .before .before .terms-in2 in
+    let the-if2 = c .before .before .before .if2 in
+    let the-pre = c .before .before .before .before .before .before .before .before .before .before .pre in
     let the-terms-in = c .before .before .before .before .before .terms-in in
     let a = c .before .before .before .before .before .before .before .before .before .before .args in
-    ends.last-there (a .text .now) (a .pattern .now) (a .row .now) (the-pre .1) (the-terms-in .ensures .0 (a .text .now)) (c .before .before .before .before .terms-in2 .ensures .0 (a .text .now))
-    (omega (arith, c .before .before .before .if2 .left)) (c .before .before .skip .ensures) (c .loose .ensures)))
+    ends.last-there (a .text .now) (a .pattern .now) (a .row .now) (the-pre .1) (the-terms-in .ensures .0 (a .text .now)) (the-terms-in2 .ensures .0 (a .text .now))
+    (omega (arith, the-if2 .left)) (c .before .before .skip .ensures) (c .loose .ensures)))
     (λ t. leftmost-lts.spec
     (front-below t, front.Post, end-of-reads.Asked, end-of-reads.Learnt)
     (leftmost-at t)
@@ -276,9 +313,11 @@ pub +fits+front+last+leftmost+loose+loose-open-spec : {M : Type 1} → statement
     (λ c κs. let the-pre = c .before .before .before .before .before .pre in
     (omega (arith, the-pre .0), tt))
     (λ c. search needs)
-    (λ c. let the-loop = c .before .before .before .before .before .loop in
+    (λ c.
+    let the-front = c .before .before .before .front in
+    let the-loop = c .before .before .before .before .before .loop in
     let the-args = c .before .before .before .before .before .before .before .before .before .args in
-    omega (arith, from-length (the-loop .j) (the-args .row .now), laws.sought-within (the-loop .inv) (c .before .before .before .front .ensures) (c .before .m .given .1), the-loop .inv .within))
+    omega (arith, from-length (the-loop .j) (the-args .row .now), laws.sought-within (the-loop .inv) (the-front .ensures) (c .before .m .given .1), the-loop .inv .within))
     (λ c. search needs)
     (λ c κs. c .if1 .left)
     (λ c. let the-loop = c .before .before .before .before .before .before .loop in
@@ -287,32 +326,55 @@ pub +fits+front+last+leftmost+loose+loose-open-spec : {M : Type 1} → statement
     (λ c. let the-loop = c .before .before .before .before .before .before .loop in
     let the-args = c .before .before .before .before .before .before .before .before .before .before .args in
     omega (arith, from-length (the-loop .j) (the-args .row .now), c .before .if1 .left, c .end-of .ensures .1))
-    (λ c. let the-loop = c .before .before .before .before .before .before .loop in
-    laws.sought-later (the-loop .inv) (c .before .before .before .before .front .ensures) (c .before .before .enum-told .given .1) (c .before .if1 .left) (c .end-of .ensures .0))
-    (λ c. let the-loop = c .before .before .before .before .before .loop in
-    laws.sought-here (the-loop .inv) (c .before .before .before .front .ensures) (c .before .m .given .1))
-    (λ c. let the-loop = c .before .before .before .before .before .loop in
-    laws.sought-nowhere (the-loop .inv) (c .before .before .before .front .ensures) (c .before .enum-told .given .1) (c .if1 .taken)))
+    (λ c.
+    let the-front = c .before .before .before .before .front in
+    let the-enum-told = c .before .before .enum-told in
+    let the-loop = c .before .before .before .before .before .before .loop in
+    laws.sought-later (the-loop .inv) (the-front .ensures) (the-enum-told .given .1) (c .before .if1 .left) (c .end-of .ensures .0))
+    (λ c.
+    let the-front = c .before .before .before .front in
+    let the-loop = c .before .before .before .before .before .loop in
+    laws.sought-here (the-loop .inv) (the-front .ensures) (c .before .m .given .1))
+    (λ c.
+    let the-front = c .before .before .before .front in
+    let the-loop = c .before .before .before .before .before .loop in
+    laws.sought-nowhere (the-loop .inv) (the-front .ensures) (c .before .enum-told .given .1) (c .if1 .taken)))
     (λ t. loose-lts.spec
     (front-below t, front.Post, loose-open-below t, loose-open.Post)
     (loose-at t)
     loose.Post
-    (λ c κs. (omega (arith, c .before .before .before .pre .0), tt))
+    (λ c κs.
+    let the-pre = c .before .before .before .pre in
+    (omega (arith, the-pre .0), tt))
     (λ c. search needs)
     (λ c. search needs)
-    (λ c. let a = c .before .before .before .before .before .before .before .args in ends.loose-within (a .text .now) (a .pattern .now) (a .row .now) _ (c .before .before .before .front .ensures) (c .before .m .given .1) .0)
-    (λ c. let a = c .before .before .before .before .before .before .before .args in ends.loose-within (a .text .now) (a .pattern .now) (a .row .now) _ (c .before .before .before .front .ensures) (c .before .m .given .1) .0)
+    (λ c.
+    let the-front = c .before .before .before .front in
+    let a = c .before .before .before .before .before .before .before .args in ends.loose-within (a .text .now) (a .pattern .now) (a .row .now) _ (the-front .ensures) (c .before .m .given .1) .0)
+    (λ c.
+    let the-front = c .before .before .before .front in
+    let a = c .before .before .before .before .before .before .before .args in ends.loose-within (a .text .now) (a .pattern .now) (a .row .now) _ (the-front .ensures) (c .before .m .given .1) .0)
     (λ c. search needs)
-    (λ c. let a = c .before .before .before .before .before .before .before .before .args in ends.loose-within (a .text .now) (a .pattern .now) (a .row .now) _ (c .before .before .before .before .front .ensures) (c .before .before .m .given .1) .1)
-    (λ c. let a = c .before .before .before .before .before .before .before .before .args in ends.loose-within (a .text .now) (a .pattern .now) (a .row .now) _ (c .before .before .before .before .front .ensures) (c .before .before .m .given .1) .1)
+    (λ c.
+    let the-front = c .before .before .before .before .front in
+    let the-m = c .before .before .m in
+    let a = c .before .before .before .before .before .before .before .before .args in ends.loose-within (a .text .now) (a .pattern .now) (a .row .now) _ (the-front .ensures) (the-m .given .1) .1)
+    (λ c.
+    let the-front = c .before .before .before .before .front in
+    let the-m = c .before .before .m in
+    let a = c .before .before .before .before .before .before .before .before .args in ends.loose-within (a .text .now) (a .pattern .now) (a .row .now) _ (the-front .ensures) (the-m .given .1) .1)
     (λ c. search needs)
-    (λ c κs. let the-pre = c .before .before .before .before .before .before .before .before .before .pre in
+    (λ c κs.
+    let the-m = c .before .before .before .m in
+    let the-pre = c .before .before .before .before .before .before .before .before .before .pre in
     let the-front = c .before .before .before .before .before .front in
     let a = c .before .before .before .before .before .before .before .before .before .args in
-    (omega (arith, from-length (c .before .before .before .m .given .0 .0) (a .pattern .now), the-pre .0), ends.loose-start (a .text .now) (a .pattern .now) (a .row .now) _ (the-front .ensures) (c .before .before .before .m .given .1)))
+    (omega (arith, from-length (the-m .given .0 .0) (a .pattern .now), the-pre .0), ends.loose-start (a .text .now) (a .pattern .now) (a .row .now) _ (the-front .ensures) (the-m .given .1)))
     (λ c. let a = c .before .before .before .before .before .before .args in ends.loose-fails (a .text .now) (a .pattern .now) (a .row .now) _ (c .before .before .front .ensures) (c .enum-told .given .1))
-    (λ c. let the-front = c .before .before .before .before .before .before .front in
-    let a = c .before .before .before .before .before .before .before .before .before .before .args in ends.loose-goes (a .text .now) (a .pattern .now) (a .row .now) _ (the-front .ensures) (c .before .before .before .before .m .given .1) (c .loose-open .ensures)))
+    (λ c.
+    let the-m = c .before .before .before .before .m in
+    let the-front = c .before .before .before .before .before .before .front in
+    let a = c .before .before .before .before .before .before .before .before .before .before .args in ends.loose-goes (a .text .now) (a .pattern .now) (a .row .now) _ (the-front .ensures) (the-m .given .1) (c .loose-open .ensures)))
     λ t. loose-open-lts.spec (
       end-of-reads.Asked,
       end-of-reads.Learnt,
@@ -327,7 +389,9 @@ pub +fits+front+last+leftmost+loose+loose-open-spec : {M : Type 1} → statement
     loose-open.Post
     loose-open-Inv-loop
     loose-open-μ-loop
-    (λ c. let a = c .before .before .before .args in ends.opened (a .text .now) (a .pattern .now) (a .row .now) (c .before .before .before .pre .1))
+    (λ c.
+    let the-pre = c .before .before .before .pre in
+    let a = c .before .before .before .args in ends.opened (a .text .now) (a .pattern .now) (a .row .now) (the-pre .1))
     (λ c. c .loop .inv .within)
     (λ c. c .loop .inv .within)
     (λ c. search needs)
@@ -339,52 +403,66 @@ pub +fits+front+last+leftmost+loose+loose-open-spec : {M : Type 1} → statement
     (λ c. search needs)
     (λ c. search needs)
     (λ c κs. search needs)
-    (λ c κs. let the-loop = c .before .before .before .before .before .before .before .loop in
+    (λ c κs.
+    let the-if1 = c .before .before .before .before .if1 in
+    let the-end-of = c .before .before .before .end-of in
+    let the-loop = c .before .before .before .before .before .before .before .loop in
     let the-args = c .before .before .before .before .before .before .before .before .before .before .before .args in
     let the-pre = c .before .before .before .before .before .before .before .before .before .before .before .pre in (
-      omega (arith, from-length (c .before .before .before .end-of .result) (from (the-loop .i) (the-args .pattern .now)), from-length (the-loop .i) (the-args .pattern .now), c .before .before .before .before .if1 .left, c .before .before .before .end-of .ensures .1, the-pre .0),
+      omega (arith, from-length (the-end-of .result) (from (the-loop .i) (the-args .pattern .now)), from-length (the-loop .i) (the-args .pattern .now), the-if1 .left, the-end-of .ensures .1, the-pre .0),
       sym (c .before .has-open .ensures (the-args .text .now)) ∙ not-true (c .before .has-open .result) (c .if2 .taken),
     ))
-    (λ c κs. let the-loop = c .before .before .before .before .before .before .before .loop in
+    (λ c κs.
+    let the-end-of = c .before .before .before .end-of in
+    let the-loop = c .before .before .before .before .before .before .before .loop in
     let the-args = c .before .before .before .before .before .before .before .before .before .before .before .args in
     let the-pre = c .before .before .before .before .before .before .before .before .before .before .before .pre in
-    (omega (arith, from-length (c .before .before .before .end-of .result) (from (the-loop .i) (the-args .pattern .now)), from-length (the-loop .i) (the-args .pattern .now), the-pre .0), tt))
+    (omega (arith, from-length (the-end-of .result) (from (the-loop .i) (the-args .pattern .now)), from-length (the-loop .i) (the-args .pattern .now), the-pre .0), tt))
     (λ c. search needs)
     (λ c. search needs)
-    (λ c. let the-loop = c .before .before .before .before .before .before .before .before .before .before .before .loop in
+    (λ c.
+    let the-if2 = c .before .before .before .before .if2 in
+    let the-leftmost = c .before .before .before .leftmost in
+    let the-loop = c .before .before .before .before .before .before .before .before .before .before .before .loop in
     let the-if1 = c .before .before .before .before .before .before .before .before .if1 in
     let the-end-of = c .before .before .before .before .before .before .before .end-of in
     let the-has-open = c .before .before .before .before .before .has-open in
     let the-args = c .before .before .before .before .before .before .before .before .before .before .before .before .before .before .before .args in
     omega (
       arith,
-      ends.opened-within (the-loop .inv) (the-if1 .left) (the-end-of .ensures .0) (the-has-open .ensures) (not-false (the-has-open .result) (c .before .before .before .before .if2 .left)) _ (c .before .before .before .leftmost .ensures) (c .before .m .given .1) .0,
+      ends.opened-within (the-loop .inv) (the-if1 .left) (the-end-of .ensures .0) (the-has-open .ensures) (not-false (the-has-open .result) (the-if2 .left)) _ (the-leftmost .ensures) (c .before .m .given .1) .0,
       from-length (the-end-of .result) (from (the-loop .i) (the-args .pattern .now)),
       from-length (the-loop .i) (the-args .pattern .now),
       the-loop .inv .within,
       the-end-of .ensures .2,
     ))
-    (λ c. let the-loop = c .before .before .before .before .before .before .before .before .before .before .before .loop in
+    (λ c.
+    let the-if2 = c .before .before .before .before .if2 in
+    let the-leftmost = c .before .before .before .leftmost in
+    let the-loop = c .before .before .before .before .before .before .before .before .before .before .before .loop in
     let the-if1 = c .before .before .before .before .before .before .before .before .if1 in
     let the-end-of = c .before .before .before .before .before .before .before .end-of in
     let the-has-open = c .before .before .before .before .before .has-open in
     let the-args = c .before .before .before .before .before .before .before .before .before .before .before .before .before .before .before .args in
     omega (
       arith,
-      ends.opened-within (the-loop .inv) (the-if1 .left) (the-end-of .ensures .0) (the-has-open .ensures) (not-false (the-has-open .result) (c .before .before .before .before .if2 .left)) _ (c .before .before .before .leftmost .ensures) (c .before .m .given .1) .0,
+      ends.opened-within (the-loop .inv) (the-if1 .left) (the-end-of .ensures .0) (the-has-open .ensures) (not-false (the-has-open .result) (the-if2 .left)) _ (the-leftmost .ensures) (c .before .m .given .1) .0,
       from-length (the-end-of .result) (from (the-loop .i) (the-args .pattern .now)),
       from-length (the-loop .i) (the-args .pattern .now),
       the-loop .inv .within,
       the-end-of .ensures .2,
     ))
-    (λ c. let the-loop = c .before .before .before .before .before .before .before .before .before .before .before .loop in
+    (λ c.
+    let the-if2 = c .before .before .before .before .if2 in
+    let the-leftmost = c .before .before .before .leftmost in
+    let the-loop = c .before .before .before .before .before .before .before .before .before .before .before .loop in
     let the-if1 = c .before .before .before .before .before .before .before .before .if1 in
     let the-end-of = c .before .before .before .before .before .before .before .end-of in
     let the-has-open = c .before .before .before .before .before .has-open in
     let the-args = c .before .before .before .before .before .before .before .before .before .before .before .before .before .before .before .args in
     omega (
       arith,
-      ends.opened-within (the-loop .inv) (the-if1 .left) (the-end-of .ensures .0) (the-has-open .ensures) (not-false (the-has-open .result) (c .before .before .before .before .if2 .left)) _ (c .before .before .before .leftmost .ensures) (c .before .m .given .1) .1,
+      ends.opened-within (the-loop .inv) (the-if1 .left) (the-end-of .ensures .0) (the-has-open .ensures) (not-false (the-has-open .result) (the-if2 .left)) _ (the-leftmost .ensures) (c .before .m .given .1) .1,
       from-length (the-loop .j) (the-args .row .now),
       the-loop .inv .row-within,
     ))
@@ -393,16 +471,26 @@ pub +fits+front+last+leftmost+loose+loose-open-spec : {M : Type 1} → statement
     let the-if1 = c .before .before .before .before .before .before .before .before .if1 in
     let the-end-of = c .before .before .before .before .before .before .before .end-of in
     omega (arith, from-length (the-loop .i) (the-args .pattern .now), the-if1 .left, the-end-of .ensures .1))
-    (λ c. let the-loop = c .before .before .before .before .before .before .before .before .before .before .before .loop in
+    (λ c.
+    let the-if2 = c .before .before .before .before .if2 in
+    let the-leftmost = c .before .before .before .leftmost in
+    let the-loop = c .before .before .before .before .before .before .before .before .before .before .before .loop in
     let the-if1 = c .before .before .before .before .before .before .before .before .if1 in
     let the-end-of = c .before .before .before .before .before .before .before .end-of in
     let the-has-open = c .before .before .before .before .before .has-open in
-    ends.opened-next (the-loop .inv) (the-if1 .left) (the-end-of .ensures .0) (the-has-open .ensures) (not-false (the-has-open .result) (c .before .before .before .before .if2 .left)) _ (c .before .before .before .leftmost .ensures) (c .before .m .given .1))
-    (λ c. ends.opened-end (c .before .before .before .loop .inv) (c .if1 .taken))
-    (λ c. let the-loop = c .before .before .before .before .before .before .before .before .loop in
+    ends.opened-next (the-loop .inv) (the-if1 .left) (the-end-of .ensures .0) (the-has-open .ensures) (not-false (the-has-open .result) (the-if2 .left)) _ (the-leftmost .ensures) (c .before .m .given .1))
+    (λ c.
+    let the-loop = c .before .before .before .loop in
+    ends.opened-end (the-loop .inv) (c .if1 .taken))
+    (λ c.
+    let the-end-of = c .before .before .before .before .end-of in
+    let the-loop = c .before .before .before .before .before .before .before .before .loop in
     let the-if1 = c .before .before .before .before .before .if1 in
-    ends.opened-last (the-loop .inv) (the-if1 .left) (c .before .before .before .before .end-of .ensures .0) (c .last .ensures))
-    (λ c. let the-loop = c .before .before .before .before .before .before .before .before .before .before .loop in
+    ends.opened-last (the-loop .inv) (the-if1 .left) (the-end-of .ensures .0) (c .last .ensures))
+    (λ c.
+    let the-has-open = c .before .before .before .before .has-open in
+    let the-if2 = c .before .before .before .if2 in
+    let the-loop = c .before .before .before .before .before .before .before .before .before .before .loop in
     let the-if1 = c .before .before .before .before .before .before .before .if1 in
     let the-end-of = c .before .before .before .before .before .before .end-of in
-    ends.opened-fails (the-loop .inv) (the-if1 .left) (the-end-of .ensures .0) (c .before .before .before .before .has-open .ensures) (not-false (c .before .before .before .before .has-open .result) (c .before .before .before .if2 .left)) _ (c .before .before .leftmost .ensures) (c .enum-told .given .1))
+    ends.opened-fails (the-loop .inv) (the-if1 .left) (the-end-of .ensures .0) (the-has-open .ensures) (not-false (the-has-open .result) (the-if2 .left)) _ (c .before .before .leftmost .ensures) (c .enum-told .given .1))

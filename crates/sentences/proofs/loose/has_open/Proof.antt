@@ -31,8 +31,12 @@ has-open-spec =
     (λ c. let the-args = c .before .before .before .before .before .before .before .args in
     let at-loop = c .before .before .before .before .before .loop in
     omega (arith, from-length (at-loop .i) (the-args .pattern .now), c .end-of .ensures .1, c .end-of .ensures .2))
-    (λ c. let the-loop = c .before .before .before .before .before .loop in
-    laws.seen-next (the-loop .inv) (c .before .before .before .if1 .left) (c .before .before .word-at .ensures)
+    (λ c.
+    let the-if1 = c .before .before .before .if1 in
+    let the-loop = c .before .before .before .before .before .loop in
+    laws.seen-next (the-loop .inv) (the-if1 .left) (c .before .before .word-at .ensures)
     (c .before .if2 .left) (c .end-of .ensures .0))
     (λ c. laws.seen-none (c .before .before .loop .inv) (c .if1 .taken))
-    (λ c. laws.seen-open (c .before .before .before .before .loop .inv) (c .before .before .if1 .left) (c .before .word-at .ensures) (c .if2 .taken)))
+    (λ c.
+    let the-loop = c .before .before .before .before .loop in
+    laws.seen-open (the-loop .inv) (c .before .before .if1 .left) (c .before .word-at .ensures) (c .if2 .taken)))

@@ -27,10 +27,16 @@ once-spec =
     (λ c. c .loop .inv .within)
     (λ c. search needs)
     (λ c κs. omega (arith, c .if1 .left))
-    (λ c. c .before .before .before .if1 .left)
-    (λ c. c .before .before .before .if1 .left)
+    (λ c.
+    let the-if1 = c .before .before .before .if1 in
+    the-if1 .left)
+    (λ c.
+    let the-if1 = c .before .before .before .if1 in
+    the-if1 .left)
     (λ c. search needs)
-    (λ c κs. c .before .before .before .before .if1 .left)
+    (λ c κs.
+    let the-if1 = c .before .before .before .before .if1 in
+    the-if1 .left)
     (λ c. let the-args = c .before .before .before .before .before .before .before .args in
     let at-loop = c .before .before .before .before .loop in
     omega (arith, from-length (at-loop .i) (the-args .pattern .now), c .before .before .if1 .left, at-loop .inv .within))

@@ -24,12 +24,16 @@ skip-spec =
     (λ c. c .before .loop .inv .within)
     (λ c. c .before .loop .inv .within)
     (λ c. search needs)
-    (λ c κs. laws.skip-some (c .before .before .loop .inv) (c .before .before .before .before .pre) (omega (arith, c .before .if1 .left)))
+    (λ c κs.
+    let the-pre = c .before .before .before .before .pre in
+    laws.skip-some (c .before .before .loop .inv) (the-pre) (omega (arith, c .before .if1 .left)))
     (λ c. let the-args = c .before .before .before .before .before .args in
     let at-loop = c .before .before .before .loop in
     omega (arith, from-length (at-loop .n) (the-args .row .now), c .end-of .ensures .2, at-loop .inv .within))
     (λ c. omega (arith, c .before .before .if1 .left))
-    (λ c. let the-pre = c .before .before .before .before .before .pre in
-    laws.skip-next (c .before .before .before .loop .inv) (the-pre) (omega (arith, c .before .before .if1 .left))
+    (λ c.
+    let the-loop = c .before .before .before .loop in
+    let the-pre = c .before .before .before .before .before .pre in
+    laws.skip-next (the-loop .inv) (the-pre) (omega (arith, c .before .before .if1 .left))
     (c .end-of .ensures .0) refl)
     (λ c. rw (c .if1 .taken) at (c .before .loop .inv)))

@@ -25,12 +25,18 @@ terms-in-spec =
     (λ c. c .loop .inv .within)
     (λ c. c .loop .inv .within)
     (λ c. search needs)
-    (λ c. omega (arith, c .before .before .loop .inv .few, c .before .before .loop .inv .within))
+    (λ c.
+    let the-loop = c .before .before .loop in
+    omega (arith, the-loop .inv .few, the-loop .inv .within))
     (λ c κs. c .if1 .left)
     (λ c. let the-args = c .before .before .before .before .before .args in
     let the-loop = c .before .before .before .loop in
     omega (arith, from-length (the-loop .i) (the-args .part .now), c .end-of .ensures .2, the-loop .inv .within))
-    (λ c. let the-args = c .before .before .before .before .before .args in
-    omega (arith, from-length (c .before .before .before .loop .i) (the-args .part .now), c .end-of .ensures .1, c .end-of .ensures .2))
-    (λ c. laws.count-next (c .before .before .before .loop .inv) (c .before .if1 .left) (c .end-of .ensures .0) refl)
+    (λ c.
+    let the-loop = c .before .before .before .loop in
+    let the-args = c .before .before .before .before .before .args in
+    omega (arith, from-length (the-loop .i) (the-args .part .now), c .end-of .ensures .1, c .end-of .ensures .2))
+    (λ c.
+    let the-loop = c .before .before .before .loop in
+    laws.count-next (the-loop .inv) (c .before .if1 .left) (c .end-of .ensures .0) refl)
     (λ c. laws.count-all (c .before .before .loop .inv) (c .if1 .taken)))

@@ -28,7 +28,11 @@ odd-terms-spec =
     (λ c. let the-args = c .before .before .before .before .before .args in
     let the-loop = c .before .before .before .loop in
     omega (arith, from-length (the-loop .i) (the-args .part .now), c .end-of .ensures .2, the-loop .inv .within))
-    (λ c. let the-args = c .before .before .before .before .before .args in
-    omega (arith, from-length (c .before .before .before .loop .i) (the-args .part .now), c .end-of .ensures .1, c .end-of .ensures .2))
-    (λ c. laws.odd-next (c .before .before .before .loop .inv) (c .before .if1 .left) (c .end-of .ensures .0))
+    (λ c.
+    let the-loop = c .before .before .before .loop in
+    let the-args = c .before .before .before .before .before .args in
+    omega (arith, from-length (the-loop .i) (the-args .part .now), c .end-of .ensures .1, c .end-of .ensures .2))
+    (λ c.
+    let the-loop = c .before .before .before .loop in
+    laws.odd-next (the-loop .inv) (c .before .if1 .left) (c .end-of .ensures .0))
     (λ c. laws.odd-all (c .before .before .loop .inv) (c .if1 .taken)))

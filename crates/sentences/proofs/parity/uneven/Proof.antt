@@ -13,6 +13,8 @@ uneven-spec =
     (λ c κs. search needs)
     (λ c. λ e. absurd (false-not-true e))
     (λ c κs. search needs)
-    (λ c. λ e. let text = c .before .before .before .before .before .before .before .args .text .now in
-    laws.uneven-answer _ _ (c .evenly .ensures e) (c .before .before .before .odd-terms .ensures text) (c .before .before .odd-terms2 .ensures text)
+    (λ c.
+    let the-odd-terms = c .before .before .before .odd-terms in
+    λ e. let text = c .before .before .before .before .before .before .before .args .text .now in
+    laws.uneven-answer _ _ (c .evenly .ensures e) (the-odd-terms .ensures text) (c .before .before .odd-terms2 .ensures text)
     (c .before .if1 .left)))

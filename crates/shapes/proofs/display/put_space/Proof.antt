@@ -9,4 +9,6 @@ put-space-spec = tie.close (tie.spec
     (λ c. let x = c .before .before .args in rw (c .if1 .taken) (put-none (x .out .now) (x .at)))
     (λ c κs. search needs)
     (λ c. search needs)
-    (λ c. rw (c .before .before .before .before .if1 .left) (c .before .before .put-byte .ensures)))
+    (λ c.
+    let the-if1 = c .before .before .before .before .if1 in
+    rw (the-if1 .left) (c .before .before .put-byte .ensures)))

@@ -37,10 +37,12 @@ show-format-spec =
     let start = c .before .before .before .before .before .before .before .before .before .before .before .before .before .before .before in
     omega (arith, start .pre, the-put3 .ensures .end, the-row-end .ensures, row-end-few (start .args .format .now)))
     (λ c. search needs)
-    (λ c κs. let the-put3 = c .before .before .before .before .before .before .before .before .before .before .put3 in
+    (λ c κs.
+    let the-show-row = c .before .before .before .before .show-row in
+    let the-put3 = c .before .before .before .before .before .before .before .before .before .before .put3 in
     let the-row-end = c .before .before .before .before .before .before .before .before .before .before .before .before .before .row-end in
     let start = c .before .before .before .before .before .before .before .before .before .before .before .before .before .before .before .before .before .before .before .before in
-    omega (arith, start .pre, c .before .before .before .before .show-row .ensures .0, the-put3 .ensures .end, the-row-end .ensures, row-end-few (start .args .format .now)))
+    omega (arith, start .pre, the-show-row .ensures .0, the-put3 .ensures .end, the-row-end .ensures, row-end-few (start .args .format .now)))
     (λ c. search needs)
     (λ c.
     let row = c .before .before .before .before .before .before .before in

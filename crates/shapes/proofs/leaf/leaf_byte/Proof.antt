@@ -10,4 +10,6 @@ leaf-byte-spec = tie.close (tie.spec
     (λ c. search needs)
     (λ c. search needs)
     (λ c. search needs)
-    (λ c. rw (leaf-high (c .before .args .w) (leaf-word-past (c .before .args .w) (c .match .rest .0 .0 .0 .1) (c .match .rest .0 .0 .1) (c .match .rest .0 .1) (c .match .rest .1)))))
+    (λ c.
+    let the-match = c .match in
+    rw (leaf-high (c .before .args .w) (leaf-word-past (c .before .args .w) (the-match .rest .0 .0 .0 .1) (the-match .rest .0 .0 .1) (c .match .rest .0 .1) (c .match .rest .1)))))

@@ -24,8 +24,12 @@ leading-end-spec =
     (λ c. leading-start (goesOn (c .before .args .digits)) (c .before .args .text .now) (c .before .args .at) (search needs))
     (λ c. omega arith)
     (λ c κs. search needs)
-    (λ c. leading-stops (c .before .before .before .before .loop .inv) (omega arith) (c .before .goes-on .ensures) (not-true _ (c .if1 .taken)))
+    (λ c.
+    let the-loop = c .before .before .before .before .loop in
+    leading-stops (the-loop .inv) (omega arith) (c .before .goes-on .ensures) (not-true _ (c .if1 .taken)))
     (λ c. omega arith)
     (λ c. omega arith)
-    (λ c. leading-next (c .before .before .before .before .loop .inv) (omega arith) (c .before .goes-on .ensures) (not-false _ (c .if1 .left)))
+    (λ c.
+    let the-loop = c .before .before .before .before .loop in
+    leading-next (the-loop .inv) (omega arith) (c .before .goes-on .ensures) (not-false _ (c .if1 .left)))
     (λ c. leading-ends (c .before .loop .inv) (c .loop-test .left)))

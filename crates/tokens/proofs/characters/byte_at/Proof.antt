@@ -10,7 +10,9 @@ pub byte-at-spec : {M : Type 1} → statement M
 byte-at-spec =
     tie.close
     (tie.spec
-    (λ c. (sym (List·getD-eq-default (c .before .before .args .text .now) 0 (c .if1 .taken)), omega arith))
+    (λ c.
+    let the-args = c .before .before .args in
+    (sym (List·getD-eq-default (the-args .text .now) 0 (c .if1 .taken)), omega arith))
     (λ c. search needs)
     (λ c κs. search needs)
     (λ c. search needs))

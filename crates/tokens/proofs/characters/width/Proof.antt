@@ -9,5 +9,9 @@ width-spec =
     (tie.spec
     (λ c. rw (utf8-one (c .before .args .c) (c .if1 .taken)))
     (λ c. rw (utf8-two (c .before .before .args .c) (c .before .if1 .left) (c .if2 .taken)))
-    (λ c. rw (utf8-three (c .before .before .before .args .c) (c .before .if2 .left) (c .if3 .taken)))
-    (λ c. rw (utf8-four (c .before .before .before .args .c) (c .if3 .left))))
+    (λ c.
+    let the-args = c .before .before .before .args in
+    rw (utf8-three (the-args .c) (c .before .if2 .left) (c .if3 .taken)))
+    (λ c.
+    let the-args = c .before .before .before .args in
+    rw (utf8-four (the-args .c) (c .if3 .left))))

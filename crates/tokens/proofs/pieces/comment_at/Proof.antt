@@ -43,7 +43,9 @@ comment-at-spec =
     let begun = start (c .before) in
     comment-start (begun .args .text .now) (begun .args .at) (begun .pre) (c .before .stands-at .ensures) (not-false _ (c .if1 .left)))
     (λ c. search needs)
-    (λ c κs. (c .before .before .loop .inv .small, omega arith))
+    (λ c κs.
+    let the-loop = c .before .before .loop in
+    (the-loop .inv .small, omega arith))
     (λ c. omega (arith, the-loop (c .before) .loop .inv .small))
     (λ c. comment-found (the-loop (c .before) .loop .inv) (c .before .stands-at2 .ensures) (c .if2 .taken))
     (λ c κs. omega (arith, the-loop (c .before) .loop .inv .small))

@@ -25,6 +25,7 @@ dollar-at-spec =
     (λ c. omega arith)
     (λ c. let begun = start (first (c .before)) in extern-found (begun .args .text .now) (begun .args .at) (c .before .stands-at2 .ensures) (c .if2 .taken))
     (λ c.
+    let the-if1 = c .before .before .before .if1 in
     let entry = first (c .before) in
     let begun = start entry in
-    dollar-none (begun .args .text .now) (begun .args .at) (begun .pre .1) (begun .pre .2) (entry .stands-at .ensures) (c .before .before .before .if1 .left) (c .before .stands-at2 .ensures) (c .if2 .left)))
+    dollar-none (begun .args .text .now) (begun .args .at) (begun .pre .1) (begun .pre .2) (entry .stands-at .ensures) (the-if1 .left) (c .before .stands-at2 .ensures) (c .if2 .left)))

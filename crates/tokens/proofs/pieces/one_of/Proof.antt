@@ -20,8 +20,12 @@ one-of-spec =
     μ-loop
     (λ c. among-start (c .args .bytes .now) (c .args .c))
     (λ c. omega arith)
-    (λ c. among-found (c .before .before .before .loop .inv) (omega arith) (c .if1 .taken))
+    (λ c.
+    let the-loop = c .before .before .before .loop in
+    among-found (the-loop .inv) (omega arith) (c .if1 .taken))
     (λ c. omega arith)
     (λ c. omega arith)
-    (λ c. among-next (c .before .before .before .loop .inv) (omega arith) (c .if1 .left))
+    (λ c.
+    let the-loop = c .before .before .before .loop in
+    among-next (the-loop .inv) (omega arith) (c .if1 .left))
     (λ c. among-end (c .before .loop .inv) (c .loop-test .left)))

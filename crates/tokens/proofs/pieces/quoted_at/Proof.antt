@@ -43,15 +43,19 @@ quoted-at-spec =
     quoting-broken (reading the-read .loop .inv) (omega arith) (the-read .before .if1 .left) (the-read .character-at .ensures) (c .enum-told .given .1))
     (λ c. search needs)
     (λ c.
+    let the-c = c .before .before .c in
     let the-read = read (c .before) in
-    quoting-backslash (reading the-read .loop .inv) (omega arith) (the-read .before .if1 .left) (the-read .character-at .ensures) (c .before .before .c .given .1) (c .if3 .taken))
+    quoting-backslash (reading the-read .loop .inv) (omega arith) (the-read .before .if1 .left) (the-read .character-at .ensures) (the-c .given .1) (c .if3 .taken))
     (λ c.
+    let the-c = c .before .before .c in
     let the-read = read (c .before) in
-    omega (arith, quoting-within (reading the-read .loop .inv) (omega arith) (the-read .before .if1 .left) (the-read .character-at .ensures) (c .before .before .c .given .1) (c .if3 .left)))
+    omega (arith, quoting-within (reading the-read .loop .inv) (omega arith) (the-read .before .if1 .left) (the-read .character-at .ensures) (the-c .given .1) (c .if3 .left)))
     (λ c.
+    let the-c = c .before .before .c in
     let the-read = read (c .before) in
-    omega (arith, quoting-within (reading the-read .loop .inv) (omega arith) (the-read .before .if1 .left) (the-read .character-at .ensures) (c .before .before .c .given .1) (c .if3 .left)))
+    omega (arith, quoting-within (reading the-read .loop .inv) (omega arith) (the-read .before .if1 .left) (the-read .character-at .ensures) (the-c .given .1) (c .if3 .left)))
     (λ c.
+    let the-c = c .before .before .c in
     let the-read = read (c .before) in
-    quoting-next (reading the-read .loop .inv) (omega arith) (the-read .before .if1 .left) (the-read .character-at .ensures) (c .before .before .c .given .1) (c .if3 .left))
+    quoting-next (reading the-read .loop .inv) (omega arith) (the-read .before .if1 .left) (the-read .character-at .ensures) (the-c .given .1) (c .if3 .left))
     (λ c. quoting-over (c .before .loop .inv) (c .loop-test .left)))

@@ -25,7 +25,9 @@ count-kinds-spec =
     μ-loop
     (λ c. let x = c .before .args in counting-start (x .k) (x .stop) (x .kinds .now) (x .from) (c .before .pre .0))
     (λ c. omega arith)
-    (λ c. counting-stop (c .before .before .before .loop .inv) (omega arith) (c .if1 .taken))
+    (λ c.
+    let the-loop = c .before .before .before .loop in
+    counting-stop (the-loop .inv) (omega arith) (c .if1 .taken))
     (λ c. omega arith)
     (λ c κs. search needs)
     (λ c. omega (arith, the-loop c .loop .inv .few, c .one-if .ensures .1, the-loop c .before .before .pre .1))

@@ -22,8 +22,12 @@ place-of-spec =
     μ-loop
     (λ c. leading-start _ (c .args .kinds .now) (c .args .from) (c .pre))
     (λ c. omega arith)
-    (λ c. place-here (c .before .before .before .loop .inv) (omega arith) (c .if1 .taken))
+    (λ c.
+    let the-loop = c .before .before .before .loop in
+    place-here (the-loop .inv) (omega arith) (c .if1 .taken))
     (λ c. omega arith)
     (λ c. omega arith)
-    (λ c. place-next (c .before .before .before .loop .inv) (omega arith) (c .if1 .left))
+    (λ c.
+    let the-loop = c .before .before .before .loop in
+    place-next (the-loop .inv) (omega arith) (c .if1 .left))
     (λ c. place-none _ _ _ _ (c .before .loop .inv) (c .loop-test .left)))

@@ -10,7 +10,9 @@ pub short-at-spec : {M : Type 1} → statement M
 short-at-spec =
     tie.close
     (tie.spec
-    (λ c. (sym (List·getD-eq-default (c .before .before .args .list .now) 0 (c .if1 .taken)), omega arith))
+    (λ c.
+    let the-args = c .before .before .args in
+    (sym (List·getD-eq-default (the-args .list .now) 0 (c .if1 .taken)), omega arith))
     (λ c. search needs)
     (λ c. search needs)
     (λ c κs. search needs)

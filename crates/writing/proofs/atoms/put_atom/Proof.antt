@@ -16,14 +16,17 @@ put-atom-spec =
       omega arith,
       λ p e s t h. absurd (omega (arith, run-of (start .args .text .now) p e s t h (c .before .if1 .taken) .within, c .if2 .taken, start .pre .3)),
     ))
-    (λ c. omega (arith, c .before .before .before .before .pre .1))
+    (λ c.
+    let the-pre = c .before .before .before .before .pre in
+    omega (arith, the-pre .1))
     (λ c κs. search needs)
     (λ c κs. search needs)
     (λ c κs. search needs)
     (λ c κs.
+    let the-index = c .before .before .before .index in
     let tested = c .before .before .before .before in
     let start = tested .before .before .before .before in
-    (start .pre .0, omega (arith, c .before .before .before .index .ensures, start .pre .1), omega (arith, c .before .index2 .ensures, c .before .before .less .ensures, tested .if2 .left)))
+    (start .pre .0, omega (arith, the-index .ensures, start .pre .1), omega (arith, c .before .index2 .ensures, c .before .before .less .ensures, tested .if2 .left)))
     (λ c. search needs)
     (λ c.
     let put = c .before .before .put-characters in

@@ -35,7 +35,9 @@ put-characters-spec =
     (λ c.
     let x = c .before .before .args in
     (omega (arith, c .before .before .pre .1), omega arith, omega arith, refl, λ cs h. spelling-start (x .text .now) (x .from) (x .to) cs _ _ h))
-    (λ c κs. omega (arith, c .before .before .before .before .pre .2))
+    (λ c κs.
+    let the-pre = c .before .before .before .before .pre in
+    omega (arith, the-pre .2))
     (λ c. search needs)
     (λ c. search needs)
     (λ c.

@@ -11,4 +11,6 @@ called-at-spec =
     (λ c. search needs)
     (λ c. search needs)
     (λ c. search needs)
-    (λ c. called-here (c .before .before .args .kinds .now) (c .before .if1 .left)))
+    (λ c.
+    let the-args = c .before .before .args in
+    called-here (the-args .kinds .now) (c .before .if1 .left)))

@@ -1,5 +1,5 @@
 -- From the end of the tokens on, and before it.
-use mathlib.Core.Path.{_∙_, sym}
+use mathlib.Core.Path.{_∙_}
 use native.Mathlib.Omega.{arith}
 use borrow.Author.Needs.{needs}
 use Rattle.writing.proofs.CloserLaws.{held-past, held-inside}

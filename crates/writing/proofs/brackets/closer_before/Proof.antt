@@ -1,8 +1,7 @@
 -- A closing sign, an opening sign, and any other token.
-use mathlib.Core.Path.{sym, _∙_, ap}
+use mathlib.Core.Path.{sym, _∙_}
 use native.Mathlib.Omega.{arith}
 use borrow.Author.Needs.{needs}
-use Rattle.writing.specs.Code.Closers.{heldBefore}
 use Rattle.writing.proofs.CloserLaws.{closer-here, closer-open, closer-plain}
 use Rattle.writing.proofs.brackets.closer_before.Statement.{statement}
 use Rattle.writing.proofs.brackets.closer_before.Tie as tie

@@ -1,5 +1,5 @@
 -- Rests on the invariant that the places from `i` on are found.
-use Prim.Native.Nat.{_+_, _-_, _≤_}
+use Prim.Native.Nat.{_-_, _≤_}
 use mathlib.Core.Path.{_≡_, refl, _∙_}
 use native.Mathlib.Omega.{arith}
 use lib.ListN.{length, length-set}
@@ -25,9 +25,13 @@ find-closers-spec =
     (tie.spec
     Inv-loop
     μ-loop
-    (λ c. (omega arith, refl, from-end _ (c .before .before .args .closers .now) _))
+    (λ c.
+    let the-args = c .before .before .args in
+    (omega arith, refl, from-end _ (the-args .closers .now) _))
     (λ c. omega arith)
-    (λ c. omega (arith, c .before .before .loop .inv .0))
+    (λ c.
+    let the-loop = c .before .before .loop in
+    omega (arith, the-loop .inv .0))
     (λ c κs. let round = c .before .before .before in (round .before .before .before .pre .1, omega (arith, round .loop .inv .0)))
     (λ c κs. c .closer-before .ensures .0)
     (λ c. search needs)

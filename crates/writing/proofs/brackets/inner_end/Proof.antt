@@ -1,5 +1,4 @@
 -- The end of the token that closes.
-use mathlib.Core.Path.{_∙_}
 use borrow.Author.Needs.{needs}
 use Rattle.writing.proofs.CloserLaws.{inner-ends}
 use Rattle.writing.proofs.brackets.inner_end.Statement.{statement}

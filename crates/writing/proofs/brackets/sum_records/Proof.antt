@@ -1,5 +1,5 @@
 -- Rests on the invariant that the numbers from `i` on are found, and that `sum` is the last of them.
-use Prim.Native.Nat.{_+_, _-_, _*_, _≤_}
+use Prim.Native.Nat.{_-_, _*_, _≤_}
 use mathlib.Core.List.{List}
 use mathlib.Core.Path.{_≡_, refl, _∙_}
 use native.Mathlib.Omega.{arith}
@@ -34,10 +34,14 @@ sum-records-spec =
     (tie.spec
     Inv-loop
     μ-loop
-    (λ c. (omega arith, omega arith, refl, λ ts h st. (sum-end _ h, from-end _ (c .before .before .before .before .before .args .sums .now) _)))
+    (λ c.
+    let the-args = c .before .before .before .before .before .args in
+    (omega arith, omega arith, refl, λ ts h st. (sum-end _ h, from-end _ (the-args .sums .now) _)))
     (λ c. omega arith)
     (λ c κs. omega (arith, c .before .loop .inv .0))
-    (λ c. omega (arith, c .before .before .before .loop .inv .0))
+    (λ c.
+    let the-loop = c .before .before .before .loop in
+    omega (arith, the-loop .inv .0))
     (λ c κs. search needs)
     (λ c κs. search needs)
     (λ c κs. (c .before .short-at .ensures .1, c .short-at2 .ensures .1))
@@ -46,6 +50,7 @@ sum-records-spec =
     (λ c. let round = the-loop c in omega (arith, round .loop .inv .0, round .loop .inv .2, the-start round .pre .0))
     (λ c. omega arith)
     (λ c.
+    let the-short-at = c .before .before .short-at in
     let round = the-loop c in
     let inv = round .loop .inv in
     let start = the-start round in
@@ -54,7 +59,7 @@ sum-records-spec =
       omega (arith, inv .0, inv .1, c .token-weight .ensures .0),
       length-set (round .loop .sums) _ _ ∙ inv .2,
       λ ts h st.
-          let sum = sum-next h {i = round .loop .i} (start .args .text .now) (omega arith) (omega (arith, inv .0)) st (c .before .before .short-at .ensures .0) (c .before .short-at2 .ensures .0) (called .called-at .ensures)
+          let sum = sum-next h {i = round .loop .i} (start .args .text .now) (omega arith) (omega (arith, inv .0)) st (the-short-at .ensures .0) (c .before .short-at2 .ensures .0) (called .called-at .ensures)
           (c .token-weight .ensures .1) (inv .3 ts h st .0) in
           (sum, from-set (round .loop .sums) (sumOf (start .args .kinds .now) ts) (omega arith) (omega (arith, inv .0, inv .2, start .pre .0)) sum (inv .3 ts h st .1)),
     ))

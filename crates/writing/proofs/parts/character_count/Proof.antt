@@ -23,7 +23,9 @@ character-count-spec =
     (λ c. omega arith)
     (λ c κs. search needs)
     (λ c. let inv = c .before .before .before .before .loop .inv in omega (arith, inv .few, inv .low, c .start-here .ensures .1))
-    (λ c. omega (arith, c .before .before .before .before .loop .inv .low))
+    (λ c.
+    let the-loop = c .before .before .before .before .loop in
+    omega (arith, the-loop .inv .low))
     (λ c. omega arith)
     (λ c.
     let round = c .before .before .before .before in

@@ -32,7 +32,9 @@ part-records-spec =
     (tie.spec
     Inv-loop
     μ-loop
-    (λ c. (c .before .before .before .before .pre .0, omega arith, λ ts h st. omega arith))
+    (λ c.
+    let the-pre = c .before .before .before .before .pre in
+    (the-pre .0, omega arith, λ ts h st. omega arith))
     (λ c. omega arith)
     (λ c κs. search needs)
     (λ c. let round = c .before .before .before .before .loop in
@@ -44,12 +46,13 @@ part-records-spec =
     (λ c. omega (arith, the-loop c .loop .inv .0))
     (λ c. omega arith)
     (λ c.
+    let the-short-at = c .before .before .short-at in
     let round = the-loop c .loop in
     let start = the-loop c .before .before .before .before .before in
     let parted = c .before .before .before in (
       omega (arith, start .pre .1),
       omega (arith, round .inv .1, c .token-weight .ensures .0),
       λ ts h st. records-next h (start .args .text .now) (round .n) (round .calling) st (omega arith) (parted .before .parts-terms .ensures) (parted .if1 .left)
-          (c .before .before .short-at .ensures .0) (c .before .short-at2 .ensures .0) (c .token-weight .ensures .1) (round .inv .2 ts h st),
+          (the-short-at .ensures .0) (c .before .short-at2 .ensures .0) (c .token-weight .ensures .1) (round .inv .2 ts h st),
     ))
     (λ c. let round = c .before .loop in λ ts h st. records-end h (round .calling) (c .loop-test .left) (round .inv .2 ts h st)))

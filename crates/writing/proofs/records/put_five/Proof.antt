@@ -11,7 +11,9 @@ put-five-spec =
     tie.close
     (tie.spec
     (λ c κs. search needs)
-    (λ c κs. omega (arith, c .before .before .before .put-four .ensures .0))
+    (λ c κs.
+    let the-put-four = c .before .before .before .put-four in
+    omega (arith, the-put-four .ensures .0))
     (λ c. search needs)
     (λ c.
     let first = c .before .before .before .before .before .before .put-four in

@@ -11,7 +11,9 @@ put-six-spec =
     tie.close
     (tie.spec
     (λ c κs. search needs)
-    (λ c κs. omega (arith, c .before .before .before .put-five .ensures .0))
+    (λ c κs.
+    let the-put-five = c .before .before .before .put-five in
+    omega (arith, the-put-five .ensures .0))
     (λ c. search needs)
     (λ c.
     let first = c .before .before .before .before .before .before .put-five in

@@ -18,9 +18,10 @@ put-word-spec =
     (λ c κs. search needs)
     (λ c. search needs)
     (λ c.
+    let the-low-byte4 = c .before .before .before .before .low-byte4 in
     let d = c .before .before .put-byte4 in
     let third = c .before .before .before .before .before .before .before in
     let second = third .before .before .before .before .before in
     let first = second .before .before .before .before .before in
-    rw (← first .before .before .low-byte .ensures, ← second .before .before .low-byte2 .ensures, ← third .before .before .low-byte3 .ensures, ← c .before .before .before .before .low-byte4 .ensures)
+    rw (← first .before .before .low-byte .ensures, ← second .before .before .low-byte2 .ensures, ← third .before .before .low-byte3 .ensures, ← the-low-byte4 .ensures)
     (first .put-byte .ensures then second .put-byte2 .ensures then third .put-byte3 .ensures then d .ensures)))

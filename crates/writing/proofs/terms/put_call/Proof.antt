@@ -22,7 +22,9 @@ put-call-spec =
     (λ c κs. let entry = begun (c .before .before) in (entry .pre .3 .2, entry .pre .3 .0, omega (arith, entry .pre .1)))
     (λ c κs. let entry = begun (c .before .before .before) in (entry .pre .3 .0, omega (arith, entry .pre .1)))
     (λ c κs. search needs)
-    (λ c κs. let entry = begun (c .before .before .before .before .before .before) in omega (arith, entry .pre .0))
+    (λ c κs.
+    let earlier = c .before .before .before .before .before .before in
+    let entry = begun (earlier) in omega (arith, entry .pre .0))
     (λ c. search needs)
     (λ c.
     let put = c .before .before .put-six in

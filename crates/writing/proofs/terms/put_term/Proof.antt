@@ -53,7 +53,10 @@ put-term-spec =
     ))
     (λ c κs. search needs)
     (λ c κs. search needs)
-    (λ c κs. let start = begun (c .before .before .before .before .before .before) in (start .pre .0, c .before .before .short-at .ensures .1, c .before .short-at2 .ensures .1, start .pre .3))
+    (λ c κs.
+    let earlier = c .before .before .before .before .before .before in
+    let the-short-at = c .before .before .short-at in
+    let start = begun (earlier) in (start .pre .0, the-short-at .ensures .1, c .before .short-at2 .ensures .1, start .pre .3))
     (λ c. search needs)
     (λ c.
     let put = c .before .before .put-atom in

@@ -17,7 +17,9 @@ term-section-spec =
     tie.close
     (tie.spec
     (λ c κs. let asked = begun (c .before) .pre in (asked .1 .1, asked .1 .0))
-    (λ c κs. let asked = begun (c .before .before .before .before .before) .pre in (asked .1 .2, asked .1 .0))
+    (λ c κs.
+    let earlier = c .before .before .before .before .before in
+    let asked = begun (earlier) .pre in (asked .1 .2, asked .1 .0))
     (λ c. search needs)
     (λ c κs.
     let summed = c .before .before .before .before .before .sum-records in
