@@ -144,6 +144,38 @@ first-in (d ∷ ds) f m = List·Memᴰ·head refl
             (CLAIM, "use mathlib.Core.Path.{_≡_}", "use mathlib.Core.Path.{_≡_, refl}"),
         ],
     ),
+    "bracket-laws": (
+        "laws without brackets",
+        [
+            (CLAIM, "use mathlib.Core.Bool.{true}", "use mathlib.Core.Bool.{Bool, true, false, cond, _&&_}"),
+            (CLAIM, NUMBERS, NUMBERS + ", zero"),
+            (CLAIM, "use Rattle.law.specs.Tree.{Run, Sentences, noSentence, sentence, Function, Law}",
+             "use Rattle.law.specs.Tree as tree\n"
+             "use Rattle.law.specs.Tree.{Run, Sentences, noSentence, sentence, Conditions, noCondition, condition, Function, Law}"),
+        ]
+        + fewer("few",
+                """abbrev pub flat : Run → Bool
+flat tree.Run.empty = true
+flat (tree.Run.symbol a r) = flat r
+flat (tree.Run.variable k i r) = flat r
+flat (tree.Run.bracket q r) = false
+flat (tree.Run.call m f q r) = flat q && flat r
+flat (tree.Run.block m q ss r) = flat q && flat r
+
+abbrev pub flatSentences : Sentences → Bool
+flatSentences noSentence = true
+flatSentences (sentence m p cs r ss) = flat p && (flat r && flatSentences ss)
+
+abbrev pub flatLaw : Law → Bool
+flatLaw [] = true
+flatLaw (f ∷ fs) = flatSentences (f .sentences) && flatLaw fs
+
+abbrev pub few : Law → ℕ → ℕ
+few law n = cond (flatLaw law) n zero
+""",
+                [("(reached .steps)", "(few law (reached .steps))")],
+                lambda function, argument, answers, steps: f"run law {function} {argument} {answers} (few law {steps})"),
+    ),
     "brackets": ("runs on expressions without brackets", expressions(["kept (symbol a x) = symbol a (kept x)", "kept (brackets c x) = kept x"])),
     "identifiers": ("runs on expressions without identifiers", expressions(symbols("identifier"))),
     "numbers": ("runs on expressions without numbers", expressions(symbols("number"))),

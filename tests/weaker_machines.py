@@ -202,7 +202,7 @@ def refused_by(copy, name, edits):
             (crates / file).write_text(text)
     if got.returncode == 0:
         return {}
-    found = re.findall(r"crates/(\w+/(?:src|specs|proofs)/[\w/]+\.\w+):(\d+):\d+: error", got.stdout + got.stderr)
+    found = re.findall(r"crates/(\w+/(?:src|specs|proofs)/[\w/+]+\.\w+):(\d+):\d+: error", got.stdout + got.stderr)
     return dict(reversed(found)) or {"nothing that was understood": 0}
 
 

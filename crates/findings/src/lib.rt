@@ -58,7 +58,7 @@ fn write_note(task: Task, note: Note, out: &mut [u32], at: usize)
 }
 
 // Counts a finding, and writes it where the buffer has room for it.
-pub fn put_note(task: Task, note: Note, out: &mut [u32], tally: Tally) -> Tally
+fn put_note(task: Task, note: Note, out: &mut [u32], tally: Tally) -> Tally
     ensures { λ r. ⌜ sinkOf r (now (out .exit)) ≡ met (task .room) (noting (noteWords task note)) tally (now (out .entry)) ⌝ }
 {
     if tally < NONE {

@@ -8,7 +8,7 @@ use native.Mathlib.Omega.{arith}
 use native.Mathlib.Decide.{decLt}
 use native.Mathlib.Nat.{sub-zero, zero-add}
 use native.Mathlib.Numerals.{add-one}
-use lib.ListN.{length, getD, set, take, drop, replicate}
+use lib.ListN.{length, getD, set, take, drop, replicate, length-set}
 use lib.Seq.{getD-set-same, getD-set-other}
 use Rattle.names.specs.Name.{folded, sameBytes, orderBytes}
 use Rattle.names.specs.declared.Order.{Order}
@@ -465,7 +465,7 @@ module _ (file : File) where
 
   -- a slot that no call among some term records has, none of fewer has
   unused-less : (t j : ℕ) → Unused file (t + 1) j → Unused file t j
-  unused-less t j u = record { past = u .past; noCall = λ i k call. u .noCall i (omega arith) call; noCount = u .noCount; noMark = u .noMark }
+  unused-less t j u = record { past = u .past; noCall = λ i k call. u .noCall i (omega arith) call; noCount = u .noCount; noMark = λ i k call. u .noMark i (omega arith) call }
 
   -- a term that is no call has no slot
   pub slots-pass : (slots : List ℕ) (t kind : ℕ) → SlotsUpTo file slots t → kind ≡ wordAt (file .terms .records) (24 * t + 0) → (kind ≡ 7 → ⊥)
@@ -484,36 +484,28 @@ module _ (file : File) where
           let q : i ≡ t = omega arith in
           absurd (other (sym (kind-read t kind e) ∙ rw q at call))
 
-  -- it is written that there is a call
-  pub slots-mark : (slots : List ℕ) (t : ℕ) → file .functions .count ≤ 64 → t ≤ 512 → length slots ≡ 578 → SlotsUpTo file slots t
-      → SlotsUpTo file (set slots 577 1) t × (getD (set slots 577 1) 577 0 ≡ 1)
-  slots-mark slots t fb tb len s =
-      let here : getD (set slots 577 1) 577 0 ≡ 1 = getD-set-same slots 577 1 0 (omega arith) in (
-        record {
-          functions = λ f k. getD-set-other slots 577 f 1 0 (λ q. omega arith) ∙ s .functions f k;
-          count = getD-set-other slots 577 576 1 0 (λ q. omega arith) ∙ s .count;
-          marked = λ i k kind. here;
-          calls = λ i k kind. getD-set-other slots 577 (64 + i) 1 0 (λ q. omega arith) ∙ s .calls i k kind;
-          others = λ j u. getD-set-other slots 577 j 1 0 (u .noMark) ∙ s .others j u;
-        },
-        here,
-      )
-
-  -- one more call is written
-  pub slots-next : (slots : List ℕ) (t r : ℕ) → file .functions .count ≤ 64 → file .terms .count ≤ 512 → length slots ≡ 578
-      → SlotsUpTo file slots t × (getD slots 577 0 ≡ 1)
-      → t < file .terms .count → wordAt (file .terms .records) (24 * t) ≡ 7 → CalleeSlot file t r → SlotsUpTo file (set slots (64 + t) (getD slots r 0)) (t + 1)
-  slots-next slots t r fb tb len (s, mark) l call c = record {
-    functions = λ f k. getD-set-other slots (64 + t) f _ 0 (λ q. omega arith) ∙ s .functions f k;
-    count = getD-set-other slots (64 + t) 576 _ 0 (λ q. omega arith) ∙ s .count;
-    marked = λ i k kind. getD-set-other slots (64 + t) 577 _ 0 (λ q. omega arith) ∙ mark;
+  -- one more call is written, and that there is one
+  pub slots-next : (slots : List ℕ) (t r : ℕ) → file .functions .count ≤ 64 → file .terms .count ≤ 512 → length slots ≡ 578 → SlotsUpTo file slots t
+      → t < file .terms .count → wordAt (file .terms .records) (24 * t) ≡ 7 → CalleeSlot file t r
+      → SlotsUpTo file (set (set slots 577 1) (64 + t) (getD (set slots 577 1) r 0)) (t + 1)
+  slots-next slots t r fb tb len s l call c = record {
+    functions = λ f k. getD-set-other (set slots 577 1) (64 + t) f _ 0 (λ q. omega arith) ∙ getD-set-other slots 577 f 1 0 (λ q. omega arith) ∙ s .functions f k;
+    count = getD-set-other (set slots 577 1) (64 + t) 576 _ 0 (λ q. omega arith) ∙ getD-set-other slots 577 576 1 0 (λ q. omega arith) ∙ s .count;
+    marked = λ i k kind. getD-set-other (set slots 577 1) (64 + t) 577 _ 0 (λ q. omega arith) ∙ getD-set-same slots 577 1 0 (omega arith);
     calls = λ i k kind. go i k kind (decLt i t);
-    others = λ j u. getD-set-other slots (64 + t) j _ 0 (u .noCall t (omega arith) call) ∙ s .others j (unused-less t j u);
+    others = λ j u.
+        getD-set-other (set slots 577 1) (64 + t) j _ 0 (u .noCall t (omega arith) call)
+        ∙ getD-set-other slots 577 j 1 0 (u .noMark t (omega arith) call)
+        ∙ s .others j (unused-less t j u);
   }
     where
       go : (i : ℕ) → i < t + 1 → wordAt (file .terms .records) (24 * i) ≡ 7 → Dec (i < t)
-          → getD (set slots (64 + t) (getD slots r 0)) (64 + i) 0 ≡ position (fileNames file) (callFolded file i)
-      go i k kind (yes m) = getD-set-other slots (64 + t) (64 + i) _ 0 (λ q. omega arith) ∙ s .calls i m kind
+          → getD (set (set slots 577 1) (64 + t) (getD (set slots 577 1) r 0)) (64 + i) 0 ≡ position (fileNames file) (callFolded file i)
+      go i k kind (yes m) =
+          getD-set-other (set slots 577 1) (64 + t) (64 + i) _ 0 (λ q. omega arith) ∙ getD-set-other slots 577 (64 + i) 1 0 (λ q. omega arith) ∙ s .calls i m kind
       go i k kind (no m) =
           let q : i ≡ t = omega arith in
-          rw q (getD-set-same slots (64 + t) (getD slots r 0) 0 (omega arith) ∙ c .holds (rw q at kind) slots t s)
+          rw q
+          (getD-set-same (set slots 577 1) (64 + t) (getD (set slots 577 1) r 0) 0 (omega (arith, length-set slots 577 1))
+          ∙ getD-set-other slots 577 r 1 0 (λ e. omega (arith, c .inside))
+          ∙ c .holds (rw q at kind) slots t s)

@@ -379,7 +379,7 @@ fn variable_first<'a>(
 }
 
 // What the first record of a pattern leaves to do with a row.
-pub fn first_of<'a>(
+fn first_of<'a>(
     text: &[u8],
     terms: &[u8],
     pattern: &[u8],

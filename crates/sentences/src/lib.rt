@@ -35,8 +35,8 @@ ghost use Rattle.searches.specs.Code.Capacity.{variablesIn};
 ghost use Rattle.searches.specs.Code.Asked.{nesting};
 ghost use Rattle.sentences.specs.Entry.{argumentPart, literalCall, shadowIn, recogniseIn, shadowOutcome, recogniseOutcome, shadowAnswer, recogniseAnswer};
 
-pub mod loose;
-pub mod parity;
+mod loose;
+mod parity;
 
 // Whether a sentence of any bytes shadows another. `shadowAnswer` of specs/Entry.antt gives document 01's number for each refusal.
 pub enum Shadowed {

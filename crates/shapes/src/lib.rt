@@ -28,14 +28,14 @@ pub struct Joined {
 }
 
 // Is this shape's word a bracket's?
-pub fn is_bracket(w: u32) -> bool
+fn is_bracket(w: u32) -> bool
     ensures { λ r. ⌜ r ≡ isBracket w ⌝ }
 {
     w % 8 == 5
 }
 
 // Are the contents of a bracket's word open?
-pub fn inside_open(w: u32) -> bool
+fn inside_open(w: u32) -> bool
     ensures { λ r. ⌜ r ≡ insideOpen w ⌝ }
 {
     1024 <= w
@@ -53,7 +53,7 @@ fn inside(w: u32) -> usize
 }
 
 // Where the contents of a row's first shape end.
-pub fn end_of(s: &[u32]) -> usize
+fn end_of(s: &[u32]) -> usize
     requires { ⌜ 1 ≤ length (now s) ⌝ }
     ensures { λ r. ⌜ (r ≡ shapesEnd (now (s .entry))) × (1 ≤ r) × (r ≤ length (now (s .entry))) ⌝ }
 {
@@ -196,7 +196,7 @@ pub fn is_never(header: u32) -> bool
 }
 
 // Does this header, which does not say never, say an open row?
-pub fn row_open(header: u32) -> bool
+fn row_open(header: u32) -> bool
     ensures { λ r. ⌜ r ≡ leb 256 header ⌝ }
 {
     256 <= header

@@ -34,12 +34,12 @@ module _ (file : File) where
   abbrev pub fileNames : List (List ℕ)
   fileNames = namesOf (treeOf file)
 
-  -- a slot of no function, of no call among the first n term records, and not that of the number of names or of whether there is a call
+  -- a slot of no function, of no call among the first n term records, and not that of the number of names; that of whether there is a call only where there is none
   pub record Unused (n j : ℕ) : Type 0 where
     pub past : file .functions .count ≤ j
     pub noCall : (t : ℕ) → t < n → wordAt (file .terms .records) (24 * t) ≡ 7 → j ≡ 64 + t → ⊥
     pub noCount : j ≡ 576 → ⊥
-    pub noMark : j ≡ 577 → ⊥
+    pub noMark : (t : ℕ) → t < n → wordAt (file .terms .records) (24 * t) ≡ 7 → j ≡ 577 → ⊥
 
   pub record SlotsOf (slots : List ℕ) : Type 0 where
     pub functions : (f : ℕ) → f < file .functions .count → getD slots f 0 ≡ position fileNames (functionFolded f)

@@ -7,7 +7,7 @@ use lib.ListN.{length, set, length-set}
 use Rattle.file.specs.Sections.{fileOf}
 use Rattle.law.proofs.IndexLaws.{functions-limit, terms-limit}
 use Rattle.formats.specs.Code.Slots.{SlotsUpTo}
-use Rattle.formats.proofs.SlotLaws.{kind-read, slots-pass, slots-mark, slots-next}
+use Rattle.formats.proofs.SlotLaws.{kind-read, slots-pass, slots-next}
 use Rattle.formats.proofs.slots.fill_calls.Statement.{statement}
 use Rattle.formats.proofs.slots.fill_calls.Tie as tie
 
@@ -27,9 +27,8 @@ passed c =
     ⊎-elim
     (λ w.
     let wide = length-set (the-loop .slots) 577 1 ∙ the-loop .inv .2 in
-    let marked = slots-mark _ (the-loop .slots) (the-loop .t) (functions-limit _ _ (start .pre .0)) (omega (arith, terms-limit _ _ (start .pre .0))) (the-loop .inv .2) (the-loop .inv .3) in
     rw (w .3)
-    (length-set (set (the-loop .slots) 577 1) _ _ ∙ wide, slots-next _ (set (the-loop .slots) 577 1) (the-loop .t) _ (functions-limit _ _ (start .pre .0)) (terms-limit _ _ (start .pre .0)) wide marked (omega arith) (kind-read (fileOf (start .args .law .now)) _ _ (c .before .term-word .ensures) ∙ w .0 .taken) (w .1 .ensures)))
+    (length-set (set (the-loop .slots) 577 1) _ _ ∙ wide, slots-next _ (the-loop .slots) (the-loop .t) _ (functions-limit _ _ (start .pre .0)) (terms-limit _ _ (start .pre .0)) (the-loop .inv .2) (the-loop .inv .3) (omega arith) (kind-read (fileOf (start .args .law .now)) _ _ (c .before .term-word .ensures) ∙ w .0 .taken) (w .1 .ensures)))
     (λ w. rw (w .1) (the-loop .inv .2, slots-pass _ (the-loop .slots) (the-loop .t) _ (the-loop .inv .3) (c .before .term-word .ensures) (w .0 .left)))
     (c .if1 .came)
 
