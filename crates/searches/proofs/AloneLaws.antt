@@ -30,7 +30,7 @@ use Rattle.searches.proofs.SureLaws.{settled-fewer}
 use Rattle.searches.proofs.LiteralSearch.{resume-nothing}
 
 -- no match answers, whatever is around
-pub nothing-holds : (f : Values Atom → Bool) (l : List (Values Atom)) → l ≡ [] → false ≡ someHolds f l
+nothing-holds : (f : Values Atom → Bool) (l : List (Values Atom)) → l ≡ [] → false ≡ someHolds f l
 unfolding someHolds
 nothing-holds f l e = sym (ap (someHolds f) e)
 
@@ -48,7 +48,7 @@ module _ (text terms : List ℕ) (p : Pending) (alone : p .count ≡ 0) where
   some-nothing (vs ∷ l) e = absurd (false-not-true (sym e))
 
   -- no answer means no match
-  pub none-holds : (at start : ℕ) (l : List (Values Atom)) {x : Bool} → x ≡ someHolds (resume (levelsOf text terms p at start)) l → x ≡ false → l ≡ []
+  none-holds : (at start : ℕ) (l : List (Values Atom)) {x : Bool} → x ≡ someHolds (resume (levelsOf text terms p at start)) l → x ≡ false → l ≡ []
   none-holds at start l e fails = some-nothing l (sym (holds-some at start l) ∙ sym e ∙ fails)
 
   module _ (pattern row : List ℕ) (vs : Values Atom) (m n : ℕ) (p-end : m ≡ endOf pattern) (r-end : n ≡ endOf row) where

@@ -1,13 +1,12 @@
 -- What literal matching remembers of a rest and of the levels around it (specs/Failed.antt): it depends on the values of their variables alone, and is handed on from a
 -- part of the pattern to another at the same level.
-use Prim.Native.Nat.{ℕ, zero, suc, _+_, _-_, _≤_, _<_}
+use Prim.Native.Nat.{ℕ, zero, suc, _+_, _-_, _≤_}
 use mathlib.Core.Bool.{Bool, true, false, _||_}
 use mathlib.Core.List.{List, [], _∷_, _++_}
 use mathlib.Core.Logic.{_⊎_, inl, inr}
 use mathlib.Core.Path.{_≡_, refl, sym, ap, ap₂, subst, _∙_}
 use native.Mathlib.Omega.{arith}
 use lib.ListN.{length, take, drop, getD, replicate}
-use Rattle.law.specs.Runs.{endOf}
 use Rattle.law.specs.Variables.{Variable, occurs}
 use Rattle.matching.specs.Pattern.{Atom, literal, Pattern}
 use Rattle.matching.specs.Match.{Values, valueIn}
@@ -18,13 +17,13 @@ use Rattle.matching.specs.Code.Step.{found, eachLength, TriesAll}
 use Rattle.searches.specs.Code.Capacity.{variablesIn}
 use Rattle.searches.specs.Code.Asked.{someHolds, Asked, resume, comingIn, between, levels, LevelsIn, levelsOf, Around, LiteralAsked}
 use Rattle.searches.specs.Code.Repeats.{Agree, AgreeUpTo}
-use Rattle.searches.specs.Code.Failed.{Rest, restOf, Within, Noted, firstValues, Settled, Remembers, FailedAround, RemembersAround, Remembering, Remembered}
+use Rattle.searches.specs.Code.Failed.{restOf, Within, Noted, firstValues, Settled, Remembers, FailedAround, RemembersAround, Remembering, Remembered}
 use Rattle.matching.specs.declared.Bindings.{Bindings}
 use Rattle.searches.specs.declared.literal.Pending.{Pending}
 use Rattle.searches.specs.declared.repeats.Sure.{Sure}
 use Rattle.matching.proofs.SameLaws.{false-not-true}
 use Rattle.matching.proofs.VariableLaws.{occurs-left, occurs-right, occurs-either}
-use Rattle.matching.proofs.CutLaws.{from-length, begin-inside}
+use Rattle.matching.proofs.CutLaws.{from-length}
 use Rattle.searches.proofs.AgreeLaws.{Paired, matches-agree}
 use Rattle.searches.proofs.AskedLaws.{later-variables}
 use Rattle.searches.proofs.FailedLaws.{remembers-none, remembered, remembers-more, part-between}
@@ -190,11 +189,11 @@ closed-all {text} {terms} l m {b} {s} one two known =
 
 module _ {text terms : List ℕ} where
   -- nothing is known
-  pub remembering-nothing : (pattern : List ℕ) (qs : List (Pattern × Pattern)) (b : Bindings) (words : List ℕ)
-      → Remembering text terms pattern qs b (record { fixed = 0; places = 0; here = false }) words
-  remembering-nothing pattern qs b words = record {
-    settled = settled-fixed (variablesIn (rowOf text pattern) ++ comingIn qs) b 0 false (omega arith);
-    here = λ e. absurd (false-not-true e);
+  pub remembering-nothing : (pattern : List ℕ) (qs : List (Pattern × Pattern)) (b : Bindings) {s : Sure} (words : List ℕ) → s .fixed ≡ 0 → s .places ≡ 0 → s .here ≡ false
+      → Remembering text terms pattern qs b s words
+  remembering-nothing pattern qs b words fixed places elsewhere = record {
+    settled = record { low = omega arith; few = omega arith; same = λ w o. ap (λ n. valueIn (firstValues text terms b n) w) (places ∙ sym fixed) };
+    here = λ e. absurd (false-not-true (sym elsewhere ∙ e));
   }
 
   -- nothing is remembered yet

@@ -1,6 +1,6 @@
 -- What a search remembers (specs/Failed.antt) is so at the start, and stays so when a rest is noted that has no match.
 use Prim.Native.Nat.{ℕ, zero, suc, _+_, _*_, _-_, _≤_, _<_}
-use mathlib.Core.Bool.{Bool, true, false}
+use mathlib.Core.Bool.{true, false}
 use mathlib.Core.List.{List, [], _∷_}
 use mathlib.Core.Logic.{_⊎_, inl, inr}
 use mathlib.Core.Option.{none, Option·none-ne-some}

@@ -68,6 +68,17 @@ fn push(pending: Pending, pattern_end: usize, row_end: usize) -> Pending
     next
 }
 
+// Nothing is known of the places, and what is remembered is not of the levels around here.
+fn unsure() -> Sure
+    ensures { λ r. ⌜ (r .fixed ≡ 0) × (r .places ≡ 0) × (r .here ≡ false) ⌝ }
+{
+    Sure {
+        fixed: 0,
+        places: 0,
+        here: false,
+    }
+}
+
 // Has no variable of the levels around a value in the places from `sure` on?
 fn closed_around(
     text: &[u8],
@@ -126,7 +137,7 @@ fn holds_here(
     closed_around(text, terms, outer, end, &b.keys, places, len)
 }
 
-// Everything that is left at this level is matched: the next level out, or all. What is remembered is not of the levels around that one.
+// Everything that is left at this level is matched: the next level out, or all. What is remembered is of other levels.
 fn literal_out(
     text: &[u8],
     terms: &[u8],
@@ -151,23 +162,8 @@ fn literal_out(
     let row_end = wide(outer.rows[top]);
     let pattern = &terms[at..end];
     let row = &terms[start..row_end];
-    let nothing = Sure {
-        fixed: 0,
-        places: 0,
-        here: false,
-    };
-    literal_run(
-        text,
-        terms,
-        pattern,
-        at,
-        row,
-        start,
-        out,
-        b,
-        nothing,
-        failed,
-    )
+    let sure = unsure();
+    literal_run(text, terms, pattern, at, row, start, out, b, sure, failed)
 }
 
 // An e. variable without a value, then the rest of the pattern: every length in turn.
@@ -285,7 +281,7 @@ fn literal_tries(
     found
 }
 
-// A bracket against a bracket: the contents, and then what is around them. What is remembered is not of the levels around the contents.
+// A bracket against a bracket: the contents, and then what is around them. What is remembered is of other levels.
 fn literal_inside(
     text: &[u8],
     terms: &[u8],
@@ -309,23 +305,8 @@ fn literal_inside(
     let inside = &row[24..n];
     let i = at + 24;
     let j = start + 24;
-    let nothing = Sure {
-        fixed: 0,
-        places: 0,
-        here: false,
-    };
-    literal_run(
-        text,
-        terms,
-        contents,
-        i,
-        inside,
-        j,
-        around,
-        b,
-        nothing,
-        failed,
-    )
+    let sure = unsure();
+    literal_run(text, terms, contents, i, inside, j, around, b, sure, failed)
 }
 
 // A bracket against a bracket, with nothing around and no variable in common with the rest: one match of the contents is as good as another, so that contents and

@@ -62,6 +62,7 @@ use Rattle.searches.proofs.failed.failed_before.Reads as failed-before-
 use Rattle.searches.proofs.failed.note_failed.Reads as note-failed-reads
 use Rattle.matching.proofs.known_front.Reads as known-front-reads
 use Rattle.searches.proofs.literal.push.Reads as push-reads
+use Rattle.searches.proofs.literal.unsure.Reads as unsure-reads
 use Rattle.searches.proofs.literal.holds_here.Reads as holds-here-reads
 use Rattle.searches.proofs.repeats.stands_apart.Reads as stands-apart-reads
 use Rattle.matching.proofs.wide.Reads as wide-reads
@@ -426,6 +427,8 @@ pub +literal-anew+literal-apart+literal-bracket+literal-first+literal-inside+lit
       end-of-reads.Learnt,
       push-reads.Asked,
       push-reads.Learnt,
+      unsure-reads.Asked,
+      unsure-reads.Learnt,
       literal-run-below t,
       literal-run.Post,
     )
@@ -456,19 +459,23 @@ pub +literal-anew+literal-apart+literal-bracket+literal-first+literal-inside+lit
     omega (arith, start .1 .0 .asked .pattern-stands .inside, start .1 .0 .asked .small, start .1 .1))
     (λ c. let start = c .before .before .before .before .before .before .before .before .before .pre in
     omega (arith, start .1 .0 .asked .row-stands .inside, start .1 .0 .asked .small, start .1 .2 .some))
-    (λ c κs. let the-end-of = c .before .before .before .before .before .end-of in
-    let start = c .before .before .before .before .before .before .before .before .before .before .pre in
-    let more = c .before .before .before .push .ensures in (
-      omega (arith, start .0, more .0, start .1 .0 .asked .pattern-stands .inside, start .1 .1),
-      (level.literal-inside (start .1 .0) (start .1 .1) (start .1 .2) _ _ (the-end-of .ensures .0) (c .before .before .before .before .end-of2 .ensures .0) (c .before .before .before .push .result) (more .0) (more .1) (more .2), around.remembering-nothing _ _ _ _),
-    ))
-    (λ c. let the-end-of = c .before .before .before .before .before .before .end-of in
+    (λ c κs. tt)
+    (λ c κs. let the-end-of = c .before .before .before .before .before .before .end-of in
     let the-end-of2 = c .before .before .before .before .before .end-of2 in
     let start = c .before .before .before .before .before .before .before .before .before .before .before .pre in
-    let more = c .before .before .before .before .push .ensures in (
-      level.inside-answer (start .1 .0) (start .1 .1) (start .1 .2) _ _ (the-end-of .ensures .0) (the-end-of2 .ensures .0) (c .before .before .before .before .push .result) (more .0) (more .1) (more .2)
+    let more = c .before .before .before .before .push .ensures in
+    let unsure = c .before .unsure .ensures in (
+      omega (arith, start .0, more .0, start .1 .0 .asked .pattern-stands .inside, start .1 .1),
+      (level.literal-inside (start .1 .0) (start .1 .1) (start .1 .2) _ _ (the-end-of .ensures .0) (the-end-of2 .ensures .0) (c .before .before .before .before .push .result) (more .0) (more .1) (more .2), around.remembering-nothing _ _ _ _ (unsure .0) (unsure .1) (unsure .2)),
+    ))
+    (λ c. let the-end-of = c .before .before .before .before .before .before .before .end-of in
+    let the-end-of2 = c .before .before .before .before .before .before .end-of2 in
+    let start = c .before .before .before .before .before .before .before .before .before .before .before .before .pre in
+    let the-push = c .before .before .before .before .before .push in
+    let more = the-push .ensures in (
+      level.inside-answer (start .1 .0) (start .1 .1) (start .1 .2) _ _ (the-end-of .ensures .0) (the-end-of2 .ensures .0) (the-push .result) (more .0) (more .1) (more .2)
           (c .literal-run .result) (c .literal-run .ensures .0),
-      c .literal-run .ensures .1 .elsewhere refl,
+      c .literal-run .ensures .1 .elsewhere (c .before .before .unsure .ensures .2),
     )))
     (λ t. literal-lengths-lts.spec (
       end-of-reads.Asked,
@@ -548,6 +555,8 @@ pub +literal-anew+literal-apart+literal-bracket+literal-first+literal-inside+lit
     (λ t. literal-out-lts.spec (
       wide-reads.Asked,
       wide-reads.Learnt,
+      unsure-reads.Asked,
+      unsure-reads.Learnt,
       literal-run-below t,
       literal-run.Post,
     )
@@ -578,18 +587,21 @@ pub +literal-anew+literal-apart+literal-bracket+literal-first+literal-inside+lit
     (λ c. let the-if1 = c .before .before .before .before .before .if1 in
     let start = c .before .before .before .before .before .before .before .before .pre in
     level.out-row (start .1 .0 .0) (start .1 .0 .1) (start .1 .0 .2) (start .1 .1) (omega (arith, the-if1 .left)) (c .before .before .before .wide .ensures .0) (c .before .wide2 .ensures .0) .1)
-    (λ c κs. let the-if1 = c .before .before .before .before .before .before .before .if1 in
-    let the-wide = c .before .before .before .before .before .wide in
-    let start = c .before .before .before .before .before .before .before .before .before .before .pre in (
-      omega (arith, start .0, the-if1 .left),
-      (level.literal-out (start .1 .0 .0) (start .1 .0 .1) (start .1 .0 .2) (start .1 .1) (omega (arith, the-if1 .left)) (the-wide .ensures .0) (c .before .before .before .wide2 .ensures .0), around.remembering-nothing _ _ _ _),
-    ))
-    (λ c. let the-if1 = c .before .before .before .before .before .before .before .before .if1 in
+    (λ c κs. tt)
+    (λ c κs. let the-if1 = c .before .before .before .before .before .before .before .before .if1 in
     let the-wide = c .before .before .before .before .before .before .wide in
-    let start = c .before .before .before .before .before .before .before .before .before .before .before .pre in (
-      level.out-answer (start .1 .0 .0) (start .1 .0 .1) (start .1 .0 .2) (start .1 .1) (omega (arith, the-if1 .left)) (the-wide .ensures .0) (c .before .before .before .before .wide2 .ensures .0)
+    let start = c .before .before .before .before .before .before .before .before .before .before .before .pre in
+    let unsure = c .before .unsure .ensures in (
+      omega (arith, start .0, the-if1 .left),
+      (level.literal-out (start .1 .0 .0) (start .1 .0 .1) (start .1 .0 .2) (start .1 .1) (omega (arith, the-if1 .left)) (the-wide .ensures .0) (c .before .before .before .before .wide2 .ensures .0), around.remembering-nothing _ _ _ _ (unsure .0) (unsure .1) (unsure .2)),
+    ))
+    (λ c. let the-if1 = c .before .before .before .before .before .before .before .before .before .if1 in
+    let the-wide = c .before .before .before .before .before .before .before .wide in
+    let the-wide2 = c .before .before .before .before .before .wide2 in
+    let start = c .before .before .before .before .before .before .before .before .before .before .before .before .pre in (
+      level.out-answer (start .1 .0 .0) (start .1 .0 .1) (start .1 .0 .2) (start .1 .1) (omega (arith, the-if1 .left)) (the-wide .ensures .0) (the-wide2 .ensures .0)
           (c .literal-run .result) (c .literal-run .ensures .0),
-      c .literal-run .ensures .1 .elsewhere refl,
+      c .literal-run .ensures .1 .elsewhere (c .before .before .unsure .ensures .2),
     )))
     (λ t. literal-run-lts.spec (
       known-front-reads.Asked,
