@@ -8,7 +8,7 @@ use crate::parse::parse;
 const TERMS: usize = 512;
 const VARIABLES: usize = 32;
 const SHAPES: usize = 64;
-/// The numbers of the last families, of which two stay slow.
+/// The numbers of the families that stay slow.
 const SLOW: usize = 16;
 
 /// Terms in Refal notation, and how many records they are.
@@ -136,6 +136,10 @@ pub fn families() -> Vec<Family> {
         ),
         ("g: s.A e.1 .. e.k s.A, 'a', 'b' k times", around()),
         ("h: (e.1 .. e.k s.A) s.A, ('b' k times) 'a'", out_of_bracket()),
+        (
+            "i: (.. (e.1 e.2 s.A) e.3 e.4 s.A ..) s.A, (.. ('b' 'b' 'b') 'b' 'b' 'b' ..) 'a'",
+            out_of_brackets(),
+        ),
     ];
     all.extend(by_law.into_iter().map(|(name, pairs)| Family {
         name,
@@ -286,7 +290,7 @@ fn around() -> Vec<Pair> {
         let row = a(1).then(&Part::one("'b'").times(k));
         Pair::new(format!("k = {k}"), pattern, row)
     };
-    (1..=SLOW).map(pair).collect()
+    (1..VARIABLES).map(pair).collect()
 }
 
 /// The variable in the bracket has another value than behind it: literal matching goes back into the bracket.
@@ -297,5 +301,18 @@ fn out_of_bracket() -> Vec<Pair> {
         let row = Part::one("'b'").times(k).inside().then(&a(1));
         Pair::new(format!("k = {k}"), pattern, row)
     };
-    (1..=SLOW).map(pair).collect()
+    (1..VARIABLES).map(pair).collect()
+}
+
+/// Each bracket can be matched in three ways, and each level is matched again behind each of them.
+fn out_of_brackets() -> Vec<Pair> {
+    let symbol = Part::one("s.A");
+    let level = |pattern: Part, m: usize| pattern.then(&e(2 * m - 1..=2 * m)).then(&symbol).inside();
+    let pair = |m: usize| {
+        let pattern = (1..=m).fold(Part::default(), level).then(&symbol);
+        let b = Part::one("'b'").times(3);
+        let row = (0..m).fold(Part::default(), |row, _| row.then(&b).inside());
+        Pair::new(format!("m = {m}"), pattern, row.then(&a(1)))
+    };
+    (1..=(VARIABLES - 1) / 2).map(pair).collect()
 }

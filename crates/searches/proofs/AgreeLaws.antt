@@ -41,7 +41,7 @@ not-right v l m h = go (occurs v m) refl
 
 module _ {A : Type 0} (l : List Variable) where
   -- as many in one list as in the other, one agreeing with the other
-  abbrev Paired : List (Values A) → List (Values A) → Type 0
+  abbrev pub Paired : List (Values A) → List (Values A) → Type 0
   Paired [] [] = Unit {0}
   Paired [] (us ∷ n) = ⊥
   Paired (vs ∷ m) [] = ⊥
@@ -115,7 +115,7 @@ module _ {A : Type 0} (same : A → A → Bool) (ofLaw : Symbol → A) (isSymbol
 
   module _ (l : List Variable) where
     -- from values that agree, a pattern of these variables has matches that agree
-    matches-agree : (p : Pattern) (x : Terms A) (vs us : Values A) → ((w : Variable) → occurs w (variablesIn p) ≡ true → occurs w l ≡ true)
+    pub matches-agree : (p : Pattern) (x : Terms A) (vs us : Values A) → ((w : Variable) → occurs w (variablesIn p) ≡ true → occurs w l ≡ true)
         → Agree l vs us → Paired l (found p x vs) (found p x us)
     unfolding matches variablesIn
     matches-agree nothing nothing vs us among h = (h, tt)

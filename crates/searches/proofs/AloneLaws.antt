@@ -1,12 +1,14 @@
 -- Literal matching where nothing is around: what is remembered, and brackets that share no variable with what follows.
 use Prim.Native.Nat.{ℕ, _+_, _-_, _≤_}
 use mathlib.Core.Bool.{Bool, true, false}
-use mathlib.Core.List.{List, [], _∷_}
+use mathlib.Core.List.{List, [], _∷_, _++_}
+use mathlib.Core.Logic.{_⊎_, inl, inr}
 use mathlib.Core.Path.{_≡_, refl, sym, ap, _∙_}
 use native.Mathlib.Omega.{arith}
 use lib.ListN.{length, take, drop}
 use Rattle.file.specs.Forest.{contents, rest}
 use Rattle.law.specs.Runs.{endOf}
+use Rattle.law.specs.Variables.{Variable, occurs}
 use Rattle.matching.specs.Pattern.{Atom, literal}
 use Rattle.matching.specs.Match.{Values, some-in, each}
 use Rattle.matching.specs.Shadow.{sameAtom, symbolLike, singleTerm}
@@ -15,16 +17,20 @@ use Rattle.matching.specs.Code.Step.{found, Facing, eachInside}
 use Rattle.searches.specs.Code.Capacity.{variablesIn}
 use Rattle.searches.specs.Code.Asked.{someHolds, resume, comingIn, levels, levelsOf, LiteralAsked}
 use Rattle.searches.specs.Code.Repeats.{Disjoint}
+use Rattle.searches.specs.Code.Failed.{Remembering, Remembered}
 use Rattle.matching.specs.declared.Bindings.{Bindings}
 use Rattle.searches.specs.declared.literal.Pending.{Pending}
+use Rattle.searches.specs.declared.repeats.Sure.{Sure}
 use Rattle.matching.proofs.SameLaws.{false-not-true}
+use Rattle.matching.proofs.VariableLaws.{occurs-left, occurs-right, occurs-either}
 use Rattle.searches.proofs.AgreeLaws.{brackets-apart}
-use Rattle.searches.proofs.AskedLaws.{asked-inside, asked-alone}
+use Rattle.searches.proofs.AskedLaws.{asked-inside, asked-alone, contents-within}
 use Rattle.searches.proofs.LevelLaws.{deeper}
+use Rattle.searches.proofs.SureLaws.{settled-fewer}
 use Rattle.searches.proofs.LiteralSearch.{resume-nothing}
 
 -- no match answers, whatever is around
-pub nothing-holds : (f : Values Atom → Bool) (l : List (Values Atom)) → l ≡ [] → false ≡ someHolds f l
+nothing-holds : (f : Values Atom → Bool) (l : List (Values Atom)) → l ≡ [] → false ≡ someHolds f l
 unfolding someHolds
 nothing-holds f l e = sym (ap (someHolds f) e)
 
@@ -42,7 +48,7 @@ module _ (text terms : List ℕ) (p : Pending) (alone : p .count ≡ 0) where
   some-nothing (vs ∷ l) e = absurd (false-not-true (sym e))
 
   -- no answer means no match
-  pub none-holds : (at start : ℕ) (l : List (Values Atom)) {x : Bool} → x ≡ someHolds (resume (levelsOf text terms p at start)) l → x ≡ false → l ≡ []
+  none-holds : (at start : ℕ) (l : List (Values Atom)) {x : Bool} → x ≡ someHolds (resume (levelsOf text terms p at start)) l → x ≡ false → l ≡ []
   none-holds at start l e fails = some-nothing l (sym (holds-some at start l) ∙ sym e ∙ fails)
 
   module _ (pattern row : List ℕ) (vs : Values Atom) (m n : ℕ) (p-end : m ≡ endOf pattern) (r-end : n ≡ endOf row) where
@@ -92,3 +98,31 @@ module _ {text terms pattern : List ℕ} {at : ℕ} {row : List ℕ} {start : �
     };
     deep = rw p-end (omega (arith, deeper asked some facing m n p-end r-end));
   }
+
+  -- the same is around them
+  same-alone : (a s : ℕ) → levelsOf text terms p a s ≡ levelsOf text terms p (at + length pattern) (start + length row)
+  same-alone a s = levels-none text terms p alone a s ∙ sym (levels-none text terms p alone (at + length pattern) (start + length row))
+
+  -- their variables are variables of the pattern
+  inside-among : (m : ℕ) → m ≡ endOf pattern → (l : List Variable) (w : Variable) → occurs w (variablesIn (rowOf text (take (m - 24) (drop 24 pattern))) ++ l) ≡ true
+      → occurs w (variablesIn (rowOf text pattern) ++ l) ≡ true
+  inside-among m p-end l w o = go (occurs-either w (variablesIn (rowOf text (take (m - 24) (drop 24 pattern)))) l o)
+    where
+      go : (occurs w (variablesIn (rowOf text (take (m - 24) (drop 24 pattern)))) ≡ true) ⊎ (occurs w l ≡ true) → occurs w (variablesIn (rowOf text pattern) ++ l) ≡ true
+      go (inl k) = occurs-left w (variablesIn (rowOf text pattern)) l (contents-within (asked .asked) some facing w (rw p-end at k))
+      go (inr k) = occurs-right w (variablesIn (rowOf text pattern)) l k
+
+  pub remembering-inside : (m n : ℕ) → m ≡ endOf pattern → {c : Bindings} {s : Sure} {words : List ℕ}
+      → Remembering text terms pattern (levelsOf text terms p (at + length pattern) (start + length row)) c s words
+      → Remembering text terms (take (m - 24) (drop 24 pattern))
+      (levelsOf text terms p (at + 24 + length (take (m - 24) (drop 24 pattern))) (start + 24 + length (take (n - 24) (drop 24 row)))) c s words
+  remembering-inside m n p-end so =
+      rw (same-alone (at + 24 + length (take (m - 24) (drop 24 pattern))) (start + 24 + length (take (n - 24) (drop 24 row))))
+      (record {
+        settled = settled-fewer (so .settled) _ (inside-among m p-end (comingIn (levelsOf text terms p (at + length pattern) (start + length row))));
+        here = so .here;
+      })
+
+  pub remembered-inside : (a s : ℕ) {c : Bindings} {t : Sure} {words now : List ℕ} → Remembered text terms (levelsOf text terms p a s) c t words now
+      → Remembered text terms (levelsOf text terms p (at + length pattern) (start + length row)) c t words now
+  remembered-inside a s after = rw (same-alone a s) at after

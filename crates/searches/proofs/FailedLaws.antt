@@ -1,6 +1,6 @@
 -- What a search remembers (specs/Failed.antt) is so at the start, and stays so when a rest is noted that has no match.
 use Prim.Native.Nat.{ℕ, zero, suc, _+_, _*_, _-_, _≤_, _<_}
-use mathlib.Core.Bool.{Bool, true, false}
+use mathlib.Core.Bool.{true, false}
 use mathlib.Core.List.{List, [], _∷_}
 use mathlib.Core.Logic.{_⊎_, inl, inr}
 use mathlib.Core.Option.{none, Option·none-ne-some}
@@ -21,7 +21,7 @@ use Rattle.matching.specs.Code.Step.{found, eachLength, TriesAll}
 use Rattle.searches.specs.Code.Capacity.{variablesIn}
 use Rattle.searches.specs.Code.Asked.{firstIn, Asked, matchedValues, between}
 use Rattle.searches.specs.Code.Repeats.{Agree}
-use Rattle.searches.specs.Code.Failed.{Rest, restOf, restAt, Within, Noted, Failed, Remembers}
+use Rattle.searches.specs.Code.Failed.{Rest, restOf, restAt, Within, Noted, Remembers, Failed}
 use Rattle.matching.proofs.SameLaws.{false-not-true}
 use Rattle.matching.specs.declared.Bindings.{Bindings}
 use Rattle.searches.specs.declared.shadow.Matched.{Matched}
@@ -100,53 +100,58 @@ rest-within words k {t} {z} p a q e r s u last = (k, rw (← p, ← q, ← r, �
 
 -- ---- what is remembered
 
+module _ (Fails : Rest → Type 0) where
+  -- nothing is remembered
+  pub remembers-none : ((r : Rest) → (r .at < r .end → ⊥) → Fails r) → Remembers Fails (replicate 2048 0)
+  remembers-none empty = record {
+    long = length-replicate {A = ℕ} 2048 0;
+    all = λ i. empty (restAt (replicate 2048 0) i) (λ h. omega (arith, zero-word 2048 (4 * i), zero-word 2048 (4 * i + 1)));
+  }
+
+  -- what is remembered is so
+  pub remembered : {words : List ℕ} {r : Rest} → Remembers Fails words → Within words r → Fails r
+  remembered so (i, e) = rw e at (so .all i)
+
+  -- one more is remembered
+  pub remembers-more : {words now : List ℕ} {r : Rest} → Remembers Fails words → Fails r → Noted words r now → Remembers Fails now
+  remembers-more {words} {now} {r} so new noted = record { long = noted .0 ∙ so .long; all = λ i. go i (noted .1 i) }
+    where
+      go : (i : ℕ) → (restAt now i ≡ r) ⊎ (restAt now i ≡ restAt words i) → Fails (restAt now i)
+      go i (inl e) = rw e new
+      go i (inr e) = rw e (so .all i)
+
+-- the rests that two parts are
+pub part-between : (text terms part : List ℕ) (at : ℕ) → Stands terms part at → between text terms at (at + length part) ≡ rowOf text part
+part-between text terms part at stands =
+    let size : at + length part - at ≡ length part = omega arith in
+    rw size (ap (rowOf text) (sym (stands .same)))
+
+-- ---- what shadowing remembers
+
 no-match : (l m : List (Values Atom)) → some-in l ≡ some-in m → l ≡ [] → m ≡ []
 no-match l [] e k = refl
 no-match l (us ∷ m) e k = absurd (false-not-true (sym (ap some-in k) ∙ e))
 
-module _ (back : Bool) (text terms : List ℕ) (base : Values Atom) where
-  -- nothing is remembered
-  pub remembers-none : Remembers back text terms base (replicate 2048 0)
-  remembers-none = record {
-    long = length-replicate {A = ℕ} 2048 0;
-    all = λ i. record { none = λ h. absurd (omega (arith, zero-word 2048 (4 * i), zero-word 2048 (4 * i + 1))) };
-  }
-
-  -- what is remembered has no match
-  pub remembered : {words : List ℕ} {r : Rest} → Remembers back text terms base words → Within words r → Failed back text terms base r
-  remembered so (i, e) = rw e at (so .all i)
-
-  -- one more is remembered
-  pub remembers-more : {words now : List ℕ} {r : Rest} → Remembers back text terms base words → Failed back text terms base r → Noted words r now
-      → Remembers back text terms base now
-  remembers-more {words} {now} {r} so new noted = record { long = noted .0 ∙ so .long; all = λ i. go i (noted .1 i) }
-    where
-      go : (i : ℕ) → (restAt now i ≡ r) ⊎ (restAt now i ≡ restAt words i) → Failed back text terms base (restAt now i)
-      go i (inl e) = rw e new
-      go i (inr e) = rw e (so .all i)
-
-  -- the rests that two parts are
-  part-between : (part : List ℕ) (at : ℕ) → Stands terms part at → between text terms at (at + length part) ≡ rowOf text part
-  part-between part at stands =
-      let size : at + length part - at ≡ length part = omega arith in
-      rw size (ap (rowOf text) (sym (stands .same)))
+module _ (text terms : List ℕ) (base : Values Atom) where
+  pub shadow-none : Remembers (Failed text terms base) (replicate 2048 0)
+  shadow-none = remembers-none (Failed text terms base) (λ r empty. record { none = λ h. absurd (empty h) })
 
   module _ {pattern row : List ℕ} {at start : ℕ} (here : Stands terms pattern at) (there : Stands terms row start)
       (vs : Values Atom) (closed : Agree (variablesIn (rowOf text pattern)) vs base) where
     -- they are known to have no match
-    pub none-left : 24 ≤ length pattern → Failed back text terms base (restOf at (at + length pattern) start (start + length row))
-        → found back (rowOf text pattern) (rowOf text row) vs ≡ []
+    none-left : 24 ≤ length pattern → Failed text terms base (restOf at (at + length pattern) start (start + length row))
+        → found false (rowOf text pattern) (rowOf text row) vs ≡ []
     none-left long failed =
-        rw (part-between pattern at here, part-between row start there) at
-        (failed .none (omega arith) vs (rw (part-between pattern at here) closed))
+        rw (part-between text terms pattern at here, part-between text terms row start there) at
+        (failed .none (omega arith) vs (rw (part-between text terms pattern at here) closed))
 
     -- they are found to have none
-    pub none-found : found back (rowOf text pattern) (rowOf text row) vs ≡ [] → Failed back text terms base (restOf at (at + length pattern) start (start + length row))
+    none-found : found false (rowOf text pattern) (rowOf text row) vs ≡ [] → Failed text terms base (restOf at (at + length pattern) start (start + length row))
     none-found e = record {
-      none = λ long us free. rw (part-between pattern at here, part-between row start there)
-          (no-match (found back (rowOf text pattern) (rowOf text row) vs) (found back (rowOf text pattern) (rowOf text row) us)
-          (some-agree sameAtom literal symbolLike singleTerm back (rowOf text pattern) (rowOf text row) vs us
-          (λ w o. closed w o ∙ sym ((rw (part-between pattern at here) at free) w o))) e);
+      none = λ long us free. rw (part-between text terms pattern at here, part-between text terms row start there)
+          (no-match (found false (rowOf text pattern) (rowOf text row) vs) (found false (rowOf text pattern) (rowOf text row) us)
+          (some-agree sameAtom literal symbolLike singleTerm false (rowOf text pattern) (rowOf text row) vs us
+          (λ w o. closed w o ∙ sym ((rw (part-between text terms pattern at here) at free) w o))) e);
     }
 
 -- ---- the returns of `shadow_tries`
@@ -158,18 +163,18 @@ first-nothing (x ∷ l) e = absurd (Option·none-ne-some x (sym e))
 module _ {text terms pattern : List ℕ} {at : ℕ} {row : List ℕ} {start : ℕ} {coming : List Variable} {b : Bindings} (asked : Asked text terms pattern at row start coming b)
     (base : Values Atom) (closed : Agree (variablesIn (rowOf text pattern)) (valuesOf text terms b) base) (tries : TriesAll text pattern row (valuesOf text terms b)) where
   -- it is remembered that no length matches
-  pub lengths-known : (back : Bool) {words : List ℕ} → 24 ≤ length pattern → Remembers back text terms base words
-      → Within words (restOf at (at + length pattern) start (start + length row)) → eachLength text back pattern row (valuesOf text terms b) ≡ []
-  lengths-known back long so within =
-      sym (tries back)
-      ∙ none-left back text terms base (asked .pattern-stands) (asked .row-stands) (valuesOf text terms b) closed long (remembered back text terms base so within)
+  pub lengths-known : {words : List ℕ} → 24 ≤ length pattern → Remembers (Failed text terms base) words
+      → Within words (restOf at (at + length pattern) start (start + length row)) → eachLength text false pattern row (valuesOf text terms b) ≡ []
+  lengths-known long so within =
+      sym (tries false)
+      ∙ none-left text terms base (asked .pattern-stands) (asked .row-stands) (valuesOf text terms b) closed long (remembered (Failed text terms base) so within)
 
   -- no length matches, which is remembered
-  pub lengths-noted : (back : Bool) {words now : List ℕ} → eachLength text back pattern row (valuesOf text terms b) ≡ [] → Remembers back text terms base words
-      → Noted words (restOf at (at + length pattern) start (start + length row)) now → Remembers back text terms base now
-  lengths-noted back e so noted =
-      remembers-more back text terms base so
-      (none-found back text terms base (asked .pattern-stands) (asked .row-stands) (valuesOf text terms b) closed (tries back ∙ e)) noted
+  pub lengths-noted : {words now : List ℕ} → eachLength text false pattern row (valuesOf text terms b) ≡ [] → Remembers (Failed text terms base) words
+      → Noted words (restOf at (at + length pattern) start (start + length row)) now → Remembers (Failed text terms base) now
+  lengths-noted e so noted =
+      remembers-more (Failed text terms base) so
+      (none-found text terms base (asked .pattern-stands) (asked .row-stands) (valuesOf text terms b) closed (tries false ∙ e)) noted
 
 -- the first match of none
 pub none-matched : (text terms : List ℕ) (m : Matched) (l : List (Values Atom)) → matchedValues text terms m ≡ firstIn l → m .ok ≡ false → l ≡ []

@@ -12,3 +12,4 @@ pub mod LiteralSearch
 pub mod LiteralParts
 pub mod LiteralStart
 pub mod AloneLaws
+pub mod AroundLaws

@@ -1,4 +1,4 @@
--- Which places keep their values, and which have no value of a variable of the pattern (`Settled` of specs/Failed.antt): for the parts of the pattern, and when one
+-- Which places keep their values, and which have no value of a variable that is to come (`Settled` of specs/Failed.antt): for the parts of the pattern, and when one
 -- variable more has a value.
 use Prim.Native.Nat.{ℕ, zero, suc, _+_, _-_, _≤_, _<_}
 use mathlib.Core.Bool.{Bool, true}
@@ -14,7 +14,7 @@ use Rattle.matching.specs.Code.Part.{rowOf, from, Begin, at-start, one-on}
 use Rattle.matching.specs.Code.Bound.{valuesUpTo, valuesOf, Bound}
 use Rattle.searches.specs.Code.Capacity.{variablesIn}
 use Rattle.searches.specs.Code.Repeats.{Agree}
-use Rattle.searches.specs.Code.Failed.{firstValues, Settled, Remembers, Fixed}
+use Rattle.searches.specs.Code.Failed.{firstValues, Settled, Failed, Remembers, Fixed}
 use Rattle.matching.specs.declared.Bindings.{Bindings}
 use Rattle.searches.specs.declared.repeats.Sure.{Sure}
 use Rattle.matching.proofs.CutLaws.{from-all}
@@ -32,7 +32,7 @@ begin-second {pattern} {e} long same =
 
 module _ (text terms : List ℕ) where
   -- one variable more has a value, in a place after these
-  first-more : {b : Bindings} {key start size : ℕ} {c : Bindings} → Bound b key start size c → (n : ℕ) → n ≤ b .count
+  pub first-more : {b : Bindings} {key start size : ℕ} {c : Bindings} → Bound b key start size c → (n : ℕ) → n ≤ b .count
       → firstValues text terms c n ≡ firstValues text terms b n
   first-more {b} {key} {start} {size} more n low =
       rw (more .keys, more .starts, more .sizes, values-set text terms (b .keys) (b .starts) (b .sizes) (b .count) key start size n low)
@@ -65,12 +65,12 @@ module _ {text terms : List ℕ} where
   fixed-fewer {b} {r} {n} f m low = record { few = omega (arith, f .few); same = first-fewer text terms b r n (f .same) m low }
 
   -- what is remembered holds with the same first places
-  pub remembers-fixed : {back : Bool} {b c : Bindings} {n : ℕ} {words : List ℕ} → Fixed text terms b n c
-      → Remembers back text terms (firstValues text terms b n) words → Remembers back text terms (firstValues text terms c n) words
+  pub remembers-fixed : {b c : Bindings} {n : ℕ} {words : List ℕ} → Fixed text terms b n c
+      → Remembers (Failed text terms (firstValues text terms b n)) words → Remembers (Failed text terms (firstValues text terms c n)) words
   remembers-fixed f so = rw (f .same) so
 
-  pub remembers-back : {back : Bool} {b c : Bindings} {n : ℕ} {words : List ℕ} → Fixed text terms b n c
-      → Remembers back text terms (firstValues text terms c n) words → Remembers back text terms (firstValues text terms b n) words
+  pub remembers-back : {b c : Bindings} {n : ℕ} {words : List ℕ} → Fixed text terms b n c
+      → Remembers (Failed text terms (firstValues text terms c n)) words → Remembers (Failed text terms (firstValues text terms b n)) words
   remembers-back f so = rw (f .same) at so
 
   pub fixed-bound : {b : Bindings} {key start size : ℕ} {c : Bindings} → Bound b key start size c → (n : ℕ) → n ≤ b .count → Fixed text terms b n c
@@ -80,38 +80,39 @@ module _ {text terms : List ℕ} where
 
 module _ {text terms : List ℕ} where
   -- the fixed places alone
-  pub settled-fixed : (pattern : List ℕ) (b : Bindings) (n : ℕ) → n ≤ b .count → Settled text terms pattern b (record { fixed = n; places = n })
-  settled-fixed pattern b n low = record { low = omega arith; few = low; same = λ w o. refl }
+  pub settled-fixed : (l : List Variable) (b : Bindings) (n : ℕ) (here : Bool) → n ≤ b .count → Settled text terms l b (record { fixed = n; places = n; here = here })
+  settled-fixed l b n here low = record { low = omega arith; few = low; same = λ w o. refl }
 
-  -- all places
-  pub settled-all : {pattern : List ℕ} {b : Bindings} {s : Sure} → Settled text terms pattern b s
-      → Agree (variablesIn (rowOf text pattern)) (valuesOf text terms b) (firstValues text terms b (s .fixed))
-      → Settled text terms pattern b (record { fixed = s .fixed; places = b .count })
-  settled-all known h = record { low = omega (arith, known .low, known .few); few = omega arith; same = h }
+  module _ {l : List Variable} {b : Bindings} {s : Sure} (known : Settled text terms l b s) where
+    -- all places
+    pub settled-all : (here : Bool) → Agree l (valuesOf text terms b) (firstValues text terms b (s .fixed))
+        → Settled text terms l b (record { fixed = s .fixed; places = b .count; here = here })
+    settled-all here h = record { low = omega (arith, known .low, known .few); few = omega arith; same = h }
 
-  pub settled-low : {pattern : List ℕ} {b : Bindings} {s : Sure} → Settled text terms pattern b s → s .fixed ≤ b .count
-  settled-low known = omega (arith, known .low, known .few)
+    pub settled-low : s .fixed ≤ b .count
+    settled-low = omega (arith, known .low, known .few)
 
-  module _ {pattern : List ℕ} {b : Bindings} {s : Sure} (known : Settled text terms pattern b s) where
-    -- what follows a term has no other variables
-    pub settled-later : {m : ℕ} → Begin pattern m → Settled text terms (from m pattern) b s
-    settled-later {m} begins = record {
+    -- fewer variables
+    pub settled-fewer : (k : List Variable) → ((w : Variable) → occurs w k ≡ true → occurs w l ≡ true) → Settled text terms k b s
+    settled-fewer k among = record { low = known .low; few = known .few; same = λ w o. known .same w (among w o) }
+
+    -- one variable more has a value, in a place after these
+    pub settled-more : {key start size : ℕ} {c : Bindings} → Bound b key start size c → Settled text terms l c s
+    settled-more {c = c} more = record {
       low = known .low;
-      few = known .few;
-      same = λ w o. known .same w
-          (rw (append-nil (variablesIn (rowOf text pattern))) at (later-variables text pattern [] w begins (rw (append-nil (variablesIn (rowOf text (from m pattern)))) o)));
+      few = omega (arith, known .few, more .more);
+      same = λ w o. rw (first-more text terms more (s .places) (known .few), first-more text terms more (s .fixed) settled-low) (known .same w o);
     }
+
+  module _ (pattern : List ℕ) {b : Bindings} {s : Sure} (known : Settled text terms (variablesIn (rowOf text pattern)) b s) where
+    -- what follows a term has no other variables
+    pub settled-later : {m : ℕ} → Begin pattern m → Settled text terms (variablesIn (rowOf text (from m pattern))) b s
+    settled-later {m} begins =
+        settled-fewer known (variablesIn (rowOf text (from m pattern)))
+        (λ w o. rw (append-nil (variablesIn (rowOf text pattern))) at (later-variables text pattern [] w begins (rw (append-nil (variablesIn (rowOf text (from m pattern)))) o)))
 
     -- nor has the contents of brackets
     pub settled-inside : (m : ℕ) → m ≡ endOf pattern
         → ((w : Variable) → occurs w (variablesIn (rowOf text (contents 24 endOf pattern))) ≡ true → occurs w (variablesIn (rowOf text pattern)) ≡ true)
-        → Settled text terms (take (m - 24) (drop 24 pattern)) b s
-    settled-inside m e within = record { low = known .low; few = known .few; same = λ w o. known .same w (within w (rw e at o)) }
-
-    -- one variable more has a value, in a place after these
-    pub settled-more : {key start size : ℕ} {c : Bindings} → Bound b key start size c → Settled text terms pattern c s
-    settled-more {c = c} more = record {
-      low = known .low;
-      few = omega (arith, known .few, more .more);
-      same = λ w o. rw (first-more text terms more (s .places) (known .few), first-more text terms more (s .fixed) (omega (arith, known .low, known .few))) (known .same w o);
-    }
+        → Settled text terms (variablesIn (rowOf text (take (m - 24) (drop 24 pattern)))) b s
+    settled-inside m e within = settled-fewer known (variablesIn (rowOf text (take (m - 24) (drop 24 pattern)))) (λ w o. within w (rw e at o))

@@ -16,22 +16,25 @@ use matching::none;
 use matching::wide;
 ghost use mathlib.Core.Path.{_≡_};
 ghost use mathlib.Core.Bool.{true, false};
+ghost use mathlib.Core.List.{List, _++_};
 ghost use mathlib.Core.Option.{none};
-ghost use Prim.Native.Nat.{suc, _+_, _≤_, _<_};
-ghost use lib.ListN.{length, set};
+ghost use Prim.Native.Nat.{ℕ, suc, _+_, _≤_, _<_};
+ghost use lib.ListN.{length, getD, set};
 ghost use Rattle.file.specs.Forest.{contents, rest};
 ghost use Rattle.law.specs.Runs.{endOf};
 ghost use Rattle.law.specs.Variables.{distinct};
 ghost use Rattle.matching.specs.Literal.{literalMatches};
 ghost use Rattle.matching.specs.Code.Part.{rowOf, literalPart, symbolsOf, Stands};
-ghost use Rattle.matching.specs.Code.Bound.{valuesOf, Kept};
+ghost use Rattle.matching.specs.Pattern.{Atom};
+ghost use Rattle.matching.specs.Match.{Values};
+ghost use Rattle.matching.specs.Code.Bound.{valuesUpTo, valuesOf, Kept, places};
 ghost use Rattle.matching.specs.Code.Step.{found, eachLength, eachInside, Free, Facing, TriesAll, Stopped, firstVariable};
 ghost use Rattle.searches.specs.Code.Capacity.{variablesIn, Capacity};
 ghost use Rattle.searches.specs.Code.Asked.{someHolds, nesting, resume, comingIn, levelsOf, Around, LiteralAsked};
-ghost use Rattle.searches.specs.Code.Repeats.{Disjoint};
-ghost use Rattle.searches.specs.Code.Failed.{firstValues, Settled, Remembers};
+ghost use Rattle.searches.specs.Code.Repeats.{Agree, Disjoint};
+ghost use Rattle.searches.specs.Code.Failed.{firstValues, Settled, Remembering, Remembered};
 
-// `failed` is what is remembered, of rests whose variables have the values of the fixed places of `sure`, or none.
+// `failed` is what is remembered, where `sure.here`: of rests and then all that is around them, whose variables have the values of the fixed places of `sure`, or none.
 
 // What is still to be matched around the brackets that were gone into: the positions among the term records where each level of the pattern and of the
 // row ends, the outermost first. A level begins where the one inside it ends.
@@ -65,7 +68,76 @@ fn push(pending: Pending, pattern_end: usize, row_end: usize) -> Pending
     next
 }
 
-// Everything that is left at this level is matched: the next level out, or all.
+// Nothing is known of the places, and what is remembered is not of the levels around here.
+fn unsure() -> Sure
+    ensures { λ r. ⌜ (r .fixed ≡ 0) × (r .places ≡ 0) × (r .here ≡ false) ⌝ }
+{
+    Sure {
+        fixed: 0,
+        places: 0,
+        here: false,
+    }
+}
+
+// Has no variable of the levels around a value in the places from `sure` on?
+fn closed_around(
+    text: &[u8],
+    terms: &[u8],
+    outer: Pending,
+    at: usize,
+    keys: &[u16; 32],
+    sure: usize,
+    count: usize,
+) -> bool
+    requires { ⌜ (sure ≤ count) × (count ≤ 32) × ((i : ℕ) → i < count → getD (now keys) i 0 + 24 ≤ length (now terms)) × ((start : ℕ) × Around (now text) (now terms) outer at start) ⌝ }
+    ensures { λ r. ⌜ (r ≡ true → (start : ℕ) (starts sizes : List ℕ) (vs : Values Atom) → Kept (now (text .entry)) (now (terms .entry)) (places (now (keys .entry)) starts sizes count)
+        → Agree (comingIn (levelsOf (now (text .entry)) (now (terms .entry)) outer at start)) (valuesUpTo (now (text .entry)) (now (terms .entry)) (now (keys .entry)) starts sizes sure) vs
+        → Agree (comingIn (levelsOf (now (text .entry)) (now (terms .entry)) outer at start)) (valuesUpTo (now (text .entry)) (now (terms .entry)) (now (keys .entry)) starts sizes count) vs) ⌝ }
+{
+    let mut n = outer.count;
+    let mut from = at;
+    loop {
+        if n == 0 {
+            break true;
+        }
+        n -= 1;
+        let end = wide(outer.patterns[n]);
+        if !closed(text, terms, &terms[from..end], keys, sure, count) {
+            break false;
+        }
+        from = end;
+    }
+}
+
+// Does what is remembered hold here: is it of the levels around here, and have the variables of the pattern and of these levels the values of the fixed places, or
+// none? The levels begin at `end`.
+fn holds_here(
+    text: &[u8],
+    terms: &[u8],
+    pattern: &[u8],
+    outer: Pending,
+    end: usize,
+    b: Bindings,
+    sure: Sure,
+) -> bool
+    requires { ⌜ Kept (now text) (now terms) b × (sure .places ≤ b .count) × ((start : ℕ) × Around (now text) (now terms) outer end start) ⌝ }
+    ensures { λ r. ⌜ (r ≡ true → (sure .here ≡ true) × ((start : ℕ)
+        → Settled (now (text .entry)) (now (terms .entry)) (variablesIn (rowOf (now (text .entry)) (now (pattern .entry))) ++ comingIn (levelsOf (now (text .entry)) (now (terms .entry)) outer end start)) b sure
+        → Agree (variablesIn (rowOf (now (text .entry)) (now (pattern .entry))) ++ comingIn (levelsOf (now (text .entry)) (now (terms .entry)) outer end start)) (valuesOf (now (text .entry)) (now (terms .entry)) b)
+        (firstValues (now (text .entry)) (now (terms .entry)) b (sure .fixed)))) ⌝ }
+{
+    if !sure.here {
+        return false;
+    }
+    let len = b.count;
+    let places = sure.places;
+    if !closed(text, terms, pattern, &b.keys, places, len) {
+        return false;
+    }
+    closed_around(text, terms, outer, end, &b.keys, places, len)
+}
+
+// Everything that is left at this level is matched: the next level out, or all. What is remembered is of other levels.
 fn literal_out(
     text: &[u8],
     terms: &[u8],
@@ -73,13 +145,11 @@ fn literal_out(
     start: usize,
     outer: Pending,
     b: Bindings,
-    fixed: usize,
     failed: &mut [u16; 2048],
 ) -> bool
-    requires { ⌜ (length (now terms) < 65536) × Around (now text) (now terms) outer at start × Kept (now text) (now terms) b × (fixed ≤ b .count) × Remembers true (now text) (now terms) (firstValues (now text) (now terms) b fixed) (now failed) ⌝ }
+    requires { ⌜ (length (now terms) < 65536) × Around (now text) (now terms) outer at start × Kept (now text) (now terms) b ⌝ }
     requires { ⌜ Capacity (comingIn (levelsOf (now text) (now terms) outer at start)) (valuesOf (now text) (now terms) b) ⌝ }
-    ensures { λ r. ⌜ (r ≡ resume (levelsOf (now (text .entry)) (now (terms .entry)) outer at start) (valuesOf (now (text .entry)) (now (terms .entry)) b))
-        × Remembers true (now (text .entry)) (now (terms .entry)) (firstValues (now (text .entry)) (now (terms .entry)) b fixed) (now (failed .exit)) ⌝ }
+    ensures { λ r. ⌜ (r ≡ resume (levelsOf (now (text .entry)) (now (terms .entry)) outer at start) (valuesOf (now (text .entry)) (now (terms .entry)) b)) × (now (failed .exit) ≡ now (failed .entry)) ⌝ }
 {
     let n = outer.count;
     if n == 0 {
@@ -92,10 +162,7 @@ fn literal_out(
     let row_end = wide(outer.rows[top]);
     let pattern = &terms[at..end];
     let row = &terms[start..row_end];
-    let sure = Sure {
-        fixed: fixed,
-        places: fixed,
-    };
+    let sure = unsure();
     literal_run(text, terms, pattern, at, row, start, out, b, sure, failed)
 }
 
@@ -112,11 +179,11 @@ fn literal_lengths(
     sure: Sure,
     failed: &mut [u16; 2048],
 ) -> bool
-    requires { ⌜ LiteralAsked (now text) (now terms) (now pattern) at (now row) start outer b × (24 ≤ length (now pattern)) × Settled (now text) (now terms) (now pattern) b sure × Remembers true (now text) (now terms) (firstValues (now text) (now terms) b (sure .fixed)) (now failed) ⌝ }
+    requires { ⌜ LiteralAsked (now text) (now terms) (now pattern) at (now row) start outer b × (24 ≤ length (now pattern)) × Remembering (now text) (now terms) (now pattern) (levelsOf (now text) (now terms) outer (at + length (now pattern)) (start + length (now row))) b sure (now failed) ⌝ }
     requires { ⌜ Free (rowOf (now text) (now pattern)) (firstVariable (now text) (now pattern)) (valuesOf (now text) (now terms) b) ⌝ }
     ensures { λ r. ⌜ (r ≡ someHolds (resume (levelsOf (now (text .entry)) (now (terms .entry)) outer (at + length (now (pattern .entry))) (start + length (now (row .entry)))))
         (eachLength (now (text .entry)) true (now (pattern .entry)) (now (row .entry)) (valuesOf (now (text .entry)) (now (terms .entry)) b)))
-        × Remembers true (now (text .entry)) (now (terms .entry)) (firstValues (now (text .entry)) (now (terms .entry)) b (sure .fixed)) (now (failed .exit)) ⌝ }
+        × Remembered (now (text .entry)) (now (terms .entry)) (levelsOf (now (text .entry)) (now (terms .entry)) outer (at + length (now (pattern .entry))) (start + length (now (row .entry)))) b sure (now (failed .entry)) (now (failed .exit)) ⌝ }
 {
     let end = end_of(pattern);
     let rest = &pattern[end..];
@@ -157,6 +224,7 @@ fn literal_anew(
     let all = Sure {
         fixed: len,
         places: len,
+        here: true,
     };
     literal_lengths(
         text,
@@ -172,8 +240,8 @@ fn literal_anew(
     )
 }
 
-// The same, unless it is remembered that there is no match: where nothing is around and the variables of the pattern have the values of the fixed places, or
-// none, this does not depend on the others.
+// The same, unless it is remembered that there is no match: where the variables of the pattern and of the levels around have the values of the fixed places, or none,
+// this does not depend on the others.
 fn literal_tries(
     text: &[u8],
     terms: &[u8],
@@ -186,29 +254,25 @@ fn literal_tries(
     sure: Sure,
     failed: &mut [u16; 2048],
 ) -> bool
-    requires { ⌜ LiteralAsked (now text) (now terms) (now pattern) at (now row) start outer b × (24 ≤ length (now pattern)) × Settled (now text) (now terms) (now pattern) b sure × Remembers true (now text) (now terms) (firstValues (now text) (now terms) b (sure .fixed)) (now failed) ⌝ }
+    requires { ⌜ LiteralAsked (now text) (now terms) (now pattern) at (now row) start outer b × (24 ≤ length (now pattern)) × Remembering (now text) (now terms) (now pattern) (levelsOf (now text) (now terms) outer (at + length (now pattern)) (start + length (now row))) b sure (now failed) ⌝ }
     requires { ⌜ Free (rowOf (now text) (now pattern)) (firstVariable (now text) (now pattern)) (valuesOf (now text) (now terms) b) ⌝ }
     requires { ⌜ TriesAll (now text) (now pattern) (now row) (valuesOf (now text) (now terms) b) ⌝ }
     ensures { λ r. ⌜ (r ≡ someHolds (resume (levelsOf (now (text .entry)) (now (terms .entry)) outer (at + length (now (pattern .entry))) (start + length (now (row .entry)))))
         (eachLength (now (text .entry)) true (now (pattern .entry)) (now (row .entry)) (valuesOf (now (text .entry)) (now (terms .entry)) b)))
-        × Remembers true (now (text .entry)) (now (terms .entry)) (firstValues (now (text .entry)) (now (terms .entry)) b (sure .fixed)) (now (failed .exit)) ⌝ }
+        × Remembered (now (text .entry)) (now (terms .entry)) (levelsOf (now (text .entry)) (now (terms .entry)) outer (at + length (now (pattern .entry))) (start + length (now (row .entry)))) b sure (now (failed .entry)) (now (failed .exit)) ⌝ }
 {
-    if outer.count != 0 {
-        return literal_lengths(text, terms, pattern, at, row, start, outer, b, sure, failed);
-    }
-    let len = b.count;
-    let places = sure.places;
-    if !closed(text, terms, pattern, &b.keys, places, len) {
-        return literal_anew(text, terms, pattern, at, row, start, outer, b);
-    }
     let end = at + pattern.len();
     let row_end = start + row.len();
+    if !holds_here(text, terms, pattern, outer, end, b, sure) {
+        return literal_anew(text, terms, pattern, at, row, start, outer, b);
+    }
     if failed_before(failed, at, end, start, row_end) {
         return false;
     }
     let all = Sure {
         fixed: sure.fixed,
-        places: len,
+        places: b.count,
+        here: true,
     };
     let found = literal_lengths(text, terms, pattern, at, row, start, outer, b, all, failed);
     if !found {
@@ -217,7 +281,7 @@ fn literal_tries(
     found
 }
 
-// A bracket against a bracket: the contents, and then what is around them.
+// A bracket against a bracket: the contents, and then what is around them. What is remembered is of other levels.
 fn literal_inside(
     text: &[u8],
     terms: &[u8],
@@ -227,13 +291,12 @@ fn literal_inside(
     start: usize,
     outer: Pending,
     b: Bindings,
-    sure: Sure,
     failed: &mut [u16; 2048],
 ) -> bool
-    requires { ⌜ LiteralAsked (now text) (now terms) (now pattern) at (now row) start outer b × (24 ≤ length (now pattern)) × Facing (rowOf (now text) (now pattern)) (now row) × Settled (now text) (now terms) (now pattern) b sure × Remembers true (now text) (now terms) (firstValues (now text) (now terms) b (sure .fixed)) (now failed) ⌝ }
+    requires { ⌜ LiteralAsked (now text) (now terms) (now pattern) at (now row) start outer b × (24 ≤ length (now pattern)) × Facing (rowOf (now text) (now pattern)) (now row) ⌝ }
     ensures { λ r. ⌜ (r ≡ someHolds (resume (levelsOf (now (text .entry)) (now (terms .entry)) outer (at + length (now (pattern .entry))) (start + length (now (row .entry)))))
         (eachInside (now (text .entry)) true (now (pattern .entry)) (now (row .entry)) (valuesOf (now (text .entry)) (now (terms .entry)) b)))
-        × Remembers true (now (text .entry)) (now (terms .entry)) (firstValues (now (text .entry)) (now (terms .entry)) b (sure .fixed)) (now (failed .exit)) ⌝ }
+        × (now (failed .exit) ≡ now (failed .entry)) ⌝ }
 {
     let m = end_of(pattern);
     let n = end_of(row);
@@ -242,6 +305,7 @@ fn literal_inside(
     let inside = &row[24..n];
     let i = at + 24;
     let j = start + 24;
+    let sure = unsure();
     literal_run(text, terms, contents, i, inside, j, around, b, sure, failed)
 }
 
@@ -259,11 +323,11 @@ fn literal_apart(
     sure: Sure,
     failed: &mut [u16; 2048],
 ) -> bool
-    requires { ⌜ LiteralAsked (now text) (now terms) (now pattern) at (now row) start outer b × (24 ≤ length (now pattern)) × Facing (rowOf (now text) (now pattern)) (now row) × Settled (now text) (now terms) (now pattern) b sure × Remembers true (now text) (now terms) (firstValues (now text) (now terms) b (sure .fixed)) (now failed) ⌝ }
+    requires { ⌜ LiteralAsked (now text) (now terms) (now pattern) at (now row) start outer b × (24 ≤ length (now pattern)) × Facing (rowOf (now text) (now pattern)) (now row) × Remembering (now text) (now terms) (now pattern) (levelsOf (now text) (now terms) outer (at + length (now pattern)) (start + length (now row))) b sure (now failed) ⌝ }
     requires { ⌜ (outer .count ≡ 0) × Disjoint (variablesIn (rowOf (now text) (contents 24 endOf (now pattern)))) (variablesIn (rowOf (now text) (rest 24 endOf (now pattern)))) ⌝ }
     ensures { λ r. ⌜ (r ≡ someHolds (resume (levelsOf (now (text .entry)) (now (terms .entry)) outer (at + length (now (pattern .entry))) (start + length (now (row .entry)))))
         (eachInside (now (text .entry)) true (now (pattern .entry)) (now (row .entry)) (valuesOf (now (text .entry)) (now (terms .entry)) b)))
-        × Remembers true (now (text .entry)) (now (terms .entry)) (firstValues (now (text .entry)) (now (terms .entry)) b (sure .fixed)) (now (failed .exit)) ⌝ }
+        × Remembered (now (text .entry)) (now (terms .entry)) (levelsOf (now (text .entry)) (now (terms .entry)) outer (at + length (now (pattern .entry))) (start + length (now (row .entry)))) b sure (now (failed .entry)) (now (failed .exit)) ⌝ }
 {
     let m = end_of(pattern);
     let n = end_of(row);
@@ -294,17 +358,17 @@ fn literal_bracket(
     sure: Sure,
     failed: &mut [u16; 2048],
 ) -> bool
-    requires { ⌜ LiteralAsked (now text) (now terms) (now pattern) at (now row) start outer b × (24 ≤ length (now pattern)) × Facing (rowOf (now text) (now pattern)) (now row) × Settled (now text) (now terms) (now pattern) b sure × Remembers true (now text) (now terms) (firstValues (now text) (now terms) b (sure .fixed)) (now failed) ⌝ }
+    requires { ⌜ LiteralAsked (now text) (now terms) (now pattern) at (now row) start outer b × (24 ≤ length (now pattern)) × Facing (rowOf (now text) (now pattern)) (now row) × Remembering (now text) (now terms) (now pattern) (levelsOf (now text) (now terms) outer (at + length (now pattern)) (start + length (now row))) b sure (now failed) ⌝ }
     ensures { λ r. ⌜ (r ≡ someHolds (resume (levelsOf (now (text .entry)) (now (terms .entry)) outer (at + length (now (pattern .entry))) (start + length (now (row .entry)))))
         (eachInside (now (text .entry)) true (now (pattern .entry)) (now (row .entry)) (valuesOf (now (text .entry)) (now (terms .entry)) b)))
-        × Remembers true (now (text .entry)) (now (terms .entry)) (firstValues (now (text .entry)) (now (terms .entry)) b (sure .fixed)) (now (failed .exit)) ⌝ }
+        × Remembered (now (text .entry)) (now (terms .entry)) (levelsOf (now (text .entry)) (now (terms .entry)) outer (at + length (now (pattern .entry))) (start + length (now (row .entry)))) b sure (now (failed .entry)) (now (failed .exit)) ⌝ }
 {
     let m = end_of(pattern);
     let contents = &pattern[24..m];
     if stands_apart(text, contents, &pattern[m..], outer.count) {
         return literal_apart(text, terms, pattern, at, row, start, outer, b, sure, failed);
     }
-    literal_inside(text, terms, pattern, at, row, start, outer, b, sure, failed)
+    literal_inside(text, terms, pattern, at, row, start, outer, b, failed)
 }
 
 // Is there a match of a pattern with a row, and then of all that is around them? By what the pattern's first record leaves to do.
@@ -321,11 +385,11 @@ fn literal_first(
     failed: &mut [u16; 2048],
     first: First,
 ) -> bool
-    requires { ⌜ LiteralAsked (now text) (now terms) (now pattern) at (now row) start outer b × Settled (now text) (now terms) (now pattern) b sure × Remembers true (now text) (now terms) (firstValues (now text) (now terms) b (sure .fixed)) (now failed) ⌝ }
+    requires { ⌜ LiteralAsked (now text) (now terms) (now pattern) at (now row) start outer b × Remembering (now text) (now terms) (now pattern) (levelsOf (now text) (now terms) outer (at + length (now pattern)) (start + length (now row))) b sure (now failed) ⌝ }
     requires { ⌜ Stopped (now text) (now pattern) (now row) (valuesOf (now text) (now terms) b) first ⌝ }
     ensures { λ r. ⌜ (r ≡ someHolds (resume (levelsOf (now (text .entry)) (now (terms .entry)) outer (at + length (now (pattern .entry))) (start + length (now (row .entry)))))
         (found true (rowOf (now (text .entry)) (now (pattern .entry))) (rowOf (now (text .entry)) (now (row .entry))) (valuesOf (now (text .entry)) (now (terms .entry)) b)))
-        × Remembers true (now (text .entry)) (now (terms .entry)) (firstValues (now (text .entry)) (now (terms .entry)) b (sure .fixed)) (now (failed .exit)) ⌝ }
+        × Remembered (now (text .entry)) (now (terms .entry)) (levelsOf (now (text .entry)) (now (terms .entry)) outer (at + length (now (pattern .entry))) (start + length (now (row .entry)))) b sure (now (failed .entry)) (now (failed .exit)) ⌝ }
 {
     match first {
         First::Fails => false,
@@ -361,10 +425,10 @@ fn literal_run(
     sure: Sure,
     failed: &mut [u16; 2048],
 ) -> bool
-    requires { ⌜ LiteralAsked (now text) (now terms) (now pattern) at (now row) start outer b × Settled (now text) (now terms) (now pattern) b sure × Remembers true (now text) (now terms) (firstValues (now text) (now terms) b (sure .fixed)) (now failed) ⌝ }
+    requires { ⌜ LiteralAsked (now text) (now terms) (now pattern) at (now row) start outer b × Remembering (now text) (now terms) (now pattern) (levelsOf (now text) (now terms) outer (at + length (now pattern)) (start + length (now row))) b sure (now failed) ⌝ }
     ensures { λ r. ⌜ (r ≡ someHolds (resume (levelsOf (now (text .entry)) (now (terms .entry)) outer (at + length (now (pattern .entry))) (start + length (now (row .entry)))))
         (found true (rowOf (now (text .entry)) (now (pattern .entry))) (rowOf (now (text .entry)) (now (row .entry))) (valuesOf (now (text .entry)) (now (terms .entry)) b)))
-        × Remembers true (now (text .entry)) (now (terms .entry)) (firstValues (now (text .entry)) (now (terms .entry)) b (sure .fixed)) (now (failed .exit)) ⌝ }
+        × Remembered (now (text .entry)) (now (terms .entry)) (levelsOf (now (text .entry)) (now (terms .entry)) outer (at + length (now (pattern .entry))) (start + length (now (row .entry)))) b sure (now (failed .entry)) (now (failed .exit)) ⌝ }
 {
     let len = b.count;
     match known_front(text, terms, pattern, row, &b.keys, &b.starts, &b.sizes, len) {
@@ -374,7 +438,7 @@ fn literal_run(
             if left.len() < 24 {
                 let next = at + pattern.len();
                 let end = start + row.len();
-                return literal_out(text, terms, next, end, outer, b, sure.fixed, failed);
+                return literal_out(text, terms, next, end, outer, b, failed);
             }
             false
         }
@@ -429,6 +493,7 @@ pub fn search_literal(
     let sure = Sure {
         fixed: 0,
         places: 0,
+        here: true,
     };
     let outer = alone();
     literal_run(

@@ -15,10 +15,12 @@ ghost use Rattle.matching.specs.Code.Bound.{Kept, places};
 ghost use Rattle.searches.specs.Code.Capacity.{variablesIn};
 ghost use Rattle.searches.specs.Code.Repeats.{Alone, AgreeUpTo, Disjoint};
 
-// Of a search's places, how many keep their values as long as it remembers, and of how many more it is known that their variables do not stand in the pattern.
+// Of a search's places, how many keep their values as long as it remembers, and of how many more it is known that their variables stand neither in the pattern nor in
+// what is around it; and whether what it remembers is of what is around the pattern here.
 pub struct Sure {
     pub fixed: usize,
     pub places: usize,
+    pub here: bool,
 }
 
 // Is the variable that stands first in one part a record of another, at any depth?

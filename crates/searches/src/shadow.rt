@@ -23,7 +23,7 @@ ghost use Rattle.matching.specs.Code.Bound.{valuesOf, Kept};
 ghost use Rattle.matching.specs.Code.Step.{found, eachLength, eachInside, Free, Facing, TriesAll, Stopped, firstVariable};
 ghost use Rattle.searches.specs.Code.Capacity.{variablesIn};
 ghost use Rattle.searches.specs.Code.Asked.{firstIn, Asked, matchedValues};
-ghost use Rattle.searches.specs.Code.Failed.{firstValues, Settled, Remembers, Fixed};
+ghost use Rattle.searches.specs.Code.Failed.{firstValues, Settled, Failed, Remembers, Fixed};
 
 // `failed` is what is remembered, of rests whose variables have the values of the fixed places of `sure`, or none.
 
@@ -45,11 +45,11 @@ fn shadow_lengths(
     sure: Sure,
     failed: &mut [u16; 2048],
 ) -> Matched
-    requires { ⌜ Asked (now text) (now terms) (now pattern) at (now row) start [] b × (24 ≤ length (now pattern)) × Settled (now text) (now terms) (now pattern) b sure × Remembers false (now text) (now terms) (firstValues (now text) (now terms) b (sure .fixed)) (now failed) ⌝ }
+    requires { ⌜ Asked (now text) (now terms) (now pattern) at (now row) start [] b × (24 ≤ length (now pattern)) × Settled (now text) (now terms) (variablesIn (rowOf (now text) (now pattern))) b sure × Remembers (Failed (now text) (now terms) (firstValues (now text) (now terms) b (sure .fixed))) (now failed) ⌝ }
     requires { ⌜ Free (rowOf (now text) (now pattern)) (firstVariable (now text) (now pattern)) (valuesOf (now text) (now terms) b) ⌝ }
     ensures { λ r. ⌜ Kept (now (text .entry)) (now (terms .entry)) (r .bindings)
         × (matchedValues (now (text .entry)) (now (terms .entry)) r ≡ firstIn (eachLength (now (text .entry)) false (now (pattern .entry)) (now (row .entry)) (valuesOf (now (text .entry)) (now (terms .entry)) b)))
-        × Remembers false (now (text .entry)) (now (terms .entry)) (firstValues (now (text .entry)) (now (terms .entry)) b (sure .fixed)) (now (failed .exit))
+        × Remembers (Failed (now (text .entry)) (now (terms .entry)) (firstValues (now (text .entry)) (now (terms .entry)) b (sure .fixed))) (now (failed .exit))
         × Fixed (now (text .entry)) (now (terms .entry)) b (sure .fixed) (r .bindings) ⌝ }
 {
     let end = end_of(pattern);
@@ -91,6 +91,7 @@ fn shadow_anew(
     let all = Sure {
         fixed: len,
         places: len,
+        here: true,
     };
     shadow_lengths(text, terms, pattern, at, row, start, b, all, &mut failed)
 }
@@ -108,12 +109,12 @@ fn shadow_tries(
     sure: Sure,
     failed: &mut [u16; 2048],
 ) -> Matched
-    requires { ⌜ Asked (now text) (now terms) (now pattern) at (now row) start [] b × (24 ≤ length (now pattern)) × Settled (now text) (now terms) (now pattern) b sure × Remembers false (now text) (now terms) (firstValues (now text) (now terms) b (sure .fixed)) (now failed) ⌝ }
+    requires { ⌜ Asked (now text) (now terms) (now pattern) at (now row) start [] b × (24 ≤ length (now pattern)) × Settled (now text) (now terms) (variablesIn (rowOf (now text) (now pattern))) b sure × Remembers (Failed (now text) (now terms) (firstValues (now text) (now terms) b (sure .fixed))) (now failed) ⌝ }
     requires { ⌜ Free (rowOf (now text) (now pattern)) (firstVariable (now text) (now pattern)) (valuesOf (now text) (now terms) b) ⌝ }
     requires { ⌜ TriesAll (now text) (now pattern) (now row) (valuesOf (now text) (now terms) b) ⌝ }
     ensures { λ r. ⌜ Kept (now (text .entry)) (now (terms .entry)) (r .bindings)
         × (matchedValues (now (text .entry)) (now (terms .entry)) r ≡ firstIn (eachLength (now (text .entry)) false (now (pattern .entry)) (now (row .entry)) (valuesOf (now (text .entry)) (now (terms .entry)) b)))
-        × Remembers false (now (text .entry)) (now (terms .entry)) (firstValues (now (text .entry)) (now (terms .entry)) b (sure .fixed)) (now (failed .exit))
+        × Remembers (Failed (now (text .entry)) (now (terms .entry)) (firstValues (now (text .entry)) (now (terms .entry)) b (sure .fixed))) (now (failed .exit))
         × Fixed (now (text .entry)) (now (terms .entry)) b (sure .fixed) (r .bindings) ⌝ }
 {
     let len = b.count;
@@ -132,6 +133,7 @@ fn shadow_tries(
     let all = Sure {
         fixed: sure.fixed,
         places: len,
+        here: true,
     };
     let m = shadow_lengths(text, terms, pattern, at, row, start, b, all, failed);
     if !m.ok {
@@ -152,10 +154,10 @@ fn shadow_inside(
     sure: Sure,
     failed: &mut [u16; 2048],
 ) -> Matched
-    requires { ⌜ Asked (now text) (now terms) (now pattern) at (now row) start [] b × (24 ≤ length (now pattern)) × Facing (rowOf (now text) (now pattern)) (now row) × Settled (now text) (now terms) (now pattern) b sure × Remembers false (now text) (now terms) (firstValues (now text) (now terms) b (sure .fixed)) (now failed) ⌝ }
+    requires { ⌜ Asked (now text) (now terms) (now pattern) at (now row) start [] b × (24 ≤ length (now pattern)) × Facing (rowOf (now text) (now pattern)) (now row) × Settled (now text) (now terms) (variablesIn (rowOf (now text) (now pattern))) b sure × Remembers (Failed (now text) (now terms) (firstValues (now text) (now terms) b (sure .fixed))) (now failed) ⌝ }
     ensures { λ r. ⌜ Kept (now (text .entry)) (now (terms .entry)) (r .bindings)
         × (matchedValues (now (text .entry)) (now (terms .entry)) r ≡ firstIn (eachInside (now (text .entry)) false (now (pattern .entry)) (now (row .entry)) (valuesOf (now (text .entry)) (now (terms .entry)) b)))
-        × Remembers false (now (text .entry)) (now (terms .entry)) (firstValues (now (text .entry)) (now (terms .entry)) b (sure .fixed)) (now (failed .exit))
+        × Remembers (Failed (now (text .entry)) (now (terms .entry)) (firstValues (now (text .entry)) (now (terms .entry)) b (sure .fixed))) (now (failed .exit))
         × Fixed (now (text .entry)) (now (terms .entry)) b (sure .fixed) (r .bindings) ⌝ }
 {
     let m = end_of(pattern);
@@ -172,6 +174,7 @@ fn shadow_inside(
     let kept = Sure {
         fixed: sure.fixed,
         places: sure.fixed,
+        here: true,
     };
     let rest = &pattern[m..];
     let left = &row[n..];
@@ -192,11 +195,11 @@ fn shadow_first(
     failed: &mut [u16; 2048],
     first: First,
 ) -> Matched
-    requires { ⌜ Asked (now text) (now terms) (now pattern) at (now row) start [] b × Settled (now text) (now terms) (now pattern) b sure × Remembers false (now text) (now terms) (firstValues (now text) (now terms) b (sure .fixed)) (now failed) ⌝ }
+    requires { ⌜ Asked (now text) (now terms) (now pattern) at (now row) start [] b × Settled (now text) (now terms) (variablesIn (rowOf (now text) (now pattern))) b sure × Remembers (Failed (now text) (now terms) (firstValues (now text) (now terms) b (sure .fixed))) (now failed) ⌝ }
     requires { ⌜ Stopped (now text) (now pattern) (now row) (valuesOf (now text) (now terms) b) first ⌝ }
     ensures { λ r. ⌜ Kept (now (text .entry)) (now (terms .entry)) (r .bindings)
         × (matchedValues (now (text .entry)) (now (terms .entry)) r ≡ firstIn (found false (rowOf (now (text .entry)) (now (pattern .entry))) (rowOf (now (text .entry)) (now (row .entry))) (valuesOf (now (text .entry)) (now (terms .entry)) b)))
-        × Remembers false (now (text .entry)) (now (terms .entry)) (firstValues (now (text .entry)) (now (terms .entry)) b (sure .fixed)) (now (failed .exit))
+        × Remembers (Failed (now (text .entry)) (now (terms .entry)) (firstValues (now (text .entry)) (now (terms .entry)) b (sure .fixed))) (now (failed .exit))
         × Fixed (now (text .entry)) (now (terms .entry)) b (sure .fixed) (r .bindings) ⌝ }
 {
     match first {
@@ -233,10 +236,10 @@ fn shadow_run(
     sure: Sure,
     failed: &mut [u16; 2048],
 ) -> Matched
-    requires { ⌜ Asked (now text) (now terms) (now pattern) at (now row) start [] b × Settled (now text) (now terms) (now pattern) b sure × Remembers false (now text) (now terms) (firstValues (now text) (now terms) b (sure .fixed)) (now failed) ⌝ }
+    requires { ⌜ Asked (now text) (now terms) (now pattern) at (now row) start [] b × Settled (now text) (now terms) (variablesIn (rowOf (now text) (now pattern))) b sure × Remembers (Failed (now text) (now terms) (firstValues (now text) (now terms) b (sure .fixed))) (now failed) ⌝ }
     ensures { λ r. ⌜ Kept (now (text .entry)) (now (terms .entry)) (r .bindings)
         × (matchedValues (now (text .entry)) (now (terms .entry)) r ≡ firstIn (found false (rowOf (now (text .entry)) (now (pattern .entry))) (rowOf (now (text .entry)) (now (row .entry))) (valuesOf (now (text .entry)) (now (terms .entry)) b)))
-        × Remembers false (now (text .entry)) (now (terms .entry)) (firstValues (now (text .entry)) (now (terms .entry)) b (sure .fixed)) (now (failed .exit))
+        × Remembers (Failed (now (text .entry)) (now (terms .entry)) (firstValues (now (text .entry)) (now (terms .entry)) b (sure .fixed))) (now (failed .exit))
         × Fixed (now (text .entry)) (now (terms .entry)) b (sure .fixed) (r .bindings) ⌝ }
 {
     let len = b.count;
@@ -279,6 +282,7 @@ pub fn search_shadow(
     let sure = Sure {
         fixed: 0,
         places: 0,
+        here: true,
     };
     shadow_run(
         text,

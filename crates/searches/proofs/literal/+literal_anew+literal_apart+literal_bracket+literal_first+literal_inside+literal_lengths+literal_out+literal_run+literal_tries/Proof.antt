@@ -4,7 +4,7 @@
 use Prim.Native.Nat.{ℕ, _+_, _*_, _-_, _<_}
 use mathlib.Core.Bool.{Bool, true}
 use mathlib.Core.List.{List}
-use mathlib.Core.Path.{_≡_, _∙_}
+use mathlib.Core.Path.{_≡_, refl, _∙_}
 use native.Mathlib.Omega.{arith}
 use borrow.Author.Needs.{needs}
 use borrow.Author.Tests.{not-true, not-false}
@@ -14,7 +14,7 @@ use Rattle.matching.specs.Match.{Values}
 use Rattle.matching.specs.Code.Step.{eachLength}
 use Rattle.matching.specs.Code.Bound.{valuesOf}
 use Rattle.searches.specs.Code.Asked.{someHolds, resume, levelsOf}
-use Rattle.searches.specs.Code.Failed.{firstValues, Remembers}
+use Rattle.searches.specs.Code.Failed.{Remembered}
 use Rattle.searches.specs.declared.literal.Pending.{Pending}
 use Rattle.matching.specs.Code.Part.{Begin, at-start, one-on}
 use Rattle.matching.proofs.CutLaws.{begin-inside, from-length}
@@ -25,7 +25,7 @@ use Rattle.matching.proofs.FirstLaws as first-record
 use Rattle.searches.proofs.ShadowSteps as step
 use Rattle.matching.proofs.KnownLaws as known
 use Rattle.searches.proofs.SureLaws as sure
-use Rattle.searches.proofs.FailedLaws as failed
+use Rattle.searches.proofs.AroundLaws as around
 use Rattle.searches.proofs.AloneLaws as alone
 use borrow.Fn.Kinds.{In}
 use borrow.Fn.PlainCycle.{Measures, is, falls, and}
@@ -62,7 +62,8 @@ use Rattle.searches.proofs.failed.failed_before.Reads as failed-before-
 use Rattle.searches.proofs.failed.note_failed.Reads as note-failed-reads
 use Rattle.matching.proofs.known_front.Reads as known-front-reads
 use Rattle.searches.proofs.literal.push.Reads as push-reads
-use Rattle.searches.proofs.repeats.closed.Reads as closed-reads
+use Rattle.searches.proofs.literal.unsure.Reads as unsure-reads
+use Rattle.searches.proofs.literal.holds_here.Reads as holds-here-reads
 use Rattle.searches.proofs.repeats.stands_apart.Reads as stands-apart-reads
 use Rattle.matching.proofs.wide.Reads as wide-reads
 use Rattle.searches.proofs.literal.+literal_anew+literal_apart+literal_bracket+literal_first+literal_inside+literal_lengths+literal_out+literal_run+literal_tries.{
@@ -219,7 +220,7 @@ abbrev literal-lengths-Inv-loop : literal-lengths-lts.InvT-loop
 literal-lengths-Inv-loop text terms pattern at row start outer b sure failed₀ end rest next n₀ failed n =
     Begin row n × (someHolds (outside text terms outer pattern at row start) (eachLength text true pattern row (valuesOf text terms b))
     ≡ someHolds (outside text terms outer pattern at row start) (leftAt text true pattern row (valuesOf text terms b) n))
-    × Remembers true text terms (firstValues text terms b (sure .fixed)) failed
+    × Remembered text terms (levelsOf text terms outer (at + length pattern) (start + length row)) b sure failed₀ failed
 
 abbrev literal-lengths-μ-loop : literal-lengths-lts.MeasureT-loop
 literal-lengths-μ-loop text terms pattern at row start outer b sure failed₀ end rest next n₀ failed n = length row - n
@@ -242,8 +243,7 @@ pub +literal-anew+literal-apart+literal-bracket+literal-first+literal-inside+lit
     (literal-anew-at t)
     literal-anew.Post
     (λ c κs. let start = c .before .before .before .before .before .pre in
-    let a = c .before .before .before .before .before .args in
-    (omega (arith, start .0), ((start .1 .0 .0, start .1 .0 .1, sure.settled-fixed _ _ _ (omega arith), failed.remembers-none true (a .text .now) (a .terms .now) _), start .1 .1)))
+    (omega (arith, start .0), ((start .1 .0 .0, start .1 .0 .1, around.remembering-none _ _ _ _ (omega arith)), start .1 .1)))
     (λ c. c .literal-lengths .ensures .0))
     (λ t. literal-apart-lts.spec (
       end-of-reads.Asked,
@@ -269,15 +269,15 @@ pub +literal-anew+literal-apart+literal-bracket+literal-first+literal-inside+lit
       omega (arith, the-pre .0, start .0 .asked .pattern-stands .inside, start .1),
       (
         alone.contents-alone (start .0) (the-pre .1 .1 .0) (start .1) (start .2) _ _ (c .before .before .before .before .end-of .ensures .0) (c .before .before .before .end-of2 .ensures .0),
-        sure.settled-inside (start .3) _ (c .before .before .before .before .end-of .ensures .0) (calls.contents-within (start .0 .asked) (start .1) (start .2)),
-        start .4,
+        alone.remembering-inside (start .0) (the-pre .1 .1 .0) (start .1) (start .2) _ (c .before .before .before .end-of2 .result) (c .before .before .before .before .end-of .ensures .0) (start .3),
       ),
     ))
     (λ c. let the-pre = c .before .before .before .before .before .before .before .before .before .before .before .pre in
     let the-end-of = c .before .before .before .before .before .before .end-of in
-    let the-end-of2 = c .before .before .before .before .before .end-of2 in (
+    let the-end-of2 = c .before .before .before .before .before .end-of2 in
+    let start = the-pre .1 .0 in (
       alone.bracket-none _ _ _ (the-pre .1 .1 .0) _ _ _ _ _ (the-end-of .ensures .0) (the-end-of2 .ensures .0) _ _ _ _ (c .before .literal-run .ensures .0) (not-true _ (c .if1 .taken)),
-      c .before .literal-run .ensures .1,
+      alone.remembered-inside (start .0) (the-pre .1 .1 .0) (start .1) (start .2) _ _ (c .before .literal-run .ensures .1),
     ))
     (λ c. let the-end-of = c .before .before .before .before .before .before .end-of in
     the-end-of .ensures .2)
@@ -297,15 +297,21 @@ pub +literal-anew+literal-apart+literal-bracket+literal-first+literal-inside+lit
     let ends = c .before .before .before .before .before .before .before .before .before .end-of .ensures in
     let begins = sure.begin-second (start .1) (ends .0) in (
       omega (arith, the-pre .0, start .0 .asked .pattern-stands .inside, ends .1, ends .2),
-      (level.literal-later (start .0) _ _ begins (the-end-of2 .ensures .2), sure.settled-later (start .3) begins, c .before .before .before .before .literal-run .ensures .1),
+      (
+        level.literal-later (start .0) _ _ begins (the-end-of2 .ensures .2),
+        around.remembering-later (start .0) _ _ (ends .2) (the-end-of2 .ensures .2) begins
+            (around.remembering-then (start .3) (alone.remembered-inside (start .0) (the-pre .1 .1 .0) (start .1) (start .2) _ _ (c .before .before .before .before .literal-run .ensures .1))),
+      ),
     ))
     (λ c. let the-pre = c .before .before .before .before .before .before .before .before .before .before .before .before .before .before .before .pre in
     let the-end-of = c .before .before .before .before .before .before .before .before .before .before .end-of in
     let the-end-of2 = c .before .before .before .before .before .before .before .before .before .end-of2 in
-    let the-literal-run = c .before .before .before .before .before .literal-run in (
+    let the-literal-run = c .before .before .before .before .before .literal-run in
+    let start = the-pre .1 .0 in (
       alone.bracket-some _ _ _ (the-pre .1 .1 .0) _ _ _ _ _ (the-end-of .ensures .0) (the-end-of2 .ensures .0) (the-pre .1 .1 .1)
           _ _ _ _ _ _ (the-literal-run .ensures .0) (not-false _ (c .before .before .before .before .if1 .left)) (c .literal-run2 .ensures .0),
-      c .literal-run2 .ensures .1,
+      around.remembered-then (alone.remembered-inside (start .0) (the-pre .1 .1 .0) (start .1) (start .2) _ _ (the-literal-run .ensures .1))
+          (around.remembered-later (start .0) _ _ (the-end-of .ensures .2) (the-end-of2 .ensures .2) (c .literal-run2 .ensures .1)),
     )))
     (λ t. literal-bracket-lts.spec (
       end-of-reads.Asked,
@@ -332,8 +338,8 @@ pub +literal-anew+literal-apart+literal-bracket+literal-first+literal-inside+lit
     let apart = c .before .before .stands-apart .ensures (c .before .if1 .taken) in
     (omega (arith, start .0), (start .1, (apart .0, rw (the-end-of .ensures .0) at (apart .1)))))
     (λ c. c .literal-apart .ensures)
-    (λ c κs. let start = c .before .before .before .before .before .before .before .before .before .before .pre in (omega (arith, start .0), start .1))
-    (λ c. c .literal-inside .ensures))
+    (λ c κs. let start = c .before .before .before .before .before .before .before .before .before .before .pre in (omega (arith, start .0), (start .1 .0, start .1 .1, start .1 .2)))
+    (λ c. let start = c .before .before .before .before .before .before .before .before .before .before .before .pre in (c .literal-inside .ensures .0, around.remembered-same (start .1 .3) (c .literal-inside .ensures .1))))
     (λ t. literal-first-lts.spec (
       end-of-reads.Asked,
       end-of-reads.Learnt,
@@ -386,19 +392,18 @@ pub +literal-anew+literal-apart+literal-bracket+literal-first+literal-inside+lit
       omega (arith, start .0, ends .ensures .1, ends .ensures .2, start .1 .0 .0 .asked .pattern-stands .inside),
       (
         level.literal-more (start .1 .0 .0) (stopped .some) (binds .1) (binds .0) (c .before .bind .ensures) (ends .result) (the-first .given .0 .0) (ends .ensures .0) (binds .0),
-        sure.settled-later (sure.settled-more (start .1 .0 .1) (c .before .bind .ensures)) (sure.begin-second (stopped .some) (ends .ensures .0)),
-        sure.remembers-fixed (sure.fixed-bound (c .before .bind .ensures) _ (sure.settled-low (start .1 .0 .1))) (start .1 .0 .2),
+        around.remembering-later (start .1 .0 .0) _ _ (ends .ensures .2) (binds .0) (sure.begin-second (stopped .some) (ends .ensures .0)) (around.remembering-bound (start .1 .0 .1) (c .before .bind .ensures)),
       ),
     ))
     (λ c. search needs)
     (λ c κs. let start = c .before .before .before .before .before .before .before .pre in
     let stopped = start .1 .1 in
     let told = c .before .enum-told3 .given .1 in
-    (omega (arith, start .0), ((start .1 .0 .0, stopped .some, start .1 .0 .1, start .1 .0 .2), (first-record.tries-free (stopped .leaves) true told, λ back. first-record.step-tries (stopped .leaves) back told))))
+    (omega (arith, start .0), ((start .1 .0 .0, stopped .some, start .1 .0 .1), (first-record.tries-free (stopped .leaves) true told, λ back. first-record.step-tries (stopped .leaves) back told))))
     (λ c. search needs)
     (λ c κs. let start = c .before .before .before .before .before .before .before .pre in
     let stopped = start .1 .1 in
-    (omega (arith, start .0), (start .1 .0 .0, stopped .some, first-record.inside-facing (stopped .leaves) true (c .before .enum-told4 .given .1), start .1 .0 .1, start .1 .0 .2)))
+    (omega (arith, start .0), (start .1 .0 .0, stopped .some, first-record.inside-facing (stopped .leaves) true (c .before .enum-told4 .given .1), start .1 .0 .1)))
     (λ c. let the-pre = c .before .before .before .before .before .before .pre in
     absurd (known.stops-fails (the-pre .1 .1) (c .enum-told .given .1)))
     (λ c. let the-pre = c .before .before .before .before .before .before .pre in
@@ -411,7 +416,7 @@ pub +literal-anew+literal-apart+literal-bracket+literal-first+literal-inside+lit
     let values = calls.values-more (start .1 .0 .0 .asked) (stopped .some) (binds .1) (binds .0) (c .before .before .bind .ensures) in (
       level.run-rest (start .1 .0 .0) (c .literal-run .result) (ends .result) (the-first .given .0 .0) (c .before .before .bind .result) (ends .ensures .2) (binds .0)
           (first-record.step-binds (stopped .leaves) true _ _ _ (the-first .given .1) (ends .ensures .0) values) (c .literal-run .ensures .0),
-      sure.remembers-back (sure.fixed-bound (c .before .before .bind .ensures) _ (sure.settled-low (start .1 .0 .1))) (c .literal-run .ensures .1),
+      around.remembered-bound (start .1 .0 .1) (c .before .before .bind .ensures) (around.remembered-later (start .1 .0 .0) _ _ (ends .ensures .2) (binds .0) (c .literal-run .ensures .1)),
     ))
     (λ c. let the-pre = c .before .before .before .before .before .before .before .before .pre in
     (level.run-same (the-pre .1 .0 .0) (c .literal-tries .result) _ (c .literal-tries .ensures .0) (first-record.step-tries (the-pre .1 .1 .leaves) true (c .before .before .enum-told3 .given .1)), c .literal-tries .ensures .1))
@@ -422,6 +427,8 @@ pub +literal-anew+literal-apart+literal-bracket+literal-first+literal-inside+lit
       end-of-reads.Learnt,
       push-reads.Asked,
       push-reads.Learnt,
+      unsure-reads.Asked,
+      unsure-reads.Learnt,
       literal-run-below t,
       literal-run.Post,
     )
@@ -452,19 +459,23 @@ pub +literal-anew+literal-apart+literal-bracket+literal-first+literal-inside+lit
     omega (arith, start .1 .0 .asked .pattern-stands .inside, start .1 .0 .asked .small, start .1 .1))
     (λ c. let start = c .before .before .before .before .before .before .before .before .before .pre in
     omega (arith, start .1 .0 .asked .row-stands .inside, start .1 .0 .asked .small, start .1 .2 .some))
-    (λ c κs. let the-end-of = c .before .before .before .before .before .end-of in
-    let start = c .before .before .before .before .before .before .before .before .before .before .pre in
-    let more = c .before .before .before .push .ensures in (
-      omega (arith, start .0, more .0, start .1 .0 .asked .pattern-stands .inside, start .1 .1),
-      (level.literal-inside (start .1 .0) (start .1 .1) (start .1 .2) _ _ (the-end-of .ensures .0) (c .before .before .before .before .end-of2 .ensures .0) (c .before .before .before .push .result) (more .0) (more .1) (more .2), sure.settled-inside (start .1 .3) _ (the-end-of .ensures .0) (calls.contents-within (start .1 .0 .asked) (start .1 .1) (start .1 .2)), start .1 .4),
-    ))
-    (λ c. let the-end-of = c .before .before .before .before .before .before .end-of in
+    (λ c κs. tt)
+    (λ c κs. let the-end-of = c .before .before .before .before .before .before .end-of in
     let the-end-of2 = c .before .before .before .before .before .end-of2 in
     let start = c .before .before .before .before .before .before .before .before .before .before .before .pre in
-    let more = c .before .before .before .before .push .ensures in (
-      level.inside-answer (start .1 .0) (start .1 .1) (start .1 .2) _ _ (the-end-of .ensures .0) (the-end-of2 .ensures .0) (c .before .before .before .before .push .result) (more .0) (more .1) (more .2)
+    let more = c .before .before .before .before .push .ensures in
+    let unsure = c .before .unsure .ensures in (
+      omega (arith, start .0, more .0, start .1 .0 .asked .pattern-stands .inside, start .1 .1),
+      (level.literal-inside (start .1 .0) (start .1 .1) (start .1 .2) _ _ (the-end-of .ensures .0) (the-end-of2 .ensures .0) (c .before .before .before .before .push .result) (more .0) (more .1) (more .2), around.remembering-nothing _ _ _ _ (unsure .0) (unsure .1) (unsure .2)),
+    ))
+    (λ c. let the-end-of = c .before .before .before .before .before .before .before .end-of in
+    let the-end-of2 = c .before .before .before .before .before .before .end-of2 in
+    let start = c .before .before .before .before .before .before .before .before .before .before .before .before .pre in
+    let the-push = c .before .before .before .before .before .push in
+    let more = the-push .ensures in (
+      level.inside-answer (start .1 .0) (start .1 .1) (start .1 .2) _ _ (the-end-of .ensures .0) (the-end-of2 .ensures .0) (the-push .result) (more .0) (more .1) (more .2)
           (c .literal-run .result) (c .literal-run .ensures .0),
-      c .literal-run .ensures .1,
+      c .literal-run .ensures .1 .elsewhere (c .before .before .unsure .ensures .2),
     )))
     (λ t. literal-lengths-lts.spec (
       end-of-reads.Asked,
@@ -485,7 +496,7 @@ pub +literal-anew+literal-apart+literal-bracket+literal-first+literal-inside+lit
     (λ c. let asked = c .before .before .before .before .before .before .pre .1 .0 .0 .asked in
     omega (arith, asked .pattern-stands .inside, asked .small, c .before .end-of .ensures .2))
     (λ c. let start = c .before .before .before .before .before .before .pre in
-    (at-start, level.lengths-start (start .1 .0 .0) (start .1 .0 .1) (start .1 .1), start .1 .0 .3))
+    (at-start, level.lengths-start (start .1 .0 .0) (start .1 .0 .1) (start .1 .1), around.remembered-same (start .1 .0 .2) refl))
     (λ c. begin-inside (c .loop .inv .0))
     (λ c. begin-inside (c .loop .inv .0))
     (λ c. search needs)
@@ -505,7 +516,7 @@ pub +literal-anew+literal-apart+literal-bracket+literal-first+literal-inside+lit
     let ends = c .before .before .before .before .before .end-of in
     let inside = begin-inside (c .before .before .before .loop .inv .0) in (
       omega (arith, start .0, ends .ensures .1, ends .ensures .2, start .1 .0 .0 .asked .pattern-stands .inside),
-      (level.literal-more (start .1 .0 .0) (start .1 .0 .1) (start .1 .1) inside (c .before .bind .ensures) (ends .result) (c .before .before .before .loop .n) (ends .ensures .0) inside, sure.settled-later (sure.settled-more (start .1 .0 .2) (c .before .bind .ensures)) (sure.begin-second (start .1 .0 .1) (ends .ensures .0)), sure.remembers-fixed (sure.fixed-bound (c .before .bind .ensures) _ (sure.settled-low (start .1 .0 .2))) (c .before .before .before .loop .inv .2)),
+      (level.literal-more (start .1 .0 .0) (start .1 .0 .1) (start .1 .1) inside (c .before .bind .ensures) (ends .result) (c .before .before .before .loop .n) (ends .ensures .0) inside, around.remembering-later (start .1 .0 .0) _ _ (ends .ensures .2) inside (sure.begin-second (start .1 .0 .1) (ends .ensures .0)) (around.remembering-bound (around.remembering-then (start .1 .0 .2) (c .before .before .before .loop .inv .2)) (c .before .bind .ensures))),
     ))
     (λ c κs. c .if2 .left)
     (λ c. let the-loop = c .before .before .before .before .before .before .before .loop in
@@ -522,31 +533,36 @@ pub +literal-anew+literal-apart+literal-bracket+literal-first+literal-inside+lit
       rw (c .end-of2 .ensures .0) (one-on (c .before .if2 .left) (the-loop .inv .0)),
       rw (c .end-of2 .ensures .0) (level.length-next (start .1 .0 .0) (start .1 .0 .1) (start .1 .1) (the-end-of .ensures .0) (the-loop .inv .0) (the-bind .ensures)
           (c .before .before .before .literal-run .result) (c .before .before .before .literal-run .ensures .0) (the-loop .inv .1) (c .before .before .if1 .left) (c .before .if2 .left)),
-      sure.remembers-back (sure.fixed-bound (the-bind .ensures) _ (sure.settled-low (start .1 .0 .2))) (c .before .before .before .literal-run .ensures .1),
+      around.remembered-then (the-loop .inv .2) (around.remembered-bound (around.remembering-then (start .1 .0 .2) (the-loop .inv .2)) (the-bind .ensures)
+          (around.remembered-later (start .1 .0 .0) _ _ (the-end-of .ensures .2) (begin-inside (the-loop .inv .0)) (c .before .before .before .literal-run .ensures .1))),
     ))
     (λ c. let the-end-of = c .before .before .before .before .before .before .before .end-of in
     let the-loop = c .before .before .before .before .before .loop in
     let start = c .before .before .before .before .before .before .before .before .before .before .before .before .pre in (
       level.length-found (start .1 .0 .0) (start .1 .0 .1) (start .1 .1) (the-end-of .ensures .0) (the-loop .inv .0) (c .before .before .before .bind .ensures) (c .before .literal-run .result)
           (c .before .literal-run .ensures .0) (the-loop .inv .1) (c .if1 .taken),
-      sure.remembers-back (sure.fixed-bound (c .before .before .before .bind .ensures) _ (sure.settled-low (start .1 .0 .2))) (c .before .literal-run .ensures .1),
+      around.remembered-then (the-loop .inv .2) (around.remembered-bound (around.remembering-then (start .1 .0 .2) (the-loop .inv .2)) (c .before .before .before .bind .ensures)
+          (around.remembered-later (start .1 .0 .0) _ _ (the-end-of .ensures .2) (begin-inside (the-loop .inv .0)) (c .before .literal-run .ensures .1))),
     ))
     (λ c. let the-end-of = c .before .before .before .before .before .before .before .before .end-of in
     let the-loop = c .before .before .before .before .before .before .loop in
     let start = c .before .before .before .before .before .before .before .before .before .before .before .before .before .pre in (
       level.length-none (start .1 .0 .0) (start .1 .0 .1) (start .1 .1) (the-end-of .ensures .0) (the-loop .inv .0) (c .before .before .before .before .bind .ensures) (c .before .before .literal-run .result)
           (c .before .before .literal-run .ensures .0) (the-loop .inv .1) (c .before .if1 .left) (c .if2 .taken),
-      sure.remembers-back (sure.fixed-bound (c .before .before .before .before .bind .ensures) _ (sure.settled-low (start .1 .0 .2))) (c .before .before .literal-run .ensures .1),
+      around.remembered-then (the-loop .inv .2) (around.remembered-bound (around.remembering-then (start .1 .0 .2) (the-loop .inv .2)) (c .before .before .before .before .bind .ensures)
+          (around.remembered-later (start .1 .0 .0) _ _ (the-end-of .ensures .2) (begin-inside (the-loop .inv .0)) (c .before .before .literal-run .ensures .1))),
     )))
     (λ t. literal-out-lts.spec (
       wide-reads.Asked,
       wide-reads.Learnt,
+      unsure-reads.Asked,
+      unsure-reads.Learnt,
       literal-run-below t,
       literal-run.Post,
     )
     (literal-out-at t)
     literal-out.Post
-    (λ c. (level.out-none _ _ _ _ _ _ (c .if1 .taken), c .before .before .before .pre .1 .0 .4))
+    (λ c. (level.out-none _ _ _ _ _ _ (c .if1 .taken), refl))
     (λ c. omega (arith, c .if1 .left))
     (λ c. omega (arith, c .before .before .before .pre .1 .0 .1 .few))
     (λ c. omega (arith, c .before .before .before .pre .1 .0 .1 .few, c .if1 .left))
@@ -571,18 +587,21 @@ pub +literal-anew+literal-apart+literal-bracket+literal-first+literal-inside+lit
     (λ c. let the-if1 = c .before .before .before .before .before .if1 in
     let start = c .before .before .before .before .before .before .before .before .pre in
     level.out-row (start .1 .0 .0) (start .1 .0 .1) (start .1 .0 .2) (start .1 .1) (omega (arith, the-if1 .left)) (c .before .before .before .wide .ensures .0) (c .before .wide2 .ensures .0) .1)
-    (λ c κs. let the-if1 = c .before .before .before .before .before .before .before .if1 in
-    let the-wide = c .before .before .before .before .before .wide in
-    let start = c .before .before .before .before .before .before .before .before .before .before .pre in (
-      omega (arith, start .0, the-if1 .left),
-      (level.literal-out (start .1 .0 .0) (start .1 .0 .1) (start .1 .0 .2) (start .1 .1) (omega (arith, the-if1 .left)) (the-wide .ensures .0) (c .before .before .before .wide2 .ensures .0), sure.settled-fixed _ _ _ (start .1 .0 .3), start .1 .0 .4),
-    ))
-    (λ c. let the-if1 = c .before .before .before .before .before .before .before .before .if1 in
+    (λ c κs. tt)
+    (λ c κs. let the-if1 = c .before .before .before .before .before .before .before .before .if1 in
     let the-wide = c .before .before .before .before .before .before .wide in
-    let start = c .before .before .before .before .before .before .before .before .before .before .before .pre in (
-      level.out-answer (start .1 .0 .0) (start .1 .0 .1) (start .1 .0 .2) (start .1 .1) (omega (arith, the-if1 .left)) (the-wide .ensures .0) (c .before .before .before .before .wide2 .ensures .0)
+    let start = c .before .before .before .before .before .before .before .before .before .before .before .pre in
+    let unsure = c .before .unsure .ensures in (
+      omega (arith, start .0, the-if1 .left),
+      (level.literal-out (start .1 .0 .0) (start .1 .0 .1) (start .1 .0 .2) (start .1 .1) (omega (arith, the-if1 .left)) (the-wide .ensures .0) (c .before .before .before .before .wide2 .ensures .0), around.remembering-nothing _ _ _ _ (unsure .0) (unsure .1) (unsure .2)),
+    ))
+    (λ c. let the-if1 = c .before .before .before .before .before .before .before .before .before .if1 in
+    let the-wide = c .before .before .before .before .before .before .before .wide in
+    let the-wide2 = c .before .before .before .before .before .wide2 in
+    let start = c .before .before .before .before .before .before .before .before .before .before .before .before .pre in (
+      level.out-answer (start .1 .0 .0) (start .1 .0 .1) (start .1 .0 .2) (start .1 .1) (omega (arith, the-if1 .left)) (the-wide .ensures .0) (the-wide2 .ensures .0)
           (c .literal-run .result) (c .literal-run .ensures .0),
-      c .literal-run .ensures .1,
+      c .literal-run .ensures .1 .elsewhere (c .before .before .unsure .ensures .2),
     )))
     (λ t. literal-run-lts.spec (
       known-front-reads.Asked,
@@ -606,13 +625,13 @@ pub +literal-anew+literal-apart+literal-bracket+literal-first+literal-inside+lit
     (λ c κs. let start = c .before .before .before .before .before .before .before .before .before .before .before .before .before .before .before .pre in
     let asked = start .1 .0 in (
       omega (arith, start .0),
-      ((asked .asked .small, asked .around, asked .asked .kept, sure.settled-low (start .1 .1), start .1 .2), level.out-capacity asked),
+      ((asked .asked .small, asked .around, asked .asked .kept), level.out-capacity asked),
     ))
     (λ c. let the-known-front = c .before .before .before .before .before .before .before .known-front in
     let the-n = c .before .before .before .before .before .n in
     let the-pre = c .before .before .before .before .before .before .before .before .before .before .before .before .before .before .before .before .pre in
     let (passed, short) = known.known-end (the-known-front .ensures) _ _ (the-n .given .1) in
-    (level.run-one (the-pre .1 .0) (c .literal-out .result) (passed .search true ∙ step.end-both _ _ _ true _ short (c .before .before .if1 .taken)) (c .literal-out .ensures .0), c .literal-out .ensures .1))
+    (level.run-one (the-pre .1 .0) (c .literal-out .result) (passed .search true ∙ step.end-both _ _ _ true _ short (c .before .before .if1 .taken)) (c .literal-out .ensures .0), around.remembered-same (the-pre .1 .1) (c .literal-out .ensures .1)))
     (λ c. search needs)
     (λ c. begin-inside (known.known-stop (c .before .before .before .known-front .ensures) _ _ _ (c .before .m .given .1) .0 .begins))
     (λ c. begin-inside (known.known-stop (c .before .before .before .known-front .ensures) _ _ _ (c .before .m .given .1) .0 .begins))
@@ -630,70 +649,66 @@ pub +literal-anew+literal-apart+literal-bracket+literal-first+literal-inside+lit
     let start = c .before .before .before .before .before .before .before .before .before .before .before .before .before .before .before .pre in
     let (passed, stopped) = known.known-stop (the-known-front .ensures) _ _ _ (c .before .before .before .before .m .given .1) in (
       omega (arith, start .0, begin-inside (passed .begins), start .1 .0 .asked .pattern-stands .inside),
-      ((level.literal-later (start .1 .0) _ _ (passed .begins) (passed .within), sure.settled-later (start .1 .1) (passed .begins), start .1 .2), stopped),
+      ((level.literal-later (start .1 .0) _ _ (passed .begins) (passed .within), around.remembering-later (start .1 .0) _ _ (begin-inside (passed .begins)) (passed .within) (passed .begins) (start .1 .1)), stopped),
     ))
     (λ c. let the-pre = c .before .before .before .before .before .before .before .before .before .before .before .pre in
-    (level.run-none (the-pre .1 .0) (known.known-fails (c .before .before .known-front .ensures) (c .enum-told .given .1) true), the-pre .1 .2))
+    (level.run-none (the-pre .1 .0) (known.known-fails (c .before .before .known-front .ensures) (c .enum-told .given .1) true), around.remembered-same (the-pre .1 .1) refl))
     (λ c. let the-known-front = c .before .before .before .before .before .known-front in
     let the-pre = c .before .before .before .before .before .before .before .before .before .before .before .before .before .before .pre in
     let (passed, short) = known.known-end (the-known-front .ensures) _ _ (c .before .before .before .n .given .1) in
-    (level.run-none (the-pre .1 .0) (passed .search true ∙ step.end-one _ _ _ true _ short (c .if1 .left)), the-pre .1 .2))
+    (level.run-none (the-pre .1 .0) (passed .search true ∙ step.end-one _ _ _ true _ short (c .if1 .left)), around.remembered-same (the-pre .1 .1) refl))
     (λ c. let the-known-front = c .before .before .before .before .before .before .before .known-front in
     let the-m = c .before .before .before .before .before .m in
     let the-pre = c .before .before .before .before .before .before .before .before .before .before .before .before .before .before .before .before .pre in
     let passed = known.known-stop (the-known-front .ensures) _ _ _ (the-m .given .1) .0 in
-    (level.run-rest (the-pre .1 .0) (c .literal-first .result) _ _ _ (begin-inside (passed .begins)) (passed .within) (passed .search true) (c .literal-first .ensures .0), c .literal-first .ensures .1)))
+    (level.run-rest (the-pre .1 .0) (c .literal-first .result) _ _ _ (begin-inside (passed .begins)) (passed .within) (passed .search true) (c .literal-first .ensures .0), around.remembered-later (the-pre .1 .0) _ _ (begin-inside (passed .begins)) (passed .within) (c .literal-first .ensures .1))))
     λ t. literal-tries-lts.spec (
-      literal-lengths-below t,
-      literal-lengths.Post,
-      closed-reads.Asked,
-      closed-reads.Learnt,
+      holds-here-reads.Asked,
+      holds-here-reads.Learnt,
       literal-anew-below t,
       literal-anew.Post,
       failed-before-reads.Asked,
       failed-before-reads.Learnt,
+      literal-lengths-below t,
+      literal-lengths.Post,
       note-failed-reads.Asked,
       note-failed-reads.Learnt,
     )
     (literal-tries-at t)
     literal-tries.Post
-    (λ c κs. let start = c .before .before .before .before .before .before .before .pre in (omega (arith, start .0), (start .1 .0, start .1 .1 .0)))
-    (λ c. c .literal-lengths .ensures)
-    (λ c κs. let start = c .before .before .before .before .before .before .before .before .pre .1 .0 in (start .2 .few, start .0 .asked .kept .few, start .0 .asked .kept .keyed))
-    (λ c κs. let start = c .before .before .before .before .before .before .before .before .before .before .pre in (omega (arith, start .0), ((start .1 .0 .0, start .1 .0 .1), start .1 .1 .0)))
-    (λ c. let the-pre = c .before .before .before .before .before .before .before .before .before .before .before .pre in
-    (c .literal-anew .ensures, the-pre .1 .0 .3))
-    (λ c. let asked = c .before .before .before .before .before .before .before .before .before .before .pre .1 .0 .0 .asked in omega (arith, asked .pattern-stands .inside, asked .small))
-    (λ c. let asked = c .before .before .before .before .before .before .before .before .before .before .pre .1 .0 .0 .asked in omega (arith, asked .row-stands .inside, asked .small))
+    (λ c. let asked = c .before .before .before .before .pre .1 .0 .0 .asked in omega (arith, asked .pattern-stands .inside, asked .small))
+    (λ c. let asked = c .before .before .before .before .pre .1 .0 .0 .asked in omega (arith, asked .row-stands .inside, asked .small))
+    (λ c κs. let start = c .before .before .before .before .pre .1 .0 in (start .0 .asked .kept, start .2 .settled .few, (_, start .0 .around)))
+    (λ c κs. let start = c .before .before .before .before .before .before .pre in (omega (arith, start .0), ((start .1 .0 .0, start .1 .0 .1), start .1 .1 .0)))
+    (λ c. let start = c .before .before .before .before .before .before .before .pre .1 in (c .literal-anew .ensures, around.remembered-same (start .0 .2) refl))
     (λ c κs. tt)
-    (λ c. let start = c .before .before .before .before .before .before .before .before .before .before .before .before .before .pre .1 in
-    let asked = start .0 .0 .asked in
-    let free = c .before .before .before .before .closed .ensures (not-false _ (c .before .before .before .if2 .left)) _ _ _ (asked .kept) (start .0 .2 .same) in (
-      alone.nothing-holds _ _ (failed.lengths-known asked _ free (start .1 .1) true (start .0 .1) (start .0 .3) (c .before .failed-before .ensures (c .if3 .taken))),
-      start .0 .3,
+    (λ c. let start = c .before .before .before .before .before .before .before .before .before .pre .1 in
+    let (known, closed) = c .before .before .before .before .holds-here .ensures (not-false _ (c .before .before .before .if1 .left)) in (
+      around.lengths-known (start .0 .0 .asked) _ _ (closed _ (start .0 .2 .settled)) (start .1 .1) (start .0 .1) (start .0 .2 .here known) (c .before .failed-before .ensures (c .if2 .taken)),
+      around.remembered-same (start .0 .2) refl,
     ))
-    (λ c κs. let the-closed = c .before .before .before .before .before .closed in
-    let the-pre = c .before .before .before .before .before .before .before .before .before .before .before .before .before .before .pre in
-    let start = c .before .before .before .before .before .before .before .before .before .before .before .before .before .before .pre .1 in
-    let asked = start .0 .0 .asked in
-    let free = the-closed .ensures (not-false _ (c .before .before .before .before .if2 .left)) _ _ _ (asked .kept) (start .0 .2 .same) in
-    (omega (arith, the-pre .0), ((start .0 .0, start .0 .1, sure.settled-all (start .0 .2) free, start .0 .3), start .1 .0)))
-    (λ c κs. let start = c .before .before .before .before .before .before .before .before .before .before .before .before .before .before .before .before .before .pre .1 .0 in
+    (λ c κs. let the-holds-here = c .before .before .before .before .before .holds-here in
+    let start = c .before .before .before .before .before .before .before .before .before .before .pre in
+    let (known, closed) = the-holds-here .ensures (not-false _ (c .before .before .before .before .if1 .left)) in
+    (omega (arith, start .0), ((start .1 .0 .0, start .1 .0 .1, around.remembering-all (start .1 .0 .2) known (closed _ (start .1 .0 .2 .settled))), start .1 .1 .0)))
+    (λ c κs. let start = c .before .before .before .before .before .before .before .before .before .before .before .before .before .pre .1 .0 in
     let asked = start .0 .asked in (
       omega (arith, asked .pattern-stands .inside, asked .small, start .1),
       omega (arith, asked .pattern-stands .inside, asked .small),
       omega (arith, asked .row-stands .inside, asked .small),
       omega (arith, asked .row-stands .inside, asked .small),
-      c .before .before .literal-lengths2 .ensures .1 .long,
+      c .before .before .literal-lengths .ensures .1 .here refl .long,
     ))
-    (λ c. let the-closed = c .before .before .before .before .before .before .before .before .before .closed in
-    let the-if2 = c .before .before .before .before .before .before .before .before .if2 in
-    let the-if1 = c .before .before .before .before .before .before .before .before .before .before .before .before .if1 in
-    let start = c .before .before .before .before .before .before .before .before .before .before .before .before .before .before .before .before .before .before .pre .1 in
-    let asked = start .0 .0 .asked in
-    let free = the-closed .ensures (not-false _ (the-if2 .left)) _ _ _ (asked .kept) (start .0 .2 .same) in
-    let lengths = c .before .before .before .literal-lengths2 in (
+    (λ c. let the-if1 = c .before .before .before .before .before .before .before .before .if1 in
+    let the-holds-here = c .before .before .before .before .before .before .before .before .before .holds-here in
+    let start = c .before .before .before .before .before .before .before .before .before .before .before .before .before .before .pre .1 in
+    let (known, closed) = the-holds-here .ensures (not-false _ (the-if1 .left)) in
+    let lengths = c .before .before .before .literal-lengths in (
       lengths .ensures .0,
-      failed.lengths-noted asked _ free (start .1 .1) true (alone.none-holds _ _ _ (the-if1 .left) _ _ _ (lengths .ensures .0) (not-true _ (c .before .before .if4 .taken))) (lengths .ensures .1) (c .note-failed .ensures),
+      around.remembered-here known
+          (around.lengths-noted (start .0 .0 .asked) _ _ (closed _ (start .0 .2 .settled)) (start .1 .1) (lengths .ensures .0) (not-true _ (c .before .before .if3 .taken)) (lengths .ensures .1 .here refl) (c .note-failed .ensures)),
     ))
-    (λ c. c .before .literal-lengths2 .ensures)
+    (λ c. let the-if1 = c .before .before .before .before .before .before .if1 in
+    let the-holds-here = c .before .before .before .before .before .before .before .holds-here in
+    let (known, closed) = the-holds-here .ensures (not-false _ (the-if1 .left)) in
+    (c .before .literal-lengths .ensures .0, around.remembered-here known (c .before .literal-lengths .ensures .1 .here refl)))

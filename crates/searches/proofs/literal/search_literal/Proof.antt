@@ -1,8 +1,6 @@
 -- `search_literal` meets its contract: the search from no values with nothing around.
 use Rattle.searches.proofs.LiteralStart.{literal-start, literal-answer}
-use mathlib.Core.Bool.{true}
-use Rattle.searches.proofs.SureLaws.{settled-fixed}
-use Rattle.searches.proofs.FailedLaws.{remembers-none}
+use Rattle.searches.proofs.AroundLaws.{remembering-none}
 use native.Mathlib.Omega.{arith}
 use borrow.Author.Needs.{needs}
 use Rattle.searches.proofs.literal.search_literal.Statement.{statement}
@@ -20,8 +18,7 @@ search-literal-spec =
     let (kept, unbound) = c .before .none .ensures (a .text .now) (a .terms .now) in (
       literal-start (a .text .now) (a .terms .now) _ (around .0) _ unbound (a .pattern .now) (a .at) (a .row .now) (a .start)
           (start .pre .0 .0) (start .pre .0 .1) (start .pre .0 .2) (start .pre .1 .0) (start .pre .1 .1) (around .1) (around .2) kept,
-      settled-fixed _ _ 0 (omega arith),
-      remembers-none true (a .text .now) (a .terms .now) _,
+      remembering-none _ _ _ 0 (omega arith),
     ))
     (λ c. let start = c .before .before .before .before .before .before .before .before in
     let a = start .args in

@@ -12,7 +12,7 @@ use Rattle.law.proofs.Forests.{inside-falls, after-falls}
 use Rattle.matching.specs.Code.Step.{eachLength}
 use Rattle.matching.specs.Code.Bound.{valuesOf}
 use Rattle.searches.specs.Code.Asked.{firstIn}
-use Rattle.searches.specs.Code.Failed.{firstValues, Remembers}
+use Rattle.searches.specs.Code.Failed.{firstValues, Failed, Remembers}
 use Rattle.matching.specs.Code.Part.{Begin, at-start, one-on}
 use Rattle.matching.proofs.CutLaws.{begin-inside, from-length}
 use Rattle.searches.proofs.LengthLaws.{leftAt}
@@ -144,7 +144,7 @@ shadow-tries-below t =
 abbrev shadow-lengths-Inv-loop : shadow-lengths-lts.InvT-loop
 shadow-lengths-Inv-loop text terms pattern at row start b sure failed₀ end rest next n₀ failed n =
     Begin row n × (firstIn (eachLength text false pattern row (valuesOf text terms b)) ≡ firstIn (leftAt text false pattern row (valuesOf text terms b) n))
-    × Remembers false text terms (firstValues text terms b (sure .fixed)) failed
+    × Remembers (Failed text terms (firstValues text terms b (sure .fixed))) failed
 
 abbrev shadow-lengths-μ-loop : shadow-lengths-lts.MeasureT-loop
 shadow-lengths-μ-loop text terms pattern at row start b sure failed₀ end rest next n₀ failed n = length row - n
@@ -165,7 +165,7 @@ pub +shadow-anew+shadow-first+shadow-inside+shadow-lengths+shadow-run+shadow-tri
     shadow-anew.Post
     (λ c κs. let start = c .before .before .before .before .before .pre in
     let a = c .before .before .before .before .before .args in
-    (omega (arith, start .0), ((start .1 .0 .0, start .1 .0 .1, sure.settled-fixed _ _ _ (omega arith), failed.remembers-none false (a .text .now) (a .terms .now) _), start .1 .1)))
+    (omega (arith, start .0), ((start .1 .0 .0, start .1 .0 .1, sure.settled-fixed _ _ _ _ (omega arith), failed.shadow-none (a .text .now) (a .terms .now) _), start .1 .1)))
     (λ c. let lengths = c .shadow-lengths .ensures in (lengths .0, lengths .1, lengths .3)))
     (λ t. shadow-first-lts.spec (
       end-of-reads.Asked,
@@ -218,7 +218,7 @@ pub +shadow-anew+shadow-first+shadow-inside+shadow-lengths+shadow-run+shadow-tri
       omega (arith, after-falls (start .args .pattern .now) (ends .result) (length (start .args .pattern .now)) (stopped .some) (ends .ensures .0) refl, start .pre .0),
       (
         calls.asked-more (start .pre .1 .0 .0) (stopped .some) (binds .1) (binds .0) (c .before .bind .ensures) (ends .result) (the-first .given .0 .0) (ends .ensures .0) (binds .0),
-        sure.settled-later (sure.settled-more (start .pre .1 .0 .1) (c .before .bind .ensures)) (sure.begin-second (stopped .some) (ends .ensures .0)),
+        sure.settled-later _ (sure.settled-more (start .pre .1 .0 .1) (c .before .bind .ensures)) (sure.begin-second (stopped .some) (ends .ensures .0)),
         sure.remembers-fixed (sure.fixed-bound (c .before .bind .ensures) _ (sure.settled-low (start .pre .1 .0 .1))) (start .pre .1 .0 .2),
       ),
     ))
@@ -277,7 +277,7 @@ pub +shadow-anew+shadow-first+shadow-inside+shadow-lengths+shadow-run+shadow-tri
       omega (arith, inside-falls (the-args .pattern .now) (ends .result) (length (the-args .pattern .now)) (start .1 .1) (ends .ensures .0) refl, start .0),
       (
         calls.asked-alone (calls.asked-inside (start .1 .0) (start .1 .1) (start .1 .2) (ends .result) (c .before .before .before .end-of2 .result) (ends .ensures .0) (c .before .before .before .end-of2 .ensures .0)),
-        sure.settled-inside (start .1 .3) (ends .result) (ends .ensures .0) (calls.contents-within (start .1 .0) (start .1 .1) (start .1 .2)),
+        sure.settled-inside _ (start .1 .3) (ends .result) (ends .ensures .0) (calls.contents-within (start .1 .0) (start .1 .1) (start .1 .2)),
         start .1 .4,
       ),
     ))
@@ -314,7 +314,7 @@ pub +shadow-anew+shadow-first+shadow-inside+shadow-lengths+shadow-run+shadow-tri
         calls.asked-after (start .1 .0) (start .1 .1) (start .1 .2) (inner .result .bindings) (inner .ensures .0)
             (returns.inside-first (start .1 .0) (ends .ensures .0) (the-end-of2 .ensures .0) (inner .result) (inner .ensures .1) (not-false _ (c .before .before .before .before .if1 .left)))
             (ends .result) (the-end-of2 .result) (ends .ensures .0) (the-end-of2 .ensures .2),
-        sure.settled-fixed _ _ _ (inner .ensures .3 .few),
+        sure.settled-fixed _ _ _ _ (inner .ensures .3 .few),
         sure.remembers-fixed (inner .ensures .3) (inner .ensures .2),
       ),
     ))
@@ -370,7 +370,7 @@ pub +shadow-anew+shadow-first+shadow-inside+shadow-lengths+shadow-run+shadow-tri
       omega (arith, after-falls (the-args .pattern .now) (ends .result) (length (the-args .pattern .now)) (start .1 .0 .1) (ends .ensures .0) refl, start .0),
       (
         calls.asked-more (start .1 .0 .0) (start .1 .0 .1) (start .1 .1) inside (c .before .bind .ensures) (ends .result) (c .before .before .before .loop .n) (ends .ensures .0) inside,
-        sure.settled-later (sure.settled-more (start .1 .0 .2) (c .before .bind .ensures)) (sure.begin-second (start .1 .0 .1) (ends .ensures .0)),
+        sure.settled-later _ (sure.settled-more (start .1 .0 .2) (c .before .bind .ensures)) (sure.begin-second (start .1 .0 .1) (ends .ensures .0)),
         sure.remembers-fixed (sure.fixed-bound (c .before .bind .ensures) _ (sure.settled-low (start .1 .0 .2))) (c .before .before .before .loop .inv .2),
       ),
     ))
@@ -442,7 +442,7 @@ pub +shadow-anew+shadow-first+shadow-inside+shadow-lengths+shadow-run+shadow-tri
     let start = c .before .before .before .before .before .before .before .before .before .before .before .before .before .before .before .pre in
     let (passed, stopped) = known.known-stop (the-known-front .ensures) _ _ _ (c .before .before .before .before .m .given .1) in (
       omega (arith, start .0, begin-inside (passed .begins), from-length (c .before .before .before .before .m .given .0 .0) (the-args .pattern .now)),
-      ((calls.asked-later (start .1 .0) _ _ (passed .begins) (passed .within), sure.settled-later (start .1 .1) (passed .begins), start .1 .2), stopped),
+      ((calls.asked-later (start .1 .0) _ _ (passed .begins) (passed .within), sure.settled-later _ (start .1 .1) (passed .begins), start .1 .2), stopped),
     ))
     (λ c. let the-pre = c .before .before .before .before .before .before .before .before .before .before .before .pre in
     (the-pre .1 .0 .kept, sym (ap firstIn (known.known-fails (c .before .before .known-front .ensures) (c .enum-told .given .1) false)), the-pre .1 .2, sure.fixed-same _ _ (sure.settled-low (the-pre .1 .1))))
@@ -478,7 +478,7 @@ pub +shadow-anew+shadow-first+shadow-inside+shadow-lengths+shadow-run+shadow-tri
     let asked = start .0 .0 in
     let free = c .before .before .before .before .closed .ensures (not-false _ (c .before .before .before .if1 .left)) _ _ _ (asked .kept) (start .0 .2 .same) in (
       asked .kept,
-      sym (ap firstIn (failed.lengths-known asked _ free (start .1 .1) false (start .0 .1) (start .0 .3) (c .before .failed-before .ensures (c .if2 .taken)))),
+      sym (ap firstIn (failed.lengths-known asked _ free (start .1 .1) (start .0 .1) (start .0 .3) (c .before .failed-before .ensures (c .if2 .taken)))),
       start .0 .3,
       sure.fixed-same _ _ (sure.settled-low (start .0 .2)),
     ))
@@ -486,7 +486,7 @@ pub +shadow-anew+shadow-first+shadow-inside+shadow-lengths+shadow-run+shadow-tri
     let start = c .before .before .before .before .before .before .before .before .before .before .before .before .pre in
     let asked = start .1 .0 .0 in
     let free = the-closed .ensures (not-false _ (c .before .before .before .before .if1 .left)) _ _ _ (asked .kept) (start .1 .0 .2 .same) in
-    (omega (arith, start .0), ((asked, start .1 .0 .1, sure.settled-all (start .1 .0 .2) free, start .1 .0 .3), start .1 .1 .0)))
+    (omega (arith, start .0), ((asked, start .1 .0 .1, sure.settled-all (start .1 .0 .2) _ free, start .1 .0 .3), start .1 .1 .0)))
     (λ c κs. let start = c .before .before .before .before .before .before .before .before .before .before .before .before .before .before .before .before .pre .1 .0 in
     let asked = start .0 in (
       omega (arith, asked .pattern-stands .inside, asked .small, start .1),
@@ -503,7 +503,7 @@ pub +shadow-anew+shadow-first+shadow-inside+shadow-lengths+shadow-run+shadow-tri
     let lengths = c .before .before .before .before .shadow-lengths in (
       lengths .ensures .0,
       lengths .ensures .1,
-      failed.lengths-noted asked _ free (start .1 .1) false (failed.none-matched _ _ (lengths .result) _ (lengths .ensures .1) (not-true _ (c .before .before .if3 .taken))) (lengths .ensures .2) (c .note-failed .ensures),
+      failed.lengths-noted asked _ free (start .1 .1) (failed.none-matched _ _ (lengths .result) _ (lengths .ensures .1) (not-true _ (c .before .before .if3 .taken))) (lengths .ensures .2) (c .note-failed .ensures),
       lengths .ensures .3,
     ))
     (λ c. c .before .before .shadow-lengths .ensures)

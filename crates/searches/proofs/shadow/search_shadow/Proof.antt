@@ -1,8 +1,7 @@
 -- `search_shadow` meets its contract: the search from no values.
 use Rattle.searches.proofs.ShadowStart.{shadow-start, shadow-answer}
-use mathlib.Core.Bool.{false}
 use Rattle.searches.proofs.SureLaws.{settled-fixed}
-use Rattle.searches.proofs.FailedLaws.{remembers-none}
+use Rattle.searches.proofs.FailedLaws.{shadow-none}
 use native.Mathlib.Omega.{arith}
 use borrow.Author.Needs.{needs}
 use Rattle.searches.proofs.shadow.search_shadow.Statement.{statement}
@@ -17,8 +16,8 @@ search-shadow-spec =
     let (kept, unbound) = c .before .none .ensures (a .text .now) (a .terms .now) in (
       shadow-start (a .text .now) (a .terms .now) _ unbound (a .earlier .now) (a .at) (a .later .now) (a .start)
           (start .pre .0 .0) (start .pre .0 .1) (start .pre .0 .2) (start .pre .1) kept,
-      settled-fixed _ _ 0 (omega arith),
-      remembers-none false (a .text .now) (a .terms .now) _,
+      settled-fixed _ _ 0 _ (omega arith),
+      shadow-none (a .text .now) (a .terms .now) _,
     ))
     (λ c. let start = c .before .before .before .before .before .before .before in
     let a = start .args in

@@ -1,0 +1,36 @@
+-- `closed_around` meets its contract: after each turn the variables of the levels looked at have no value in the places from `sure` on.
+use native.Mathlib.Omega.{arith}
+use Rattle.matching.proofs.SameLaws.{false-not-true}
+use borrow.Author.Tests.{not-false}
+use Rattle.searches.proofs.AroundLaws as around
+use Rattle.searches.proofs.AroundLaws.{Looked}
+use Rattle.searches.proofs.literal.closed_around.Statement.{statement}
+use Rattle.searches.proofs.literal.closed_around.Tie as tie
+
+abbrev Inv-loop : tie.InvT-loop
+Inv-loop text terms at keys sure count outer n₀ from₀ n from = Looked text terms outer at keys sure count from n
+
+abbrev μ-loop : tie.MeasureT-loop
+μ-loop text terms at keys sure count outer n₀ from₀ n from = n
+
+pub closed-around-spec : {M : Type 1} → statement M
+closed-around-spec =
+    tie.close
+    (tie.spec
+    Inv-loop
+    μ-loop
+    (λ c. around.looked-start _ _ _ _ (c .before .before .pre .3 .1))
+    (λ c. omega (arith, c .if1 .left))
+    (λ c. omega (arith, c .before .loop .inv .few))
+    (λ c. omega (arith, c .before .loop .inv .few, c .if1 .left))
+    (λ c κs. tt)
+    (λ c. around.looked-level (c .before .before .before .loop .inv) (c .before .before .if1 .left) (c .wide .ensures .0) .0)
+    (λ c. around.looked-level (c .before .before .before .loop .inv) (c .before .before .if1 .left) (c .wide .ensures .0) .0)
+    (λ c. around.looked-level (c .before .before .before .loop .inv) (c .before .before .if1 .left) (c .wide .ensures .0) .1)
+    (λ c κs. let the-pre = c .before .before .before .before .before .before .before .pre in (the-pre .0, the-pre .1, the-pre .2))
+    (λ c. let the-if1 = c .before .before .before .before .before .if1 in omega (arith, the-if1 .left))
+    (λ c. let the-if1 = c .before .before .before .before .before .if1 in
+    let the-loop = c .before .before .before .before .before .before .loop in
+    around.looked-next (the-loop .inv) (the-if1 .left) (c .before .before .before .wide .ensures .0) (c .before .closed .ensures (not-false _ (c .if2 .left))))
+    (λ c. λ e. around.looked-all (c .before .loop .inv) (c .if1 .taken))
+    (λ c. λ e. absurd (false-not-true e)))
