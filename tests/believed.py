@@ -8,7 +8,7 @@ reached.
 
   believed.py             prints them, file by file
   believed.py -v          also the definitions in specs/ that are not reached: examples, what the laws speak of, answers of
-                          inner calls, what `loader` says again
+                          inner calls
   believed.py --lock      writes tests/believed.lock: a line with a digest for each contract, theorem, definition and type, and
                           for each example, with the definitions that it alone speaks of
   believed.py --check     prints the lines that are changed, new, gone or moved against tests/believed.lock; fails where there

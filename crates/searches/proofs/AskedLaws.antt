@@ -1,4 +1,4 @@
--- What the matchers ask for (`Asked`, specs/Asked.antt) holds of the parts that they hand on.
+-- What the matchers ask for (`Asked`, specs/Code/Asked.antt) holds of the parts that they hand on.
 use Prim.Native.Nat.{ℕ, _+_, _-_, _≤_, _<_}
 use mathlib.Core.Bool.{true, false}
 use mathlib.Core.List.{List, [], _++_, append-assoc, append-nil}

@@ -1,4 +1,4 @@
--- There is a place for each variable that gets a value (specs/Capacity.antt).
+-- There is a place for each variable that gets a value (specs/Code/Capacity.antt).
 use Prim.Native.Nat.{ℕ, zero, suc, _≤_, _<_}
 use mathlib.Core.Bool.{Bool, true, false, cond}
 use mathlib.Core.List.{List, [], _∷_, _++_, append-assoc, append-nil, List·Memᴰ, List·Memᴰ·head}

@@ -1,4 +1,4 @@
--- What a search remembers (specs/Failed.antt) is so at the start, and stays so when a rest is noted that has no match.
+-- What a search remembers (specs/Code/Failed.antt) is so at the start, and stays so when a rest is noted that has no match.
 use Prim.Native.Nat.{ℕ, zero, suc, _+_, _*_, _-_, _≤_, _<_}
 use mathlib.Core.Bool.{true, false}
 use mathlib.Core.List.{List, [], _∷_}

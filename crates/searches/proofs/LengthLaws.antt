@@ -1,4 +1,4 @@
--- Every length of a row as the value of an e. variable (`eachLength`, specs/Step.antt), as the matchers' loops go through them: at a position the lengths
+-- Every length of a row as the value of an e. variable (`eachLength`, in matching/specs/Code/Step.antt), as the matchers' loops go through them: at a position the lengths
 -- before it are done, and those from it on are left.
 use Prim.Native.Nat.{ℕ, _+_, _≤_, _<_}
 use mathlib.Core.Bool.{Bool}

@@ -1,4 +1,4 @@
--- What is still to be matched around the brackets that were gone into (`Pending`, specs/Asked.antt): one level more, and one level out.
+-- What is still to be matched around the brackets that were gone into (`Pending`, specs/Code/Asked.antt): one level more, and one level out.
 use Prim.Native.Nat.{ℕ, zero, suc, _+_, _-_, _≤_, _<_}
 use mathlib.Core.Bool.{Bool, true, false, _||_}
 use mathlib.Core.List.{List, [], _∷_, _++_}

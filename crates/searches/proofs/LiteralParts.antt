@@ -1,4 +1,4 @@
--- Literal parts of the term records (specs/Part.antt), record by record, and literal matching of them.
+-- Literal parts of the term records (matching/specs/Code/Part.antt), record by record, and literal matching of them.
 use Prim.Native.Nat.{ℕ, zero, suc, _+_, _-_, _≤_, _<_}
 use mathlib.Core.Bool.{Bool, true, false, _&&_}
 use mathlib.Core.List.{List, []}

@@ -220,6 +220,12 @@ module _ {text : List ℕ} {a : Atom} {part : List ℕ} {i : ℕ} (so-far : Past
           ap (λ m. sameAtom a (atomAt text part m)) here
           ∙ ap (λ x. sameAtom a (atomOf text x)) (sym (record-at part i (so-far .count) (so-far .counted) long)) ∙ sym told ∙ e
 
+  -- the record here is the same variable
+  pub past-found : 24 ≤ length (from i part) → {t : Bool} → t ≡ sameAtom a (atomOf text (termAt (from i part) 0)) → t ≡ true → Alone text a part → ⊥
+  past-found long {t} told e alone =
+      let here : sameAtom a (atomOf text (termAt part (24 * so-far .count))) ≡ false = alone (so-far .count) (omega (arith, from-length i part, so-far .counted)) in
+      false-not-true (sym here ∙ ap (λ x. sameAtom a (atomOf text x)) (sym (record-at part i (so-far .count) (so-far .counted) long)) ∙ sym told ∙ e)
+
 -- ---- what `disjoint_variables` has gone through: none of the first so many records is a variable of the other
 
 pub record Across (text part behind : List ℕ) (i : ℕ) : Type 0 where

@@ -1,4 +1,4 @@
--- Which places keep their values, and which have no value of a variable that is to come (`Settled` of specs/Failed.antt): for the parts of the pattern, and when one
+-- Which places keep their values, and which have no value of a variable that is to come (`Settled` of specs/Code/Failed.antt): for the parts of the pattern, and when one
 -- variable more has a value.
 use Prim.Native.Nat.{ℕ, zero, suc, _+_, _-_, _≤_, _<_}
 use mathlib.Core.Bool.{Bool, true}

@@ -26,7 +26,8 @@ pub struct Sure {
 // Is the variable that stands first in one part a record of another, at any depth?
 pub fn again(text: &[u8], first: &[u8], part: &[u8]) -> bool
     requires { ⌜ 24 ≤ length (now first) ⌝ }
-    ensures { λ r. ⌜ (r ≡ false → Alone (now (text .entry)) (atomOf (now (text .entry)) (termAt (now (first .entry)) 0)) (now (part .entry))) ⌝ }
+    ensures { λ r. ⌜ (r ≡ false → Alone (now (text .entry)) (atomOf (now (text .entry)) (termAt (now (first .entry)) 0)) (now (part .entry)))
+        × (r ≡ true → Alone (now (text .entry)) (atomOf (now (text .entry)) (termAt (now (first .entry)) 0)) (now (part .entry)) → ⊥) ⌝ }
 {
     let mut i = 0;
     loop {

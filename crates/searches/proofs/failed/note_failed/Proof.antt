@@ -25,7 +25,10 @@ note-failed-spec =
     (λ c. search needs)
     (λ c. search needs)
     (λ c. search needs)
-    (λ c. let the-args = c .before .before .before .before .before .args in
+    (λ c.
+    let the-slot = c .before .before .before .before .slot in
+    let the-narrow = c .before .before .before .narrow in
+    let the-args = c .before .before .before .before .before .args in
     let the-pre = c .before .before .before .before .before .pre in
-    rw (c .before .before .before .narrow .ensures, c .before .before .narrow2 .ensures, c .before .narrow3 .ensures, c .narrow4 .ensures)
-    (rest-noted (the-args .failed .now) (c .before .before .before .before .slot .ensures) (the-pre .4) (the-args .at) (the-args .end) (the-args .start) (the-args .row-end))))
+    rw (the-narrow .ensures, c .before .before .narrow2 .ensures, c .before .narrow3 .ensures, c .narrow4 .ensures)
+    (rest-noted (the-args .failed .now) (the-slot .ensures) (the-pre .4) (the-args .at) (the-args .end) (the-args .start) (the-args .row-end))))

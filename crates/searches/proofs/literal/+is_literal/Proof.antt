@@ -57,9 +57,15 @@ pub +is-literal-spec : {M : Type 1} → statement M
     (λ c. search needs)
     (λ c κs. omega (arith, c .if1 .left))
     (λ c κs. c .before .if1 .left)
-    (λ c. c .before .before .end-of .ensures .1)
-    (λ c. c .before .before .end-of .ensures .1)
-    (λ c. c .before .before .end-of .ensures .2)
+    (λ c.
+    let the-end-of = c .before .before .end-of in
+    the-end-of .ensures .1)
+    (λ c.
+    let the-end-of = c .before .before .end-of in
+    the-end-of .ensures .1)
+    (λ c.
+    let the-end-of = c .before .before .end-of in
+    the-end-of .ensures .2)
     (λ c κs. let the-loop = c .before .before .before .before .before .before .before .loop in
     let the-if1 = c .before .before .before .before .before .if1 in
     let start = c .before .before .before .before .before .before .before .before .before in
@@ -89,11 +95,17 @@ pub +is-literal-spec : {M : Type 1} → statement M
     (λ w. laws.after-symbol so-far some kind ends (w .left))
     (c .if2 .came))
     (λ c. laws.literal-all (c .before .before .loop .inv) (c .if1 .taken))
-    (λ c. let the-loop = c .before .before .before .before .before .before .loop in
-    laws.literal-no (the-loop .inv) (c .before .before .before .before .if1 .left) (c .before .before .before .word-at .ensures) (c .before .before .end-of .ensures .0) (c .before .if2 .taken) (c .if3 .taken))
-    (λ c. let the-loop = c .before .before .before .before .before .before .before .before .before .loop in
+    (λ c.
+    let the-if1 = c .before .before .before .before .if1 in
+    let the-word-at = c .before .before .before .word-at in
+    let the-end-of = c .before .before .end-of in
+    let the-loop = c .before .before .before .before .before .before .loop in
+    laws.literal-no (the-loop .inv) (the-if1 .left) (the-word-at .ensures) (the-end-of .ensures .0) (c .before .if2 .taken) (c .if3 .taken))
+    (λ c.
+    let the-if3 = c .before .before .before .if3 in
+    let the-loop = c .before .before .before .before .before .before .before .before .before .loop in
     let the-if1 = c .before .before .before .before .before .before .before .if1 in
     let the-word-at = c .before .before .before .before .before .before .word-at in
     let the-end-of = c .before .before .before .before .before .end-of in
     laws.inside-no (the-loop .inv) (the-if1 .left) (the-word-at .ensures) (the-end-of .ensures .0)
-    (c .before .before .before .if3 .left) (c .before .is-literal .ensures) (not-true (c .before .is-literal .result) (c .if4 .taken)))
+    (the-if3 .left) (c .before .is-literal .ensures) (not-true (c .before .is-literal .result) (c .if4 .taken)))

@@ -253,7 +253,9 @@ pub +literal-anew+literal-apart+literal-bracket+literal-first+literal-inside+lit
     )
     (literal-apart-at t)
     literal-apart.Post
-    (λ c κs. c .before .before .before .before .pre .1 .0 .1)
+    (λ c κs.
+    let the-pre = c .before .before .before .before .pre in
+    the-pre .1 .0 .1)
     (λ c κs. let the-pre = c .before .before .before .before .before .pre in
     the-pre .1 .0 .2 .some)
     (λ c. c .before .end-of .ensures .1)
@@ -264,12 +266,15 @@ pub +literal-anew+literal-apart+literal-bracket+literal-first+literal-inside+lit
     (λ c. search needs)
     (λ c. let start = c .before .before .before .before .before .before .before .before .pre .1 .0 in omega (arith, start .0 .asked .pattern-stands .inside, start .0 .asked .small, start .1))
     (λ c. let start = c .before .before .before .before .before .before .before .before .pre .1 .0 in omega (arith, start .0 .asked .row-stands .inside, start .0 .asked .small, start .2 .some))
-    (λ c κs. let the-pre = c .before .before .before .before .before .before .before .before .before .pre in
+    (λ c κs.
+    let the-end-of = c .before .before .before .before .end-of in
+    let the-end-of2 = c .before .before .before .end-of2 in
+    let the-pre = c .before .before .before .before .before .before .before .before .before .pre in
     let start = c .before .before .before .before .before .before .before .before .before .pre .1 .0 in (
       omega (arith, the-pre .0, start .0 .asked .pattern-stands .inside, start .1),
       (
-        alone.contents-alone (start .0) (the-pre .1 .1 .0) (start .1) (start .2) _ _ (c .before .before .before .before .end-of .ensures .0) (c .before .before .before .end-of2 .ensures .0),
-        alone.remembering-inside (start .0) (the-pre .1 .1 .0) (start .1) (start .2) _ (c .before .before .before .end-of2 .result) (c .before .before .before .before .end-of .ensures .0) (start .3),
+        alone.contents-alone (start .0) (the-pre .1 .1 .0) (start .1) (start .2) _ _ (the-end-of .ensures .0) (the-end-of2 .ensures .0),
+        alone.remembering-inside (start .0) (the-pre .1 .1 .0) (start .1) (start .2) _ (the-end-of2 .result) (the-end-of .ensures .0) (start .3),
       ),
     ))
     (λ c. let the-pre = c .before .before .before .before .before .before .before .before .before .before .before .pre in
@@ -291,7 +296,9 @@ pub +literal-anew+literal-apart+literal-bracket+literal-first+literal-inside+lit
     let asked = c .before .before .before .before .before .before .before .before .before .before .before .before .before .pre .1 .0 .0 .asked in omega (arith, asked .pattern-stands .inside, asked .small, the-end-of .ensures .2))
     (λ c. let the-end-of2 = c .before .before .before .before .before .before .before .end-of2 in
     let asked = c .before .before .before .before .before .before .before .before .before .before .before .before .before .pre .1 .0 .0 .asked in omega (arith, asked .row-stands .inside, asked .small, the-end-of2 .ensures .2))
-    (λ c κs. let the-pre = c .before .before .before .before .before .before .before .before .before .before .before .before .before .before .pre in
+    (λ c κs.
+    let the-literal-run = c .before .before .before .before .literal-run in
+    let the-pre = c .before .before .before .before .before .before .before .before .before .before .before .before .before .before .pre in
     let the-end-of2 = c .before .before .before .before .before .before .before .before .end-of2 in
     let start = c .before .before .before .before .before .before .before .before .before .before .before .before .before .before .pre .1 .0 in
     let ends = c .before .before .before .before .before .before .before .before .before .end-of .ensures in
@@ -300,16 +307,18 @@ pub +literal-anew+literal-apart+literal-bracket+literal-first+literal-inside+lit
       (
         level.literal-later (start .0) _ _ begins (the-end-of2 .ensures .2),
         around.remembering-later (start .0) _ _ (ends .2) (the-end-of2 .ensures .2) begins
-            (around.remembering-then (start .3) (alone.remembered-inside (start .0) (the-pre .1 .1 .0) (start .1) (start .2) _ _ (c .before .before .before .before .literal-run .ensures .1))),
+            (around.remembering-then (start .3) (alone.remembered-inside (start .0) (the-pre .1 .1 .0) (start .1) (start .2) _ _ (the-literal-run .ensures .1))),
       ),
     ))
-    (λ c. let the-pre = c .before .before .before .before .before .before .before .before .before .before .before .before .before .before .before .pre in
+    (λ c.
+    let the-if1 = c .before .before .before .before .if1 in
+    let the-pre = c .before .before .before .before .before .before .before .before .before .before .before .before .before .before .before .pre in
     let the-end-of = c .before .before .before .before .before .before .before .before .before .before .end-of in
     let the-end-of2 = c .before .before .before .before .before .before .before .before .before .end-of2 in
     let the-literal-run = c .before .before .before .before .before .literal-run in
     let start = the-pre .1 .0 in (
       alone.bracket-some _ _ _ (the-pre .1 .1 .0) _ _ _ _ _ (the-end-of .ensures .0) (the-end-of2 .ensures .0) (the-pre .1 .1 .1)
-          _ _ _ _ _ _ (the-literal-run .ensures .0) (not-false _ (c .before .before .before .before .if1 .left)) (c .literal-run2 .ensures .0),
+          _ _ _ _ _ _ (the-literal-run .ensures .0) (not-false _ (the-if1 .left)) (c .literal-run2 .ensures .0),
       around.remembered-then (alone.remembered-inside (start .0) (the-pre .1 .1 .0) (start .1) (start .2) _ _ (the-literal-run .ensures .1))
           (around.remembered-later (start .0) _ _ (the-end-of .ensures .2) (the-end-of2 .ensures .2) (c .literal-run2 .ensures .1)),
     )))
@@ -325,7 +334,9 @@ pub +literal-anew+literal-apart+literal-bracket+literal-first+literal-inside+lit
     )
     (literal-bracket-at t)
     literal-bracket.Post
-    (λ c κs. c .before .before .before .before .pre .1 .1)
+    (λ c κs.
+    let the-pre = c .before .before .before .before .pre in
+    the-pre .1 .1)
     (λ c. c .end-of .ensures .1)
     (λ c. search needs)
     (λ c. search needs)
@@ -362,16 +373,24 @@ pub +literal-anew+literal-apart+literal-bracket+literal-first+literal-inside+lit
     (λ c. c .end-of .ensures .2)
     (λ c. search needs)
     (λ c. search needs)
-    (λ c. let the-pre = c .before .before .before .before .before .before .before .before .before .pre in
-    first-record.binds-within (the-pre .1 .1 .leaves) true _ (c .before .before .before .first .given .1) .0)
-    (λ c. let the-pre = c .before .before .before .before .before .before .before .before .before .pre in
-    first-record.binds-within (the-pre .1 .1 .leaves) true _ (c .before .before .before .first .given .1) .0)
+    (λ c.
+    let the-first = c .before .before .before .first in
+    let the-pre = c .before .before .before .before .before .before .before .before .before .pre in
+    first-record.binds-within (the-pre .1 .1 .leaves) true _ (the-first .given .1) .0)
+    (λ c.
+    let the-first = c .before .before .before .first in
+    let the-pre = c .before .before .before .before .before .before .before .before .before .pre in
+    first-record.binds-within (the-pre .1 .1 .leaves) true _ (the-first .given .1) .0)
     (λ c. search needs)
-    (λ c. let asked = c .before .before .before .before .before .before .before .before .before .before .pre .1 .0 .0 .asked in
-    omega (arith, asked .pattern-stands .inside, asked .small, c .before .before .end-of .ensures .2))
-    (λ c κs. let start = c .before .before .before .before .before .before .before .before .before .before .pre in
+    (λ c.
+    let the-end-of = c .before .before .end-of in
+    let asked = c .before .before .before .before .before .before .before .before .before .before .pre .1 .0 .0 .asked in
+    omega (arith, asked .pattern-stands .inside, asked .small, the-end-of .ensures .2))
+    (λ c κs.
+    let the-first = c .before .before .before .before .first in
+    let start = c .before .before .before .before .before .before .before .before .before .before .pre in
     let asked = start .1 .0 .0 .asked in
-    let binds = first-record.binds-within (start .1 .1 .leaves) true _ (c .before .before .before .before .first .given .1) in (
+    let binds = first-record.binds-within (start .1 .1 .leaves) true _ (the-first .given .1) in (
       (
         omega (arith, asked .pattern-stands .inside, asked .small, start .1 .1 .some),
         omega (arith, asked .row-stands .inside, asked .small),
@@ -418,10 +437,14 @@ pub +literal-anew+literal-apart+literal-bracket+literal-first+literal-inside+lit
           (first-record.step-binds (stopped .leaves) true _ _ _ (the-first .given .1) (ends .ensures .0) values) (c .literal-run .ensures .0),
       around.remembered-bound (start .1 .0 .1) (c .before .before .bind .ensures) (around.remembered-later (start .1 .0 .0) _ _ (ends .ensures .2) (binds .0) (c .literal-run .ensures .1)),
     ))
-    (λ c. let the-pre = c .before .before .before .before .before .before .before .before .pre in
-    (level.run-same (the-pre .1 .0 .0) (c .literal-tries .result) _ (c .literal-tries .ensures .0) (first-record.step-tries (the-pre .1 .1 .leaves) true (c .before .before .enum-told3 .given .1)), c .literal-tries .ensures .1))
-    (λ c. let the-pre = c .before .before .before .before .before .before .before .before .pre in
-    (level.run-same (the-pre .1 .0 .0) (c .literal-bracket .result) _ (c .literal-bracket .ensures .0) (first-record.step-inside (the-pre .1 .1 .leaves) true (c .before .before .enum-told4 .given .1)), c .literal-bracket .ensures .1)))
+    (λ c.
+    let the-enum-told3 = c .before .before .enum-told3 in
+    let the-pre = c .before .before .before .before .before .before .before .before .pre in
+    (level.run-same (the-pre .1 .0 .0) (c .literal-tries .result) _ (c .literal-tries .ensures .0) (first-record.step-tries (the-pre .1 .1 .leaves) true (the-enum-told3 .given .1)), c .literal-tries .ensures .1))
+    (λ c.
+    let the-enum-told4 = c .before .before .enum-told4 in
+    let the-pre = c .before .before .before .before .before .before .before .before .pre in
+    (level.run-same (the-pre .1 .0 .0) (c .literal-bracket .result) _ (c .literal-bracket .ensures .0) (first-record.step-inside (the-pre .1 .1 .leaves) true (the-enum-told4 .given .1)), c .literal-bracket .ensures .1)))
     (λ t. literal-inside-lts.spec (
       end-of-reads.Asked,
       end-of-reads.Learnt,
@@ -434,7 +457,9 @@ pub +literal-anew+literal-apart+literal-bracket+literal-first+literal-inside+lit
     )
     (literal-inside-at t)
     literal-inside.Post
-    (λ c κs. c .before .before .before .before .pre .1 .1)
+    (λ c κs.
+    let the-pre = c .before .before .before .before .pre in
+    the-pre .1 .1)
     (λ c κs. let the-pre = c .before .before .before .before .before .pre in
     the-pre .1 .2 .some)
     (λ c. let asked = c .before .before .before .before .before .before .pre .1 .0 .asked in
@@ -449,10 +474,14 @@ pub +literal-anew+literal-apart+literal-bracket+literal-first+literal-inside+lit
       start .1 .0 .around .patterns,
       start .1 .0 .around .rows,
     ))
-    (λ c. c .before .before .end-of .ensures .1)
+    (λ c.
+    let the-end-of = c .before .before .end-of in
+    the-end-of .ensures .1)
     (λ c. search needs)
     (λ c. search needs)
-    (λ c. c .before .before .end-of2 .ensures .1)
+    (λ c.
+    let the-end-of2 = c .before .before .end-of2 in
+    the-end-of2 .ensures .1)
     (λ c. search needs)
     (λ c. search needs)
     (λ c. let start = c .before .before .before .before .before .before .before .before .before .pre in
@@ -460,22 +489,26 @@ pub +literal-anew+literal-apart+literal-bracket+literal-first+literal-inside+lit
     (λ c. let start = c .before .before .before .before .before .before .before .before .before .pre in
     omega (arith, start .1 .0 .asked .row-stands .inside, start .1 .0 .asked .small, start .1 .2 .some))
     (λ c κs. tt)
-    (λ c κs. let the-end-of = c .before .before .before .before .before .before .end-of in
+    (λ c κs.
+    let the-push = c .before .before .before .before .push in
+    let the-end-of = c .before .before .before .before .before .before .end-of in
     let the-end-of2 = c .before .before .before .before .before .end-of2 in
     let start = c .before .before .before .before .before .before .before .before .before .before .before .pre in
     let more = c .before .before .before .before .push .ensures in
     let unsure = c .before .unsure .ensures in (
       omega (arith, start .0, more .0, start .1 .0 .asked .pattern-stands .inside, start .1 .1),
-      (level.literal-inside (start .1 .0) (start .1 .1) (start .1 .2) _ _ (the-end-of .ensures .0) (the-end-of2 .ensures .0) (c .before .before .before .before .push .result) (more .0) (more .1) (more .2), around.remembering-nothing _ _ _ _ (unsure .0) (unsure .1) (unsure .2)),
+      (level.literal-inside (start .1 .0) (start .1 .1) (start .1 .2) _ _ (the-end-of .ensures .0) (the-end-of2 .ensures .0) (the-push .result) (more .0) (more .1) (more .2), around.remembering-nothing _ _ _ _ (unsure .0) (unsure .1) (unsure .2)),
     ))
-    (λ c. let the-end-of = c .before .before .before .before .before .before .before .end-of in
+    (λ c.
+    let the-unsure = c .before .before .unsure in
+    let the-end-of = c .before .before .before .before .before .before .before .end-of in
     let the-end-of2 = c .before .before .before .before .before .before .end-of2 in
     let start = c .before .before .before .before .before .before .before .before .before .before .before .before .pre in
     let the-push = c .before .before .before .before .before .push in
     let more = the-push .ensures in (
       level.inside-answer (start .1 .0) (start .1 .1) (start .1 .2) _ _ (the-end-of .ensures .0) (the-end-of2 .ensures .0) (the-push .result) (more .0) (more .1) (more .2)
           (c .literal-run .result) (c .literal-run .ensures .0),
-      c .literal-run .ensures .1 .elsewhere (c .before .before .unsure .ensures .2),
+      c .literal-run .ensures .1 .elsewhere (the-unsure .ensures .2),
     )))
     (λ t. literal-lengths-lts.spec (
       end-of-reads.Asked,
@@ -489,7 +522,9 @@ pub +literal-anew+literal-apart+literal-bracket+literal-first+literal-inside+lit
     literal-lengths.Post
     literal-lengths-Inv-loop
     literal-lengths-μ-loop
-    (λ c κs. c .before .before .before .before .pre .1 .0 .1)
+    (λ c κs.
+    let the-pre = c .before .before .before .before .pre in
+    the-pre .1 .0 .1)
     (λ c. c .end-of .ensures .2)
     (λ c. search needs)
     (λ c. search needs)
@@ -510,13 +545,17 @@ pub +literal-anew+literal-apart+literal-bracket+literal-first+literal-inside+lit
       ),
       (asked .kept .keys, asked .kept .starts, asked .kept .sizes),
     ))
-    (λ c. let asked = c .before .before .before .before .before .before .before .before .before .pre .1 .0 .0 .asked in
-    omega (arith, asked .row-stands .inside, asked .small, begin-inside (c .before .before .loop .inv .0)))
-    (λ c κs. let start = c .before .before .before .before .before .before .before .before .before .before .pre in
+    (λ c.
+    let the-loop = c .before .before .loop in
+    let asked = c .before .before .before .before .before .before .before .before .before .pre .1 .0 .0 .asked in
+    omega (arith, asked .row-stands .inside, asked .small, begin-inside (the-loop .inv .0)))
+    (λ c κs.
+    let the-loop = c .before .before .before .loop in
+    let start = c .before .before .before .before .before .before .before .before .before .before .pre in
     let ends = c .before .before .before .before .before .end-of in
-    let inside = begin-inside (c .before .before .before .loop .inv .0) in (
+    let inside = begin-inside (the-loop .inv .0) in (
       omega (arith, start .0, ends .ensures .1, ends .ensures .2, start .1 .0 .0 .asked .pattern-stands .inside),
-      (level.literal-more (start .1 .0 .0) (start .1 .0 .1) (start .1 .1) inside (c .before .bind .ensures) (ends .result) (c .before .before .before .loop .n) (ends .ensures .0) inside, around.remembering-later (start .1 .0 .0) _ _ (ends .ensures .2) inside (sure.begin-second (start .1 .0 .1) (ends .ensures .0)) (around.remembering-bound (around.remembering-then (start .1 .0 .2) (c .before .before .before .loop .inv .2)) (c .before .bind .ensures))),
+      (level.literal-more (start .1 .0 .0) (start .1 .0 .1) (start .1 .1) inside (c .before .bind .ensures) (ends .result) (the-loop .n) (ends .ensures .0) inside, around.remembering-later (start .1 .0 .0) _ _ (ends .ensures .2) inside (sure.begin-second (start .1 .0 .1) (ends .ensures .0)) (around.remembering-bound (around.remembering-then (start .1 .0 .2) (the-loop .inv .2)) (c .before .bind .ensures))),
     ))
     (λ c κs. c .if2 .left)
     (λ c. let the-loop = c .before .before .before .before .before .before .before .loop in
@@ -526,31 +565,38 @@ pub +literal-anew+literal-apart+literal-bracket+literal-first+literal-inside+lit
     (λ c. let the-args = c .before .before .before .before .before .before .before .before .before .before .before .before .before .before .args in
     let the-loop = c .before .before .before .before .before .before .before .loop in
     omega (arith, c .end-of2 .ensures .1, c .end-of2 .ensures .2, from-length (the-loop .n) (the-args .row .now), begin-inside (the-loop .inv .0)))
-    (λ c. let the-loop = c .before .before .before .before .before .before .before .loop in
+    (λ c.
+    let the-literal-run = c .before .before .before .literal-run in
+    let the-loop = c .before .before .before .before .before .before .before .loop in
     let the-end-of = c .before .before .before .before .before .before .before .before .before .end-of in
     let the-bind = c .before .before .before .before .before .bind in
     let start = c .before .before .before .before .before .before .before .before .before .before .before .before .before .before .pre in (
       rw (c .end-of2 .ensures .0) (one-on (c .before .if2 .left) (the-loop .inv .0)),
       rw (c .end-of2 .ensures .0) (level.length-next (start .1 .0 .0) (start .1 .0 .1) (start .1 .1) (the-end-of .ensures .0) (the-loop .inv .0) (the-bind .ensures)
-          (c .before .before .before .literal-run .result) (c .before .before .before .literal-run .ensures .0) (the-loop .inv .1) (c .before .before .if1 .left) (c .before .if2 .left)),
+          (the-literal-run .result) (the-literal-run .ensures .0) (the-loop .inv .1) (c .before .before .if1 .left) (c .before .if2 .left)),
       around.remembered-then (the-loop .inv .2) (around.remembered-bound (around.remembering-then (start .1 .0 .2) (the-loop .inv .2)) (the-bind .ensures)
-          (around.remembered-later (start .1 .0 .0) _ _ (the-end-of .ensures .2) (begin-inside (the-loop .inv .0)) (c .before .before .before .literal-run .ensures .1))),
+          (around.remembered-later (start .1 .0 .0) _ _ (the-end-of .ensures .2) (begin-inside (the-loop .inv .0)) (the-literal-run .ensures .1))),
     ))
-    (λ c. let the-end-of = c .before .before .before .before .before .before .before .end-of in
+    (λ c.
+    let the-bind = c .before .before .before .bind in
+    let the-end-of = c .before .before .before .before .before .before .before .end-of in
     let the-loop = c .before .before .before .before .before .loop in
     let start = c .before .before .before .before .before .before .before .before .before .before .before .before .pre in (
-      level.length-found (start .1 .0 .0) (start .1 .0 .1) (start .1 .1) (the-end-of .ensures .0) (the-loop .inv .0) (c .before .before .before .bind .ensures) (c .before .literal-run .result)
+      level.length-found (start .1 .0 .0) (start .1 .0 .1) (start .1 .1) (the-end-of .ensures .0) (the-loop .inv .0) (the-bind .ensures) (c .before .literal-run .result)
           (c .before .literal-run .ensures .0) (the-loop .inv .1) (c .if1 .taken),
-      around.remembered-then (the-loop .inv .2) (around.remembered-bound (around.remembering-then (start .1 .0 .2) (the-loop .inv .2)) (c .before .before .before .bind .ensures)
+      around.remembered-then (the-loop .inv .2) (around.remembered-bound (around.remembering-then (start .1 .0 .2) (the-loop .inv .2)) (the-bind .ensures)
           (around.remembered-later (start .1 .0 .0) _ _ (the-end-of .ensures .2) (begin-inside (the-loop .inv .0)) (c .before .literal-run .ensures .1))),
     ))
-    (λ c. let the-end-of = c .before .before .before .before .before .before .before .before .end-of in
+    (λ c.
+    let the-bind = c .before .before .before .before .bind in
+    let the-literal-run = c .before .before .literal-run in
+    let the-end-of = c .before .before .before .before .before .before .before .before .end-of in
     let the-loop = c .before .before .before .before .before .before .loop in
     let start = c .before .before .before .before .before .before .before .before .before .before .before .before .before .pre in (
-      level.length-none (start .1 .0 .0) (start .1 .0 .1) (start .1 .1) (the-end-of .ensures .0) (the-loop .inv .0) (c .before .before .before .before .bind .ensures) (c .before .before .literal-run .result)
-          (c .before .before .literal-run .ensures .0) (the-loop .inv .1) (c .before .if1 .left) (c .if2 .taken),
-      around.remembered-then (the-loop .inv .2) (around.remembered-bound (around.remembering-then (start .1 .0 .2) (the-loop .inv .2)) (c .before .before .before .before .bind .ensures)
-          (around.remembered-later (start .1 .0 .0) _ _ (the-end-of .ensures .2) (begin-inside (the-loop .inv .0)) (c .before .before .literal-run .ensures .1))),
+      level.length-none (start .1 .0 .0) (start .1 .0 .1) (start .1 .1) (the-end-of .ensures .0) (the-loop .inv .0) (the-bind .ensures) (c .before .before .literal-run .result)
+          (the-literal-run .ensures .0) (the-loop .inv .1) (c .before .if1 .left) (c .if2 .taken),
+      around.remembered-then (the-loop .inv .2) (around.remembered-bound (around.remembering-then (start .1 .0 .2) (the-loop .inv .2)) (the-bind .ensures)
+          (around.remembered-later (start .1 .0 .0) _ _ (the-end-of .ensures .2) (begin-inside (the-loop .inv .0)) (the-literal-run .ensures .1))),
     )))
     (λ t. literal-out-lts.spec (
       wide-reads.Asked,
@@ -564,44 +610,67 @@ pub +literal-anew+literal-apart+literal-bracket+literal-first+literal-inside+lit
     literal-out.Post
     (λ c. (level.out-none _ _ _ _ _ _ (c .if1 .taken), refl))
     (λ c. omega (arith, c .if1 .left))
-    (λ c. omega (arith, c .before .before .before .pre .1 .0 .1 .few))
-    (λ c. omega (arith, c .before .before .before .pre .1 .0 .1 .few, c .if1 .left))
+    (λ c.
+    let the-pre = c .before .before .before .pre in
+    omega (arith, the-pre .1 .0 .1 .few))
+    (λ c.
+    let the-pre = c .before .before .before .pre in
+    omega (arith, the-pre .1 .0 .1 .few, c .if1 .left))
     (λ c κs. tt)
     (λ c. let the-pre = c .before .before .before .before .before .pre in
     omega (arith, the-pre .1 .0 .1 .few))
     (λ c. let the-pre = c .before .before .before .before .before .pre in
     omega (arith, the-pre .1 .0 .1 .few, c .before .before .if1 .left))
     (λ c κs. tt)
-    (λ c. let start = c .before .before .before .before .before .before .before .pre in
-    level.out-pattern (start .1 .0 .0) (start .1 .0 .1) (start .1 .0 .2) (start .1 .1) (omega (arith, c .before .before .before .before .if1 .left)) (c .before .before .wide .ensures .0) (c .wide2 .ensures .0) .0)
-    (λ c. let start = c .before .before .before .before .before .before .before .pre in
-    level.out-pattern (start .1 .0 .0) (start .1 .0 .1) (start .1 .0 .2) (start .1 .1) (omega (arith, c .before .before .before .before .if1 .left)) (c .before .before .wide .ensures .0) (c .wide2 .ensures .0) .0)
-    (λ c. let start = c .before .before .before .before .before .before .before .pre in
-    level.out-pattern (start .1 .0 .0) (start .1 .0 .1) (start .1 .0 .2) (start .1 .1) (omega (arith, c .before .before .before .before .if1 .left)) (c .before .before .wide .ensures .0) (c .wide2 .ensures .0) .1)
-    (λ c. let the-if1 = c .before .before .before .before .before .if1 in
+    (λ c.
+    let the-if1 = c .before .before .before .before .if1 in
+    let the-wide = c .before .before .wide in
+    let start = c .before .before .before .before .before .before .before .pre in
+    level.out-pattern (start .1 .0 .0) (start .1 .0 .1) (start .1 .0 .2) (start .1 .1) (omega (arith, the-if1 .left)) (the-wide .ensures .0) (c .wide2 .ensures .0) .0)
+    (λ c.
+    let the-if1 = c .before .before .before .before .if1 in
+    let the-wide = c .before .before .wide in
+    let start = c .before .before .before .before .before .before .before .pre in
+    level.out-pattern (start .1 .0 .0) (start .1 .0 .1) (start .1 .0 .2) (start .1 .1) (omega (arith, the-if1 .left)) (the-wide .ensures .0) (c .wide2 .ensures .0) .0)
+    (λ c.
+    let the-if1 = c .before .before .before .before .if1 in
+    let the-wide = c .before .before .wide in
+    let start = c .before .before .before .before .before .before .before .pre in
+    level.out-pattern (start .1 .0 .0) (start .1 .0 .1) (start .1 .0 .2) (start .1 .1) (omega (arith, the-if1 .left)) (the-wide .ensures .0) (c .wide2 .ensures .0) .1)
+    (λ c.
+    let the-wide = c .before .before .before .wide in
+    let the-if1 = c .before .before .before .before .before .if1 in
     let start = c .before .before .before .before .before .before .before .before .pre in
-    level.out-row (start .1 .0 .0) (start .1 .0 .1) (start .1 .0 .2) (start .1 .1) (omega (arith, the-if1 .left)) (c .before .before .before .wide .ensures .0) (c .before .wide2 .ensures .0) .0)
-    (λ c. let the-if1 = c .before .before .before .before .before .if1 in
+    level.out-row (start .1 .0 .0) (start .1 .0 .1) (start .1 .0 .2) (start .1 .1) (omega (arith, the-if1 .left)) (the-wide .ensures .0) (c .before .wide2 .ensures .0) .0)
+    (λ c.
+    let the-wide = c .before .before .before .wide in
+    let the-if1 = c .before .before .before .before .before .if1 in
     let start = c .before .before .before .before .before .before .before .before .pre in
-    level.out-row (start .1 .0 .0) (start .1 .0 .1) (start .1 .0 .2) (start .1 .1) (omega (arith, the-if1 .left)) (c .before .before .before .wide .ensures .0) (c .before .wide2 .ensures .0) .0)
-    (λ c. let the-if1 = c .before .before .before .before .before .if1 in
+    level.out-row (start .1 .0 .0) (start .1 .0 .1) (start .1 .0 .2) (start .1 .1) (omega (arith, the-if1 .left)) (the-wide .ensures .0) (c .before .wide2 .ensures .0) .0)
+    (λ c.
+    let the-wide = c .before .before .before .wide in
+    let the-if1 = c .before .before .before .before .before .if1 in
     let start = c .before .before .before .before .before .before .before .before .pre in
-    level.out-row (start .1 .0 .0) (start .1 .0 .1) (start .1 .0 .2) (start .1 .1) (omega (arith, the-if1 .left)) (c .before .before .before .wide .ensures .0) (c .before .wide2 .ensures .0) .1)
+    level.out-row (start .1 .0 .0) (start .1 .0 .1) (start .1 .0 .2) (start .1 .1) (omega (arith, the-if1 .left)) (the-wide .ensures .0) (c .before .wide2 .ensures .0) .1)
     (λ c κs. tt)
-    (λ c κs. let the-if1 = c .before .before .before .before .before .before .before .before .if1 in
+    (λ c κs.
+    let the-wide2 = c .before .before .before .before .wide2 in
+    let the-if1 = c .before .before .before .before .before .before .before .before .if1 in
     let the-wide = c .before .before .before .before .before .before .wide in
     let start = c .before .before .before .before .before .before .before .before .before .before .before .pre in
     let unsure = c .before .unsure .ensures in (
       omega (arith, start .0, the-if1 .left),
-      (level.literal-out (start .1 .0 .0) (start .1 .0 .1) (start .1 .0 .2) (start .1 .1) (omega (arith, the-if1 .left)) (the-wide .ensures .0) (c .before .before .before .before .wide2 .ensures .0), around.remembering-nothing _ _ _ _ (unsure .0) (unsure .1) (unsure .2)),
+      (level.literal-out (start .1 .0 .0) (start .1 .0 .1) (start .1 .0 .2) (start .1 .1) (omega (arith, the-if1 .left)) (the-wide .ensures .0) (the-wide2 .ensures .0), around.remembering-nothing _ _ _ _ (unsure .0) (unsure .1) (unsure .2)),
     ))
-    (λ c. let the-if1 = c .before .before .before .before .before .before .before .before .before .if1 in
+    (λ c.
+    let the-unsure = c .before .before .unsure in
+    let the-if1 = c .before .before .before .before .before .before .before .before .before .if1 in
     let the-wide = c .before .before .before .before .before .before .before .wide in
     let the-wide2 = c .before .before .before .before .before .wide2 in
     let start = c .before .before .before .before .before .before .before .before .before .before .before .before .pre in (
       level.out-answer (start .1 .0 .0) (start .1 .0 .1) (start .1 .0 .2) (start .1 .1) (omega (arith, the-if1 .left)) (the-wide .ensures .0) (the-wide2 .ensures .0)
           (c .literal-run .result) (c .literal-run .ensures .0),
-      c .literal-run .ensures .1 .elsewhere (c .before .before .unsure .ensures .2),
+      c .literal-run .ensures .1 .elsewhere (the-unsure .ensures .2),
     )))
     (λ t. literal-run-lts.spec (
       known-front-reads.Asked,
@@ -617,8 +686,12 @@ pub +literal-anew+literal-apart+literal-bracket+literal-first+literal-inside+lit
     the-pre .1 .0 .asked .kept)
     (λ c. search needs)
     (λ c. search needs)
-    (λ c. known.known-end (c .before .before .before .known-front .ensures) _ _ (c .before .n .given .1) .0 .within)
-    (λ c. known.known-end (c .before .before .before .known-front .ensures) _ _ (c .before .n .given .1) .0 .within)
+    (λ c.
+    let the-known-front = c .before .before .before .known-front in
+    known.known-end (the-known-front .ensures) _ _ (c .before .n .given .1) .0 .within)
+    (λ c.
+    let the-known-front = c .before .before .before .known-front in
+    known.known-end (the-known-front .ensures) _ _ (c .before .n .given .1) .0 .within)
     (λ c. search needs)
     (λ c. let asked = c .before .before .before .before .before .before .before .before .before .before .before .before .before .before .pre .1 .0 .asked in omega (arith, asked .pattern-stands .inside, asked .small))
     (λ c. let asked = c .before .before .before .before .before .before .before .before .before .before .before .before .before .before .pre .1 .0 .asked in omega (arith, asked .row-stands .inside, asked .small))
@@ -633,29 +706,47 @@ pub +literal-anew+literal-apart+literal-bracket+literal-first+literal-inside+lit
     let (passed, short) = known.known-end (the-known-front .ensures) _ _ (the-n .given .1) in
     (level.run-one (the-pre .1 .0) (c .literal-out .result) (passed .search true ∙ step.end-both _ _ _ true _ short (c .before .before .if1 .taken)) (c .literal-out .ensures .0), around.remembered-same (the-pre .1 .1) (c .literal-out .ensures .1)))
     (λ c. search needs)
-    (λ c. begin-inside (known.known-stop (c .before .before .before .known-front .ensures) _ _ _ (c .before .m .given .1) .0 .begins))
-    (λ c. begin-inside (known.known-stop (c .before .before .before .known-front .ensures) _ _ _ (c .before .m .given .1) .0 .begins))
+    (λ c.
+    let the-known-front = c .before .before .before .known-front in
+    begin-inside (known.known-stop (the-known-front .ensures) _ _ _ (c .before .m .given .1) .0 .begins))
+    (λ c.
+    let the-known-front = c .before .before .before .known-front in
+    begin-inside (known.known-stop (the-known-front .ensures) _ _ _ (c .before .m .given .1) .0 .begins))
     (λ c. search needs)
-    (λ c. known.known-stop (c .before .before .before .before .known-front .ensures) _ _ _ (c .before .before .m .given .1) .0 .within)
-    (λ c. known.known-stop (c .before .before .before .before .known-front .ensures) _ _ _ (c .before .before .m .given .1) .0 .within)
+    (λ c.
+    let the-known-front = c .before .before .before .before .known-front in
+    let the-m = c .before .before .m in
+    known.known-stop (the-known-front .ensures) _ _ _ (the-m .given .1) .0 .within)
+    (λ c.
+    let the-known-front = c .before .before .before .before .known-front in
+    let the-m = c .before .before .m in
+    known.known-stop (the-known-front .ensures) _ _ _ (the-m .given .1) .0 .within)
     (λ c. search needs)
-    (λ c. let the-known-front = c .before .before .before .before .before .known-front in
+    (λ c.
+    let the-m = c .before .before .before .m in
+    let the-known-front = c .before .before .before .before .before .known-front in
     let asked = c .before .before .before .before .before .before .before .before .before .before .before .before .before .before .pre .1 .0 .asked in
-    omega (arith, asked .pattern-stands .inside, asked .small, begin-inside (known.known-stop (the-known-front .ensures) _ _ _ (c .before .before .before .m .given .1) .0 .begins)))
-    (λ c. let the-known-front = c .before .before .before .before .before .known-front in
+    omega (arith, asked .pattern-stands .inside, asked .small, begin-inside (known.known-stop (the-known-front .ensures) _ _ _ (the-m .given .1) .0 .begins)))
+    (λ c.
+    let the-m = c .before .before .before .m in
+    let the-known-front = c .before .before .before .before .before .known-front in
     let asked = c .before .before .before .before .before .before .before .before .before .before .before .before .before .before .pre .1 .0 .asked in
-    omega (arith, asked .row-stands .inside, asked .small, known.known-stop (the-known-front .ensures) _ _ _ (c .before .before .before .m .given .1) .0 .within))
-    (λ c κs. let the-known-front = c .before .before .before .before .before .before .known-front in
+    omega (arith, asked .row-stands .inside, asked .small, known.known-stop (the-known-front .ensures) _ _ _ (the-m .given .1) .0 .within))
+    (λ c κs.
+    let the-m = c .before .before .before .before .m in
+    let the-known-front = c .before .before .before .before .before .before .known-front in
     let start = c .before .before .before .before .before .before .before .before .before .before .before .before .before .before .before .pre in
-    let (passed, stopped) = known.known-stop (the-known-front .ensures) _ _ _ (c .before .before .before .before .m .given .1) in (
+    let (passed, stopped) = known.known-stop (the-known-front .ensures) _ _ _ (the-m .given .1) in (
       omega (arith, start .0, begin-inside (passed .begins), start .1 .0 .asked .pattern-stands .inside),
       ((level.literal-later (start .1 .0) _ _ (passed .begins) (passed .within), around.remembering-later (start .1 .0) _ _ (begin-inside (passed .begins)) (passed .within) (passed .begins) (start .1 .1)), stopped),
     ))
     (λ c. let the-pre = c .before .before .before .before .before .before .before .before .before .before .before .pre in
     (level.run-none (the-pre .1 .0) (known.known-fails (c .before .before .known-front .ensures) (c .enum-told .given .1) true), around.remembered-same (the-pre .1 .1) refl))
-    (λ c. let the-known-front = c .before .before .before .before .before .known-front in
+    (λ c.
+    let the-n = c .before .before .before .n in
+    let the-known-front = c .before .before .before .before .before .known-front in
     let the-pre = c .before .before .before .before .before .before .before .before .before .before .before .before .before .before .pre in
-    let (passed, short) = known.known-end (the-known-front .ensures) _ _ (c .before .before .before .n .given .1) in
+    let (passed, short) = known.known-end (the-known-front .ensures) _ _ (the-n .given .1) in
     (level.run-none (the-pre .1 .0) (passed .search true ∙ step.end-one _ _ _ true _ short (c .if1 .left)), around.remembered-same (the-pre .1 .1) refl))
     (λ c. let the-known-front = c .before .before .before .before .before .before .before .known-front in
     let the-m = c .before .before .before .before .before .m in
@@ -682,22 +773,29 @@ pub +literal-anew+literal-apart+literal-bracket+literal-first+literal-inside+lit
     (λ c κs. let start = c .before .before .before .before .before .before .pre in (omega (arith, start .0), ((start .1 .0 .0, start .1 .0 .1), start .1 .1 .0)))
     (λ c. let start = c .before .before .before .before .before .before .before .pre .1 in (c .literal-anew .ensures, around.remembered-same (start .0 .2) refl))
     (λ c κs. tt)
-    (λ c. let start = c .before .before .before .before .before .before .before .before .before .pre .1 in
-    let (known, closed) = c .before .before .before .before .holds-here .ensures (not-false _ (c .before .before .before .if1 .left)) in (
+    (λ c.
+    let the-holds-here = c .before .before .before .before .holds-here in
+    let the-if1 = c .before .before .before .if1 in
+    let start = c .before .before .before .before .before .before .before .before .before .pre .1 in
+    let (known, closed) = the-holds-here .ensures (not-false _ (the-if1 .left)) in (
       around.lengths-known (start .0 .0 .asked) _ _ (closed _ (start .0 .2 .settled)) (start .1 .1) (start .0 .1) (start .0 .2 .here known) (c .before .failed-before .ensures (c .if2 .taken)),
       around.remembered-same (start .0 .2) refl,
     ))
-    (λ c κs. let the-holds-here = c .before .before .before .before .before .holds-here in
+    (λ c κs.
+    let the-if1 = c .before .before .before .before .if1 in
+    let the-holds-here = c .before .before .before .before .before .holds-here in
     let start = c .before .before .before .before .before .before .before .before .before .before .pre in
-    let (known, closed) = the-holds-here .ensures (not-false _ (c .before .before .before .before .if1 .left)) in
+    let (known, closed) = the-holds-here .ensures (not-false _ (the-if1 .left)) in
     (omega (arith, start .0), ((start .1 .0 .0, start .1 .0 .1, around.remembering-all (start .1 .0 .2) known (closed _ (start .1 .0 .2 .settled))), start .1 .1 .0)))
-    (λ c κs. let start = c .before .before .before .before .before .before .before .before .before .before .before .before .before .pre .1 .0 in
+    (λ c κs.
+    let the-literal-lengths = c .before .before .literal-lengths in
+    let start = c .before .before .before .before .before .before .before .before .before .before .before .before .before .pre .1 .0 in
     let asked = start .0 .asked in (
       omega (arith, asked .pattern-stands .inside, asked .small, start .1),
       omega (arith, asked .pattern-stands .inside, asked .small),
       omega (arith, asked .row-stands .inside, asked .small),
       omega (arith, asked .row-stands .inside, asked .small),
-      c .before .before .literal-lengths .ensures .1 .here refl .long,
+      the-literal-lengths .ensures .1 .here refl .long,
     ))
     (λ c. let the-if1 = c .before .before .before .before .before .before .before .before .if1 in
     let the-holds-here = c .before .before .before .before .before .before .before .before .before .holds-here in
@@ -708,7 +806,9 @@ pub +literal-anew+literal-apart+literal-bracket+literal-first+literal-inside+lit
       around.remembered-here known
           (around.lengths-noted (start .0 .0 .asked) _ _ (closed _ (start .0 .2 .settled)) (start .1 .1) (lengths .ensures .0) (not-true _ (c .before .before .if3 .taken)) (lengths .ensures .1 .here refl) (c .note-failed .ensures)),
     ))
-    (λ c. let the-if1 = c .before .before .before .before .before .before .if1 in
+    (λ c.
+    let the-literal-lengths = c .before .literal-lengths in
+    let the-if1 = c .before .before .before .before .before .before .if1 in
     let the-holds-here = c .before .before .before .before .before .before .before .holds-here in
     let (known, closed) = the-holds-here .ensures (not-false _ (the-if1 .left)) in
-    (c .before .literal-lengths .ensures .0, around.remembered-here known (c .before .literal-lengths .ensures .1 .here refl)))
+    (c .before .literal-lengths .ensures .0, around.remembered-here known (the-literal-lengths .ensures .1 .here refl)))

@@ -19,18 +19,28 @@ closed-around-spec =
     (tie.spec
     Inv-loop
     μ-loop
-    (λ c. around.looked-start _ _ _ _ (c .before .before .pre .3 .1))
+    (λ c.
+    let the-pre = c .before .before .pre in
+    around.looked-start _ _ _ _ (the-pre .3 .1))
     (λ c. omega (arith, c .if1 .left))
     (λ c. omega (arith, c .before .loop .inv .few))
     (λ c. omega (arith, c .before .loop .inv .few, c .if1 .left))
     (λ c κs. tt)
-    (λ c. around.looked-level (c .before .before .before .loop .inv) (c .before .before .if1 .left) (c .wide .ensures .0) .0)
-    (λ c. around.looked-level (c .before .before .before .loop .inv) (c .before .before .if1 .left) (c .wide .ensures .0) .0)
-    (λ c. around.looked-level (c .before .before .before .loop .inv) (c .before .before .if1 .left) (c .wide .ensures .0) .1)
+    (λ c.
+    let the-loop = c .before .before .before .loop in
+    around.looked-level (the-loop .inv) (c .before .before .if1 .left) (c .wide .ensures .0) .0)
+    (λ c.
+    let the-loop = c .before .before .before .loop in
+    around.looked-level (the-loop .inv) (c .before .before .if1 .left) (c .wide .ensures .0) .0)
+    (λ c.
+    let the-loop = c .before .before .before .loop in
+    around.looked-level (the-loop .inv) (c .before .before .if1 .left) (c .wide .ensures .0) .1)
     (λ c κs. let the-pre = c .before .before .before .before .before .before .before .pre in (the-pre .0, the-pre .1, the-pre .2))
     (λ c. let the-if1 = c .before .before .before .before .before .if1 in omega (arith, the-if1 .left))
-    (λ c. let the-if1 = c .before .before .before .before .before .if1 in
+    (λ c.
+    let the-wide = c .before .before .before .wide in
+    let the-if1 = c .before .before .before .before .before .if1 in
     let the-loop = c .before .before .before .before .before .before .loop in
-    around.looked-next (the-loop .inv) (the-if1 .left) (c .before .before .before .wide .ensures .0) (c .before .closed .ensures (not-false _ (c .if2 .left))))
+    around.looked-next (the-loop .inv) (the-if1 .left) (the-wide .ensures .0) (c .before .closed .ensures (not-false _ (c .if2 .left))))
     (λ c. λ e. around.looked-all (c .before .loop .inv) (c .if1 .taken))
     (λ c. λ e. absurd (false-not-true e)))

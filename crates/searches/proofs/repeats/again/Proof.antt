@@ -36,6 +36,12 @@ again-spec =
     (λ c. let the-args = c .before .before .before .before .before .before .before .before .args in
     let at-loop = c .before .before .before .before .loop in
     omega (arith, from-length (at-loop .i) (the-args .part .now), c .before .before .if1 .left))
-    (λ c. laws.past-next (c .before .before .before .before .loop .inv) (c .before .before .if1 .left) (c .before .atoms-same .ensures) (c .if2 .left))
-    (λ c. λ e. laws.past-all (c .before .before .loop .inv) (c .if1 .taken))
-    (λ c. λ e. absurd (false-not-true (sym e))))
+    (λ c.
+    let the-loop = c .before .before .before .before .loop in
+    laws.past-next (the-loop .inv) (c .before .before .if1 .left) (c .before .atoms-same .ensures) (c .if2 .left))
+    (λ c. (λ e. laws.past-all (c .before .before .loop .inv) (c .if1 .taken), λ e. absurd (false-not-true e)))
+    (λ c.
+    let so-far = c .before .before .before .before .loop in (
+      λ e. absurd (false-not-true (sym e)),
+      λ e. laws.past-found (so-far .inv) (c .before .before .if1 .left) (c .before .atoms-same .ensures) (c .if2 .taken),
+    )))

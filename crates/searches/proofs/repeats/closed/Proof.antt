@@ -45,16 +45,23 @@ closed-spec =
     let low : c .before .loop .i < the-args .count = strict (c .before .loop .inv .0) (c .if1 .left) in
     omega (arith, low, the-pre .1))
     (λ c κs. tt)
-    (λ c. let the-args = c .before .before .before .before .before .before .before .args in
+    (λ c.
+    let the-loop = c .before .before .before .loop in
+    let the-args = c .before .before .before .before .before .before .before .args in
     let the-pre = c .before .before .before .before .before .before .before .pre in
-    omega (arith, keyed (the-args .keys .now) (the-args .terms .now) (the-pre .2) (c .before .before .before .loop .inv .0) (c .before .before .if1 .left) (c .wide .ensures .0)))
-    (λ c. let the-args = c .before .before .before .before .before .before .before .args in
+    omega (arith, keyed (the-args .keys .now) (the-args .terms .now) (the-pre .2) (the-loop .inv .0) (c .before .before .if1 .left) (c .wide .ensures .0)))
+    (λ c.
+    let the-loop = c .before .before .before .loop in
+    let the-args = c .before .before .before .before .before .before .before .args in
     let the-pre = c .before .before .before .before .before .before .before .pre in
-    omega (arith, keyed (the-args .keys .now) (the-args .terms .now) (the-pre .2) (c .before .before .before .loop .inv .0) (c .before .before .if1 .left) (c .wide .ensures .0)))
+    omega (arith, keyed (the-args .keys .now) (the-args .terms .now) (the-pre .2) (the-loop .inv .0) (c .before .before .if1 .left) (c .wide .ensures .0)))
     (λ c. search needs)
-    (λ c κs. let the-args = c .before .before .before .before .before .before .before .before .args in
+    (λ c κs.
+    let the-loop = c .before .before .before .before .loop in
+    let the-if1 = c .before .before .before .if1 in
+    let the-args = c .before .before .before .before .before .before .before .before .args in
     let the-pre = c .before .before .before .before .before .before .before .before .pre in
-    omega (arith, keyed (the-args .keys .now) (the-args .terms .now) (the-pre .2) (c .before .before .before .before .loop .inv .0) (c .before .before .before .if1 .left) (c .before .wide .ensures .0), from-length (c .before .wide .result) (the-args .terms .now)))
+    omega (arith, keyed (the-args .keys .now) (the-args .terms .now) (the-pre .2) (the-loop .inv .0) (the-if1 .left) (c .before .wide .ensures .0), from-length (c .before .wide .result) (the-args .terms .now)))
     (λ c. let the-loop = c .before .before .before .before .before .before .loop in
     let the-pre = c .before .before .before .before .before .before .before .before .before .before .pre in
     omega (arith, the-loop .inv .0, the-pre .1))
@@ -63,12 +70,14 @@ closed-spec =
     let the-if1 = c .before .before .before .before .before .if1 in
     let low : the-loop .i < the-args .count = strict (the-loop .inv .0) (the-if1 .left) in
     omega (arith, low))
-    (λ c. let the-loop = c .before .before .before .before .before .before .loop in
+    (λ c.
+    let the-wide = c .before .before .before .wide in
+    let the-loop = c .before .before .before .before .before .before .loop in
     let the-args = c .before .before .before .before .before .before .before .before .before .before .args in
     let the-if1 = c .before .before .before .before .before .if1 in
     let low : the-loop .i < the-args .count = strict (the-loop .inv .0) (the-if1 .left) in (
       omega (arith, low),
-      λ starts sizes vs kept known. laws.closed-next (the-args .pattern .now) kept low (c .before .before .before .wide .ensures .0) (c .before .again .ensures (c .if2 .left)) vs (the-loop .inv .1 starts sizes vs kept known),
+      λ starts sizes vs kept known. laws.closed-next (the-args .pattern .now) kept low (the-wide .ensures .0) (c .before .again .ensures .0 (c .if2 .left)) vs (the-loop .inv .1 starts sizes vs kept known),
     ))
     (λ c. λ e starts sizes vs kept known. rw (c .if1 .taken) at (c .before .loop .inv .1 starts sizes vs kept known))
     (λ c. λ e. absurd (false-not-true e)))

@@ -189,14 +189,20 @@ pub +shadow-anew+shadow-first+shadow-inside+shadow-lengths+shadow-run+shadow-tri
     (λ c. c .end-of .ensures .2)
     (λ c. search needs)
     (λ c. search needs)
-    (λ c. let the-pre = c .before .before .before .before .before .before .before .before .before .pre in
-    first-record.binds-within (the-pre .1 .1 .leaves) false _ (c .before .before .before .first .given .1) .0)
-    (λ c. let the-pre = c .before .before .before .before .before .before .before .before .before .pre in
-    first-record.binds-within (the-pre .1 .1 .leaves) false _ (c .before .before .before .first .given .1) .0)
+    (λ c.
+    let the-first = c .before .before .before .first in
+    let the-pre = c .before .before .before .before .before .before .before .before .before .pre in
+    first-record.binds-within (the-pre .1 .1 .leaves) false _ (the-first .given .1) .0)
+    (λ c.
+    let the-first = c .before .before .before .first in
+    let the-pre = c .before .before .before .before .before .before .before .before .before .pre in
+    first-record.binds-within (the-pre .1 .1 .leaves) false _ (the-first .given .1) .0)
     (λ c. search needs)
-    (λ c κs. let start = c .before .before .before .before .before .before .before .before .before .before .pre in
+    (λ c κs.
+    let the-first = c .before .before .before .before .first in
+    let start = c .before .before .before .before .before .before .before .before .before .before .pre in
     let asked = start .1 .0 .0 in
-    let binds = first-record.binds-within (start .1 .1 .leaves) false _ (c .before .before .before .before .first .given .1) in (
+    let binds = first-record.binds-within (start .1 .1 .leaves) false _ (the-first .given .1) in (
       (
         omega (arith, asked .pattern-stands .inside, asked .small, start .1 .1 .some),
         omega (arith, asked .row-stands .inside, asked .small),
@@ -205,8 +211,10 @@ pub +shadow-anew+shadow-first+shadow-inside+shadow-lengths+shadow-run+shadow-tri
       ),
       (asked .kept .keys, asked .kept .starts, asked .kept .sizes),
     ))
-    (λ c. let asked = c .before .before .before .before .before .before .before .before .before .before .before .pre .1 .0 .0 in
-    omega (arith, asked .pattern-stands .inside, asked .small, c .before .before .before .end-of .ensures .2))
+    (λ c.
+    let the-end-of = c .before .before .before .end-of in
+    let asked = c .before .before .before .before .before .before .before .before .before .before .before .pre .1 .0 .0 in
+    omega (arith, asked .pattern-stands .inside, asked .small, the-end-of .ensures .2))
     (λ c. let the-first = c .before .before .before .before .before .first in
     let start = c .before .before .before .before .before .before .before .before .before .before .before .pre in
     omega (arith, start .1 .0 .0 .row-stands .inside, start .1 .0 .0 .small, first-record.binds-within (start .1 .1 .leaves) false _ (the-first .given .1) .0))
@@ -246,10 +254,14 @@ pub +shadow-anew+shadow-first+shadow-inside+shadow-lengths+shadow-run+shadow-tri
       sure.remembers-back (sure.fixed-bound (c .before .before .bind .ensures) _ (sure.settled-low (start .1 .0 .1))) (c .shadow-run .ensures .2),
       sure.fixed-more (c .before .before .bind .ensures) (sure.settled-low (start .1 .0 .1)) (c .shadow-run .ensures .3),
     ))
-    (λ c. let the-pre = c .before .before .before .before .before .before .before .before .pre in
-    (c .shadow-tries .ensures .0, c .shadow-tries .ensures .1 ∙ sym (ap firstIn (first-record.step-tries (the-pre .1 .1 .leaves) false (c .before .before .enum-told3 .given .1))), c .shadow-tries .ensures .2, c .shadow-tries .ensures .3))
-    (λ c. let the-pre = c .before .before .before .before .before .before .before .before .pre in
-    (c .shadow-inside .ensures .0, c .shadow-inside .ensures .1 ∙ sym (ap firstIn (first-record.step-inside (the-pre .1 .1 .leaves) false (c .before .before .enum-told4 .given .1))), c .shadow-inside .ensures .2, c .shadow-inside .ensures .3)))
+    (λ c.
+    let the-enum-told3 = c .before .before .enum-told3 in
+    let the-pre = c .before .before .before .before .before .before .before .before .pre in
+    (c .shadow-tries .ensures .0, c .shadow-tries .ensures .1 ∙ sym (ap firstIn (first-record.step-tries (the-pre .1 .1 .leaves) false (the-enum-told3 .given .1))), c .shadow-tries .ensures .2, c .shadow-tries .ensures .3))
+    (λ c.
+    let the-enum-told4 = c .before .before .enum-told4 in
+    let the-pre = c .before .before .before .before .before .before .before .before .pre in
+    (c .shadow-inside .ensures .0, c .shadow-inside .ensures .1 ∙ sym (ap firstIn (first-record.step-inside (the-pre .1 .1 .leaves) false (the-enum-told4 .given .1))), c .shadow-inside .ensures .2, c .shadow-inside .ensures .3)))
     (λ t. shadow-inside-lts.spec (
       end-of-reads.Asked,
       end-of-reads.Learnt,
@@ -258,7 +270,9 @@ pub +shadow-anew+shadow-first+shadow-inside+shadow-lengths+shadow-run+shadow-tri
     )
     (shadow-inside-at t)
     shadow-inside.Post
-    (λ c κs. c .before .before .before .before .pre .1 .1)
+    (λ c κs.
+    let the-pre = c .before .before .before .before .pre in
+    the-pre .1 .1)
     (λ c κs. let the-pre = c .before .before .before .before .before .pre in
     the-pre .1 .2 .some)
     (λ c. c .before .end-of .ensures .1)
@@ -271,12 +285,14 @@ pub +shadow-anew+shadow-first+shadow-inside+shadow-lengths+shadow-run+shadow-tri
     omega (arith, start .1 .0 .pattern-stands .inside, start .1 .0 .small, start .1 .1))
     (λ c. let start = c .before .before .before .before .before .before .before .before .pre in
     omega (arith, start .1 .0 .row-stands .inside, start .1 .0 .small, start .1 .2 .some))
-    (λ c κs. let the-args = c .before .before .before .before .before .before .before .before .before .args in
+    (λ c κs.
+    let the-end-of2 = c .before .before .before .end-of2 in
+    let the-args = c .before .before .before .before .before .before .before .before .before .args in
     let start = c .before .before .before .before .before .before .before .before .before .pre in
     let ends = c .before .before .before .before .end-of in (
       omega (arith, inside-falls (the-args .pattern .now) (ends .result) (length (the-args .pattern .now)) (start .1 .1) (ends .ensures .0) refl, start .0),
       (
-        calls.asked-alone (calls.asked-inside (start .1 .0) (start .1 .1) (start .1 .2) (ends .result) (c .before .before .before .end-of2 .result) (ends .ensures .0) (c .before .before .before .end-of2 .ensures .0)),
+        calls.asked-alone (calls.asked-inside (start .1 .0) (start .1 .1) (start .1 .2) (ends .result) (the-end-of2 .result) (ends .ensures .0) (the-end-of2 .ensures .0)),
         sure.settled-inside _ (start .1 .3) (ends .result) (ends .ensures .0) (calls.contents-within (start .1 .0) (start .1 .1) (start .1 .2)),
         start .1 .4,
       ),
@@ -304,7 +320,9 @@ pub +shadow-anew+shadow-first+shadow-inside+shadow-lengths+shadow-run+shadow-tri
     (λ c. let the-end-of2 = c .before .before .before .before .before .before .before .before .before .end-of2 in
     let start = c .before .before .before .before .before .before .before .before .before .before .before .before .before .before .before .pre in
     omega (arith, start .1 .0 .row-stands .inside, start .1 .0 .small, the-end-of2 .ensures .2))
-    (λ c κs. let the-args = c .before .before .before .before .before .before .before .before .before .before .before .before .before .before .before .before .args in
+    (λ c κs.
+    let the-if1 = c .before .before .before .before .if1 in
+    let the-args = c .before .before .before .before .before .before .before .before .before .before .before .before .before .before .before .before .args in
     let the-end-of2 = c .before .before .before .before .before .before .before .before .before .before .end-of2 in
     let start = c .before .before .before .before .before .before .before .before .before .before .before .before .before .before .before .before .pre in
     let ends = c .before .before .before .before .before .before .before .before .before .before .before .end-of in
@@ -312,7 +330,7 @@ pub +shadow-anew+shadow-first+shadow-inside+shadow-lengths+shadow-run+shadow-tri
       omega (arith, after-falls (the-args .pattern .now) (ends .result) (length (the-args .pattern .now)) (start .1 .1) (ends .ensures .0) refl, start .0),
       (
         calls.asked-after (start .1 .0) (start .1 .1) (start .1 .2) (inner .result .bindings) (inner .ensures .0)
-            (returns.inside-first (start .1 .0) (ends .ensures .0) (the-end-of2 .ensures .0) (inner .result) (inner .ensures .1) (not-false _ (c .before .before .before .before .if1 .left)))
+            (returns.inside-first (start .1 .0) (ends .ensures .0) (the-end-of2 .ensures .0) (inner .result) (inner .ensures .1) (not-false _ (the-if1 .left)))
             (ends .result) (the-end-of2 .result) (ends .ensures .0) (the-end-of2 .ensures .2),
         sure.settled-fixed _ _ _ _ (inner .ensures .3 .few),
         sure.remembers-fixed (inner .ensures .3) (inner .ensures .2),
@@ -340,7 +358,9 @@ pub +shadow-anew+shadow-first+shadow-inside+shadow-lengths+shadow-run+shadow-tri
     shadow-lengths.Post
     shadow-lengths-Inv-loop
     shadow-lengths-μ-loop
-    (λ c κs. c .before .before .before .before .pre .1 .0 .1)
+    (λ c κs.
+    let the-pre = c .before .before .before .before .pre in
+    the-pre .1 .0 .1)
     (λ c. c .end-of .ensures .2)
     (λ c. search needs)
     (λ c. search needs)
@@ -361,17 +381,21 @@ pub +shadow-anew+shadow-first+shadow-inside+shadow-lengths+shadow-run+shadow-tri
       ),
       (asked .kept .keys, asked .kept .starts, asked .kept .sizes),
     ))
-    (λ c. let asked = c .before .before .before .before .before .before .before .before .before .pre .1 .0 .0 in
-    omega (arith, asked .row-stands .inside, asked .small, begin-inside (c .before .before .loop .inv .0)))
-    (λ c κs. let the-args = c .before .before .before .before .before .before .before .before .before .before .args in
+    (λ c.
+    let the-loop = c .before .before .loop in
+    let asked = c .before .before .before .before .before .before .before .before .before .pre .1 .0 .0 in
+    omega (arith, asked .row-stands .inside, asked .small, begin-inside (the-loop .inv .0)))
+    (λ c κs.
+    let the-loop = c .before .before .before .loop in
+    let the-args = c .before .before .before .before .before .before .before .before .before .before .args in
     let start = c .before .before .before .before .before .before .before .before .before .before .pre in
     let ends = c .before .before .before .before .before .end-of in
-    let inside = begin-inside (c .before .before .before .loop .inv .0) in (
+    let inside = begin-inside (the-loop .inv .0) in (
       omega (arith, after-falls (the-args .pattern .now) (ends .result) (length (the-args .pattern .now)) (start .1 .0 .1) (ends .ensures .0) refl, start .0),
       (
-        calls.asked-more (start .1 .0 .0) (start .1 .0 .1) (start .1 .1) inside (c .before .bind .ensures) (ends .result) (c .before .before .before .loop .n) (ends .ensures .0) inside,
+        calls.asked-more (start .1 .0 .0) (start .1 .0 .1) (start .1 .1) inside (c .before .bind .ensures) (ends .result) (the-loop .n) (ends .ensures .0) inside,
         sure.settled-later _ (sure.settled-more (start .1 .0 .2) (c .before .bind .ensures)) (sure.begin-second (start .1 .0 .1) (ends .ensures .0)),
-        sure.remembers-fixed (sure.fixed-bound (c .before .bind .ensures) _ (sure.settled-low (start .1 .0 .2))) (c .before .before .before .loop .inv .2),
+        sure.remembers-fixed (sure.fixed-bound (c .before .bind .ensures) _ (sure.settled-low (start .1 .0 .2))) (the-loop .inv .2),
       ),
     ))
     (λ c κs. c .if2 .left)
@@ -382,32 +406,39 @@ pub +shadow-anew+shadow-first+shadow-inside+shadow-lengths+shadow-run+shadow-tri
     (λ c. let the-args = c .before .before .before .before .before .before .before .before .before .before .before .before .before .before .args in
     let the-loop = c .before .before .before .before .before .before .before .loop in
     omega (arith, c .end-of2 .ensures .1, c .end-of2 .ensures .2, from-length (the-loop .n) (the-args .row .now), begin-inside (the-loop .inv .0)))
-    (λ c. let the-loop = c .before .before .before .before .before .before .before .loop in
+    (λ c.
+    let the-shadow-run = c .before .before .before .shadow-run in
+    let the-loop = c .before .before .before .before .before .before .before .loop in
     let the-end-of = c .before .before .before .before .before .before .before .before .before .end-of in
     let the-bind = c .before .before .before .before .before .bind in
     let start = c .before .before .before .before .before .before .before .before .before .before .before .before .before .before .pre in (
       rw (c .end-of2 .ensures .0) (one-on (c .before .if2 .left) (the-loop .inv .0)),
       rw (c .end-of2 .ensures .0) (returns.length-next (start .1 .0 .0) (start .1 .0 .1) (start .1 .1) (the-end-of .ensures .0) (the-loop .inv .0) (the-bind .ensures)
-          (c .before .before .before .shadow-run .result) (c .before .before .before .shadow-run .ensures .1) (the-loop .inv .1) (c .before .before .if1 .left) (c .before .if2 .left)),
-      sure.remembers-back (sure.fixed-bound (the-bind .ensures) _ (sure.settled-low (start .1 .0 .2))) (c .before .before .before .shadow-run .ensures .2),
+          (the-shadow-run .result) (the-shadow-run .ensures .1) (the-loop .inv .1) (c .before .before .if1 .left) (c .before .if2 .left)),
+      sure.remembers-back (sure.fixed-bound (the-bind .ensures) _ (sure.settled-low (start .1 .0 .2))) (the-shadow-run .ensures .2),
     ))
-    (λ c. let the-end-of = c .before .before .before .before .before .before .before .end-of in
+    (λ c.
+    let the-bind = c .before .before .before .bind in
+    let the-end-of = c .before .before .before .before .before .before .before .end-of in
     let the-loop = c .before .before .before .before .before .loop in
     let start = c .before .before .before .before .before .before .before .before .before .before .before .before .pre in (
       c .before .shadow-run .ensures .0,
-      returns.length-found (start .1 .0 .0) (start .1 .0 .1) (start .1 .1) (the-end-of .ensures .0) (the-loop .inv .0) (c .before .before .before .bind .ensures)
+      returns.length-found (start .1 .0 .0) (start .1 .0 .1) (start .1 .1) (the-end-of .ensures .0) (the-loop .inv .0) (the-bind .ensures)
           (c .before .shadow-run .result) (c .before .shadow-run .ensures .1) (the-loop .inv .1) (c .if1 .taken),
-      sure.remembers-back (sure.fixed-bound (c .before .before .before .bind .ensures) _ (sure.settled-low (start .1 .0 .2))) (c .before .shadow-run .ensures .2),
-      sure.fixed-more (c .before .before .before .bind .ensures) (sure.settled-low (start .1 .0 .2)) (c .before .shadow-run .ensures .3),
+      sure.remembers-back (sure.fixed-bound (the-bind .ensures) _ (sure.settled-low (start .1 .0 .2))) (c .before .shadow-run .ensures .2),
+      sure.fixed-more (the-bind .ensures) (sure.settled-low (start .1 .0 .2)) (c .before .shadow-run .ensures .3),
     ))
-    (λ c. let the-end-of = c .before .before .before .before .before .before .before .before .end-of in
+    (λ c.
+    let the-bind = c .before .before .before .before .bind in
+    let the-shadow-run = c .before .before .shadow-run in
+    let the-end-of = c .before .before .before .before .before .before .before .before .end-of in
     let the-loop = c .before .before .before .before .before .before .loop in
     let start = c .before .before .before .before .before .before .before .before .before .before .before .before .before .pre in (
-      c .before .before .shadow-run .ensures .0,
-      returns.length-none (start .1 .0 .0) (start .1 .0 .1) (start .1 .1) (the-end-of .ensures .0) (the-loop .inv .0) (c .before .before .before .before .bind .ensures)
-          (c .before .before .shadow-run .result) (c .before .before .shadow-run .ensures .1) (the-loop .inv .1) (c .before .if1 .left) (c .if2 .taken),
-      sure.remembers-back (sure.fixed-bound (c .before .before .before .before .bind .ensures) _ (sure.settled-low (start .1 .0 .2))) (c .before .before .shadow-run .ensures .2),
-      sure.fixed-more (c .before .before .before .before .bind .ensures) (sure.settled-low (start .1 .0 .2)) (c .before .before .shadow-run .ensures .3),
+      the-shadow-run .ensures .0,
+      returns.length-none (start .1 .0 .0) (start .1 .0 .1) (start .1 .1) (the-end-of .ensures .0) (the-loop .inv .0) (the-bind .ensures)
+          (c .before .before .shadow-run .result) (the-shadow-run .ensures .1) (the-loop .inv .1) (c .before .if1 .left) (c .if2 .taken),
+      sure.remembers-back (sure.fixed-bound (the-bind .ensures) _ (sure.settled-low (start .1 .0 .2))) (the-shadow-run .ensures .2),
+      sure.fixed-more (the-bind .ensures) (sure.settled-low (start .1 .0 .2)) (the-shadow-run .ensures .3),
     )))
     (λ t. shadow-run-lts.spec (
       known-front-reads.Asked,
@@ -421,33 +452,56 @@ pub +shadow-anew+shadow-first+shadow-inside+shadow-lengths+shadow-run+shadow-tri
     the-pre .1 .0 .kept)
     (λ c. search needs)
     (λ c. search needs)
-    (λ c. known.known-end (c .before .before .before .known-front .ensures) _ _ (c .before .n .given .1) .0 .within)
-    (λ c. known.known-end (c .before .before .before .known-front .ensures) _ _ (c .before .n .given .1) .0 .within)
+    (λ c.
+    let the-known-front = c .before .before .before .known-front in
+    known.known-end (the-known-front .ensures) _ _ (c .before .n .given .1) .0 .within)
+    (λ c.
+    let the-known-front = c .before .before .before .known-front in
+    known.known-end (the-known-front .ensures) _ _ (c .before .n .given .1) .0 .within)
     (λ c. search needs)
     (λ c. search needs)
-    (λ c. begin-inside (known.known-stop (c .before .before .before .known-front .ensures) _ _ _ (c .before .m .given .1) .0 .begins))
-    (λ c. begin-inside (known.known-stop (c .before .before .before .known-front .ensures) _ _ _ (c .before .m .given .1) .0 .begins))
+    (λ c.
+    let the-known-front = c .before .before .before .known-front in
+    begin-inside (known.known-stop (the-known-front .ensures) _ _ _ (c .before .m .given .1) .0 .begins))
+    (λ c.
+    let the-known-front = c .before .before .before .known-front in
+    begin-inside (known.known-stop (the-known-front .ensures) _ _ _ (c .before .m .given .1) .0 .begins))
     (λ c. search needs)
-    (λ c. known.known-stop (c .before .before .before .before .known-front .ensures) _ _ _ (c .before .before .m .given .1) .0 .within)
-    (λ c. known.known-stop (c .before .before .before .before .known-front .ensures) _ _ _ (c .before .before .m .given .1) .0 .within)
+    (λ c.
+    let the-known-front = c .before .before .before .before .known-front in
+    let the-m = c .before .before .m in
+    known.known-stop (the-known-front .ensures) _ _ _ (the-m .given .1) .0 .within)
+    (λ c.
+    let the-known-front = c .before .before .before .before .known-front in
+    let the-m = c .before .before .m in
+    known.known-stop (the-known-front .ensures) _ _ _ (the-m .given .1) .0 .within)
     (λ c. search needs)
-    (λ c. let the-known-front = c .before .before .before .before .before .known-front in
+    (λ c.
+    let the-m = c .before .before .before .m in
+    let the-known-front = c .before .before .before .before .before .known-front in
     let asked = c .before .before .before .before .before .before .before .before .before .before .before .before .before .before .pre .1 .0 in
-    omega (arith, asked .pattern-stands .inside, asked .small, begin-inside (known.known-stop (the-known-front .ensures) _ _ _ (c .before .before .before .m .given .1) .0 .begins)))
-    (λ c. let the-known-front = c .before .before .before .before .before .known-front in
+    omega (arith, asked .pattern-stands .inside, asked .small, begin-inside (known.known-stop (the-known-front .ensures) _ _ _ (the-m .given .1) .0 .begins)))
+    (λ c.
+    let the-m = c .before .before .before .m in
+    let the-known-front = c .before .before .before .before .before .known-front in
     let asked = c .before .before .before .before .before .before .before .before .before .before .before .before .before .before .pre .1 .0 in
-    omega (arith, asked .row-stands .inside, asked .small, known.known-stop (the-known-front .ensures) _ _ _ (c .before .before .before .m .given .1) .0 .within))
-    (λ c κs. let the-known-front = c .before .before .before .before .before .before .known-front in
+    omega (arith, asked .row-stands .inside, asked .small, known.known-stop (the-known-front .ensures) _ _ _ (the-m .given .1) .0 .within))
+    (λ c κs.
+    let the-m = c .before .before .before .before .m in
+    let the-known-front = c .before .before .before .before .before .before .known-front in
     let the-args = c .before .before .before .before .before .before .before .before .before .before .before .before .before .before .before .args in
     let start = c .before .before .before .before .before .before .before .before .before .before .before .before .before .before .before .pre in
-    let (passed, stopped) = known.known-stop (the-known-front .ensures) _ _ _ (c .before .before .before .before .m .given .1) in (
-      omega (arith, start .0, begin-inside (passed .begins), from-length (c .before .before .before .before .m .given .0 .0) (the-args .pattern .now)),
+    let (passed, stopped) = known.known-stop (the-known-front .ensures) _ _ _ (the-m .given .1) in (
+      omega (arith, start .0, begin-inside (passed .begins), from-length (the-m .given .0 .0) (the-args .pattern .now)),
       ((calls.asked-later (start .1 .0) _ _ (passed .begins) (passed .within), sure.settled-later _ (start .1 .1) (passed .begins), start .1 .2), stopped),
     ))
     (λ c. let the-pre = c .before .before .before .before .before .before .before .before .before .before .before .pre in
     (the-pre .1 .0 .kept, sym (ap firstIn (known.known-fails (c .before .before .known-front .ensures) (c .enum-told .given .1) false)), the-pre .1 .2, sure.fixed-same _ _ (sure.settled-low (the-pre .1 .1))))
-    (λ c. let the-pre = c .before .before .before .before .before .before .before .before .before .before .before .before .before .pre in
-    let (passed, short) = known.known-end (c .before .before .before .before .known-front .ensures) _ _ (c .before .before .n .given .1) in
+    (λ c.
+    let the-known-front = c .before .before .before .before .known-front in
+    let the-n = c .before .before .n in
+    let the-pre = c .before .before .before .before .before .before .before .before .before .before .before .before .before .pre in
+    let (passed, short) = known.known-end (the-known-front .ensures) _ _ (the-n .given .1) in
     (the-pre .1 .0 .kept, returns.run-end _ _ _ _ _ short ∙ sym (ap firstIn (passed .search false)), the-pre .1 .2, sure.fixed-same _ _ (sure.settled-low (the-pre .1 .1))))
     (λ c. let the-known-front = c .before .before .before .before .before .before .before .known-front in
     let the-m = c .before .before .before .before .before .m in
@@ -474,26 +528,33 @@ pub +shadow-anew+shadow-first+shadow-inside+shadow-lengths+shadow-run+shadow-tri
     (λ c. let asked = c .before .before .before .before .before .before .before .before .pre .1 .0 .0 in omega (arith, asked .pattern-stands .inside, asked .small))
     (λ c. let asked = c .before .before .before .before .before .before .before .before .pre .1 .0 .0 in omega (arith, asked .row-stands .inside, asked .small))
     (λ c κs. tt)
-    (λ c. let start = c .before .before .before .before .before .before .before .before .before .before .before .pre .1 in
+    (λ c.
+    let the-closed = c .before .before .before .before .closed in
+    let the-if1 = c .before .before .before .if1 in
+    let start = c .before .before .before .before .before .before .before .before .before .before .before .pre .1 in
     let asked = start .0 .0 in
-    let free = c .before .before .before .before .closed .ensures (not-false _ (c .before .before .before .if1 .left)) _ _ _ (asked .kept) (start .0 .2 .same) in (
+    let free = the-closed .ensures (not-false _ (the-if1 .left)) _ _ _ (asked .kept) (start .0 .2 .same) in (
       asked .kept,
       sym (ap firstIn (failed.lengths-known asked _ free (start .1 .1) (start .0 .1) (start .0 .3) (c .before .failed-before .ensures (c .if2 .taken)))),
       start .0 .3,
       sure.fixed-same _ _ (sure.settled-low (start .0 .2)),
     ))
-    (λ c κs. let the-closed = c .before .before .before .before .before .closed in
+    (λ c κs.
+    let the-if1 = c .before .before .before .before .if1 in
+    let the-closed = c .before .before .before .before .before .closed in
     let start = c .before .before .before .before .before .before .before .before .before .before .before .before .pre in
     let asked = start .1 .0 .0 in
-    let free = the-closed .ensures (not-false _ (c .before .before .before .before .if1 .left)) _ _ _ (asked .kept) (start .1 .0 .2 .same) in
+    let free = the-closed .ensures (not-false _ (the-if1 .left)) _ _ _ (asked .kept) (start .1 .0 .2 .same) in
     (omega (arith, start .0), ((asked, start .1 .0 .1, sure.settled-all (start .1 .0 .2) _ free, start .1 .0 .3), start .1 .1 .0)))
-    (λ c κs. let start = c .before .before .before .before .before .before .before .before .before .before .before .before .before .before .before .before .pre .1 .0 in
+    (λ c κs.
+    let the-shadow-lengths = c .before .before .before .shadow-lengths in
+    let start = c .before .before .before .before .before .before .before .before .before .before .before .before .before .before .before .before .pre .1 .0 in
     let asked = start .0 in (
       omega (arith, asked .pattern-stands .inside, asked .small, start .1),
       omega (arith, asked .pattern-stands .inside, asked .small),
       omega (arith, asked .row-stands .inside, asked .small),
       omega (arith, asked .row-stands .inside, asked .small),
-      c .before .before .before .shadow-lengths .ensures .2 .long,
+      the-shadow-lengths .ensures .2 .long,
     ))
     (λ c. let the-closed = c .before .before .before .before .before .before .before .before .before .before .closed in
     let the-if1 = c .before .before .before .before .before .before .before .before .before .if1 in
