@@ -163,12 +163,14 @@ fn deep_shadows() -> [Named; 7] {
     ]
 }
 
-fn deep_literals() -> [Named; 8] {
+fn deep_literals() -> [Named; 9] {
     let empty = |times: usize| again("()", times);
     let brackets = |times: usize| format!("{}{}", repeated(1), empty(times));
     let inside = format!("{}{}", repeated(0), again("(e.1)", 159));
     let nested = again(&bracketed(31, ""), 7);
     let each = format!("{}{}{}", repeated(0), again("(e.1)", 127), repeated(0));
+    let own: String = (2..=32).map(|number| format!("(e.{number}) ")).collect();
+    let in_one = format!("(e.1 {own}{}) e.1", again("(e.1)", 117));
     [
         (
             "lint 2: an e. variable 511 times, and a call with nothing",
@@ -201,6 +203,10 @@ fn deep_literals() -> [Named; 8] {
         (
             "lint 2: 32 e. variables, one of them again and 7 times 31 brackets in each other, and a call with as many",
             in_call(bracketed, 0, &format!("{}{nested}", repeated(1)), &nested),
+        ),
+        (
+            "lint 2 inside 30 blocks: a bracket of an e. variable, 31 brackets with one each and 117 with the first, then the first again, and a call with () 148 times in a bracket",
+            in_call(blocks, 30, &in_one, &format!("({})", empty(148))),
         ),
     ]
 }
