@@ -163,12 +163,14 @@ fn deep_shadows() -> [Named; 7] {
     ]
 }
 
-fn deep_literals() -> [Named; 9] {
+fn deep_literals() -> [Named; 10] {
     let empty = |times: usize| again("()", times);
     let brackets = |times: usize| format!("{}{}", repeated(1), empty(times));
     let inside = format!("{}{}", repeated(0), again("(e.1)", 159));
     let nested = again(&bracketed(31, ""), 7);
     let each = format!("{}{}{}", repeated(0), again("(e.1)", 127), repeated(0));
+    let own: String = (2..=32).map(|number| format!("(e.{number}) ")).collect();
+    let in_one = format!("(e.1 {own}{}) e.1", again("(e.1)", 117));
     [
         (
             "lint 2: an e. variable 511 times, and a call with nothing",
@@ -210,6 +212,10 @@ fn deep_literals() -> [Named; 9] {
                 &format!("({}{}) e.1", repeated(0), empty(223)),
                 &format!("({})", empty(223)),
             ),
+        ),
+        (
+            "lint 2 inside 30 blocks: a bracket of an e. variable, 31 brackets with one each and 117 with the first, then the first again, and a call with () 148 times in a bracket",
+            in_call(blocks, 30, &in_one, &format!("({})", empty(148))),
         ),
     ]
 }
