@@ -135,7 +135,10 @@ pub fn families() -> Vec<Family> {
             crossed(),
         ),
         ("g: s.A e.1 .. e.k s.A, 'a', 'b' k times", around()),
-        ("h: (e.1 .. e.k s.A) s.A, ('b' k times) 'a'", out_of_bracket()),
+        (
+            "h: (e.1 .. e.k s.A) s.A, ('b' k times) 'a'",
+            out_of_bracket(),
+        ),
         (
             "i: (.. (e.1 e.2 s.A) e.3 e.4 s.A ..) s.A, (.. ('b' 'b' 'b') 'b' 'b' 'b' ..) 'a'",
             out_of_brackets(),
@@ -307,7 +310,8 @@ fn out_of_bracket() -> Vec<Pair> {
 /// Each bracket can be matched in three ways, and each level is matched again behind each of them.
 fn out_of_brackets() -> Vec<Pair> {
     let symbol = Part::one("s.A");
-    let level = |pattern: Part, m: usize| pattern.then(&e(2 * m - 1..=2 * m)).then(&symbol).inside();
+    let level =
+        |pattern: Part, m: usize| pattern.then(&e(2 * m - 1..=2 * m)).then(&symbol).inside();
     let pair = |m: usize| {
         let pattern = (1..=m).fold(Part::default(), level).then(&symbol);
         let b = Part::one("'b'").times(3);

@@ -90,7 +90,9 @@ impl Settings {
                 lint: bilzarko::Lint::of_number(*lint),
                 severity: bilzarko::Severity::of_number(*severity),
             };
-            settings = settings.with(wanted).expect("at most eight overrides, of known numbers");
+            settings = settings
+                .with(wanted)
+                .expect("at most eight overrides, of known numbers");
         }
         settings
     }

@@ -89,9 +89,12 @@ fn pattern_allowed(text: &[u8], pattern: &[u8], count: usize) -> bool
     let mut i = 0;
     while i < count {
         found += counted(text, pattern, count, i);
+        if 32 < found {
+            return false;
+        }
         i += 1;
     }
-    found <= 32
+    true
 }
 
 // Does a sentence's pattern have at most 32 different variables?

@@ -3,6 +3,7 @@
 use Prim.Native.Nat.{_+_, _-_, _≤_}
 use mathlib.Core.Path.{_≡_, sym}
 use native.Mathlib.Omega.{arith}
+use borrow.Author.Tests.{le-leb, lt-leb}
 use Rattle.law.specs.Variables.{variablesFrom, distinct}
 use Rattle.law.proofs.PatternLaws.{few-records, distinct-start, distinct-end}
 use Rattle.law.proofs.patterns.pattern_allowed.Statement.{statement}
@@ -10,7 +11,7 @@ use Rattle.law.proofs.patterns.pattern_allowed.Tie as tie
 
 abbrev Inv-loop : tie.InvT-loop
 Inv-loop text pattern count found₀ i₀ found i =
-    (i ≤ count) × (found ≤ i) × (distinct (variablesFrom text pattern count 0) ≡ found + distinct (variablesFrom text pattern (count - i) i))
+    (i ≤ count) × (found ≤ 32) × (distinct (variablesFrom text pattern count 0) ≡ found + distinct (variablesFrom text pattern (count - i) i))
 
 abbrev μ-loop : tie.MeasureT-loop
 μ-loop text pattern count found₀ i₀ found i = count - i
@@ -27,8 +28,11 @@ pattern-allowed-spec =
     (omega arith, omega arith, distinct-start (a .text .now) (a .pattern .now) (a .count)))
     (λ c κs. let p = c .before .before .before .before .before .pre in (p .0, p .1, c .loop-test .taken))
     (λ c. omega arith)
+    (λ c.
+    let a = c .before .before .before .before .before .before .before .args in
+    sym (lt-leb (distinct (variablesFrom (a .text .now) (a .pattern .now) (a .count) 0)) 32 (omega arith)))
     (λ c. omega arith)
     (λ c. omega arith)
     (λ c. (omega arith, omega arith, omega arith))
     (λ c. let a = c .before .before .before .before .before .args in
-    rw (distinct-end (a .text .now) (a .pattern .now) (a .count) (c .before .loop .i) (c .before .loop .found) _ (c .loop-test .left) (c .before .loop .inv .2))))
+    sym (rw (distinct-end (a .text .now) (a .pattern .now) (a .count) (c .before .loop .i) (c .before .loop .found) _ (c .loop-test .left) (c .before .loop .inv .2)) (le-leb _ _ (c .before .loop .inv .1)))))
