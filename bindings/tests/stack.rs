@@ -6,27 +6,32 @@ use std::thread;
 use bilzarko::{list, Mode, Settings, STACK_BYTES};
 use laws::section;
 
-/// `()` so many times in each of the two patterns.
+/// `()` so many times in the pattern and in the argument.
 const EMPTY: usize = 223;
 
-/// A block inside 31 blocks, with two sentences: 32 e. variables, one of them again and `()` 223 times; `()` 223 times.
+/// `F { (e.A .. e.5 ()..()) e.A = ; } G { = <F (()..())>; }`, the call inside 30 blocks: 32 variables, and 512 terms.
 fn deepest() -> Vec<u8> {
     let spelled = b"ABCDEFGHIJKLMNOPQRSTUVWXYZ012345";
     let mut law = (spelled.len() as u32).to_le_bytes().to_vec();
     law.extend(spelled);
-    section(&mut law, &[[0, 1, 1, 0, 0]]);
+    section(&mut law, &[[5, 1, 1, 0, 0], [6, 1, 1, 0, 0]]);
 
-    let patterns = [33 + EMPTY, EMPTY].map(|records| [records as u32, 0, 0, 0, 0]);
-    section(
-        &mut law,
-        &[vec![[0, 0, 1, 0, 0]; 32], patterns.to_vec()].concat(),
-    );
+    let pattern = 32 + EMPTY as u32;
+    let argument = 1 + EMPTY as u32;
+    let mut sentences = vec![[0, 0, 1, 0, 0]; 31];
+    sentences.insert(0, [pattern + 2, 0, 0, 0, 0]);
+    sentences[31] = [0, 0, argument + 1, 0, 0];
+    section(&mut law, &sentences);
     section::<4>(&mut law, &[]);
 
-    let mut terms = vec![[8, 1, 0, 0, 0, 0]; 31];
-    terms.push([8, 2, 0, 0, 0, 0]);
-    terms.extend((0..33).map(|variable| [5, variable % 32, 1, 0, 0, 0]));
-    terms.resize(terms.len() + 2 * EMPTY, [6, 0, 0, 0, 0, 0]);
+    let mut terms = vec![[6, 0, 0, pattern, 0, 0]];
+    terms.extend((0..32).map(|variable| [5, variable, 1, 0, 0, 0]));
+    terms.resize(terms.len() + EMPTY, [6, 0, 0, 0, 0, 0]);
+    terms.push([5, 0, 1, 0, 0, 0]);
+    terms.resize(terms.len() + 30, [8, 1, 0, 0, 0, 0]);
+    terms.push([7, 5, 1, argument, 0, 0]);
+    terms.push([6, 0, 0, EMPTY as u32, 0, 0]);
+    terms.resize(terms.len() + EMPTY, [6, 0, 0, 0, 0, 0]);
     section(&mut law, &terms);
     law
 }
@@ -45,7 +50,7 @@ fn deepest_law_is_listed() {
         .iter()
         .map(|one| one.text.as_str())
         .collect();
-    let dead = "sentence 2 of `a block in `A`` is unreachable: sentence 1 has no conditions and already matches every \
-                argument this one matches";
-    assert_eq!(texts, [dead]);
+    let open = "sentence of `F` has 33 `e.`-variables in its pattern; matching may backtrack proportionally to the argument \
+                length to the power 33";
+    assert_eq!(texts, [open]);
 }
