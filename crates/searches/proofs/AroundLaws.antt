@@ -26,7 +26,7 @@ use Rattle.matching.proofs.VariableLaws.{occurs-left, occurs-right, occurs-eith
 use Rattle.matching.proofs.CutLaws.{from-length}
 use Rattle.searches.proofs.AgreeLaws.{Paired, matches-agree}
 use Rattle.searches.proofs.AskedLaws.{later-variables}
-use Rattle.searches.proofs.FailedLaws.{remembers-none, remembered, remembers-more, part-between}
+use Rattle.searches.proofs.FailedLaws.{remembers-none, remembered, remembers-more, remembers-same, part-between}
 use Rattle.searches.proofs.SureLaws.{first-more, settled-fixed, settled-all, settled-low, settled-fewer, settled-more}
 
 -- ---- values that agree
@@ -58,7 +58,7 @@ around-agree p x qs vs us h = resume-agree ((p, x) ∷ qs) (variablesIn p ++ com
 
 module _ (text terms : List ℕ) (qs : List (Pattern × Pattern)) (base : Values Atom) where
   pub around-none : Remembers (FailedAround text terms qs base) (replicate 2048 0)
-  around-none = remembers-none (FailedAround text terms qs base) (λ r empty. record { none = λ h. absurd (empty h) })
+  around-none = remembers-none (FailedAround text terms qs base) (λ r none over. record { none = λ h. absurd (none h); levels = λ h. absurd (over h) })
 
   module _ {pattern row : List ℕ} {at start : ℕ} (here : Stands terms pattern at) (there : Stands terms row start)
       (vs : Values Atom) (closed : Agree (variablesIn (rowOf text pattern) ++ comingIn qs) vs base) where
@@ -75,7 +75,25 @@ module _ (text terms : List ℕ) (qs : List (Pattern × Pattern)) (base : Values
     none-found e = record {
       none = λ long us free. rw (part-between text terms pattern at here, part-between text terms row start there)
           (sym (around-agree (rowOf text pattern) (rowOf text row) qs vs us (λ w o. closed w o ∙ sym ((rw (part-between text terms pattern at here) at free) w o))) ∙ e);
+      levels = λ h. absurd (omega arith);
     }
+
+  -- the levels around alone
+  levels-found : (vs : Values Atom) → Agree (comingIn qs) vs base → resume qs vs ≡ false → (at start : ℕ) → FailedAround text terms qs base (restOf 1 0 at start)
+  levels-found vs closed e at start = record {
+    none = λ h. absurd (omega arith);
+    levels = λ h us free. sym (resume-agree qs (comingIn qs) (λ w o. o) vs us (λ w o. closed w o ∙ sym (free w o))) ∙ e;
+  }
+
+  -- they are known to have no match
+  pub out-known : {words : List ℕ} (vs : Values Atom) → Agree (comingIn qs) vs base → Remembers (FailedAround text terms qs base) words
+      → (at start : ℕ) → Within words (restOf 1 0 at start) → false ≡ resume qs vs
+  out-known vs closed so at start within = sym (remembered (FailedAround text terms qs base) so within .levels (omega arith) vs closed)
+
+  -- they are found to have none
+  pub out-noted : {words now : List ℕ} {x : Bool} (vs : Values Atom) → Agree (comingIn qs) vs base → x ≡ resume qs vs → x ≡ false
+      → Remembers (FailedAround text terms qs base) words → (at start : ℕ) → Noted words (restOf 1 0 at start) now → Remembers (FailedAround text terms qs base) now
+  out-noted vs closed e fails so at start noted = remembers-more (FailedAround text terms qs base) so (levels-found vs closed (sym e ∙ fails) at start) noted
 
 -- ---- the returns of `literal_tries`
 
@@ -185,6 +203,11 @@ pub closed-all : {text terms : List ℕ} (l m : List Variable) {b : Bindings} {s
 closed-all {text} {terms} l m {b} {s} one two known =
     closed-both l m (firstValues text terms b (s .places)) (valuesOf text terms b) one two (firstValues text terms b (s .fixed)) (known .same)
 
+-- the same of what is around alone
+pub closed-levels : {text terms : List ℕ} {m : List Variable} {b : Bindings} {s : Sure} → Closed m (firstValues text terms b (s .places)) (valuesOf text terms b)
+    → Settled text terms m b s → Agree m (valuesOf text terms b) (firstValues text terms b (s .fixed))
+closed-levels {text} {terms} {b = b} {s} two known = two (firstValues text terms b (s .fixed)) (known .same)
+
 -- ---- handed on to a search
 
 module _ {text terms : List ℕ} where
@@ -204,15 +227,23 @@ module _ {text terms : List ℕ} where
     here = λ e. around-none text terms qs (firstValues text terms b n);
   }
 
+  -- a search that remembers nothing more
+  pub remembered-unchanged : {qs : List (Pattern × Pattern)} {b : Bindings} {s : Sure} {words now : List ℕ} → (s .here ≡ true → RemembersAround text terms qs b s words) → now ≡ words
+      → Remembered text terms qs b s words now
+  remembered-unchanged so e = record { here = λ h. remembers-same (so h) e; elsewhere = λ h. e }
+
   module _ {pattern : List ℕ} {qs : List (Pattern × Pattern)} {b : Bindings} {s : Sure} {words : List ℕ} (so : Remembering text terms pattern qs b s words) where
     -- all places are looked at
     pub remembering-all : s .here ≡ true → Agree (variablesIn (rowOf text pattern) ++ comingIn qs) (valuesOf text terms b) (firstValues text terms b (s .fixed))
         → Remembering text terms pattern qs b (record { fixed = s .fixed; places = b .count; here = true }) words
     remembering-all known closed = record { settled = settled-all (so .settled) true closed; here = λ e. so .here known }
 
-    -- a search that remembers nothing more
     pub remembered-same : {now : List ℕ} → now ≡ words → Remembered text terms qs b s words now
-    remembered-same e = record { here = λ h. rw e (so .here h); elsewhere = λ h. e }
+    remembered-same e = remembered-unchanged (so .here) e
+
+    -- what is around alone
+    pub settled-around : Settled text terms (comingIn qs) b s
+    settled-around = settled-fewer (so .settled) (comingIn qs) (λ w o. occurs-right w (variablesIn (rowOf text pattern)) (comingIn qs) o)
 
     -- one variable more has a value
     pub remembering-bound : {key start size : ℕ} {c : Bindings} → Bound b key start size c → Remembering text terms pattern qs c s words

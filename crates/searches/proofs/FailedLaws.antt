@@ -102,10 +102,11 @@ rest-within words k {t} {z} p a q e r s u last = (k, rw (← p, ← q, ← r, �
 
 module _ (Fails : Rest → Type 0) where
   -- nothing is remembered
-  pub remembers-none : ((r : Rest) → (r .at < r .end → ⊥) → Fails r) → Remembers Fails (replicate 2048 0)
+  pub remembers-none : ((r : Rest) → (r .at < r .end → ⊥) → (r .end < r .at → ⊥) → Fails r) → Remembers Fails (replicate 2048 0)
   remembers-none empty = record {
     long = length-replicate {A = ℕ} 2048 0;
-    all = λ i. empty (restAt (replicate 2048 0) i) (λ h. omega (arith, zero-word 2048 (4 * i), zero-word 2048 (4 * i + 1)));
+    all = λ i. empty (restAt (replicate 2048 0) i) (λ h. omega (arith, zero-word 2048 (4 * i), zero-word 2048 (4 * i + 1)))
+        (λ h. omega (arith, zero-word 2048 (4 * i), zero-word 2048 (4 * i + 1)));
   }
 
   -- what is remembered is so
@@ -119,6 +120,10 @@ module _ (Fails : Rest → Type 0) where
       go : (i : ℕ) → (restAt now i ≡ r) ⊎ (restAt now i ≡ restAt words i) → Fails (restAt now i)
       go i (inl e) = rw e new
       go i (inr e) = rw e (so .all i)
+
+-- the same words
+pub remembers-same : {Fails : Rest → Type 0} {words now : List ℕ} → Remembers Fails words → now ≡ words → Remembers Fails now
+remembers-same so e = rw e so
 
 -- the rests that two parts are
 pub part-between : (text terms part : List ℕ) (at : ℕ) → Stands terms part at → between text terms at (at + length part) ≡ rowOf text part
@@ -134,7 +139,7 @@ no-match l (us ∷ m) e k = absurd (false-not-true (sym (ap some-in k) ∙ e))
 
 module _ (text terms : List ℕ) (base : Values Atom) where
   pub shadow-none : Remembers (Failed text terms base) (replicate 2048 0)
-  shadow-none = remembers-none (Failed text terms base) (λ r empty. record { none = λ h. absurd (empty h) })
+  shadow-none = remembers-none (Failed text terms base) (λ r none over. record { none = λ h. absurd (none h) })
 
   module _ {pattern row : List ℕ} {at start : ℕ} (here : Stands terms pattern at) (there : Stands terms row start)
       (vs : Values Atom) (closed : Agree (variablesIn (rowOf text pattern)) vs base) where

@@ -32,7 +32,7 @@ ghost use Rattle.matching.specs.Code.Step.{found, eachLength, eachInside, Free,
 ghost use Rattle.searches.specs.Code.Capacity.{variablesIn, Capacity};
 ghost use Rattle.searches.specs.Code.Asked.{someHolds, nesting, resume, comingIn, levelsOf, Around, LiteralAsked};
 ghost use Rattle.searches.specs.Code.Repeats.{Agree, Disjoint};
-ghost use Rattle.searches.specs.Code.Failed.{firstValues, Settled, Remembering, Remembered};
+ghost use Rattle.searches.specs.Code.Failed.{firstValues, Settled, RemembersAround, Remembering, Remembered};
 
 // `failed` is what is remembered, where `sure.here`: of rests and then all that is around them, whose variables have the values of the fixed places of `sure`, or none.
 
@@ -109,8 +109,29 @@ fn closed_around(
     }
 }
 
-// Does what is remembered hold here: is it of the levels around here, and have the variables of the pattern and of these levels the values of the fixed places, or
-// none? The levels begin at `end`.
+// Is what is remembered of the levels around here, and have their variables the values of the fixed places, or none? The levels begin at `end`.
+fn holds_around(
+    text: &[u8],
+    terms: &[u8],
+    outer: Pending,
+    end: usize,
+    b: Bindings,
+    sure: Sure,
+) -> bool
+    requires { ⌜ Kept (now text) (now terms) b × (sure .places ≤ b .count) × ((start : ℕ) × Around (now text) (now terms) outer end start) ⌝ }
+    ensures { λ r. ⌜ (r ≡ true → (sure .here ≡ true) × ((start : ℕ) (vs : Values Atom)
+        → Agree (comingIn (levelsOf (now (text .entry)) (now (terms .entry)) outer end start)) (firstValues (now (text .entry)) (now (terms .entry)) b (sure .places)) vs
+        → Agree (comingIn (levelsOf (now (text .entry)) (now (terms .entry)) outer end start)) (valuesOf (now (text .entry)) (now (terms .entry)) b) vs)) ⌝ }
+{
+    if !sure.here {
+        return false;
+    }
+    let len = b.count;
+    let places = sure.places;
+    closed_around(text, terms, outer, end, &b.keys, places, len)
+}
+
+// The same, and of the variables of the pattern as well.
 fn holds_here(
     text: &[u8],
     terms: &[u8],
@@ -126,15 +147,12 @@ fn holds_here(
         → Agree (variablesIn (rowOf (now (text .entry)) (now (pattern .entry))) ++ comingIn (levelsOf (now (text .entry)) (now (terms .entry)) outer end start)) (valuesOf (now (text .entry)) (now (terms .entry)) b)
         (firstValues (now (text .entry)) (now (terms .entry)) b (sure .fixed)))) ⌝ }
 {
-    if !sure.here {
+    if !holds_around(text, terms, outer, end, b, sure) {
         return false;
     }
     let len = b.count;
     let places = sure.places;
-    if !closed(text, terms, pattern, &b.keys, places, len) {
-        return false;
-    }
-    closed_around(text, terms, outer, end, &b.keys, places, len)
+    closed(text, terms, pattern, &b.keys, places, len)
 }
 
 // Everything that is left at this level is matched: the next level out, or all. What is remembered is of other levels.
@@ -164,6 +182,37 @@ fn literal_out(
     let row = &terms[start..row_end];
     let sure = unsure();
     literal_run(text, terms, pattern, at, row, start, out, b, sure, failed)
+}
+
+// The same, unless it is remembered that all that is around has no match. A rest from 1 to 0 stands for this. It has the position of the pattern's end in place of a
+// row's, so that no rest of the row takes its place.
+fn literal_end(
+    text: &[u8],
+    terms: &[u8],
+    at: usize,
+    start: usize,
+    outer: Pending,
+    b: Bindings,
+    sure: Sure,
+    failed: &mut [u16; 2048],
+) -> bool
+    requires { ⌜ (length (now terms) < 65536) × Around (now text) (now terms) outer at start × Kept (now text) (now terms) b × (at ≤ length (now terms)) ⌝ }
+    requires { ⌜ Capacity (comingIn (levelsOf (now text) (now terms) outer at start)) (valuesOf (now text) (now terms) b) ⌝ }
+    requires { ⌜ Settled (now text) (now terms) (comingIn (levelsOf (now text) (now terms) outer at start)) b sure × (sure .here ≡ true → RemembersAround (now text) (now terms) (levelsOf (now text) (now terms) outer at start) b sure (now failed)) ⌝ }
+    ensures { λ r. ⌜ (r ≡ resume (levelsOf (now (text .entry)) (now (terms .entry)) outer at start) (valuesOf (now (text .entry)) (now (terms .entry)) b))
+        × Remembered (now (text .entry)) (now (terms .entry)) (levelsOf (now (text .entry)) (now (terms .entry)) outer at start) b sure (now (failed .entry)) (now (failed .exit)) ⌝ }
+{
+    if !holds_around(text, terms, outer, at, b, sure) {
+        return literal_out(text, terms, at, start, outer, b, failed);
+    }
+    if failed_before(failed, 1, 0, at, at) {
+        return false;
+    }
+    let found = literal_out(text, terms, at, start, outer, b, failed);
+    if !found {
+        note_failed(failed, 1, 0, at, at);
+    }
+    found
 }
 
 // An e. variable without a value, then the rest of the pattern: every length in turn.
@@ -438,7 +487,7 @@ fn literal_run(
             if left.len() < 24 {
                 let next = at + pattern.len();
                 let end = start + row.len();
-                return literal_out(text, terms, next, end, outer, b, failed);
+                return literal_end(text, terms, next, end, outer, b, sure, failed);
             }
             false
         }

@@ -61,11 +61,13 @@ pub record Failed (text terms : List ℕ) (base : Values Atom) (r : Rest) : Type
       → (vs : Values Atom) → Agree (variablesIn (between text terms (r .at) (r .end))) vs base
       → found false (between text terms (r .at) (r .end)) (between text terms (r .start) (r .row-end)) vs ≡ []
 
--- in literal matching: a pattern's rest that is not empty and then the levels around it have no match, where their variables have these values or none
+-- in literal matching: a pattern's rest that is not empty and then the levels around it have no match, where their variables have these values or none; a rest that
+-- ends before it begins stands for the levels around alone
 pub record FailedAround (text terms : List ℕ) (around : List (Pattern × Pattern)) (base : Values Atom) (r : Rest) : Type 0 where
   pub none : r .at < r .end
       → (vs : Values Atom) → Agree (variablesIn (between text terms (r .at) (r .end)) ++ comingIn around) vs base
       → someHolds (resume around) (found true (between text terms (r .at) (r .end)) (between text terms (r .start) (r .row-end)) vs) ≡ false
+  pub levels : r .end < r .at → (vs : Values Atom) → Agree (comingIn around) vs base → resume around vs ≡ false
 
 -- what is remembered is of these levels around
 abbrev pub RemembersAround : List ℕ → List ℕ → List (Pattern × Pattern) → Bindings → Sure → List ℕ → Type 0

@@ -1,6 +1,6 @@
--- `literal_run`, `literal_lengths`, `literal_inside` and `literal_out` meet their contracts, by laws of proofs/LevelLaws.antt and ShadowSteps.antt for each
--- return and each call. The measure is four times the bytes of the term records from the pattern's position on, and twice the levels around, with 1 more
--- for `literal_run`, which hands the same pattern on: gone into brackets, a level is more, but the pattern's position is further on.
+-- The functions of literal matching meet their contracts, by laws of proofs/LevelLaws.antt, AroundLaws.antt and ShadowSteps.antt for each return and each call. The
+-- measure is five times the bytes of the term records from the pattern's position on, and five times the levels around, with up to 4 more for those that hand the same
+-- pattern on: gone into brackets, a level is more, but the pattern's position is further on.
 use Prim.Native.Nat.{ℕ, _+_, _*_, _-_, _<_}
 use mathlib.Core.Bool.{Bool, true}
 use mathlib.Core.List.{List}
@@ -25,37 +25,41 @@ use Rattle.matching.proofs.FirstLaws as first-record
 use Rattle.searches.proofs.ShadowSteps as step
 use Rattle.matching.proofs.KnownLaws as known
 use Rattle.searches.proofs.SureLaws as sure
+use Rattle.searches.proofs.FailedLaws.{remembers-same}
 use Rattle.searches.proofs.AroundLaws as around
 use Rattle.searches.proofs.AloneLaws as alone
 use borrow.Fn.Kinds.{In}
 use borrow.Fn.PlainCycle.{Measures, is, falls, and}
 use Rattle.searches.proofs.literal.literal_anew.Reads as literal-anew
 use Rattle.searches.proofs.literal.literal_anew.Kinds as literal-anew-kinds
-use Rattle.searches.proofs.literal.+literal_anew+literal_apart+literal_bracket+literal_first+literal_inside+literal_lengths+literal_out+literal_run+literal_tries.Lts-literal_anew as literal-anew-lts
+use Rattle.searches.proofs.literal.+literal_anew+literal_apart+literal_bracket+literal_end+literal_first+literal_inside+literal_lengths+literal_out+literal_run+literal_tries.Lts-literal_anew as literal-anew-lts
 use Rattle.searches.proofs.literal.literal_apart.Reads as literal-apart
 use Rattle.searches.proofs.literal.literal_apart.Kinds as literal-apart-kinds
-use Rattle.searches.proofs.literal.+literal_anew+literal_apart+literal_bracket+literal_first+literal_inside+literal_lengths+literal_out+literal_run+literal_tries.Lts-literal_apart as literal-apart-lts
+use Rattle.searches.proofs.literal.+literal_anew+literal_apart+literal_bracket+literal_end+literal_first+literal_inside+literal_lengths+literal_out+literal_run+literal_tries.Lts-literal_apart as literal-apart-lts
 use Rattle.searches.proofs.literal.literal_bracket.Reads as literal-bracket
 use Rattle.searches.proofs.literal.literal_bracket.Kinds as literal-bracket-kinds
-use Rattle.searches.proofs.literal.+literal_anew+literal_apart+literal_bracket+literal_first+literal_inside+literal_lengths+literal_out+literal_run+literal_tries.Lts-literal_bracket as literal-bracket-lts
+use Rattle.searches.proofs.literal.+literal_anew+literal_apart+literal_bracket+literal_end+literal_first+literal_inside+literal_lengths+literal_out+literal_run+literal_tries.Lts-literal_bracket as literal-bracket-lts
+use Rattle.searches.proofs.literal.literal_end.Reads as literal-end
+use Rattle.searches.proofs.literal.literal_end.Kinds as literal-end-kinds
+use Rattle.searches.proofs.literal.+literal_anew+literal_apart+literal_bracket+literal_end+literal_first+literal_inside+literal_lengths+literal_out+literal_run+literal_tries.Lts-literal_end as literal-end-lts
 use Rattle.searches.proofs.literal.literal_first.Reads as literal-first
 use Rattle.searches.proofs.literal.literal_first.Kinds as literal-first-kinds
-use Rattle.searches.proofs.literal.+literal_anew+literal_apart+literal_bracket+literal_first+literal_inside+literal_lengths+literal_out+literal_run+literal_tries.Lts-literal_first as literal-first-lts
+use Rattle.searches.proofs.literal.+literal_anew+literal_apart+literal_bracket+literal_end+literal_first+literal_inside+literal_lengths+literal_out+literal_run+literal_tries.Lts-literal_first as literal-first-lts
 use Rattle.searches.proofs.literal.literal_inside.Reads as literal-inside
 use Rattle.searches.proofs.literal.literal_inside.Kinds as literal-inside-kinds
-use Rattle.searches.proofs.literal.+literal_anew+literal_apart+literal_bracket+literal_first+literal_inside+literal_lengths+literal_out+literal_run+literal_tries.Lts-literal_inside as literal-inside-lts
+use Rattle.searches.proofs.literal.+literal_anew+literal_apart+literal_bracket+literal_end+literal_first+literal_inside+literal_lengths+literal_out+literal_run+literal_tries.Lts-literal_inside as literal-inside-lts
 use Rattle.searches.proofs.literal.literal_lengths.Reads as literal-lengths
 use Rattle.searches.proofs.literal.literal_lengths.Kinds as literal-lengths-kinds
-use Rattle.searches.proofs.literal.+literal_anew+literal_apart+literal_bracket+literal_first+literal_inside+literal_lengths+literal_out+literal_run+literal_tries.Lts-literal_lengths as literal-lengths-lts
+use Rattle.searches.proofs.literal.+literal_anew+literal_apart+literal_bracket+literal_end+literal_first+literal_inside+literal_lengths+literal_out+literal_run+literal_tries.Lts-literal_lengths as literal-lengths-lts
 use Rattle.searches.proofs.literal.literal_out.Reads as literal-out
 use Rattle.searches.proofs.literal.literal_out.Kinds as literal-out-kinds
-use Rattle.searches.proofs.literal.+literal_anew+literal_apart+literal_bracket+literal_first+literal_inside+literal_lengths+literal_out+literal_run+literal_tries.Lts-literal_out as literal-out-lts
+use Rattle.searches.proofs.literal.+literal_anew+literal_apart+literal_bracket+literal_end+literal_first+literal_inside+literal_lengths+literal_out+literal_run+literal_tries.Lts-literal_out as literal-out-lts
 use Rattle.searches.proofs.literal.literal_run.Reads as literal-run
 use Rattle.searches.proofs.literal.literal_run.Kinds as literal-run-kinds
-use Rattle.searches.proofs.literal.+literal_anew+literal_apart+literal_bracket+literal_first+literal_inside+literal_lengths+literal_out+literal_run+literal_tries.Lts-literal_run as literal-run-lts
+use Rattle.searches.proofs.literal.+literal_anew+literal_apart+literal_bracket+literal_end+literal_first+literal_inside+literal_lengths+literal_out+literal_run+literal_tries.Lts-literal_run as literal-run-lts
 use Rattle.searches.proofs.literal.literal_tries.Reads as literal-tries
 use Rattle.searches.proofs.literal.literal_tries.Kinds as literal-tries-kinds
-use Rattle.searches.proofs.literal.+literal_anew+literal_apart+literal_bracket+literal_first+literal_inside+literal_lengths+literal_out+literal_run+literal_tries.Lts-literal_tries as literal-tries-lts
+use Rattle.searches.proofs.literal.+literal_anew+literal_apart+literal_bracket+literal_end+literal_first+literal_inside+literal_lengths+literal_out+literal_run+literal_tries.Lts-literal_tries as literal-tries-lts
 use Rattle.law.proofs.runs.end_of.Reads as end-of-reads
 use Rattle.matching.proofs.bind.Reads as bind-reads
 use Rattle.searches.proofs.failed.failed_before.Reads as failed-before-reads
@@ -63,13 +67,14 @@ use Rattle.searches.proofs.failed.note_failed.Reads as note-failed-read
 use Rattle.matching.proofs.known_front.Reads as known-front-reads
 use Rattle.searches.proofs.literal.push.Reads as push-reads
 use Rattle.searches.proofs.literal.unsure.Reads as unsure-reads
+use Rattle.searches.proofs.literal.holds_around.Reads as holds-around-reads
 use Rattle.searches.proofs.literal.holds_here.Reads as holds-here-reads
 use Rattle.searches.proofs.repeats.stands_apart.Reads as stands-apart-reads
 use Rattle.matching.proofs.wide.Reads as wide-reads
-use Rattle.searches.proofs.literal.+literal_anew+literal_apart+literal_bracket+literal_first+literal_inside+literal_lengths+literal_out+literal_run+literal_tries.{
+use Rattle.searches.proofs.literal.+literal_anew+literal_apart+literal_bracket+literal_end+literal_first+literal_inside+literal_lengths+literal_out+literal_run+literal_tries.{
   statement,
 }
-use Rattle.searches.proofs.literal.+literal_anew+literal_apart+literal_bracket+literal_first+literal_inside+literal_lengths+literal_out+literal_run+literal_tries.Tie.{
+use Rattle.searches.proofs.literal.+literal_anew+literal_apart+literal_bracket+literal_end+literal_first+literal_inside+literal_lengths+literal_out+literal_run+literal_tries.Tie.{
   close,
 }
 
@@ -81,6 +86,9 @@ abbrev μ-literal-apart : Measures 5 literal-apart-kinds.ps ℕ
 
 abbrev μ-literal-bracket : Measures 5 literal-bracket-kinds.ps ℕ
 μ-literal-bracket κs a = 5 * (length (a .1 .0 .now) - a .1 .1 .1 .0) + 5 * (a .1 .1 .1 .1 .1 .1 .0 .count) + 2
+
+abbrev μ-literal-end : Measures 3 literal-end-kinds.ps ℕ
+μ-literal-end κs a = 5 * (length (a .1 .0 .now) - a .1 .1 .0) + 5 * (a .1 .1 .1 .1 .0 .count) + 1
 
 abbrev μ-literal-first : Measures 5 literal-first-kinds.ps ℕ
 μ-literal-first κs a = 5 * (length (a .1 .0 .now) - a .1 .1 .1 .0) + 5 * (a .1 .1 .1 .1 .1 .1 .0 .count) + 3
@@ -139,6 +147,14 @@ literal-bracket-below t =
     literal-bracket-kinds.ps
     (falls 5 literal-bracket-kinds.ps _<_ μ-literal-bracket t)
     literal-bracket.Pre
+
+abbrev literal-end-at : ℕ → In 3 literal-end-kinds.ps
+literal-end-at t =
+    and 3 literal-end-kinds.ps (is 3 literal-end-kinds.ps μ-literal-end t) literal-end.Pre
+
+abbrev literal-end-below : ℕ → In 3 literal-end-kinds.ps
+literal-end-below t =
+    and 3 literal-end-kinds.ps (falls 3 literal-end-kinds.ps _<_ μ-literal-end t) literal-end.Pre
 
 abbrev literal-first-at : ℕ → In 5 literal-first-kinds.ps
 literal-first-at t =
@@ -225,13 +241,14 @@ literal-lengths-Inv-loop text terms pattern at row start outer b sure failed₀ 
 abbrev literal-lengths-μ-loop : literal-lengths-lts.MeasureT-loop
 literal-lengths-μ-loop text terms pattern at row start outer b sure failed₀ end rest next n₀ failed n = length row - n
 
-pub +literal-anew+literal-apart+literal-bracket+literal-first+literal-inside+literal-lengths+literal-out+literal-run+literal-tries-spec :
+pub +literal-anew+literal-apart+literal-bracket+literal-end+literal-first+literal-inside+literal-lengths+literal-out+literal-run+literal-tries-spec :
     {M : Type 1} → statement M
-+literal-anew+literal-apart+literal-bracket+literal-first+literal-inside+literal-lengths+literal-out+literal-run+literal-tries-spec =
++literal-anew+literal-apart+literal-bracket+literal-end+literal-first+literal-inside+literal-lengths+literal-out+literal-run+literal-tries-spec =
     close
     μ-literal-anew
     μ-literal-apart
     μ-literal-bracket
+    μ-literal-end
     μ-literal-first
     μ-literal-inside
     μ-literal-lengths
@@ -351,6 +368,50 @@ pub +literal-anew+literal-apart+literal-bracket+literal-first+literal-inside+lit
     (λ c. c .literal-apart .ensures)
     (λ c κs. let start = c .before .before .before .before .before .before .before .before .before .before .pre in (omega (arith, start .0), (start .1 .0, start .1 .1, start .1 .2)))
     (λ c. let start = c .before .before .before .before .before .before .before .before .before .before .before .pre in (c .literal-inside .ensures .0, around.remembered-same (start .1 .3) (c .literal-inside .ensures .1))))
+    (λ t. literal-end-lts.spec (
+      holds-around-reads.Asked,
+      holds-around-reads.Learnt,
+      literal-out-below t,
+      literal-out.Post,
+      failed-before-reads.Asked,
+      failed-before-reads.Learnt,
+      note-failed-reads.Asked,
+      note-failed-reads.Learnt,
+    )
+    (literal-end-at t)
+    literal-end.Post
+    (λ c κs. let start = c .before .before .pre .1 in (start .0 .2, start .1 .1 .0 .few, (_, start .0 .1)))
+    (λ c κs. let start = c .before .before .before .before .before .pre in (omega (arith, start .0), ((start .1 .0 .0, start .1 .0 .1, start .1 .0 .2), start .1 .1 .0)))
+    (λ c. let start = c .before .before .before .before .before .before .pre .1 in (c .literal-out .ensures .0, around.remembered-unchanged (start .1 .1 .1) (c .literal-out .ensures .1)))
+    (λ c κs. tt)
+    (λ c. let start = c .before .before .before .before .before .before .before .pre .1 in
+    let (known, closed) = c .before .before .before .before .holds-around .ensures (not-false _ (c .before .before .before .if1 .left)) in (
+      around.out-known _ _ _ _ _ (around.closed-levels (closed _) (start .1 .1 .0)) (start .1 .1 .1 known) _ _ (c .before .failed-before .ensures (c .if2 .taken)),
+      around.remembered-unchanged (start .1 .1 .1) refl,
+    ))
+    (λ c κs. let start = c .before .before .before .before .before .before .before .before .pre in (omega (arith, start .0), ((start .1 .0 .0, start .1 .0 .1, start .1 .0 .2), start .1 .1 .0)))
+    (λ c κs. let start = c .before .before .before .before .before .before .before .before .before .before .before .pre .1 in
+    let the-holds-around = c .before .before .before .before .before .before .before .before .holds-around in
+    let the-if1 = c .before .before .before .before .before .before .before .if1 in
+    let (known, closed) = the-holds-around .ensures (not-false _ (the-if1 .left)) in (
+      omega arith,
+      omega arith,
+      omega (arith, start .0 .0, start .0 .3),
+      omega (arith, start .0 .0, start .0 .3),
+      remembers-same (start .1 .1 .1 known) (c .before .before .literal-out2 .ensures .1) .long,
+    ))
+    (λ c. let start = c .before .before .before .before .before .before .before .before .before .before .before .before .pre .1 in
+    let the-holds-around = c .before .before .before .before .before .before .before .before .before .holds-around in
+    let the-if1 = c .before .before .before .before .before .before .before .before .if1 in
+    let out = c .before .before .before .literal-out2 .ensures in
+    let (known, closed) = the-holds-around .ensures (not-false _ (the-if1 .left)) in (
+      out .0,
+      around.remembered-here known
+          (around.out-noted _ _ _ _ _ (around.closed-levels (closed _) (start .1 .1 .0)) (out .0) (not-true _ (c .before .before .if3 .taken)) (remembers-same (start .1 .1 .1 known) (out .1)) _ _ (c .note-failed .ensures)),
+    ))
+    (λ c. let start = c .before .before .before .before .before .before .before .before .before .before .pre .1 in
+    let out = c .before .literal-out2 .ensures in
+    (out .0, around.remembered-unchanged (start .1 .1 .1) (out .1))))
     (λ t. literal-first-lts.spec (
       end-of-reads.Asked,
       end-of-reads.Learnt,
@@ -675,8 +736,8 @@ pub +literal-anew+literal-apart+literal-bracket+literal-first+literal-inside+lit
     (λ t. literal-run-lts.spec (
       known-front-reads.Asked,
       known-front-reads.Learnt,
-      literal-out-below t,
-      literal-out.Post,
+      literal-end-below t,
+      literal-end.Post,
       literal-first-below t,
       literal-first.Post,
     )
@@ -698,13 +759,13 @@ pub +literal-anew+literal-apart+literal-bracket+literal-first+literal-inside+lit
     (λ c κs. let start = c .before .before .before .before .before .before .before .before .before .before .before .before .before .before .before .pre in
     let asked = start .1 .0 in (
       omega (arith, start .0),
-      ((asked .asked .small, asked .around, asked .asked .kept), level.out-capacity asked),
+      ((asked .asked .small, asked .around, asked .asked .kept, asked .asked .pattern-stands .inside), (level.out-capacity asked, (around.settled-around (start .1 .1), start .1 .1 .here))),
     ))
     (λ c. let the-known-front = c .before .before .before .before .before .before .before .known-front in
     let the-n = c .before .before .before .before .before .n in
     let the-pre = c .before .before .before .before .before .before .before .before .before .before .before .before .before .before .before .before .pre in
     let (passed, short) = known.known-end (the-known-front .ensures) _ _ (the-n .given .1) in
-    (level.run-one (the-pre .1 .0) (c .literal-out .result) (passed .search true ∙ step.end-both _ _ _ true _ short (c .before .before .if1 .taken)) (c .literal-out .ensures .0), around.remembered-same (the-pre .1 .1) (c .literal-out .ensures .1)))
+    (level.run-one (the-pre .1 .0) (c .literal-end .result) (passed .search true ∙ step.end-both _ _ _ true _ short (c .before .before .if1 .taken)) (c .literal-end .ensures .0), c .literal-end .ensures .1))
     (λ c. search needs)
     (λ c.
     let the-known-front = c .before .before .before .known-front in
