@@ -384,13 +384,18 @@ pub +literal-anew+literal-apart+literal-bracket+literal-end+literal-first+litera
     (λ c κs. let start = c .before .before .before .before .before .pre in (omega (arith, start .0), ((start .1 .0 .0, start .1 .0 .1, start .1 .0 .2), start .1 .1 .0)))
     (λ c. let start = c .before .before .before .before .before .before .pre .1 in (c .literal-out .ensures .0, around.remembered-unchanged (start .1 .1 .1) (c .literal-out .ensures .1)))
     (λ c κs. tt)
-    (λ c. let start = c .before .before .before .before .before .before .before .pre .1 in
-    let (known, closed) = c .before .before .before .before .holds-around .ensures (not-false _ (c .before .before .before .if1 .left)) in (
+    (λ c.
+    let the-holds-around = c .before .before .before .before .holds-around in
+    let the-if1 = c .before .before .before .if1 in
+    let start = c .before .before .before .before .before .before .before .pre .1 in
+    let (known, closed) = the-holds-around .ensures (not-false _ (the-if1 .left)) in (
       around.out-known _ _ _ _ _ (around.closed-levels (closed _) (start .1 .1 .0)) (start .1 .1 .1 known) _ _ (c .before .failed-before .ensures (c .if2 .taken)),
       around.remembered-unchanged (start .1 .1 .1) refl,
     ))
     (λ c κs. let start = c .before .before .before .before .before .before .before .before .pre in (omega (arith, start .0), ((start .1 .0 .0, start .1 .0 .1, start .1 .0 .2), start .1 .1 .0)))
-    (λ c κs. let start = c .before .before .before .before .before .before .before .before .before .before .before .pre .1 in
+    (λ c κs.
+    let the-literal-out2 = c .before .before .literal-out2 in
+    let start = c .before .before .before .before .before .before .before .before .before .before .before .pre .1 in
     let the-holds-around = c .before .before .before .before .before .before .before .before .holds-around in
     let the-if1 = c .before .before .before .before .before .before .before .if1 in
     let (known, closed) = the-holds-around .ensures (not-false _ (the-if1 .left)) in (
@@ -398,7 +403,7 @@ pub +literal-anew+literal-apart+literal-bracket+literal-end+literal-first+litera
       omega arith,
       omega (arith, start .0 .0, start .0 .3),
       omega (arith, start .0 .0, start .0 .3),
-      remembers-same (start .1 .1 .1 known) (c .before .before .literal-out2 .ensures .1) .long,
+      remembers-same (start .1 .1 .1 known) (the-literal-out2 .ensures .1) .long,
     ))
     (λ c. let start = c .before .before .before .before .before .before .before .before .before .before .before .before .pre .1 in
     let the-holds-around = c .before .before .before .before .before .before .before .before .before .holds-around in

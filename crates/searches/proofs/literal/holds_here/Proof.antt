@@ -13,6 +13,9 @@ holds-here-spec =
     (λ c κs. c .before .before .before .pre)
     (λ c. λ e. absurd (false-not-true e))
     (λ c κs. let the-pre = c .before .before .before .before .before .before .before .pre in (the-pre .1, the-pre .0 .few, the-pre .0 .keyed))
-    (λ c. λ e. let the-pre = c .before .before .before .before .before .before .before .before .pre in
-    let (known, closed) = c .before .before .before .before .holds-around .ensures (not-false _ (c .before .before .before .if1 .left)) in
+    (λ c.
+    let the-holds-around = c .before .before .before .before .holds-around in
+    let the-if1 = c .before .before .before .if1 in
+    λ e. let the-pre = c .before .before .before .before .before .before .before .before .pre in
+    let (known, closed) = the-holds-around .ensures (not-false _ (the-if1 .left)) in
     (known, λ start settled. around.closed-all _ _ (λ vs. c .closed .ensures e _ _ vs (the-pre .0)) (closed start) settled)))
