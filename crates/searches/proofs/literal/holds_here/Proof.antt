@@ -1,5 +1,6 @@
 -- `holds_here` meets its contract: it says yes only where what is remembered is of the levels around here, and no variable of the pattern or of these levels got its
 -- value since.
+use native.Mathlib.Omega.{arith}
 use borrow.Author.Tests.{not-false}
 use Rattle.matching.proofs.SameLaws.{false-not-true}
 use Rattle.searches.proofs.AroundLaws as around
@@ -12,7 +13,7 @@ holds-here-spec =
     (tie.spec
     (λ c κs. c .before .before .before .pre)
     (λ c. λ e. absurd (false-not-true e))
-    (λ c κs. let the-pre = c .before .before .before .before .before .before .before .pre in (the-pre .1, the-pre .0 .few, the-pre .0 .keyed))
+    (λ c κs. let the-pre = c .before .before .before .before .before .before .before .pre in (omega (arith, the-pre .1), the-pre .0 .few, the-pre .0 .keyed))
     (λ c.
     let the-holds-around = c .before .before .before .before .holds-around in
     let the-if1 = c .before .before .before .if1 in

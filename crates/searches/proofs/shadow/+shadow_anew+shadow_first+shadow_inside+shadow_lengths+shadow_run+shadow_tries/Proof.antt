@@ -521,7 +521,7 @@ pub +shadow-anew+shadow-first+shadow-inside+shadow-lengths+shadow-run+shadow-tri
     )
     (shadow-tries-at t)
     shadow-tries.Post
-    (λ c κs. let start = c .before .before .before .before .before .before .pre .1 .0 in (start .2 .few, start .0 .kept .few, start .0 .kept .keyed))
+    (λ c κs. let start = c .before .before .before .before .before .before .pre .1 .0 in (omega (arith, start .2 .few), start .0 .kept .few, start .0 .kept .keyed))
     (λ c κs. let start = c .before .before .before .before .before .before .before .before .pre in (omega (arith, start .0), ((start .1 .0 .0, start .1 .0 .1), start .1 .1 .0)))
     (λ c. let start = c .before .before .before .before .before .before .before .before .before .pre .1 .0 in
     (c .shadow-anew .ensures .0, c .shadow-anew .ensures .1, start .3, sure.fixed-fewer (c .shadow-anew .ensures .2) _ (sure.settled-low (start .2))))
