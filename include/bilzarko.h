@@ -15,10 +15,11 @@
  * - `answer` is never null;
  * - a call has BILZARKO_STACK_BYTES of stack. With less, the system may end the process at the guard page.
  *
- * The findings call and the text call return, but they can take for ever: matching with repeated variables is NP-complete. The smallest law known to do so
- * has a sentence `(e.1 .. e.k s.A) s.A` and a call of its function with ('b' .. 'b') 'a', k times 'b'; it takes some 2 seconds
- * at k = 13, in 32 terms, and four times as long for each step of k. Where laws come from strangers, make the call in a
- * process of its own and end that process: a call keeps nothing, and holds nothing but what it is lent.
+ * The findings call and the text call return, but they can take for ever: matching with repeated variables is
+ * NP-complete. The smallest law known to do so has a sentence with the pattern e.1 .. e.k 'c' e.k .. e.1 and after it one
+ * with 'a' k times, 'c' and 'a' k + 2 times; it takes some 2 seconds at k = 9, in 40 terms, and over six times as long for
+ * each step of k. Where laws come from strangers, make the call in a process of its own and end that process: a call
+ * keeps nothing, and holds nothing but what it is lent.
  */
 #ifndef BILZARKO_H
 #define BILZARKO_H
@@ -43,7 +44,7 @@ extern "C" {
 #define BILZARKO_FINDING_WORDS 8     /* words of a finding */
 #define BILZARKO_TEXT_FINDINGS 256   /* findings that the text call has places for; more is refusal 11 there */
 #define BILZARKO_TEXT_BYTES 1087     /* bytes of the longest text; bindings/tests/longest_text.rs computes and reaches it */
-#define BILZARKO_STACK_BYTES 1048576 /* stack to give to a call: the laws known to need most take 0.75 MiB */
+#define BILZARKO_STACK_BYTES 1048576 /* stack to give to a call: the laws known to need most take 0.92 MiB */
 
 /* Modes. Classic hides findings of severity allow, strict does not. */
 #define BILZARKO_MODE_CLASSIC UINT32_C(0)
@@ -133,9 +134,9 @@ extern "C" {
  * Each of 5 to 10 is looked for in the whole law before what comes after it in this order. 10 does not depend on the
  * settings; 11 and 12 count the findings that the settings show.
  *
- * After a refusal `answer`, `words`, `text` and the reading call's `law` hold what they held before. So does the store after 1 to 9, 14 and 15.
- * After 10 its first 8,320 words are 0; after 11, 12 and 13 they hold the formats of the law, as after a call that is
- * not refused. Store words past 8,320 always keep their values. */
+ * After a refusal `answer`, `words`, `text` and the reading call's `law` hold what they held before. So does the store
+ * after 1 to 9, 14 and 15. After 10 its first 8,320 words are 0; after 11, 12 and 13 they hold the formats of the law, as
+ * after a call that is not refused. Store words past 8,320 always keep their values. */
 #define BILZARKO_REFUSAL_FILE_OVER UINT32_C(1)   /* the law has over 16,384 bytes */
 #define BILZARKO_REFUSAL_CUT_OFF UINT32_C(2)     /* a section's count or records are cut off */
 #define BILZARKO_REFUSAL_LEFT_OVER UINT32_C(3)   /* bytes are left over after the sections */

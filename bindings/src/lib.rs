@@ -33,10 +33,11 @@
 //!
 //! # Time
 //!
-//! [`findings`] and [`text`] return, but they can take for ever: matching with repeated variables is NP-complete. The smallest law known to do
-//! so has a sentence `(e.1 .. e.k s.A) s.A` and a call of its function with `('b' .. 'b') 'a'`, k times `'b'`; it takes some 2
-//! seconds at k = 13, in 32 terms, and four times as long for each step of k. Where laws come from strangers, make the call
-//! in a process of its own and end that process: a call keeps nothing, and holds nothing but what it is lent.
+//! [`findings`] and [`text`] return, but they can take for ever: matching with repeated variables is NP-complete. The
+//! smallest law known to do so has a sentence with the pattern `e.1 .. e.k 'c' e.k .. e.1` and after it one with `'a'` k
+//! times, `'c'` and `'a'` k + 2 times; it takes some 2 seconds at k = 9, in 40 terms, and over six times as long for each
+//! step of k. Where laws come from strangers, make the call in a process of its own and end that process: a call keeps
+//! nothing, and holds nothing but what it is lent.
 #![deny(missing_docs)]
 #![deny(unsafe_code)]
 
@@ -69,7 +70,7 @@ pub const TEXT_FINDINGS: usize = 256;
 pub const TEXT_BYTES: usize = 1_087;
 /// The overrides of [`Settings`], at most.
 pub const OVERRIDES: usize = 8;
-/// The stack to give to a call: 1 MiB. The laws known to need most take 0.75 MiB.
+/// The stack to give to a call: 1 MiB. The laws known to need most take 0.92 MiB.
 ///
 /// ```
 /// use bilzarko::{list, Mode, Settings, STACK_BYTES};
