@@ -143,6 +143,10 @@ pub fn families() -> Vec<Family> {
             "i: (.. (e.1 e.2 s.A) e.3 e.4 s.A ..) s.A, (.. ('b' 'b' 'b') 'b' 'b' 'b' ..) 'a'",
             out_of_brackets(),
         ),
+        (
+            "j: e.1 .. e.k 'c' e.2 e.4 .., 'c', 'a' k + 2 times",
+            every_second(),
+        ),
     ];
     all.extend(by_law.into_iter().map(|(name, pairs)| Family {
         name,
@@ -307,7 +311,7 @@ fn out_of_bracket() -> Vec<Pair> {
     (1..VARIABLES).map(pair).collect()
 }
 
-/// Each bracket can be matched in three ways, and each level is matched again behind each of them.
+/// Each bracket can be matched in three ways, and what is around it fails behind each of them.
 fn out_of_brackets() -> Vec<Pair> {
     let symbol = Part::one("s.A");
     let level =
@@ -319,4 +323,16 @@ fn out_of_brackets() -> Vec<Pair> {
         Pair::new(format!("m = {m}"), pattern, row.then(&a(1)))
     };
     (1..=(VARIABLES - 1) / 2).map(pair).collect()
+}
+
+/// The smallest laws known to take long: a rest depends on every second value before it, and the values between them are never
+/// met twice.
+fn every_second() -> Vec<Pair> {
+    let pair = |k: usize| {
+        let middle = Part::one("'c'");
+        let pattern = e(1..=k).then(&middle).then(&e((2..k).step_by(2)));
+        let row = middle.then(&a(k + 2));
+        Pair::new(format!("k = {k}"), pattern, row)
+    };
+    (1..=SLOW).map(pair).collect()
 }
