@@ -16,10 +16,10 @@
  * - a call has BILZARKO_STACK_BYTES of stack. With less, the system may end the process at the guard page.
  *
  * The findings call and the text call return, but they can take for ever: matching with repeated variables is
- * NP-complete. The smallest law known to do so has a sentence with the pattern e.1 .. e.k 'c' e.k .. e.1 and after it one
- * with 'a' k times, 'c' and 'a' k + 2 times; it takes some 2 seconds at k = 9, in 40 terms, and over six times as long for
- * each step of k. Where laws come from strangers, make the call in a process of its own and end that process: a call
- * keeps nothing, and holds nothing but what it is lent.
+ * NP-complete. The smallest law known to do so has a sentence with the pattern e.1 .. e.k 'c' e.2 e.4 .., every second
+ * variable before e.k, and after it one with 'c' and 'a' k + 2 times; it takes some 2 seconds at k = 12, in 33 terms, and
+ * about four times as long for each step of k. Where laws come from strangers, make the call in a process of its own and
+ * end that process: a call keeps nothing, and holds nothing but what it is lent.
  */
 #ifndef BILZARKO_H
 #define BILZARKO_H

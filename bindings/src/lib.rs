@@ -34,10 +34,10 @@
 //! # Time
 //!
 //! [`findings`] and [`text`] return, but they can take for ever: matching with repeated variables is NP-complete. The
-//! smallest law known to do so has a sentence with the pattern `e.1 .. e.k 'c' e.k .. e.1` and after it one with `'a'` k
-//! times, `'c'` and `'a'` k + 2 times; it takes some 2 seconds at k = 9, in 40 terms, and over six times as long for each
-//! step of k. Where laws come from strangers, make the call in a process of its own and end that process: a call keeps
-//! nothing, and holds nothing but what it is lent.
+//! smallest law known to do so has a sentence with the pattern `e.1 .. e.k 'c' e.2 e.4 ..`, every second variable before
+//! `e.k`, and after it one with `'c'` and `'a'` k + 2 times; it takes some 2 seconds at k = 12, in 33 terms, and about four
+//! times as long for each step of k. Where laws come from strangers, make the call in a process of its own and end that
+//! process: a call keeps nothing, and holds nothing but what it is lent.
 #![deny(missing_docs)]
 #![deny(unsafe_code)]
 
