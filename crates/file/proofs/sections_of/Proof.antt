@@ -66,23 +66,23 @@ law-small c = c .before .before .before .before .if1 .left
 
 -- what is known of each section
 text : (c : Text-found) → Reached (law c) 4096 1 0 (text-part c)
-text c = reached _ 4096 1 _ _ _ (c .before .before .before .section-at .ensures) (c .before .p .given .1)
+text c = let sought = c .before .before .before .section-at in reached _ 4096 1 _ _ _ (sought .ensures) (c .before .p .given .1)
 
 functions : (c : Functions-found) → (let text-found = before-functions c in
     Reached (law text-found) 64 20 (text-part text-found .end) (functions-part c))
-functions c = reached _ 64 20 _ _ _ (c .before .before .before .section-at2 .ensures) (c .before .p2 .given .1)
+functions c = let sought = c .before .before .before .section-at2 in reached _ 64 20 _ _ _ (sought .ensures) (c .before .p2 .given .1)
 
 sentences : (c : Sentences-found) → (let functions-found = before-sentences c in
     Reached (law (before-functions functions-found)) 128 20 (functions-part functions-found .end) (sentences-part c))
-sentences c = reached _ 128 20 _ _ _ (c .before .before .before .section-at3 .ensures) (c .before .p3 .given .1)
+sentences c = let sought = c .before .before .before .section-at3 in reached _ 128 20 _ _ _ (sought .ensures) (c .before .p3 .given .1)
 
 conditions : (c : Conditions-found) → (let sentences-found = before-conditions c in
     Reached (law (before-functions (before-sentences sentences-found))) 128 16 (sentences-part sentences-found .end) (conditions-part c))
-conditions c = reached _ 128 16 _ _ _ (c .before .before .before .section-at4 .ensures) (c .before .p4 .given .1)
+conditions c = let sought = c .before .before .before .section-at4 in reached _ 128 16 _ _ _ (sought .ensures) (c .before .p4 .given .1)
 
 terms : (c : Terms-found) → (let conditions-found = before-terms c in
     Reached (law (before-functions (before-sentences (before-conditions conditions-found)))) 512 24 (conditions-part conditions-found .end) (terms-part c))
-terms c = reached _ 512 24 _ _ _ (c .before .before .before .section-at5 .ensures) (c .before .p5 .given .1)
+terms c = let sought = c .before .before .before .section-at5 in reached _ 512 24 _ _ _ (sought .ensures) (c .before .p5 .given .1)
 
 pub sections-of-spec : {M : Type 1} → statement M
 sections-of-spec =
