@@ -55,16 +55,16 @@ abbrev μ-conditions-depth : Measures 2 conditions-depth-kinds.ps ℕ
 μ-conditions-depth κs a = 5 * (33 - a .1 .1 .1 .0) + 2
 
 abbrev μ-run-depth : Measures 3 run-depth-kinds.ps ℕ
-μ-run-depth κs a = 5 * (33 - a .1 .1 .1 .1 .0) + 1
+μ-run-depth κs a = let depth = a .1 .1 .1 .1 .0 in 5 * (33 - depth) + 1
 
 abbrev μ-sentence-depth : Measures 2 sentence-depth-kinds.ps ℕ
 μ-sentence-depth κs a = 5 * (33 - a .1 .1 .1 .0) + 3
 
 abbrev μ-sentences-depth : Measures 2 sentences-depth-kinds.ps ℕ
-μ-sentences-depth κs a = 5 * (33 - a .1 .1 .1 .1 .0) + 4
+μ-sentences-depth κs a = let depth = a .1 .1 .1 .1 .0 in 5 * (33 - depth) + 4
 
 abbrev μ-term-depth : Measures 3 term-depth-kinds.ps ℕ
-μ-term-depth κs a = 5 * (33 - a .1 .1 .1 .1 .0)
+μ-term-depth κs a = let depth = a .1 .1 .1 .1 .0 in 5 * (33 - depth)
 
 abbrev conditions-depth-at : ℕ → In 2 conditions-depth-kinds.ps
 conditions-depth-at t =
@@ -192,10 +192,16 @@ pub +conditions-depth+run-depth+sentence-depth+sentences-depth+term-depth-spec :
     omega (arith, laws.sentences-limit (start .args .law .now) (start .args .index .now) (start .pre .1 .0), start .pre .1 .2))
     (λ c.
     let start = c .before .before .before in
-    omega (arith, laws.conditions-before (start .args .law .now) (start .args .index .now) (start .pre .1 .0) (start .args .s) (start .pre .1 .2), start .pre .1 .0 .words .firstConditions (start .args .s) (le-of-lt (start .pre .1 .2)), c .before .first-condition .ensures, c .first-condition2 .ensures))
+    let indexed = start .pre .1 .0 in
+    let first = indexed .words .firstConditions (start .args .s) (le-of-lt (start .pre .1 .2)) in
+    let within = laws.conditions-before (start .args .law .now) (start .args .index .now) indexed (start .args .s) (start .pre .1 .2) in
+    omega (arith, within, first, c .before .first-condition .ensures, c .first-condition2 .ensures))
     (λ c.
     let start = c .before .before .before in
-    (c .before .first-condition .ensures ∙ start .pre .1 .0 .words .firstConditions (start .args .s) (le-of-lt (start .pre .1 .2)), omega (arith, laws.conditions-before (start .args .law .now) (start .args .index .now) (start .pre .1 .0) (start .args .s) (start .pre .1 .2), start .pre .1 .0 .words .firstConditions (start .args .s) (le-of-lt (start .pre .1 .2)), c .before .first-condition .ensures, c .first-condition2 .ensures), omega arith, steps.conditions-same (fileOf (start .args .law .now)) (start .args .s) _ _ _ _ (start .args .depth) (omega (arith, laws.conditions-before (start .args .law .now) (start .args .index .now) (start .pre .1 .0) (start .args .s) (start .pre .1 .2), start .pre .1 .0 .words .firstConditions (start .args .s) (le-of-lt (start .pre .1 .2)), c .before .first-condition .ensures, c .first-condition2 .ensures)) (omega (arith, start .pre .1 .0 .words .firstConditions (start .args .s) (le-of-lt (start .pre .1 .2)), c .before .first-condition .ensures))))
+    let indexed = start .pre .1 .0 in
+    let first = indexed .words .firstConditions (start .args .s) (le-of-lt (start .pre .1 .2)) in
+    let within = laws.conditions-before (start .args .law .now) (start .args .index .now) indexed (start .args .s) (start .pre .1 .2) in
+    (c .before .first-condition .ensures ∙ first, omega (arith, within, first, c .before .first-condition .ensures, c .first-condition2 .ensures), omega arith, steps.conditions-same (fileOf (start .args .law .now)) (start .args .s) _ _ _ _ (start .args .depth) (omega (arith, within, first, c .before .first-condition .ensures, c .first-condition2 .ensures)) (omega (arith, first, c .before .first-condition .ensures))))
     (λ c.
     let start = c .before .before .before .before .before in
     let loop = c .before .loop in
@@ -508,7 +514,8 @@ pub +conditions-depth+run-depth+sentence-depth+sentences-depth+term-depth-spec :
     (λ c κs.
     let the-term-at = c .before .before .before .term-at in
     let start = c .before .before .before .before .before .before .before .before .before .before in
-    let first = c .block-first .ensures ∙ start .pre .1 .0 .words .blocks (start .args .at) (parts.part-at (fileOf (start .args .law .now)) (start .pre .1 .1) (start .args .at) (start .args .part .now) (start .pre .1 .2) (start .pre .1 .3)) in
+    let indexed = start .pre .1 .0 in
+    let first = c .block-first .ensures ∙ indexed .words .blocks (start .args .at) (parts.part-at (fileOf (start .args .law .now)) (start .pre .1 .1) (start .args .at) (start .args .part .now) (start .pre .1 .2) (start .pre .1 .3)) in
     let counted = c .before .before .sentences-in .ensures ∙ ap sentencesIn (the-term-at .ensures) in
     let inside = parts.part-sentences (fileOf (start .args .law .now)) (start .pre .1 .1) (start .args .at) (start .args .part .now) (start .pre .1 .2) (start .pre .1 .3) in
     (omega (arith, start .pre .0, start .pre .1 .4), (start .pre .1 .0, start .pre .1 .1, rw (first, counted) inside, omega (arith, start .pre .1 .4))))
@@ -519,7 +526,8 @@ pub +conditions-depth+run-depth+sentence-depth+sentences-depth+term-depth-spec :
     let the-end-of = c .before .before .before .before .before .before .before .before .end-of in
     let the-run-depth = c .before .before .before .before .before .before .run-depth in
     let start = c .before .before .before .before .before .before .before .before .before .before .before in
-    let first = c .before .block-first .ensures ∙ start .pre .1 .0 .words .blocks (start .args .at) (parts.part-at (fileOf (start .args .law .now)) (start .pre .1 .1) (start .args .at) (start .args .part .now) (start .pre .1 .2) (start .pre .1 .3)) in
+    let indexed = start .pre .1 .0 in
+    let first = c .before .block-first .ensures ∙ indexed .words .blocks (start .args .at) (parts.part-at (fileOf (start .args .law .now)) (start .pre .1 .1) (start .args .at) (start .args .part .now) (start .pre .1 .2) (start .pre .1 .3)) in
     let inside = not-false _ (the-if1 .left) in
     let counted = the-sentences-in .ensures ∙ ap sentencesIn (the-term-at .ensures) in
     steps.term-sentences (fileOf (start .args .law .now)) (start .pre .1 .1) (start .pre .1 .2) (start .pre .1 .3) (start .pre .1 .4) (the-end-of .ensures .0) (the-run-depth .ensures) inside counted first (c .sentences-depth .ensures))

@@ -20,7 +20,7 @@ abbrev μ-loop : tie.MeasureT-loop
 
 -- the record that is looked at
 inside : (c : tie.In-loop Inv-loop μ-loop) → (let a = c .before .before .before .args in a .size * c .before .loop .i + a .size ≤ length (a .records .now))
-inside c = record-fits _ _ (c .before .before .before .args .count) _ (c .loop-test .taken) (c .before .before .before .pre .0)
+inside c = let start = c .before .before .before in record-fits _ _ (start .args .count) _ (c .loop-test .taken) (start .pre .0)
 
 pub fill-pair-sums-spec : {M : Type 1} → statement M
 fill-pair-sums-spec =
