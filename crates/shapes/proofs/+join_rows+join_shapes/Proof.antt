@@ -88,19 +88,30 @@ rows-start t c = c .before .before .before
 abbrev ends-read : (t : ℕ) → In-rows t join-rows-lts.After-slice-known3 → In-rows t join-rows-lts.After-end-of2
 ends-read t c = c .before .before .before .before .before .before
 
+-- where those rows are joined
+abbrev rest-joined : (t : ℕ) → In-rows t join-rows-lts.After-slice-known3 → In-rows t join-rows-lts.After-join-rows
+rest-joined t c = c .before .before
+
 -- the start of `join_shapes`, from where the first word is asked for a bracket
 abbrev shapes-start : (t : ℕ) → In-shapes t join-shapes-lts.After-is-bracket → In-shapes t join-shapes-lts.Start
 shapes-start t c = c .before .before .before .before .before .before
+
+-- from where the contents of two brackets are joined, where their ends are read; from there, where the first word is asked for a bracket
+abbrev ends-of-both : (t : ℕ) → In-shapes t join-shapes-lts.After-join-rows → In-shapes t join-shapes-lts.After-end-of2
+ends-of-both t c = c .before .before .before .before .before .before
+
+abbrev first-asked-of-both : (t : ℕ) → In-shapes t join-shapes-lts.After-end-of2 → In-shapes t join-shapes-lts.After-is-bracket
+first-asked-of-both t c = c .before .before .before .before .before
 
 -- from where the word of the joined bracket is made: where its contents are joined, where the ends of both brackets are read, the start
 abbrev contents-joined : (t : ℕ) → In-shapes t join-shapes-lts.After-bracket-word → In-shapes t join-shapes-lts.After-join-rows
 contents-joined t c = c .before .before .before
 
 abbrev brackets-ended : (t : ℕ) → In-shapes t join-shapes-lts.After-bracket-word → In-shapes t join-shapes-lts.After-end-of2
-brackets-ended t c = contents-joined t c .before .before .before .before .before .before
+brackets-ended t c = ends-of-both t (contents-joined t c)
 
 abbrev brackets-start : (t : ℕ) → In-shapes t join-shapes-lts.After-bracket-word → In-shapes t join-shapes-lts.Start
-brackets-start t c = shapes-start t (brackets-ended t c .before .before .before .before .before)
+brackets-start t c = shapes-start t (first-asked-of-both t (brackets-ended t c))
 
 -- the position after the contents is within the buffer, and is not past the first bracket's words. (Said here, not beside the `let`s of the answer:
 -- `omega` reads every record that a `let` names, up to a bound.)
@@ -162,7 +173,7 @@ pub +join-rows+join-shapes-spec : {M : Type 1} → statement M
       omega arith,
       join-some-some (args .a .now) (args .a-open) (args .b .now) (args .b-open) (args .out .now) (args .at) _ _ _ _ _ _ _
           (neither-empty .before .if1 .left) (neither-empty .if4 .left) (ends .before .end-of .ensures .0) (ends .end-of2 .ensures .0) (omega arith)
-          (first-joined .join-shapes .ensures .1) (first-joined .join-shapes .ensures .2) (c .before .before .join-rows .ensures .1),
+          (first-joined .join-shapes .ensures .1) (first-joined .join-shapes .ensures .2) (rest-joined t c .join-rows .ensures .1),
     )))
     λ t. join-shapes-lts.spec (shapes-claims t)
     (join-shapes-at t)

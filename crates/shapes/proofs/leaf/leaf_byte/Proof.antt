@@ -11,5 +11,5 @@ leaf-byte-spec = tie.close (tie.spec
     (λ c. search needs)
     (λ c. search needs)
     (λ c.
-    let the-match = c .match in
-    rw (leaf-high (c .before .args .w) (leaf-word-past (c .before .args .w) (the-match .rest .0 .0 .0 .1) (the-match .rest .0 .0 .1) (c .match .rest .0 .1) (c .match .rest .1)))))
+    let none-to-three = c .match .rest in
+    rw (leaf-high (c .before .args .w) (leaf-word-past (c .before .args .w) (none-to-three .0 .0 .0 .1) (none-to-three .0 .0 .1) (none-to-three .0 .1) (none-to-three .1)))))
