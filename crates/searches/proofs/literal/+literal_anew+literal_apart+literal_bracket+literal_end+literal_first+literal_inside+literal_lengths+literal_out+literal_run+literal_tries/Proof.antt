@@ -79,34 +79,34 @@ use Rattle.searches.proofs.literal.+literal_anew+literal_apart+literal_
 }
 
 abbrev μ-literal-anew : Measures 4 literal-anew-kinds.ps ℕ
-μ-literal-anew κs a = 5 * (length (a .1 .0 .now) - a .1 .1 .1 .0) + 5 * (a .1 .1 .1 .1 .1 .1 .0 .count) + 1
+μ-literal-anew κs a = let outer = a .1 .1 .1 .1 .1 .1 .0 in 5 * (length (a .1 .0 .now) - a .1 .1 .1 .0) + 5 * (outer .count) + 1
 
 abbrev μ-literal-apart : Measures 5 literal-apart-kinds.ps ℕ
-μ-literal-apart κs a = 5 * (length (a .1 .0 .now) - a .1 .1 .1 .0) + 5 * (a .1 .1 .1 .1 .1 .1 .0 .count)
+μ-literal-apart κs a = let outer = a .1 .1 .1 .1 .1 .1 .0 in 5 * (length (a .1 .0 .now) - a .1 .1 .1 .0) + 5 * (outer .count)
 
 abbrev μ-literal-bracket : Measures 5 literal-bracket-kinds.ps ℕ
-μ-literal-bracket κs a = 5 * (length (a .1 .0 .now) - a .1 .1 .1 .0) + 5 * (a .1 .1 .1 .1 .1 .1 .0 .count) + 2
+μ-literal-bracket κs a = let outer = a .1 .1 .1 .1 .1 .1 .0 in 5 * (length (a .1 .0 .now) - a .1 .1 .1 .0) + 5 * (outer .count) + 2
 
 abbrev μ-literal-end : Measures 3 literal-end-kinds.ps ℕ
-μ-literal-end κs a = 5 * (length (a .1 .0 .now) - a .1 .1 .0) + 5 * (a .1 .1 .1 .1 .0 .count) + 1
+μ-literal-end κs a = let outer = a .1 .1 .1 .1 .0 in 5 * (length (a .1 .0 .now) - a .1 .1 .0) + 5 * (outer .count) + 1
 
 abbrev μ-literal-first : Measures 5 literal-first-kinds.ps ℕ
-μ-literal-first κs a = 5 * (length (a .1 .0 .now) - a .1 .1 .1 .0) + 5 * (a .1 .1 .1 .1 .1 .1 .0 .count) + 3
+μ-literal-first κs a = let outer = a .1 .1 .1 .1 .1 .1 .0 in 5 * (length (a .1 .0 .now) - a .1 .1 .1 .0) + 5 * (outer .count) + 3
 
 abbrev μ-literal-inside : Measures 5 literal-inside-kinds.ps ℕ
-μ-literal-inside κs a = 5 * (length (a .1 .0 .now) - a .1 .1 .1 .0) + 5 * (a .1 .1 .1 .1 .1 .1 .0 .count)
+μ-literal-inside κs a = let outer = a .1 .1 .1 .1 .1 .1 .0 in 5 * (length (a .1 .0 .now) - a .1 .1 .1 .0) + 5 * (outer .count)
 
 abbrev μ-literal-lengths : Measures 5 literal-lengths-kinds.ps ℕ
-μ-literal-lengths κs a = 5 * (length (a .1 .0 .now) - a .1 .1 .1 .0) + 5 * (a .1 .1 .1 .1 .1 .1 .0 .count)
+μ-literal-lengths κs a = let outer = a .1 .1 .1 .1 .1 .1 .0 in 5 * (length (a .1 .0 .now) - a .1 .1 .1 .0) + 5 * (outer .count)
 
 abbrev μ-literal-out : Measures 3 literal-out-kinds.ps ℕ
-μ-literal-out κs a = 5 * (length (a .1 .0 .now) - a .1 .1 .0) + 5 * (a .1 .1 .1 .1 .0 .count)
+μ-literal-out κs a = let outer = a .1 .1 .1 .1 .0 in 5 * (length (a .1 .0 .now) - a .1 .1 .0) + 5 * (outer .count)
 
 abbrev μ-literal-run : Measures 5 literal-run-kinds.ps ℕ
-μ-literal-run κs a = 5 * (length (a .1 .0 .now) - a .1 .1 .1 .0) + 5 * (a .1 .1 .1 .1 .1 .1 .0 .count) + 4
+μ-literal-run κs a = let outer = a .1 .1 .1 .1 .1 .1 .0 in 5 * (length (a .1 .0 .now) - a .1 .1 .1 .0) + 5 * (outer .count) + 4
 
 abbrev μ-literal-tries : Measures 5 literal-tries-kinds.ps ℕ
-μ-literal-tries κs a = 5 * (length (a .1 .0 .now) - a .1 .1 .1 .0) + 5 * (a .1 .1 .1 .1 .1 .1 .0 .count) + 2
+μ-literal-tries κs a = let outer = a .1 .1 .1 .1 .1 .1 .0 in 5 * (length (a .1 .0 .now) - a .1 .1 .1 .0) + 5 * (outer .count) + 2
 
 abbrev literal-anew-at : ℕ → In 4 literal-anew-kinds.ps
 literal-anew-at t =
@@ -472,9 +472,10 @@ pub +literal-anew+literal-apart+literal-bracket+literal-end+literal-first+litera
     (λ c κs. let the-first = c .before .before .before .before .before .before .first in
     let start = c .before .before .before .before .before .before .before .before .before .before .before .before .pre in
     let stopped = start .1 .1 in
+    let asked = start .1 .0 .0 .asked in
     let ends = c .before .before .before .before .end-of in
     let binds = first-record.binds-within (start .1 .1 .leaves) true _ (the-first .given .1) in (
-      omega (arith, start .0, ends .ensures .1, ends .ensures .2, start .1 .0 .0 .asked .pattern-stands .inside),
+      omega (arith, start .0, ends .ensures .1, ends .ensures .2, asked .pattern-stands .inside),
       (
         level.literal-more (start .1 .0 .0) (stopped .some) (binds .1) (binds .0) (c .before .bind .ensures) (ends .result) (the-first .given .0 .0) (ends .ensures .0) (binds .0),
         around.remembering-later (start .1 .0 .0) _ _ (ends .ensures .2) (binds .0) (sure.begin-second (stopped .some) (ends .ensures .0)) (around.remembering-bound (start .1 .0 .1) (c .before .bind .ensures)),
@@ -551,18 +552,21 @@ pub +literal-anew+literal-apart+literal-bracket+literal-end+literal-first+litera
     (λ c. search needs)
     (λ c. search needs)
     (λ c. let start = c .before .before .before .before .before .before .before .before .before .pre in
-    omega (arith, start .1 .0 .asked .pattern-stands .inside, start .1 .0 .asked .small, start .1 .1))
+    let asked = start .1 .0 .asked in
+    omega (arith, asked .pattern-stands .inside, asked .small, start .1 .1))
     (λ c. let start = c .before .before .before .before .before .before .before .before .before .pre in
-    omega (arith, start .1 .0 .asked .row-stands .inside, start .1 .0 .asked .small, start .1 .2 .some))
+    let asked = start .1 .0 .asked in
+    omega (arith, asked .row-stands .inside, asked .small, start .1 .2 .some))
     (λ c κs. tt)
     (λ c κs.
     let the-push = c .before .before .before .before .push in
     let the-end-of = c .before .before .before .before .before .before .end-of in
     let the-end-of2 = c .before .before .before .before .before .end-of2 in
     let start = c .before .before .before .before .before .before .before .before .before .before .before .pre in
+    let asked = start .1 .0 .asked in
     let more = c .before .before .before .before .push .ensures in
     let unsure = c .before .unsure .ensures in (
-      omega (arith, start .0, more .0, start .1 .0 .asked .pattern-stands .inside, start .1 .1),
+      omega (arith, start .0, more .0, asked .pattern-stands .inside, start .1 .1),
       (level.literal-inside (start .1 .0) (start .1 .1) (start .1 .2) _ _ (the-end-of .ensures .0) (the-end-of2 .ensures .0) (the-push .result) (more .0) (more .1) (more .2), around.remembering-nothing _ _ _ _ (unsure .0) (unsure .1) (unsure .2)),
     ))
     (λ c.
@@ -618,9 +622,10 @@ pub +literal-anew+literal-apart+literal-bracket+literal-end+literal-first+litera
     (λ c κs.
     let the-loop = c .before .before .before .loop in
     let start = c .before .before .before .before .before .before .before .before .before .before .pre in
+    let asked = start .1 .0 .0 .asked in
     let ends = c .before .before .before .before .before .end-of in
     let inside = begin-inside (the-loop .inv .0) in (
-      omega (arith, start .0, ends .ensures .1, ends .ensures .2, start .1 .0 .0 .asked .pattern-stands .inside),
+      omega (arith, start .0, ends .ensures .1, ends .ensures .2, asked .pattern-stands .inside),
       (level.literal-more (start .1 .0 .0) (start .1 .0 .1) (start .1 .1) inside (c .before .bind .ensures) (ends .result) (the-loop .n) (ends .ensures .0) inside, around.remembering-later (start .1 .0 .0) _ _ (ends .ensures .2) inside (sure.begin-second (start .1 .0 .1) (ends .ensures .0)) (around.remembering-bound (around.remembering-then (start .1 .0 .2) (the-loop .inv .2)) (c .before .bind .ensures))),
     ))
     (λ c κs. c .if2 .left)
@@ -802,8 +807,9 @@ pub +literal-anew+literal-apart+literal-bracket+literal-end+literal-first+litera
     let the-m = c .before .before .before .before .m in
     let the-known-front = c .before .before .before .before .before .before .known-front in
     let start = c .before .before .before .before .before .before .before .before .before .before .before .before .before .before .before .pre in
+    let asked = start .1 .0 .asked in
     let (passed, stopped) = known.known-stop (the-known-front .ensures) _ _ _ (the-m .given .1) in (
-      omega (arith, start .0, begin-inside (passed .begins), start .1 .0 .asked .pattern-stands .inside),
+      omega (arith, start .0, begin-inside (passed .begins), asked .pattern-stands .inside),
       ((level.literal-later (start .1 .0) _ _ (passed .begins) (passed .within), around.remembering-later (start .1 .0) _ _ (begin-inside (passed .begins)) (passed .within) (passed .begins) (start .1 .1)), stopped),
     ))
     (λ c. let the-pre = c .before .before .before .before .before .before .before .before .before .before .before .pre in

@@ -217,7 +217,8 @@ pub +shadow-anew+shadow-first+shadow-inside+shadow-lengths+shadow-run+shadow-tri
     omega (arith, asked .pattern-stands .inside, asked .small, the-end-of .ensures .2))
     (λ c. let the-first = c .before .before .before .before .before .first in
     let start = c .before .before .before .before .before .before .before .before .before .before .before .pre in
-    omega (arith, start .1 .0 .0 .row-stands .inside, start .1 .0 .0 .small, first-record.binds-within (start .1 .1 .leaves) false _ (the-first .given .1) .0))
+    let asked = start .1 .0 .0 in
+    omega (arith, asked .row-stands .inside, asked .small, first-record.binds-within (start .1 .1 .leaves) false _ (the-first .given .1) .0))
     (λ c κs. let the-first = c .before .before .before .before .before .before .first in
     let start = c .before .before .before .before .before .before .before .before .before .before .before .before in
     let stopped = start .pre .1 .1 in
