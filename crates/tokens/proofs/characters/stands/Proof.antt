@@ -22,7 +22,8 @@ stands-spec =
     (λ c κs. search needs)
     (λ c.
     let under = c .before .before in
-    rw (utf8-three (under .before .before .before .args .c) (under .if2 .left) (c .before .if3 .taken)) (c .three-at .ensures))
+    let x = under .before .before .before .args in
+    rw (utf8-three (x .c) (under .if2 .left) (c .before .if3 .taken)) (c .three-at .ensures))
     (λ c. search needs)
     (λ c. search needs)
     (λ c. search needs)
@@ -30,4 +31,5 @@ stands-spec =
     (λ c κs. search needs)
     (λ c.
     let under = c .before .before in
-    rw (utf8-four (under .before .before .before .args .c) (c .before .if3 .left)) (c .four-at .ensures)))
+    let x = under .before .before .before .args in
+    rw (utf8-four (x .c) (c .before .if3 .left)) (c .four-at .ensures)))
