@@ -32,16 +32,22 @@ infer-started-spec =
     (λ c.
     let start = c .before .before .before .before .before .before .before .before .before .before in
     let arguments = c .before .before .before .before .before .infer-arguments in
-    back-inside (start .pre .0 .small) (arguments .last .1 .1 .1 .1 .1 .1 .0) _ (arguments .kept .1 .1 .1 .1 .1 .1 .0))
+    let joined-kept = arguments .kept .1 .1 .1 .1 .1 .1 .0 in
+    let joined-after = arguments .last .1 .1 .1 .1 .1 .1 .0 in
+    back-inside (start .pre .0 .small) joined-after _ joined-kept)
     (λ c.
     let start = c .before .before .before .before .before .before .before .before .before .before .before in
     let arguments = c .before .before .before .before .before .before .infer-arguments in
-    sym (back-length (start .pre .0 .small) (arguments .last .1 .1 .1 .1 .1 .1 .0) _ (arguments .kept .1 .1 .1 .1 .1 .1 .0)))
+    let joined-kept = arguments .kept .1 .1 .1 .1 .1 .1 .0 in
+    let joined-after = arguments .last .1 .1 .1 .1 .1 .1 .0 in
+    sym (back-length (start .pre .0 .small) joined-after _ joined-kept))
     (λ c κs.
     let start = c .before .before .before .before .before .before .before .before .before .before .before in
     let arguments = c .before .before .before .before .before .before .infer-arguments in
+    let joined-kept = arguments .kept .1 .1 .1 .1 .1 .1 .0 in
+    let joined-after = arguments .last .1 .1 .1 .1 .1 .1 .0 in
     let (found, is, held) = started-arguments (start .args .limit) _ (start .pre .1 .0) _ (arguments .result) (not-false _ (c .before .before .if1 .left)) (arguments .ensures _ _ (start .pre .1 .0) (start .pre .1 .1)) in
-    (start .pre .0, holding held, back-length (start .pre .0 .small) (arguments .last .1 .1 .1 .1 .1 .1 .0) _ (arguments .kept .1 .1 .1 .1 .1 .1 .0)))
+    (start .pre .0, holding held, back-length (start .pre .0 .small) joined-after _ joined-kept))
     (λ c. search needs)
     (λ c.
     let start = c .before .before .before .before .before .before .before .before .before .before .before .before .before .before .before in

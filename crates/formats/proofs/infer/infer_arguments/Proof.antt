@@ -38,19 +38,22 @@ infer-arguments-spec =
     ))
     (λ c. c .match .keys1)
     (λ c. let the-function-turn = c .before .before .before .before .before .before .function-turn in
+    let store-kept = the-function-turn .kept .1 .1 .1 .0 in
     let the-loop = c .before .before .before .before .before .before .before .before .before .before .loop in
     let the-pre = c .before .before .before .before .before .before .before .before .before .before .before .before .before .before .before .pre in
-    the-function-turn .kept .1 .1 .1 .0 ∙ arguments-long (the-loop .inv .0) (the-pre .1))
+    store-kept ∙ arguments-long (the-loop .inv .0) (the-pre .1))
     (λ c. let the-function-turn = c .before .before .before .before .before .before .function-turn in
+    let joined-kept = the-function-turn .kept .1 .1 .1 .1 .1 .1 .1 .1 .0 in
     let the-loop = c .before .before .before .before .before .before .before .before .before .before .loop in
     let the-pre = c .before .before .before .before .before .before .before .before .before .before .before .before .before .before .before .pre in
-    the-function-turn .kept .1 .1 .1 .1 .1 .1 .1 .1 .0 ∙ the-loop .inv .1 ∙ sym (the-pre .2))
+    joined-kept ∙ the-loop .inv .1 ∙ sym (the-pre .2))
     (λ c. let the-loop = c .before .before .before .before .before .before .before .before .before .before .loop in
     let the-loop-test = c .before .before .before .before .before .before .before .before .before .loop-test in
     let the-pre = c .before .before .before .before .before .before .before .before .before .before .before .before .before .before .before .pre in
     let the-functions = c .before .before .before .before .before .before .before .before .before .before .before .functions in
     let turn = c .before .before .before .before .before .before .function-turn in
-    arguments-refused (the-loop .inv .0) (turn .last .1 .1 .1 .0) (turn .result) (turn .ensures) (tag-over _ (c .before .match .keys1)) (omega (arith, the-loop-test .taken, functions-read (the-pre .0) (the-functions .result) (the-functions .ensures))))
+    let store-after = turn .last .1 .1 .1 .0 in
+    arguments-refused (the-loop .inv .0) store-after (turn .result) (turn .ensures) (tag-over _ (c .before .match .keys1)) (omega (arith, the-loop-test .taken, functions-read (the-pre .0) (the-functions .result) (the-functions .ensures))))
     (λ c. let the-loop-test = c .before .before .before .before .before .before .before .before .loop-test in
     let the-functions = c .before .before .before .before .before .before .before .before .before .before .functions in
     let start = c .before .before .before .before .before .before .before .before .before .before .before .before .before .before in
@@ -61,9 +64,11 @@ infer-arguments-spec =
     let the-loop-test = c .before .before .before .before .before .before .before .before .loop-test in
     let the-pre = c .before .before .before .before .before .before .before .before .before .before .before .before .before .before .pre in
     let the-functions = c .before .before .before .before .before .before .before .before .before .before .functions in
-    let turn = c .before .before .before .before .before .function-turn in (
-      arguments-more (the-loop .inv .0) (turn .last .1 .1 .1 .0) (turn .result) (turn .ensures) (tag-not-over _ (c .match .keys2)) (omega (arith, the-loop-test .taken, functions-read (the-pre .0) (the-functions .result) (the-functions .ensures))) (the-pre .0 .small),
-      turn .kept .1 .1 .1 .1 .1 .1 .1 .1 .0 ∙ the-loop .inv .1,
+    let turn = c .before .before .before .before .before .function-turn in
+    let joined-kept = turn .kept .1 .1 .1 .1 .1 .1 .1 .1 .0 in
+    let store-after = turn .last .1 .1 .1 .0 in (
+      arguments-more (the-loop .inv .0) store-after (turn .result) (turn .ensures) (tag-not-over _ (c .match .keys2)) (omega (arith, the-loop-test .taken, functions-read (the-pre .0) (the-functions .result) (the-functions .ensures))) (the-pre .0 .small),
+      joined-kept ∙ the-loop .inv .1,
     ))
     (λ c. let the-pre = c .before .before .before .before .before .before .pre in
     arguments-long (c .before .loop .inv .0) (the-pre .1))

@@ -41,19 +41,22 @@ infer-round-spec =
     ))
     (λ c. c .match .keys1)
     (λ c. let the-function-turn = c .before .before .before .before .before .before .function-turn in
+    let store-kept = the-function-turn .kept .1 .1 .1 .0 in
     let the-loop = c .before .before .before .before .before .before .before .before .before .before .loop in
     let the-pre = c .before .before .before .before .before .before .before .before .before .before .before .before .before .before .before .pre in
-    the-function-turn .kept .1 .1 .1 .0 ∙ round-long (the-loop .inv .0) (the-pre .1))
+    store-kept ∙ round-long (the-loop .inv .0) (the-pre .1))
     (λ c. let the-function-turn = c .before .before .before .before .before .before .function-turn in
+    let joined-kept = the-function-turn .kept .1 .1 .1 .1 .1 .1 .1 .1 .0 in
     let the-loop = c .before .before .before .before .before .before .before .before .before .before .loop in
     let the-pre = c .before .before .before .before .before .before .before .before .before .before .before .before .before .before .before .pre in
-    the-function-turn .kept .1 .1 .1 .1 .1 .1 .1 .1 .0 ∙ the-loop .inv .1 ∙ sym (the-pre .2))
+    joined-kept ∙ the-loop .inv .1 ∙ sym (the-pre .2))
     (λ c. let the-loop = c .before .before .before .before .before .before .before .before .before .before .loop in
     let the-loop-test = c .before .before .before .before .before .before .before .before .before .loop-test in
     let the-pre = c .before .before .before .before .before .before .before .before .before .before .before .before .before .before .before .pre in
     let the-functions = c .before .before .before .before .before .before .before .before .before .before .before .functions in
     let turn = c .before .before .before .before .before .before .function-turn in
-    round-refused (the-loop .inv .0) (turn .last .1 .1 .1 .0) (turn .result) (turn .ensures) (tag-over _ (c .before .match .keys1)) (omega (arith, the-loop-test .taken, functions-read (the-pre .0) (the-functions .result) (the-functions .ensures))) (the-pre .0 .small))
+    let store-after = turn .last .1 .1 .1 .0 in
+    round-refused (the-loop .inv .0) store-after (turn .result) (turn .ensures) (tag-over _ (c .before .match .keys1)) (omega (arith, the-loop-test .taken, functions-read (the-pre .0) (the-functions .result) (the-functions .ensures))) (the-pre .0 .small))
     (λ c. c .match .keys2)
     (λ c. c .match .keys3)
     (λ c. let the-loop-test = c .before .before .before .before .before .before .before .before .loop-test in
@@ -67,10 +70,12 @@ infer-round-spec =
     let the-pre = c .before .before .before .before .before .before .before .before .before .before .before .before .before .before .pre in
     let the-functions = c .before .before .before .before .before .before .before .before .before .before .functions in
     let turn = c .before .before .before .before .before .function-turn in
+    let joined-kept = turn .kept .1 .1 .1 .1 .1 .1 .1 .1 .0 in
+    let store-after = turn .last .1 .1 .1 .0 in
     let marked : Marked (turn .result) (the-loop .changed) (c .match .changed) =
     ⊎-elim (λ w. inl (tag-changed _ (w .0 .keys2), w .2)) (λ w. inr (tag-same _ (w .0 .keys3), w .2)) (c .match .came) in (
-      round-more (the-loop .inv .0) (turn .last .1 .1 .1 .0) (turn .result) (turn .ensures) (c .match .changed) marked (omega (arith, the-loop-test .taken, functions-read (the-pre .0) (the-functions .result) (the-functions .ensures))) (the-pre .0 .small),
-      turn .kept .1 .1 .1 .1 .1 .1 .1 .1 .0 ∙ the-loop .inv .1,
+      round-more (the-loop .inv .0) store-after (turn .result) (turn .ensures) (c .match .changed) marked (omega (arith, the-loop-test .taken, functions-read (the-pre .0) (the-functions .result) (the-functions .ensures))) (the-pre .0 .small),
+      joined-kept ∙ the-loop .inv .1,
     ))
     (λ c.
     let the-loop = c .before .before .loop in

@@ -30,39 +30,48 @@ infer-rounds-spec =
     let p = c .before .before .before .before .before .before .before .pre in (p .0, rounds-holding (the-loop .inv .1) (p .1), the-loop .inv .0))
     (λ c. search needs)
     (λ c. let the-infer-round = c .before .before .before .before .before .before .infer-round in
+    let store-kept = the-infer-round .kept .1 .1 .1 .0 in
     let the-loop = c .before .before .before .before .before .before .before .before .before .before .loop in
-    the-infer-round .kept .1 .1 .1 .0 ∙ the-loop .inv .1 .long)
+    store-kept ∙ the-loop .inv .1 .long)
     (λ c. let the-infer-round = c .before .before .before .before .before .before .infer-round in
+    let joined-kept = the-infer-round .kept .1 .1 .1 .1 .1 .1 .0 in
     let the-loop = c .before .before .before .before .before .before .before .before .before .before .loop in
     let the-pre = c .before .before .before .before .before .before .before .before .before .before .before .before .before .before .pre in
-    the-infer-round .kept .1 .1 .1 .1 .1 .1 .0 ∙ the-loop .inv .0 ∙ sym (the-pre .2))
+    joined-kept ∙ the-loop .inv .0 ∙ sym (the-pre .2))
     (λ c. let the-loop = c .before .before .before .before .before .before .before .before .before .before .loop in
     let the-loop-test = c .before .before .before .before .before .before .before .before .before .loop-test in
     let one = c .before .before .before .before .before .before .infer-round in
-    rounds-wide (the-loop .inv .1) (one .last .1 .1 .1 .0) (one .result) (one .ensures) (c .enum-told .given .1) (the-loop-test .taken))
+    let store-after = one .last .1 .1 .1 .0 in
+    rounds-wide (the-loop .inv .1) store-after (one .result) (one .ensures) (c .enum-told .given .1) (the-loop-test .taken))
     (λ c. search needs)
     (λ c. search needs)
     (λ c. let the-loop-test = c .before .before .before .before .before .before .before .before .before .loop-test in
     omega (arith, the-loop-test .taken))
     (λ c. let the-loop-test = c .before .before .before .before .before .before .before .before .before .loop-test in
     let one = c .before .before .before .before .before .before .infer-round in
+    let store-kept = one .kept .1 .1 .1 .0 in
+    let store-after = one .last .1 .1 .1 .0 in
+    let joined-kept = one .kept .1 .1 .1 .1 .1 .1 .0 in
     let inv = c .before .before .before .before .before .before .before .before .before .before .loop .inv in (
-      one .kept .1 .1 .1 .1 .1 .1 .0 ∙ inv .0,
-      rounds-more (inv .1) (one .last .1 .1 .1 .0) (one .result) (one .ensures) (c .enum-told2 .given .1) (the-loop-test .taken) (one .kept .1 .1 .1 .0),
+      joined-kept ∙ inv .0,
+      rounds-more (inv .1) store-after (one .result) (one .ensures) (c .enum-told2 .given .1) (the-loop-test .taken) store-kept,
     ))
     (λ c. search needs)
     (λ c. search needs)
     (λ c. let the-infer-round = c .before .before .before .before .before .before .infer-round in
+    let store-kept = the-infer-round .kept .1 .1 .1 .0 in
     let the-loop = c .before .before .before .before .before .before .before .before .before .before .loop in
-    the-infer-round .kept .1 .1 .1 .0 ∙ the-loop .inv .1 .long)
+    store-kept ∙ the-loop .inv .1 .long)
     (λ c. let the-infer-round = c .before .before .before .before .before .before .infer-round in
+    let joined-kept = the-infer-round .kept .1 .1 .1 .1 .1 .1 .0 in
     let the-loop = c .before .before .before .before .before .before .before .before .before .before .loop in
     let the-pre = c .before .before .before .before .before .before .before .before .before .before .before .before .before .before .pre in
-    the-infer-round .kept .1 .1 .1 .1 .1 .1 .0 ∙ the-loop .inv .0 ∙ sym (the-pre .2))
+    joined-kept ∙ the-loop .inv .0 ∙ sym (the-pre .2))
     (λ c. let the-loop = c .before .before .before .before .before .before .before .before .before .before .loop in
     let the-loop-test = c .before .before .before .before .before .before .before .before .before .loop-test in
     let one = c .before .before .before .before .before .before .infer-round in
-    rounds-settled (the-loop .inv .1) (one .last .1 .1 .1 .0) (one .result) (one .ensures) (c .enum-told3 .given .1) (the-loop-test .taken))
+    let store-after = one .last .1 .1 .1 .0 in
+    rounds-settled (the-loop .inv .1) store-after (one .result) (one .ensures) (c .enum-told3 .given .1) (the-loop-test .taken))
     (λ c.
     let the-loop = c .before .loop in
     the-loop .inv .1 .long)

@@ -20,15 +20,25 @@ join-into-spec =
     let the-args = c .before .before .before .before .args in
     let p = c .before .before .before .before .pre in (omega (arith, p .0), p .1, p .2, lent-length (the-args .limit) (p .0)))
     (λ c. let the-pre = c .before .before .before .before .before .before .pre in
-    let joined = c .before .join-formats in back-inside (the-pre .0) (joined .last .1 .1 .1 .0) _ (joined .kept .1 .1 .1 .0))
+    let joined = c .before .join-formats in
+    let out-kept = joined .kept .1 .1 .1 .0 in
+    let out-after = joined .last .1 .1 .1 .0 in
+    back-inside (the-pre .0) out-after _ out-kept)
     (λ c. let the-pre = c .before .before .before .before .before .before .before .pre in
-    let joined = c .before .before .join-formats in sym (back-length (the-pre .0) (joined .last .1 .1 .1 .0) _ (joined .kept .1 .1 .1 .0)))
+    let joined = c .before .before .join-formats in
+    let out-kept = joined .kept .1 .1 .1 .0 in
+    let out-after = joined .last .1 .1 .1 .0 in
+    sym (back-length (the-pre .0) out-after _ out-kept))
     (λ c κs.
     let joined = c .before .before .before .join-formats in
+    let out-kept = joined .kept .1 .1 .1 .0 in
+    let out-after = joined .last .1 .1 .1 .0 in
     let start = c .before .before .before .before .before .before .before .before in
     let a = start .args in
-    back-length (start .pre .0) (joined .last .1 .1 .1 .0) _ (joined .kept .1 .1 .1 .0) ∙ sym (format-in-length (a .limit) (a .format .now) (start .pre .1)))
+    back-length (start .pre .0) out-after _ out-kept ∙ sym (format-in-length (a .limit) (a .format .now) (start .pre .1)))
     (λ c. search needs)
     (λ c. let the-pre = c .before .before .before .before .before .before .before .before .before .before .before .pre in
     let joined = c .before .before .before .before .before .before .join-formats in
-    c .before .before .copy-words .ensures ∙ (back-front (the-pre .0) (joined .last .1 .1 .1 .0) _ (joined .kept .1 .1 .1 .0) ∙ joined .ensures)))
+    let out-kept = joined .kept .1 .1 .1 .0 in
+    let out-after = joined .last .1 .1 .1 .0 in
+    c .before .before .copy-words .ensures ∙ (back-front (the-pre .0) out-after _ out-kept ∙ joined .ensures)))

@@ -72,21 +72,24 @@ join-sentences-spec =
     (the-loop-test .taken))
     (λ c.
     let made = c .before .before .before .sentence-format in
+    let out-kept = made .kept .1 .1 .1 .1 .1 .1 .1 .1 .0 in
+    let out-after = made .last .1 .1 .1 .1 .1 .1 .1 .1 .0 in
     let now = c .before .before .before .before .before .before .loop in
     let start = c .before .before .before .before .before .before .before .before .before .before in
     omega (
       arith,
-      back-length (start .args .limit) (now .row) (made .last .1 .1 .1 .1 .1 .1 .1 .1 .0) (made .kept .1 .1 .1 .1 .1 .1 .1 .1 .0) (now .inv .0),
+      back-length (start .args .limit) (now .row) out-after out-kept (now .inv .0),
       start .pre .0 .small,
     ))
     (λ c.
     let made = c .before .before .before .before .sentence-format in
+    let out-kept = made .kept .1 .1 .1 .1 .1 .1 .1 .1 .0 in
     let now = c .before .before .before .before .before .before .before .loop in
     let start = c .before .before .before .before .before .before .before .before .before .before .before in
     let new = made .last .1 .1 .1 .1 .1 .1 .1 .1 .0 in
     sym
     (lent-length (start .args .limit) (new ++ drop (start .args .limit + 1) (now .row)) (start .pre .0 .small)
-    (back-length (start .args .limit) (now .row) new (made .kept .1 .1 .1 .1 .1 .1 .1 .1 .0) (now .inv .0))))
+    (back-length (start .args .limit) (now .row) new out-kept (now .inv .0))))
     (λ c κs.
     let made = c .before .before .before .before .sentence-format in
     let now = c .before .before .before .before .before .before .before .loop in
@@ -103,11 +106,13 @@ join-sentences-spec =
     (λ c. let the-if1 = c .before .before .before .before .before .if1 in
     let the-loop-test = c .before .before .before .before .before .before .before .before .before .loop-test in
     let made = c .before .before .before .before .before .before .before .sentence-format in
+    let out-kept = made .kept .1 .1 .1 .1 .1 .1 .1 .1 .0 in
+    let out-after = made .last .1 .1 .1 .1 .1 .1 .1 .1 .0 in
     let good : made .result ≡ true = not-false (made .result) (the-if1 .left) in
     let now = c .before .before .before .before .before .before .before .before .before .before .loop in
     let start = c .before .before .before .before .before .before .before .before .before .before .before .before .before .before in
     let a = start .args in (
-      back-length (a .limit) (now .row) (made .last .1 .1 .1 .1 .1 .1 .1 .1 .0) (made .kept .1 .1 .1 .1 .1 .1 .1 .1 .0) (now .inv .0),
+      back-length (a .limit) (now .row) out-after out-kept (now .inv .0),
       rows-more (now .inv .1) (made .ensures) good (drop (a .limit + 1) (now .row)) (start .pre .0 .small) (start .pre .0 .readable) (start .pre .2)
           (the-loop-test .taken) refl (c .before .before .join-into .ensures),
     ))

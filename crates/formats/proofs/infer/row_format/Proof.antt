@@ -32,11 +32,14 @@ row-format-spec =
     let row = told .before .before .before .before in
     let first = row .before .before .before .before in
     let start = first .before .before .before .before .before .before in
+    let out-kept = row .write-row .kept .1 .1 .1 .1 .1 .1 .1 .0 in
     λ t knows. made-over (start .args .limit) _ _ _ refl (told .enum-told .given .1) (row .write-row .ensures .1 t knows)
-    (row .write-row .kept .1 .1 .1 .1 .1 .1 .1 .0 ∙ first .clear-words .kept .0 ∙ start .pre .1) (c .before .before .clear-words2 .ensures))
+    (out-kept ∙ first .clear-words .kept .0 ∙ start .pre .1) (c .before .before .clear-words2 .ensures))
     (λ c. let the-write-row = c .before .before .before .before .before .before .write-row in
+    let out-kept = the-write-row .kept .1 .1 .1 .1 .1 .1 .1 .0 in
+    let out-after = the-write-row .last .1 .1 .1 .1 .1 .1 .1 .0 in
     let the-clear-words = c .before .before .before .before .before .before .before .before .before .before .clear-words in
-    length-set (the-write-row .last .1 .1 .1 .1 .1 .1 .1 .0) _ _ ∙ the-write-row .kept .1 .1 .1 .1 .1 .1 .1 .0 ∙ the-clear-words .kept .0)
+    length-set out-after _ _ ∙ out-kept ∙ the-clear-words .kept .0)
     (λ c.
     let the-next = c .before .before .next in
     let the-args = c .before .before .before .before .before .before .before .before .before .before .before .before .before .before .before .before .args in

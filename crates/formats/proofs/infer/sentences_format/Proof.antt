@@ -34,7 +34,8 @@ sentences-format-spec =
     (start .pre .0, start .pre .1, omega (arith, c .before .if1 .left, start .pre .2), start .pre .3))
     (λ c.
     let the-sentence-format = c .before .before .before .sentence-format in
-    the-sentence-format .kept .1 .1 .1 .1 .1 .1 .1 .1 .0)
+    let out-kept = the-sentence-format .kept .1 .1 .1 .1 .1 .1 .1 .1 .0 in
+    out-kept)
     (λ c.
     let the-sentence-format = c .before .before .before .sentence-format in
     let the-if1 = c .before .before .before .before .before .if1 in
@@ -42,7 +43,8 @@ sentences-format-spec =
     first-refused (start .args .limit) (fileOf (start .args .law .now)) (start .args .patterns) (find (resultsIn (start .args .limit) (fileNames (fileOf (start .args .law .now))) (start .args .store .now))) (start .args .from) (start .args .number) (the-sentence-format .ensures) (start .pre .0 .readable) (start .pre .2) (omega (arith, the-if1 .left)) (not-true _ (c .if2 .taken)))
     (λ c.
     let the-sentence-format = c .before .before .before .before .sentence-format in
-    the-sentence-format .kept .1 .1 .1 .1 .1 .1 .1 .1 .0)
+    let out-kept = the-sentence-format .kept .1 .1 .1 .1 .1 .1 .1 .1 .0 in
+    out-kept)
     (λ c.
     let the-sentence-format = c .before .before .before .before .sentence-format in
     let the-if1 = c .before .before .before .before .before .before .if1 in
@@ -63,11 +65,14 @@ sentences-format-spec =
     ))
     (λ c.
     let the-join-sentences = c .before .before .join-sentences in
+    let joined-kept = the-join-sentences .kept .1 .1 .1 .1 .1 .1 .1 .1 .1 .0 in
     let the-sentence-format = c .before .before .before .before .before .before .before .before .sentence-format in
-    the-join-sentences .kept .1 .1 .1 .1 .1 .1 .1 .1 .1 .0 ∙ the-sentence-format .kept .1 .1 .1 .1 .1 .1 .1 .1 .0)
+    let out-kept = the-sentence-format .kept .1 .1 .1 .1 .1 .1 .1 .1 .0 in
+    joined-kept ∙ out-kept)
     (λ c. let the-sentence-format = c .before .before .before .before .before .before .before .before .sentence-format in
     let the-if1 = c .before .before .before .before .before .before .before .before .before .before .if1 in
     let the-if2 = c .before .before .before .before .before .if2 in
     let start = c .before .before .before .before .before .before .before .before .before .before .before .before .before .before in
     let others = c .before .before .join-sentences in
-    first-joined (start .args .limit) (fileOf (start .args .law .now)) (start .args .patterns) (find (resultsIn (start .args .limit) (fileNames (fileOf (start .args .law .now))) (start .args .store .now))) (start .args .from) (start .args .number) (the-sentence-format .ensures) (start .pre .0 .readable) (start .pre .2) (omega (arith, the-if1 .left)) (start .pre .0 .small) (not-false _ (the-if2 .left)) (others .result) (others .last .1 .1 .1 .1 .1 .1 .1 .1 .1 .0) (others .ensures)))
+    let joined-after = others .last .1 .1 .1 .1 .1 .1 .1 .1 .1 .0 in
+    first-joined (start .args .limit) (fileOf (start .args .law .now)) (start .args .patterns) (find (resultsIn (start .args .limit) (fileNames (fileOf (start .args .law .now))) (start .args .store .now))) (start .args .from) (start .args .number) (the-sentence-format .ensures) (start .pre .0 .readable) (start .pre .2) (omega (arith, the-if1 .left)) (start .pre .0 .small) (not-false _ (the-if2 .left)) (others .result) joined-after (others .ensures)))

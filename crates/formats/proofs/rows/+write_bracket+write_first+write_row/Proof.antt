@@ -110,11 +110,13 @@ pub +write-bracket+write-first+write-row-spec : {M : Type 1} → statement M
     omega (arith, the-if1 .left, start .pre .1 .0 .small))
     (λ c. let the-if1 = c .before .before .before .before .before .before .before .before .before .before .if1 in
     let the-write-row = c .before .before .before .before .before .before .write-row in
+    let out-kept = the-write-row .kept .1 .1 .1 .1 .1 .1 .1 .0 in
     let start = c .before .before .before .before .before .before .before .before .before .before .before .before .before .before .before in
-    omega (arith, the-if1 .left, start .pre .1 .0 .room, the-write-row .kept .1 .1 .1 .1 .1 .1 .1 .0))
+    omega (arith, the-if1 .left, start .pre .1 .0 .room, out-kept))
     (λ c.
     let the-write-row = c .before .before .before .before .write-row in
-    the-write-row .kept .1 .1 .1 .1 .1 .1 .1 .0)
+    let out-kept = the-write-row .kept .1 .1 .1 .1 .1 .1 .1 .0 in
+    out-kept)
     (λ c. let the-end-of = c .before .before .before .before .before .before .before .end-of in
     let start = c .before .before .before .before .before .before .before .before .before .before .before .before .before in
     let inside = c .before .before .before .before .write-row in (
@@ -122,7 +124,9 @@ pub +write-bracket+write-first+write-row-spec : {M : Type 1} → statement M
       λ results knows. laws.bracket-over (start .pre .1 .0) (start .pre .1 .1) results (the-end-of .ensures .0) (c .enum-told .given .1) (inside .ensures .1 results knows),
     ))
     (λ c. let inside = c .before .before .before .before .before .before .write-row in
-    length-set (inside .last .1 .1 .1 .1 .1 .1 .1 .0) _ _ ∙ inside .kept .1 .1 .1 .1 .1 .1 .1 .0)
+    let out-kept = inside .kept .1 .1 .1 .1 .1 .1 .1 .0 in
+    let out-after = inside .last .1 .1 .1 .1 .1 .1 .1 .0 in
+    length-set out-after _ _ ∙ out-kept)
     (λ c. let the-end-of = c .before .before .before .before .before .before .before .before .before .end-of in
     let start = c .before .before .before .before .before .before .before .before .before .before .before .before .before .before .before in
     let inside = c .before .before .before .before .before .before .write-row in
@@ -196,7 +200,8 @@ pub +write-bracket+write-first+write-row-spec : {M : Type 1} → statement M
     ))
     (λ c.
     let the-write-bracket = c .before .before .write-bracket in
-    the-write-bracket .kept .1 .1 .1 .1 .1 .1 .1 .0)
+    let out-kept = the-write-bracket .kept .1 .1 .1 .1 .1 .1 .1 .0 in
+    out-kept)
     (λ c.
     let the-enum-told2 = c .before .before .before .before .enum-told2 in
     let the-write-bracket = c .before .before .write-bracket in
@@ -209,7 +214,8 @@ pub +write-bracket+write-first+write-row-spec : {M : Type 1} → statement M
     ))
     (λ c.
     let the-write-call = c .before .before .write-call in
-    the-write-call .kept .1 .1 .1 .1 .0)
+    let out-kept = the-write-call .kept .1 .1 .1 .1 .0 in
+    out-kept)
     (λ c.
     let the-wide = c .before .before .before .before .wide in
     let the-write-call = c .before .before .write-call in
@@ -270,8 +276,9 @@ pub +write-bracket+write-first+write-row-spec : {M : Type 1} → statement M
     (λ c. search needs)
     (λ c.
     let the-write-first = c .before .before .before .before .write-first in
+    let out-kept = the-write-first .kept .1 .1 .1 .1 .1 .1 .1 .0 in
     let the-write-leaves = c .before .before .before .before .before .before .before .before .before .before .write-leaves in
-    the-write-first .kept .1 .1 .1 .1 .1 .1 .1 .0 ∙ the-write-leaves .kept .1 .0)
+    out-kept ∙ the-write-leaves .kept .1 .0)
     (λ c.
     let the-write-first = c .before .before .before .before .write-first in
     let the-if1 = c .before .before .before .before .before .before .if1 in
@@ -280,8 +287,9 @@ pub +write-bracket+write-first+write-row-spec : {M : Type 1} → statement M
     let onward = leaves .ensures .2 _ (start .args .at) (start .args .store .now) (start .args .limit) (start .args .count) (start .pre .1 .0) in
     (tt, λ results knows. onward .goes results _ _ (laws.row-first-over (onward .asked) (the-if1 .left) results (c .enum-told .given .1) (the-write-first .ensures .1 results knows))))
     (λ c. let the-write-first = c .before .before .before .before .before .before .write-first in
+    let out-kept = the-write-first .kept .1 .1 .1 .1 .1 .1 .1 .0 in
     let the-write-leaves = c .before .before .before .before .before .before .before .before .before .before .before .before .write-leaves in
-    the-write-first .kept .1 .1 .1 .1 .1 .1 .1 .0 ∙ the-write-leaves .kept .1 .0)
+    out-kept ∙ the-write-leaves .kept .1 .0)
     (λ c. let the-if1 = c .before .before .before .before .before .before .before .before .if1 in
     let start = c .before .before .before .before .before .before .before .before .before .before .before .before .before .before .before .before .before .before in
     let leaves = c .before .before .before .before .before .before .before .before .before .before .before .before .write-leaves in
@@ -314,16 +322,19 @@ pub +write-bracket+write-first+write-row-spec : {M : Type 1} → statement M
     let onward = leaves .ensures .2 _ (start .args .at) (start .args .store .now) (start .args .limit) (start .args .count) (start .pre .1 .0) in
     let the-end = c .before .before .before .end-of in
     let first = c .before .before .before .before .before .before .before .before .before .before .write-first in
+    let out-kept = first .kept .1 .1 .1 .1 .1 .1 .1 .0 in
     let some = c .before .before .before .before .before .before .before .before .before .before .before .before .if1 .left in
     let left = leftOf (leaves .result) (start .args .part .now) in (
       omega (arith, after-falls left (the-end .result) (length left) some (the-end .ensures .0) refl, laws.left-length (leaves .result) (start .args .part .now), start .pre .0),
-      (laws.asked-rest (onward .asked) some (the-end .ensures .0) (c .before .word-at .ensures) (laws.ends-between (the-first .given .1) (first .ensures .0) .1) (first .kept .1 .1 .1 .1 .1 .1 .1 .0), start .pre .1 .1),
+      (laws.asked-rest (onward .asked) some (the-end .ensures .0) (c .before .word-at .ensures) (laws.ends-between (the-first .given .1) (first .ensures .0) .1) out-kept, start .pre .1 .1),
     ))
     (λ c.
     let the-write-row = c .before .before .write-row in
+    let out-kept-by-write-row = the-write-row .kept .1 .1 .1 .1 .1 .1 .1 .0 in
     let the-write-first = c .before .before .before .before .before .before .before .before .before .before .before .before .before .write-first in
+    let out-kept-by-write-first = the-write-first .kept .1 .1 .1 .1 .1 .1 .1 .0 in
     let the-write-leaves = c .before .before .before .before .before .before .before .before .before .before .before .before .before .before .before .before .before .before .before .write-leaves in
-    the-write-row .kept .1 .1 .1 .1 .1 .1 .1 .0 ∙ the-write-first .kept .1 .1 .1 .1 .1 .1 .1 .0 ∙ the-write-leaves .kept .1 .0)
+    out-kept-by-write-row ∙ out-kept-by-write-first ∙ the-write-leaves .kept .1 .0)
     (λ c.
     let the-word-at = c .before .before .before .before .word-at in
     let the-if1 = c .before .before .before .before .before .before .before .before .before .before .before .before .before .before .before .if1 in

@@ -58,8 +58,9 @@ write-call-spec =
     (λ c.
     let the-if3 = c .before .before .before .before .if3 in
     let the-copy-row = c .before .before .copy-row in
+    let out-after = the-copy-row .last .1 .1 .1 .0 in
     let the-if1 = c .before .before .before .before .before .before .before .if1 in
     let the-if2 = c .before .before .before .before .before .if2 in
     let start = c .before .before .before .before .before .before .before .before .before .before in
     let a = start .args in
-    ((omega arith, omega arith), row-callee (a .store .now) (a .limit) (a .count) (a .place) (start .pre .0) (the-if1 .left) (a .out .now) (a .to) (a .most) (omega arith) (omega arith) (the-copy-row .last .1 .1 .1 .0) (the-if2 .left) (the-if3 .left) (c .before .before .copy-row .ensures))))
+    ((omega arith, omega arith), row-callee (a .store .now) (a .limit) (a .count) (a .place) (start .pre .0) (the-if1 .left) (a .out .now) (a .to) (a .most) (omega arith) (omega arith) out-after (the-if2 .left) (the-if3 .left) (c .before .before .copy-row .ensures))))

@@ -20,7 +20,8 @@ abbrev μ-loop : tie.MeasureT-loop
 
 -- the slots, where the ways meet
 passed : (c : tie.Joined1 Inv-loop μ-loop) → (let start = c .before .before .before .before .before .before in
-    (length (c .if1 .slots) ≡ 578) × SlotsUpTo (fileOf (start .args .law .now)) (c .if1 .slots) (c .before .before .before .loop .t + 1))
+    let the-loop = c .before .before .before .loop in
+    (length (c .if1 .slots) ≡ 578) × SlotsUpTo (fileOf (start .args .law .now)) (c .if1 .slots) (the-loop .t + 1))
 passed c =
     let start = c .before .before .before .before .before .before in
     let the-loop = c .before .before .before .loop in
