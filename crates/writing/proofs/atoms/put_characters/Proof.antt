@@ -19,12 +19,19 @@ Inv-loop text from to out₀ at next₀ i₀ out next i =
 abbrev μ-loop : tie.MeasureT-loop
 μ-loop text from to out₀ at next₀ i₀ out next i = to - i
 
--- the loop, from where a character is found; where it was found, from where it is known
+-- the start, from the loop; the loop, from where a character is found; where it was found, from where it is known
+abbrev start : tie.At-loop Inv-loop μ-loop → tie.Start Inv-loop μ-loop
+start c = c .before .before .before
+
 abbrev the-loop : tie.After-character-at Inv-loop μ-loop → tie.At-loop Inv-loop μ-loop
 the-loop c = c .before .before
 
 abbrev taking : tie.After-known-told Inv-loop μ-loop → tie.After-character-at Inv-loop μ-loop
 taking c = c .before .before .before
+
+-- the bytes from that character on
+abbrev text-left : tie.After-known-told Inv-loop μ-loop → List ℕ
+text-left c = let round = the-loop (taking c) in drop (round .loop .i) (start round .args .text .now)
 
 pub put-characters-spec : {M : Type 1} → statement M
 put-characters-spec =
@@ -49,23 +56,24 @@ put-characters-spec =
     ))
     (λ c. search needs)
     (λ c κs. omega (arith, the-loop (taking c) .loop .inv .0))
-    (λ c. let known = c .before in omega (arith, the-loop (taking known) .loop .inv .0, (whole-width (drop (the-loop (taking known) .loop .i) (the-loop (taking known) .before .before .before .args .text .now)) (taking known .character-at .ensures) (known .before .c .given .1)) .1))
-    (λ c κs. let known = c .before in omega (arith, the-loop (taking known) .loop .inv .0, (whole-width (drop (the-loop (taking known) .loop .i) (the-loop (taking known) .before .before .before .args .text .now)) (taking known .character-at .ensures) (known .before .c .given .1)) .1))
+    (λ c. let known = c .before in omega (arith, the-loop (taking known) .loop .inv .0, (whole-width (text-left known) (taking known .character-at .ensures) (known .before .c .given .1)) .1))
+    (λ c κs. let known = c .before in omega (arith, the-loop (taking known) .loop .inv .0, (whole-width (text-left known) (taking known .character-at .ensures) (known .before .c .given .1)) .1))
     (λ c κs.
-    let start = the-loop (taking (c .before .before .before)) in
-    omega (arith, start .loop .inv .0, start .loop .inv .2, start .before .before .before .pre .0))
-    (λ c. let known = c .before .before .before .before .before .before in omega (arith, the-loop (taking known) .loop .inv .0, (whole-width (drop (the-loop (taking known) .loop .i) (the-loop (taking known) .before .before .before .args .text .now)) (taking known .character-at .ensures) (known .before .c .given .1)) .1))
-    (λ c. let known = c .before .before .before .before .before .before in omega (arith, (whole-width (drop (the-loop (taking known) .loop .i) (the-loop (taking known) .before .before .before .args .text .now)) (taking known .character-at .ensures) (known .before .c .given .1)) .0))
+    let round = the-loop (taking (c .before .before .before)) in
+    omega (arith, round .loop .inv .0, round .loop .inv .2, start round .pre .0))
+    (λ c. let known = c .before .before .before .before .before .before in omega (arith, the-loop (taking known) .loop .inv .0, (whole-width (text-left known) (taking known .character-at .ensures) (known .before .c .given .1)) .1))
+    (λ c. let known = c .before .before .before .before .before .before in omega (arith, (whole-width (text-left known) (taking known .character-at .ensures) (known .before .c .given .1)) .0))
     (λ c.
     let put = c .before .before .put-six in
+    let out-kept = put .kept .1 .1 .1 .1 .1 .1 .0 in
     let second = c .before .before .before .before in
     let known = c .before .before .before .before .before .before in
     let round = the-loop (taking known) .loop in
-    let wide = (whole-width (drop (the-loop (taking known) .loop .i) (the-loop (taking known) .before .before .before .args .text .now)) (taking known .character-at .ensures) (known .before .c .given .1)) in (
-      omega (arith, wide .1, the-loop (taking known) .before .before .before .pre .2),
+    let wide = (whole-width (text-left known) (taking known .character-at .ensures) (known .before .c .given .1)) in (
+      omega (arith, wide .1, start (the-loop (taking known)) .pre .2),
       omega (arith, round .inv .1, put .ensures .0),
       omega (arith, round .inv .2, put .ensures .0, wide .0),
-      put .kept .1 .1 .1 .1 .1 .1 .0 ∙ round .inv .3,
+      out-kept ∙ round .inv .3,
       λ cs h. spelling-next (round .inv .4 cs h) (omega arith) (taking known .character-at .ensures) (known .before .c .given .1)
           (rw (second .before .word .ensures, second .word2 .ensures) at (put .ensures .1)),
     ))

@@ -14,4 +14,5 @@ inner-records-spec =
     (λ c κs. search needs)
     (λ c kinds starts ends ts size nested.
     let start = c .before .before .before .before .before .before in
-    inner-records nested size (start .pre .2) (c .before .before .before .closer-at .ensures .1) (c .before .before .sum-at .ensures) (c .before .sum-at2 .ensures) (c .less .ensures)))
+    let closer = c .before .before .before .closer-at in
+    inner-records nested size (start .pre .2) (closer .ensures .1) (c .before .before .sum-at .ensures) (c .before .sum-at2 .ensures) (c .less .ensures)))

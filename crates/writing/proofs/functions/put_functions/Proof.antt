@@ -35,7 +35,8 @@ put-functions-spec =
     (λ c.
     let round = c .before .before .before .before .before .loop in
     let put = c .before .before .put-function in
-    rounds-next (round .inv) (λ ts. atFirst functionsAt (drop (round .i) ts)) _ (omega arith) (put .ensures .0) (put .ensures .1) (put .kept .1 .1 .1 .1 .0)
+    let out-kept = put .kept .1 .1 .1 .1 .0 in
+    rounds-next (round .inv) (λ ts. atFirst functionsAt (drop (round .i) ts)) _ (omega arith) (put .ensures .0) (put .ensures .1) out-kept
     (λ ts h. functions-step h (round .i) (omega arith))
     (put .ensures .2))
     (λ c. search needs)

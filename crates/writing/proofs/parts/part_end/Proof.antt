@@ -28,7 +28,8 @@ part-end-spec =
     (λ c ss ts h. refl)
     (λ c. omega arith)
     (λ c κs. search needs)
-    (λ c ss ts h. end-stop h (omega arith) (c .before .parts-terms .ensures) (c .if1 .taken) (c .before .before .before .before .loop .inv ss ts h))
+    (λ c ss ts h. let round = c .before .before .before .before .loop in
+    end-stop h (omega arith) (c .before .parts-terms .ensures) (c .if1 .taken) (round .inv ss ts h))
     (λ c κs. search needs)
     (λ c. omega arith)
     (λ c. omega arith)

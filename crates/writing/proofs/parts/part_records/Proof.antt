@@ -22,7 +22,10 @@ Inv-loop text kinds starts ends from n₀ calling₀ i₀ n calling i =
 abbrev μ-loop : tie.MeasureT-loop
 μ-loop text kinds starts ends from n₀ calling₀ i₀ n calling i = length kinds - i
 
--- the loop, from where a token's records are counted
+-- the start, from the loop; the loop, from where a token's records are counted
+abbrev start : tie.At-loop Inv-loop μ-loop → tie.Start Inv-loop μ-loop
+start c = c .before .before .before .before .before
+
 abbrev the-loop : tie.After-token-weight Inv-loop μ-loop → tie.At-loop Inv-loop μ-loop
 the-loop c = c .before .before .before .before .before .before .before
 
@@ -48,11 +51,11 @@ part-records-spec =
     (λ c.
     let the-short-at = c .before .before .short-at in
     let round = the-loop c .loop in
-    let start = the-loop c .before .before .before .before .before in
+    let begun = start (the-loop c) in
     let parted = c .before .before .before in (
-      omega (arith, start .pre .1),
+      omega (arith, begun .pre .1),
       omega (arith, round .inv .1, c .token-weight .ensures .0),
-      λ ts h st. records-next h (start .args .text .now) (round .n) (round .calling) st (omega arith) (parted .before .parts-terms .ensures) (parted .if1 .left)
+      λ ts h st. records-next h (begun .args .text .now) (round .n) (round .calling) st (omega arith) (parted .before .parts-terms .ensures) (parted .if1 .left)
           (the-short-at .ensures .0) (c .before .short-at2 .ensures .0) (c .token-weight .ensures .1) (round .inv .2 ts h st),
     ))
     (λ c. let round = c .before .loop in λ ts h st. records-end h (round .calling) (c .loop-test .left) (round .inv .2 ts h st)))

@@ -40,8 +40,9 @@ put-sentences-spec =
     (λ c.
     let done = c .before .before .before .before in
     let put = done .put-sentence in
+    let out-kept = put .kept .1 .1 .1 .1 .1 .1 .0 in
     let round = done .before .before .before .loop in
-    rounds-next (round .inv) (λ ts. atFirst (sentencesAt (round .inside)) (drop (round .i) ts)) _ (omega arith) (put .ensures .0) (put .ensures .1) (put .kept .1 .1 .1 .1 .1 .1 .0)
+    rounds-next (round .inv) (λ ts. atFirst (sentencesAt (round .inside)) (drop (round .i) ts)) _ (omega arith) (put .ensures .0) (put .ensures .1) out-kept
     (λ ts h. sentences-step (h .0) (round .inside) (round .i) (omega arith) (c .within-after .ensures))
     (λ ts h. put .ensures .2 ts (h .0) (h .1)))
     (λ c. search needs)

@@ -44,8 +44,9 @@ put-terms-spec =
     (λ c.
     let done = c .before .before .before .before in
     let put = done .put-term in
+    let out-kept = put .kept .1 .1 .1 .1 .1 .1 .1 .1 .0 in
     let round = done .before .before .before .loop in
-    rounds-next (round .inv) (λ ts. atFirst (termsAt (whereOf (round .state))) (drop (round .i) ts)) _ (omega arith) (put .ensures .0) (put .ensures .1) (put .kept .1 .1 .1 .1 .1 .1 .1 .1 .0)
+    rounds-next (round .inv) (λ ts. atFirst (termsAt (whereOf (round .state))) (drop (round .i) ts)) _ (omega arith) (put .ensures .0) (put .ensures .1) out-kept
     (λ ts h. terms-step (h .0 .held) (whereOf (round .state)) (round .i) (omega arith) (c .where-after .ensures))
     (λ ts h. put .ensures .2 ts (h .0) (h .1)))
     (λ c. search needs)

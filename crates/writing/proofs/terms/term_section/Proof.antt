@@ -23,9 +23,10 @@ term-section-spec =
     (λ c. search needs)
     (λ c κs.
     let summed = c .before .before .before .before .before .sum-records in
+    let sums-kept = summed .kept .1 .1 .1 .1 .0 in
     let closed = c .before .before .before .before .before .before .before .before .before in
     let asked = begun (closed .before .before) .pre in
-    (omega (arith, asked .0), (asked .1 .0, omega (arith, asked .1 .1, closed .find-closers .kept .1 .0), omega (arith, asked .1 .2, summed .kept .1 .1 .1 .1 .0)), asked .2))
+    (omega (arith, asked .0), (asked .1 .0, omega (arith, asked .1 .1, closed .find-closers .kept .1 .0), omega (arith, asked .1 .2, sums-kept)), asked .2))
     (λ c. search needs)
     (λ c κs. search needs)
     (λ c κs. search needs)

@@ -40,8 +40,11 @@ put-file-spec =
     let second = third .before .before .before .before in
     let first = second .before .before .before .before in
     let size = first .before .before .before .before in
-    last .term-section .kept .1 .1 .1 .1 .1 .1 .0 ∙ fourth .condition-section .kept .1 .1 .1 .1 .0 ∙ third .sentence-section .kept .1 .1 .1 .1 .0
-    ∙ second .function-section .kept .1 .1 .1 .0 ∙ first .put .kept .1 .0 ∙ size .put-word .kept .1 .0)
+    let out-by-terms = last .term-section .kept .1 .1 .1 .1 .1 .1 .0 in
+    let out-by-conditions = fourth .condition-section .kept .1 .1 .1 .1 .0 in
+    let out-by-sentences = third .sentence-section .kept .1 .1 .1 .1 .0 in
+    let out-by-functions = second .function-section .kept .1 .1 .1 .0 in
+    out-by-terms ∙ out-by-conditions ∙ out-by-sentences ∙ out-by-functions ∙ first .put .kept .1 .0 ∙ size .put-word .kept .1 .0)
     (λ c ts h st.
     let last = c .before .before .before .before .before .before in
     let fourth = last .before .before .before .before .before .before in
