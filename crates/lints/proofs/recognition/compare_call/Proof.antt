@@ -52,14 +52,18 @@ compare-call-spec =
     omega (arith, accepted-few (p .0 .0) (a .t) (p .1 .0) (p .1 .1)))
     (λ c.
     let the-row-format = c .before .before .row-format in
+    let out-kept = the-row-format .kept .1 .1 .1 .1 .1 .1 .1 .0 in
+    let out-after = the-row-format .last .1 .1 .1 .1 .1 .1 .1 .0 in
     let p = c .before .before .before .before .before .before .before .before .before .pre in
     let a = c .before .before .before .before .before .before .before .before .before .args in
-    back-inside (p .0 .0 .asked .small) (the-row-format .last .1 .1 .1 .1 .1 .1 .1 .0) _ (the-row-format .kept .1 .1 .1 .1 .1 .1 .1 .0))
+    back-inside (p .0 .0 .asked .small) out-after _ out-kept)
     (λ c.
     let the-row-format = c .before .before .before .row-format in
+    let out-kept = the-row-format .kept .1 .1 .1 .1 .1 .1 .1 .0 in
+    let out-after = the-row-format .last .1 .1 .1 .1 .1 .1 .1 .0 in
     let p = c .before .before .before .before .before .before .before .before .before .before .pre in
     let a = c .before .before .before .before .before .before .before .before .before .before .args in
-    sym (back-length (p .0 .0 .asked .small) (the-row-format .last .1 .1 .1 .1 .1 .1 .1 .0) _ (the-row-format .kept .1 .1 .1 .1 .1 .1 .1 .0)))
+    sym (back-length (p .0 .0 .asked .small) out-after _ out-kept))
     (λ c.
     let p = c .before .before .before .before .before .before .before .before .before .before .pre in
     let a = c .before .before .before .before .before .before .before .before .before .before .args in

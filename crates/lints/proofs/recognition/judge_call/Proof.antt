@@ -25,7 +25,8 @@ judge-call-spec =
     (λ c κs.
     let p = c .before .before .before .before .before .pre in
     let a = c .before .before .before .before .before .args in
-    omega (arith, c .functions .ensures, p .0 .asked .indexed .words .functions, functions-limit (a .law .now) (a .index .now) (p .0 .asked .indexed)))
+    let indexed = p .0 .asked .indexed in
+    omega (arith, c .functions .ensures, indexed .words .functions, functions-limit (a .law .now) (a .index .now) indexed))
     (λ c.
     let the-wide = c .before .before .before .wide in
     let p = c .before .before .before .before .before .before .before .pre in
