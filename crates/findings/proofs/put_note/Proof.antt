@@ -28,7 +28,7 @@ after c =
     (c .if3 .came)
 
 same-length : (c : tie.Joined3) → length (c .if3 .out) ≡ length (start c .args .out .now)
-same-length c = ⊎-elim (λ w. ap length (w .5) ∙ w .2 .kept .1 .1 .0) (λ w. ap length (w .1)) (c .if3 .came)
+same-length c = ⊎-elim (λ w. let out-kept = w .2 .kept .1 .1 .0 in ap length (w .5) ∙ out-kept) (λ w. ap length (w .1)) (c .if3 .came)
 
 pub put-note-spec : {M : Type 1} → statement M
 put-note-spec =

@@ -39,6 +39,7 @@ lint-all-spec =
     let the-loop-test = c .before .before .before .before .before .loop-test in
     let task = c .before .before .before .before .task-of in
     let lint-task = c .before .before .lint-task in
-    (lint-task .kept .1 .1 .1 .1 .1 .0 ∙ the-loop .inv .0, laws.linted-next (the-loop .inv .1) (the-loop-test .taken) (task .ensures) (lint-task .ensures)))
+    let out-kept = lint-task .kept .1 .1 .1 .1 .1 .0 in
+    (out-kept ∙ the-loop .inv .0, laws.linted-next (the-loop .inv .1) (the-loop-test .taken) (task .ensures) (lint-task .ensures)))
     (λ c. c .before .loop .inv .0)
     (λ c. laws.linted-all (c .before .loop .inv .1) (λ h. omega (arith, h, c .loop-test .left))))

@@ -42,10 +42,11 @@ note-dead-spec =
     (λ c.
     let the-loop-test = c .before .before .before .before .loop-test in
     let the-note-sentence = c .before .before .note-sentence in
+    let out-kept = the-note-sentence .kept .1 .1 .1 .1 .1 .0 in
     let the-loop = c .before .before .before .before .before .loop in
     let start = c .before .before .before .before .before .before .before .before in (
       omega (arith, the-loop-test .taken),
-      the-note-sentence .kept .1 .1 .1 .1 .1 .0 ∙ the-loop .inv .1,
+      out-kept ∙ the-loop .inv .1,
       laws.dead-again (fileOf (start .args .law .now)) (start .args .task) (start .args .first) (start .args .count) (accepted-readable (start .args .law .now) (start .pre .1)) (the-loop .later) (the-loop-test .taken) (start .pre .2) _ _ _ (the-loop .inv .2) (c .before .before .note-sentence .ensures),
     ))
     (λ c. c .before .loop .inv .1)

@@ -45,10 +45,11 @@ note-open-spec =
     (λ c.
     let the-loop-test = c .before .before .before .before .loop-test in
     let the-note-pattern = c .before .before .note-pattern in
+    let out-kept = the-note-pattern .kept .1 .1 .1 .1 .0 in
     let the-loop = c .before .before .before .before .before .loop in
     let start = c .before .before .before .before .before .before .before .before in (
       omega (arith, the-loop-test .taken),
-      the-note-pattern .kept .1 .1 .1 .1 .0 ∙ the-loop .inv .1,
+      out-kept ∙ the-loop .inv .1,
       laws.open-again (fileOf (start .args .law .now)) (accepted-readable (start .args .law .now) (start .pre .1)) (start .args .task) (start .args .first) (start .args .count) (the-loop .i) (the-loop-test .taken) (start .pre .2) _ _ _ (the-loop .inv .2) (c .before .before .note-pattern .ensures),
     ))
     (λ c. c .before .loop .inv .1)

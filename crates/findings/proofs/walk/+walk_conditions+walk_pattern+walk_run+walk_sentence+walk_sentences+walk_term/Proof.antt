@@ -57,22 +57,22 @@ use Rattle.findings.proofs.walk.+walk_conditions+walk_pattern+walk_run+
 }
 
 abbrev μ-walk-conditions : Measures 5 walk-conditions-kinds.ps ℕ
-μ-walk-conditions κs a = steps.conditionsWork (fileOf (a .0 .now)) (a .1 .1 .1 .1 .1 .0)
+μ-walk-conditions κs a = let s = a .1 .1 .1 .1 .1 .0 in steps.conditionsWork (fileOf (a .0 .now)) s
 
 abbrev μ-walk-pattern : Measures 6 walk-pattern-kinds.ps ℕ
-μ-walk-pattern κs a = steps.patternWork (fileOf (a .0 .now)) (a .1 .1 .1 .1 .1 .1 .0) (a .1 .1 .1 .1 .1 .0 .now)
+μ-walk-pattern κs a = let part = a .1 .1 .1 .1 .1 .0 in let at = a .1 .1 .1 .1 .1 .1 .0 in steps.patternWork (fileOf (a .0 .now)) at (part .now)
 
 abbrev μ-walk-run : Measures 6 walk-run-kinds.ps ℕ
-μ-walk-run κs a = steps.runWork (fileOf (a .0 .now)) (a .1 .1 .1 .1 .1 .1 .0) (a .1 .1 .1 .1 .1 .0 .now)
+μ-walk-run κs a = let part = a .1 .1 .1 .1 .1 .0 in let at = a .1 .1 .1 .1 .1 .1 .0 in steps.runWork (fileOf (a .0 .now)) at (part .now)
 
 abbrev μ-walk-sentence : Measures 5 walk-sentence-kinds.ps ℕ
-μ-walk-sentence κs a = steps.sentenceWork (fileOf (a .0 .now)) (a .1 .1 .1 .1 .1 .0)
+μ-walk-sentence κs a = let s = a .1 .1 .1 .1 .1 .0 in steps.sentenceWork (fileOf (a .0 .now)) s
 
 abbrev μ-walk-sentences : Measures 5 walk-sentences-kinds.ps ℕ
-μ-walk-sentences κs a = steps.sentencesWork (fileOf (a .0 .now)) (a .1 .1 .1 .1 .1 .1 .0) (a .1 .1 .1 .1 .1 .0)
+μ-walk-sentences κs a = let first = a .1 .1 .1 .1 .1 .0 in let count = a .1 .1 .1 .1 .1 .1 .0 in steps.sentencesWork (fileOf (a .0 .now)) count first
 
 abbrev μ-walk-term : Measures 6 walk-term-kinds.ps ℕ
-μ-walk-term κs a = steps.termWork (fileOf (a .0 .now)) (a .1 .1 .1 .1 .1 .1 .0) (a .1 .1 .1 .1 .1 .0 .now)
+μ-walk-term κs a = let part = a .1 .1 .1 .1 .1 .0 in let at = a .1 .1 .1 .1 .1 .1 .0 in steps.termWork (fileOf (a .0 .now)) at (part .now)
 
 abbrev walk-conditions-at : ℕ → In 5 walk-conditions-kinds.ps
 walk-conditions-at t =
@@ -232,18 +232,20 @@ pub +walk-conditions+walk-pattern+walk-run+walk-sentence+walk-sentences+walk-ter
     omega (arith, steps.condition-small (start .pre .1 .0) (start .args .s) (start .pre .1 .1) (the-first-condition .result) (the-first-condition2 .result - the-first-condition .result) (the-loop .i) (the-loop .inv .0) (the-loop .inv .1) (the-loop-test .taken)))
     (λ c κs.
     let start = c .before .before .before .before .before .before .before in
+    let asked = start .pre .1 .0 .asked in
     let the-first-condition = c .before .before .before .first-condition in
     let the-first-condition2 = c .before .before .first-condition2 in
     let the-loop = c .before .loop in
     let the-loop-test = c .loop-test in
-    (start .pre .1 .0 .asked .indexed, (start .pre .1 .1), steps.condition-inside (start .pre .1 .0) (start .args .s) (start .pre .1 .1) (the-first-condition .result) (the-first-condition2 .result - the-first-condition .result) (the-loop .i) (the-loop .inv .0) (the-loop .inv .1) (the-loop-test .taken)))
+    (asked .indexed, (start .pre .1 .1), steps.condition-inside (start .pre .1 .0) (start .args .s) (start .pre .1 .1) (the-first-condition .result) (the-first-condition2 .result - the-first-condition .result) (the-loop .i) (the-loop .inv .0) (the-loop .inv .1) (the-loop-test .taken)))
     (λ c κs.
     let start = c .before .before .before .before .before .before .before .before in
+    let asked = start .pre .1 .0 .asked in
     let the-first-condition = c .before .before .before .before .first-condition in
     let the-first-condition2 = c .before .before .before .first-condition2 in
     let the-loop = c .before .before .loop in
     let the-loop-test = c .before .loop-test in
-    (start .pre .1 .0 .asked .indexed, steps.condition-owned (start .pre .1 .0) (start .args .s) (start .pre .1 .1) (the-first-condition .result) (the-first-condition2 .result - the-first-condition .result) (the-loop .i) (the-loop .inv .0) (the-loop .inv .1) (the-loop-test .taken)))
+    (asked .indexed, steps.condition-owned (start .pre .1 .0) (start .args .s) (start .pre .1 .1) (the-first-condition .result) (the-first-condition2 .result - the-first-condition .result) (the-loop .i) (the-loop .inv .0) (the-loop .inv .1) (the-loop-test .taken)))
     (λ c κs.
     let start = c .before .before .before .before .before .before .before .before .before .before in
     let the-first-condition = c .before .before .before .before .before .before .first-condition in
@@ -255,11 +257,12 @@ pub +walk-conditions+walk-pattern+walk-run+walk-sentence+walk-sentences+walk-ter
     (steps.asked-falls (start .pre .1 .0) (start .args .s) (start .pre .1 .1) (the-first-condition .result) (the-first-condition2 .result - the-first-condition .result) (the-loop .i) (the-loop .inv .0) (the-loop .inv .1) (the-loop-test .taken) (the-condition-result-at .result) t (the-condition-result .result .now) (the-condition-result-at .ensures) (the-condition-result .ensures) (start .pre .0), ((start .pre .1 .0), steps.condition-result-reads (start .pre .1 .0) (start .args .s) (start .pre .1 .1) (the-first-condition .result) (the-first-condition2 .result - the-first-condition .result) (the-loop .i) (the-loop .inv .0) (the-loop .inv .1) (the-loop-test .taken) (the-condition-result-at .result) (the-condition-result .result .now) (the-condition-result-at .ensures) (the-condition-result .ensures))))
     (λ c κs.
     let start = c .before .before .before .before .before .before .before .before .before .before .before .before .before in
+    let asked = start .pre .1 .0 .asked in
     let the-first-condition = c .before .before .before .before .before .before .before .before .before .first-condition in
     let the-first-condition2 = c .before .before .before .before .before .before .before .before .first-condition2 in
     let the-loop = c .before .before .before .before .before .before .before .loop in
     let the-loop-test = c .before .before .before .before .before .before .loop-test in
-    (start .pre .1 .0 .asked .indexed, steps.condition-inside (start .pre .1 .0) (start .args .s) (start .pre .1 .1) (the-first-condition .result) (the-first-condition2 .result - the-first-condition .result) (the-loop .i) (the-loop .inv .0) (the-loop .inv .1) (the-loop-test .taken)))
+    (asked .indexed, steps.condition-inside (start .pre .1 .0) (start .args .s) (start .pre .1 .1) (the-first-condition .result) (the-first-condition2 .result - the-first-condition .result) (the-loop .i) (the-loop .inv .0) (the-loop .inv .1) (the-loop-test .taken)))
     (λ c.
     let start = c .before .before .before .before .before .before .before .before .before .before .before .before .before .before in
     let the-first-condition = c .before .before .before .before .before .before .before .before .before .before .first-condition in
@@ -271,11 +274,12 @@ pub +walk-conditions+walk-pattern+walk-run+walk-sentence+walk-sentences+walk-ter
     omega (arith, steps.condition-pattern-small (start .pre .1 .0) (start .args .s) (start .pre .1 .1) (the-first-condition .result) (the-first-condition2 .result - the-first-condition .result) (the-loop .i) (the-loop .inv .0) (the-loop .inv .1) (the-loop-test .taken) (the-condition-result-at .result) (the-condition-result-size .result) (the-condition-result-at .ensures) (the-condition-result-size .ensures)))
     (λ c κs.
     let start = c .before .before .before .before .before .before .before .before .before .before .before .before .before .before in
+    let asked = start .pre .1 .0 .asked in
     let the-first-condition = c .before .before .before .before .before .before .before .before .before .before .first-condition in
     let the-first-condition2 = c .before .before .before .before .before .before .before .before .before .first-condition2 in
     let the-loop = c .before .before .before .before .before .before .before .before .loop in
     let the-loop-test = c .before .before .before .before .before .before .before .loop-test in
-    (start .pre .1 .0 .asked .indexed, steps.condition-owned (start .pre .1 .0) (start .args .s) (start .pre .1 .1) (the-first-condition .result) (the-first-condition2 .result - the-first-condition .result) (the-loop .i) (the-loop .inv .0) (the-loop .inv .1) (the-loop-test .taken)))
+    (asked .indexed, steps.condition-owned (start .pre .1 .0) (start .args .s) (start .pre .1 .1) (the-first-condition .result) (the-first-condition2 .result - the-first-condition .result) (the-loop .i) (the-loop .inv .0) (the-loop .inv .1) (the-loop-test .taken)))
     (λ c κs.
     let start = c .before .before .before .before .before .before .before .before .before .before .before .before .before .before .before .before in
     let the-first-condition = c .before .before .before .before .before .before .before .before .before .before .before .before .first-condition in
@@ -297,14 +301,18 @@ pub +walk-conditions+walk-pattern+walk-run+walk-sentence+walk-sentences+walk-ter
     let the-loop = c .before .before .before .before .before .before .before .before .before .before .before .before .before .loop in
     let the-loop-test = c .before .before .before .before .before .before .before .before .before .before .before .before .loop-test in
     let the-walk-pattern = c .before .before .walk-pattern in
+    let out-after-pattern = the-walk-pattern .last .1 .1 .1 .1 .1 .1 .1 .0 in
+    let out-kept-by-pattern = the-walk-pattern .kept .1 .1 .1 .1 .1 .1 .1 .0 in
     let the-walk-run = c .before .before .before .before .before .before .before .before .walk-run in
+    let out-after-run = the-walk-run .last .1 .1 .1 .1 .1 .1 .1 .0 in
+    let out-kept-by-run = the-walk-run .kept .1 .1 .1 .1 .1 .1 .1 .0 in
     let the-first-condition2 = c .before .before .before .before .before .before .before .before .before .before .before .before .before .before .first-condition2 in
     let the-first-condition = c .before .before .before .before .before .before .before .before .before .before .before .before .before .before .before .first-condition in
     let the-condition-result-at = c .before .before .before .before .before .before .before .before .before .before .before .condition-result-at in
     let the-condition-result-size = c .before .before .before .before .before .condition-result-size in
     let the-condition-result = c .before .before .before .before .before .before .before .before .before .before .condition-result in
     let the-condition-pattern = c .before .before .before .before .condition-pattern in
-    (the-loop .inv .0, the-loop .inv .1, omega (arith, the-loop-test .taken), the-walk-pattern .kept .1 .1 .1 .1 .1 .1 .1 .0 ∙ the-walk-run .kept .1 .1 .1 .1 .1 .1 .1 .0 ∙ the-loop .inv .3, steps.conditions-next (fileOf (start .args .law .now)) (formatsIn (fileOf (start .args .law .now)) (start .args .task .limit) (start .args .store .now)) (start .args .task) (start .args .s) (the-first-condition2 .result - the-first-condition .result) (the-first-condition .result) (the-loop .i) (the-condition-result-at .result) (the-condition-result-size .result) (the-condition-result .result .now) (the-condition-pattern .result .now) (steps.after (fileOf (start .args .law .now)) (formatsIn (fileOf (start .args .law .now)) (start .args .task .limit) (start .args .store .now)) (start .args .task) (sinkOf (start .args .tally) (start .args .out .now)) (steps.conditionsMet (fileOf (start .args .law .now)) (formatsIn (fileOf (start .args .law .now)) (start .args .task .limit) (start .args .store .now)) (start .args .task) (start .args .s) (conditionsOf (fileOf (start .args .law .now)) (start .args .s)) (firstCondition (fileOf (start .args .law .now)) (start .args .s)))) (sinkOf (the-loop .so-far) (the-loop .out)) (sinkOf (the-walk-run .result) (the-walk-run .last .1 .1 .1 .1 .1 .1 .1 .0)) (sinkOf (the-walk-pattern .result) (the-walk-pattern .last .1 .1 .1 .1 .1 .1 .1 .0)) (the-loop-test .taken) (the-condition-result-at .ensures) (the-condition-result .ensures) (the-condition-result-size .ensures) (the-condition-pattern .ensures) (the-loop .inv .4) (the-walk-run .ensures) (the-walk-pattern .ensures)))
+    (the-loop .inv .0, the-loop .inv .1, omega (arith, the-loop-test .taken), out-kept-by-pattern ∙ out-kept-by-run ∙ the-loop .inv .3, steps.conditions-next (fileOf (start .args .law .now)) (formatsIn (fileOf (start .args .law .now)) (start .args .task .limit) (start .args .store .now)) (start .args .task) (start .args .s) (the-first-condition2 .result - the-first-condition .result) (the-first-condition .result) (the-loop .i) (the-condition-result-at .result) (the-condition-result-size .result) (the-condition-result .result .now) (the-condition-pattern .result .now) (steps.after (fileOf (start .args .law .now)) (formatsIn (fileOf (start .args .law .now)) (start .args .task .limit) (start .args .store .now)) (start .args .task) (sinkOf (start .args .tally) (start .args .out .now)) (steps.conditionsMet (fileOf (start .args .law .now)) (formatsIn (fileOf (start .args .law .now)) (start .args .task .limit) (start .args .store .now)) (start .args .task) (start .args .s) (conditionsOf (fileOf (start .args .law .now)) (start .args .s)) (firstCondition (fileOf (start .args .law .now)) (start .args .s)))) (sinkOf (the-loop .so-far) (the-loop .out)) (sinkOf (the-walk-run .result) out-after-run) (sinkOf (the-walk-pattern .result) out-after-pattern) (the-loop-test .taken) (the-condition-result-at .ensures) (the-condition-result .ensures) (the-condition-result-size .ensures) (the-condition-pattern .ensures) (the-loop .inv .4) (the-walk-run .ensures) (the-walk-pattern .ensures)))
     (λ c.
     let the-loop = c .before .loop in
     the-loop .inv .3)
@@ -328,12 +336,14 @@ pub +walk-conditions+walk-pattern+walk-run+walk-sentence+walk-sentences+walk-ter
     (steps.run-less (fileOf (start .args .law .now)) (start .args .at) t (start .args .part .now) (start .pre .0), start .pre .1))
     (λ c.
     let the-walk-run = c .before .before .walk-run in
-    the-walk-run .kept .1 .1 .1 .1 .1 .1 .1 .0)
+    let out-kept = the-walk-run .kept .1 .1 .1 .1 .1 .1 .1 .0 in
+    out-kept)
     (λ c.
     let start = c .before .before .before .before .before .before .before .before .before .before in
     let the-walk-run = c .before .before .walk-run in
+    let out-after = the-walk-run .last .1 .1 .1 .1 .1 .1 .1 .0 in
     let the-if1 = c .before .before .before .before .if1 in
-    steps.pattern-walked (fileOf (start .args .law .now)) (formatsIn (fileOf (start .args .law .now)) (start .args .task .limit) (start .args .store .now)) (start .args .task) (start .args .at) (start .args .part .now) (sinkOf (start .args .tally) (start .args .out .now)) (sinkOf (the-walk-run .result) (the-walk-run .last .1 .1 .1 .1 .1 .1 .1 .0)) (the-if1 .left) (the-walk-run .ensures)))
+    steps.pattern-walked (fileOf (start .args .law .now)) (formatsIn (fileOf (start .args .law .now)) (start .args .task .limit) (start .args .store .now)) (start .args .task) (start .args .at) (start .args .part .now) (sinkOf (start .args .tally) (start .args .out .now)) (sinkOf (the-walk-run .result) out-after) (the-if1 .left) (the-walk-run .ensures)))
     (λ t. walk-run-lts.spec (
       word-at-reads.Asked,
       word-at-reads.Learnt,
@@ -353,11 +363,13 @@ pub +walk-conditions+walk-pattern+walk-run+walk-sentence+walk-sentences+walk-ter
     (refl, steps.left-start file formats (start .args .task) (start .args .at) (start .args .part .now) (sinkOf (start .args .tally) (start .args .out .now)) (start .pre .1 .1)))
     (λ c κs.
     let start = c .before .before .before .before .before .before in
-    omega (arith, steps.left-more (c .before .loop .inv .1) (start .pre .1 .0 .asked .readable) (c .loop-test .taken)))
+    let asked = start .pre .1 .0 .asked in
+    omega (arith, steps.left-more (c .before .loop .inv .1) (asked .readable) (c .loop-test .taken)))
     (λ c.
     let the-loop = c .before .before .before .loop in
     let start = c .before .before .before .before .before .before .before .before in
-    omega (arith, steps.left-more (the-loop .inv .1) (start .pre .1 .0 .asked .readable) (c .before .before .loop-test .taken)))
+    let asked = start .pre .1 .0 .asked in
+    omega (arith, steps.left-more (the-loop .inv .1) (asked .readable) (c .before .before .loop-test .taken)))
     (λ c. omega (arith, c .before .before .loop-test .taken))
     (λ c.
     let start = c .before .before .before .before .before .before .before .before in
@@ -376,19 +388,22 @@ pub +walk-conditions+walk-pattern+walk-run+walk-sentence+walk-sentences+walk-ter
     let the-loop = c .before .before .before .before .loop in
     let the-loop-test = c .before .before .before .loop-test in
     let start = c .before .before .before .before .before .before .before .before .before in
+    let asked = start .pre .1 .0 .asked in
     let the-left = c .before .before .before .before .loop .inv .1 in
-    let more = steps.left-more the-left (start .pre .1 .0 .asked .readable) (the-loop-test .taken) in
+    let more = steps.left-more the-left (asked .readable) (the-loop-test .taken) in
     omega (arith, steps.at-small (start .pre .1 .0) (start .args .at + the-loop .i / 24) (from (the-loop .i) (start .args .part .now)) (the-left .part) (steps.left-some the-left more)))
     (λ c κs.
     let the-loop-test = c .before .before .before .before .loop-test in
     let start = c .before .before .before .before .before .before .before .before .before .before in
+    let asked = start .pre .1 .0 .asked in
     let the-left = c .before .before .before .before .before .loop .inv .1 in
-    let more = steps.left-more the-left (start .pre .1 .0 .asked .readable) (the-loop-test .taken) in
+    let more = steps.left-more the-left (asked .readable) (the-loop-test .taken) in
     (steps.first-less the-left more t (start .pre .0), (start .pre .1 .0, the-left .part, steps.left-some the-left more)))
     (λ c κs. let the-loop-test = c .before .before .before .before .before .before .before .loop-test in
     let start = c .before .before .before .before .before .before .before .before .before .before .before .before .before in
+    let asked = start .pre .1 .0 .asked in
     let the-left = c .before .before .before .before .before .before .before .before .loop .inv .1 in
-    steps.left-some the-left (steps.left-more the-left (start .pre .1 .0 .asked .readable) (the-loop-test .taken)))
+    steps.left-some the-left (steps.left-more the-left (asked .readable) (the-loop-test .taken)))
     (λ c.
     let start = c .before .before .before .before .before .before .before .before .before .before .before .before .before .before in
     let the-left = c .before .before .before .before .before .before .before .before .before .loop .inv .1 in
@@ -400,9 +415,11 @@ pub +walk-conditions+walk-pattern+walk-run+walk-sentence+walk-sentences+walk-ter
     let the-loop = c .before .before .before .before .before .before .before .before .before .loop in
     let readable = start .pre .1 .0 .asked .readable in
     let more = steps.left-more (the-loop .inv .1) readable (the-loop-test .taken) in
-    let the-walk-term = c .before .before .before .walk-term in (
-      the-walk-term .kept .1 .1 .1 .1 .1 .1 .1 .0 ∙ the-loop .inv .0,
-      steps.left-next (the-loop .inv .1) more readable (start .pre .1 .1) (c .end-of .result) (sinkOf (the-walk-term .result) (the-walk-term .last .1 .1 .1 .1 .1 .1 .1 .0)) (c .end-of .ensures .0) (the-walk-term .ensures),
+    let the-walk-term = c .before .before .before .walk-term in
+    let out-after = the-walk-term .last .1 .1 .1 .1 .1 .1 .1 .0 in
+    let out-kept = the-walk-term .kept .1 .1 .1 .1 .1 .1 .1 .0 in (
+      out-kept ∙ the-loop .inv .0,
+      steps.left-next (the-loop .inv .1) more readable (start .pre .1 .1) (c .end-of .result) (sinkOf (the-walk-term .result) out-after) (c .end-of .ensures .0) (the-walk-term .ensures),
     ))
     (λ c. c .before .loop .inv .0)
     (λ c. steps.left-end (c .before .loop .inv .1) (c .loop-test .left)))
@@ -426,44 +443,58 @@ pub +walk-conditions+walk-pattern+walk-run+walk-sentence+walk-sentences+walk-ter
     walk-sentence.Post
     (λ c κs.
     let start = c .before .before .before in
-    (start .pre .1 .0 .asked .indexed, le-of-lt (start .pre .1 .1)))
+    let asked = start .pre .1 .0 .asked in
+    (asked .indexed, le-of-lt (start .pre .1 .1)))
     (λ c κs.
     let start = c .before .before .before .before in
-    (start .pre .1 .0 .asked .indexed, (start .pre .1 .1)))
+    let asked = start .pre .1 .0 .asked in
+    (asked .indexed, (start .pre .1 .1)))
     (λ c κs.
     let start = c .before .before .before .before .before .before in
+    let asked = start .pre .1 .0 .asked in
     let the-pattern-at = c .before .before .pattern-at in
     let the-pattern = c .before .pattern in
-    (steps.pattern-less (fileOf (start .args .law .now)) (start .pre .1 .0 .asked .readable) (start .args .s) (the-pattern-at .result) t (the-pattern .result .now) (start .pre .1 .1) (the-pattern-at .ensures) (the-pattern .ensures) (start .pre .0), ((start .pre .1 .0), steps.pattern-reads (start .pre .1 .0) (start .args .s) (start .pre .1 .1) (the-pattern-at .result) (the-pattern .result .now) (the-pattern-at .ensures) (the-pattern .ensures))))
+    (steps.pattern-less (fileOf (start .args .law .now)) (asked .readable) (start .args .s) (the-pattern-at .result) t (the-pattern .result .now) (start .pre .1 .1) (the-pattern-at .ensures) (the-pattern .ensures) (start .pre .0), ((start .pre .1 .0), steps.pattern-reads (start .pre .1 .0) (start .args .s) (start .pre .1 .1) (the-pattern-at .result) (the-pattern .result .now) (the-pattern-at .ensures) (the-pattern .ensures))))
     (λ c κs.
     let start = c .before .before .before .before .before .before .before .before .before .before in
-    (steps.conditions-less (fileOf (start .args .law .now)) (start .pre .1 .0 .asked .readable) (start .args .s) t (start .pre .1 .1) (start .pre .0), ((start .pre .1 .0), (start .pre .1 .1))))
+    let asked = start .pre .1 .0 .asked in
+    (steps.conditions-less (fileOf (start .args .law .now)) (asked .readable) (start .args .s) t (start .pre .1 .1) (start .pre .0), ((start .pre .1 .0), (start .pre .1 .1))))
     (λ c κs.
     let start = c .before .before .before .before .before .before .before .before .before .before .before .before .before in
-    (start .pre .1 .0 .asked .indexed, (start .pre .1 .1)))
+    let asked = start .pre .1 .0 .asked in
+    (asked .indexed, (start .pre .1 .1)))
     (λ c κs.
     let start = c .before .before .before .before .before .before .before .before .before .before .before .before .before .before in
-    (start .pre .1 .0 .asked .indexed, (start .pre .1 .1)))
+    let asked = start .pre .1 .0 .asked in
+    (asked .indexed, (start .pre .1 .1)))
     (λ c κs.
     let start = c .before .before .before .before .before .before .before .before .before .before .before .before .before .before .before .before in
+    let asked = start .pre .1 .0 .asked in
     let the-result-at = c .before .before .result-at in
     let the-result = c .before .result in
-    (steps.result-less (fileOf (start .args .law .now)) (start .pre .1 .0 .asked .readable) (start .args .s) (the-result-at .result) t (the-result .result .now) (start .pre .1 .1) (the-result-at .ensures) (the-result .ensures) (start .pre .0), ((start .pre .1 .0), steps.result-reads (start .pre .1 .0) (start .args .s) (start .pre .1 .1) (the-result-at .result) (the-result .result .now) (the-result-at .ensures) (the-result .ensures))))
+    (steps.result-less (fileOf (start .args .law .now)) (asked .readable) (start .args .s) (the-result-at .result) t (the-result .result .now) (start .pre .1 .1) (the-result-at .ensures) (the-result .ensures) (start .pre .0), ((start .pre .1 .0), steps.result-reads (start .pre .1 .0) (start .args .s) (start .pre .1 .1) (the-result-at .result) (the-result .result .now) (the-result-at .ensures) (the-result .ensures))))
     (λ c.
     let the-walk-run = c .before .before .walk-run in
+    let out-kept-by-run = the-walk-run .kept .1 .1 .1 .1 .1 .1 .1 .0 in
     let the-walk-conditions = c .before .before .before .before .before .before .before .before .walk-conditions in
+    let out-kept-by-conditions = the-walk-conditions .kept .1 .1 .1 .1 .1 .1 .0 in
     let the-walk-pattern = c .before .before .before .before .before .before .before .before .before .before .before .before .walk-pattern in
-    the-walk-run .kept .1 .1 .1 .1 .1 .1 .1 .0 ∙ the-walk-conditions .kept .1 .1 .1 .1 .1 .1 .0 ∙ the-walk-pattern .kept .1 .1 .1 .1 .1 .1 .1 .0)
+    let out-kept-by-pattern = the-walk-pattern .kept .1 .1 .1 .1 .1 .1 .1 .0 in
+    out-kept-by-run ∙ out-kept-by-conditions ∙ out-kept-by-pattern)
     (λ c.
     let start = c .before .before .before .before .before .before .before .before .before .before .before .before .before .before .before .before .before .before .before in
+    let asked = start .pre .1 .0 .asked in
     let the-pattern-at = c .before .before .before .before .before .before .before .before .before .before .before .before .before .before .before .pattern-at in
     let the-result-at = c .before .before .before .before .before .result-at in
     let the-pattern = c .before .before .before .before .before .before .before .before .before .before .before .before .before .before .pattern in
     let the-result = c .before .before .before .before .result in
     let the-walk-pattern = c .before .before .before .before .before .before .before .before .before .before .before .before .walk-pattern in
+    let out-after-pattern = the-walk-pattern .last .1 .1 .1 .1 .1 .1 .1 .0 in
     let the-walk-conditions = c .before .before .before .before .before .before .before .before .walk-conditions in
+    let out-after-conditions = the-walk-conditions .last .1 .1 .1 .1 .1 .1 .0 in
     let the-walk-run = c .before .before .walk-run in
-    steps.sentence-steps (fileOf (start .args .law .now)) (formatsIn (fileOf (start .args .law .now)) (start .args .task .limit) (start .args .store .now)) (start .args .task) (start .pre .1 .0 .asked .readable) (start .args .s) (the-pattern-at .result) (the-result-at .result) (the-pattern .result .now) (the-result .result .now) (sinkOf (start .args .tally) (start .args .out .now)) (sinkOf (the-walk-pattern .result) (the-walk-pattern .last .1 .1 .1 .1 .1 .1 .1 .0)) (sinkOf (the-walk-conditions .result) (the-walk-conditions .last .1 .1 .1 .1 .1 .1 .0)) (sinkOf (the-walk-run .result) (the-walk-run .last .1 .1 .1 .1 .1 .1 .1 .0)) (start .pre .1 .1) (the-pattern-at .ensures) (the-pattern .ensures) (the-result-at .ensures) (the-result .ensures) (the-walk-pattern .ensures) (the-walk-conditions .ensures) (the-walk-run .ensures)))
+    let out-after-run = the-walk-run .last .1 .1 .1 .1 .1 .1 .1 .0 in
+    steps.sentence-steps (fileOf (start .args .law .now)) (formatsIn (fileOf (start .args .law .now)) (start .args .task .limit) (start .args .store .now)) (start .args .task) (asked .readable) (start .args .s) (the-pattern-at .result) (the-result-at .result) (the-pattern .result .now) (the-result .result .now) (sinkOf (start .args .tally) (start .args .out .now)) (sinkOf (the-walk-pattern .result) out-after-pattern) (sinkOf (the-walk-conditions .result) out-after-conditions) (sinkOf (the-walk-run .result) out-after-run) (start .pre .1 .1) (the-pattern-at .ensures) (the-pattern .ensures) (the-result-at .ensures) (the-result .ensures) (the-walk-pattern .ensures) (the-walk-conditions .ensures) (the-walk-run .ensures)))
     (λ t. walk-sentences-lts.spec
     (walk-sentence-below t, walk-sentence.Post)
     (walk-sentences-at t)
@@ -479,9 +510,10 @@ pub +walk-conditions+walk-pattern+walk-run+walk-sentence+walk-sentences+walk-ter
     omega (arith, steps.sentences-small (start .pre .1 .0), (start .pre .1 .1), the-loop-test .taken))
     (λ c κs.
     let start = c .before .before .before .before .before .before in
+    let asked = start .pre .1 .0 .asked in
     let the-loop = c .before .before .loop in
     let the-loop-test = c .before .loop-test in
-    (steps.sentence-less (fileOf (start .args .law .now)) (start .pre .1 .0 .asked .readable) (start .args .count) (start .args .first) (the-loop .i) t (the-loop-test .taken) (start .pre .1 .1) (start .pre .0), ((start .pre .1 .0), omega (arith, (start .pre .1 .1), the-loop-test .taken))))
+    (steps.sentence-less (fileOf (start .args .law .now)) (asked .readable) (start .args .count) (start .args .first) (the-loop .i) t (the-loop-test .taken) (start .pre .1 .1) (start .pre .0), ((start .pre .1 .0), omega (arith, (start .pre .1 .1), the-loop-test .taken))))
     (λ c.
     let the-loop-test = c .before .before .before .before .loop-test in
     omega (arith, the-loop-test .taken))
@@ -490,10 +522,13 @@ pub +walk-conditions+walk-pattern+walk-run+walk-sentence+walk-sentences+walk-ter
     omega (arith, the-loop-test .taken))
     (λ c.
     let start = c .before .before .before .before .before .before .before .before .before in
+    let asked = start .pre .1 .0 .asked in
     let the-loop-test = c .before .before .before .before .loop-test in
     let the-walk-sentence = c .before .before .walk-sentence in
+    let out-after = the-walk-sentence .last .1 .1 .1 .1 .1 .1 .0 in
+    let out-kept = the-walk-sentence .kept .1 .1 .1 .1 .1 .1 .0 in
     let the-loop = c .before .before .before .before .before .loop in
-    (omega (arith, the-loop-test .taken), the-walk-sentence .kept .1 .1 .1 .1 .1 .1 .0 ∙ the-loop .inv .1, steps.sentences-next (fileOf (start .args .law .now)) (formatsIn (fileOf (start .args .law .now)) (start .args .task .limit) (start .args .store .now)) (start .args .task) (start .pre .1 .0 .asked .readable) (start .args .count) (start .args .first) (the-loop .i) (steps.after (fileOf (start .args .law .now)) (formatsIn (fileOf (start .args .law .now)) (start .args .task .limit) (start .args .store .now)) (start .args .task) (sinkOf (start .args .tally) (start .args .out .now)) (steps.sentencesMet (fileOf (start .args .law .now)) (formatsIn (fileOf (start .args .law .now)) (start .args .task .limit) (start .args .store .now)) (start .args .task) (start .args .count) (start .args .first))) (sinkOf (the-loop .so-far) (the-loop .out)) (sinkOf (the-walk-sentence .result) (the-walk-sentence .last .1 .1 .1 .1 .1 .1 .0)) (the-loop-test .taken) (start .pre .1 .1) (the-loop .inv .2) (the-walk-sentence .ensures)))
+    (omega (arith, the-loop-test .taken), out-kept ∙ the-loop .inv .1, steps.sentences-next (fileOf (start .args .law .now)) (formatsIn (fileOf (start .args .law .now)) (start .args .task .limit) (start .args .store .now)) (start .args .task) (asked .readable) (start .args .count) (start .args .first) (the-loop .i) (steps.after (fileOf (start .args .law .now)) (formatsIn (fileOf (start .args .law .now)) (start .args .task .limit) (start .args .store .now)) (start .args .task) (sinkOf (start .args .tally) (start .args .out .now)) (steps.sentencesMet (fileOf (start .args .law .now)) (formatsIn (fileOf (start .args .law .now)) (start .args .task .limit) (start .args .store .now)) (start .args .task) (start .args .count) (start .args .first))) (sinkOf (the-loop .so-far) (the-loop .out)) (sinkOf (the-walk-sentence .result) out-after) (the-loop-test .taken) (start .pre .1 .1) (the-loop .inv .2) (the-walk-sentence .ensures)))
     (λ c.
     let the-loop = c .before .loop in
     the-loop .inv .1)
@@ -535,52 +570,69 @@ pub +walk-conditions+walk-pattern+walk-run+walk-sentence+walk-sentences+walk-ter
     omega (arith, steps.at-small (start .pre .1 .0) (start .args .at) (start .args .part .now) (start .pre .1 .1) (start .pre .1 .2)))
     (λ c κs.
     let start = c .before .before .before .before .before .before .before .before .before .before .before in
+    let asked = start .pre .1 .0 .asked in
     let the-end-of = c .before .before .end-of in
-    (steps.inside-less (fileOf (start .args .law .now)) (start .pre .1 .0 .asked .readable) (start .args .at) (the-end-of .result) t (start .args .part .now) (start .pre .1 .1) (start .pre .1 .2) (the-end-of .ensures .0) (start .pre .0), ((start .pre .1 .0), steps.inside-part (start .pre .1 .0) (start .args .at) (start .args .part .now) (start .pre .1 .1) (start .pre .1 .2) (the-end-of .result) (the-end-of .ensures .0))))
+    (steps.inside-less (fileOf (start .args .law .now)) (asked .readable) (start .args .at) (the-end-of .result) t (start .args .part .now) (start .pre .1 .1) (start .pre .1 .2) (the-end-of .ensures .0) (start .pre .0), ((start .pre .1 .0), steps.inside-part (start .pre .1 .0) (start .args .at) (start .args .part .now) (start .pre .1 .1) (start .pre .1 .2) (the-end-of .result) (the-end-of .ensures .0))))
     (λ c κs. let the-pre = c .before .before .before .before .before .before .before .before .before .before .before .before .before .before .pre in
     omega (arith, the-pre .1 .2))
     (λ c κs. search needs)
     (λ c.
     let the-walk-run = c .before .before .before .before .before .walk-run in
+    let out-kept-by-run = the-walk-run .kept .1 .1 .1 .1 .1 .1 .1 .0 in
     let the-note-call = c .before .before .before .before .before .before .before .before .before .before .before .note-call in
-    the-walk-run .kept .1 .1 .1 .1 .1 .1 .1 .0 ∙ the-note-call .kept .1 .1 .1 .1 .1 .1 .0)
+    let out-kept-by-call = the-note-call .kept .1 .1 .1 .1 .1 .1 .0 in
+    out-kept-by-run ∙ out-kept-by-call)
     (λ c.
     let start = c .before .before .before .before .before .before .before .before .before .before .before .before .before .before .before .before .before in
+    let asked = start .pre .1 .0 .asked in
     let the-sentences-in = c .before .sentences-in in
     let the-term-at = c .before .before .term-at in
     let the-walk-run = c .before .before .before .before .before .walk-run in
+    let out-after-run = the-walk-run .last .1 .1 .1 .1 .1 .1 .1 .0 in
     let the-end-of = c .before .before .before .before .before .before .before .before .end-of in
     let the-note-call = c .before .before .before .before .before .before .before .before .before .before .before .note-call in
-    steps.term-ends (fileOf (start .args .law .now)) (formatsIn (fileOf (start .args .law .now)) (start .args .task .limit) (start .args .store .now)) (start .args .task) (start .pre .1 .0 .asked .readable) (start .args .at) (the-end-of .result) (the-sentences-in .result) (start .args .part .now) (sinkOf (start .args .tally) (start .args .out .now)) (sinkOf (the-note-call .result) (the-note-call .last .1 .1 .1 .1 .1 .1 .0)) (sinkOf (the-walk-run .result) (the-walk-run .last .1 .1 .1 .1 .1 .1 .1 .0)) (start .pre .1 .1) (start .pre .1 .2) (the-end-of .ensures .0) (the-sentences-in .ensures ∙ ap sentencesIn (the-term-at .ensures)) (c .if1 .taken) (the-note-call .ensures) (the-walk-run .ensures))
+    let out-after-call = the-note-call .last .1 .1 .1 .1 .1 .1 .0 in
+    steps.term-ends (fileOf (start .args .law .now)) (formatsIn (fileOf (start .args .law .now)) (start .args .task .limit) (start .args .store .now)) (start .args .task) (asked .readable) (start .args .at) (the-end-of .result) (the-sentences-in .result) (start .args .part .now) (sinkOf (start .args .tally) (start .args .out .now)) (sinkOf (the-note-call .result) out-after-call) (sinkOf (the-walk-run .result) out-after-run) (start .pre .1 .1) (start .pre .1 .2) (the-end-of .ensures .0) (the-sentences-in .ensures ∙ ap sentencesIn (the-term-at .ensures)) (c .if1 .taken) (the-note-call .ensures) (the-walk-run .ensures))
     (λ c κs.
     let start = c .before .before .before .before .before .before .before .before .before .before .before .before .before .before .before .before .before in
     steps.at-small (start .pre .1 .0) (start .args .at) (start .args .part .now) (start .pre .1 .1) (start .pre .1 .2))
     (λ c κs.
     let start = c .before .before .before .before .before .before .before .before .before .before .before .before .before .before .before .before .before .before .before in
+    let asked = start .pre .1 .0 .asked in
     let the-block-first = c .before .block-first in
     let the-sentences-in = c .before .before .before .sentences-in in
     let the-term-at = c .before .before .before .before .term-at in
-    (start .pre .1 .0 .asked .indexed, start .pre .1 .0 .accepted, steps.block-inside (start .pre .1 .0) (start .args .at) (start .args .part .now) (start .pre .1 .1) (start .pre .1 .2) (the-block-first .result) (the-sentences-in .result) (the-block-first .ensures) (the-sentences-in .ensures ∙ ap sentencesIn (the-term-at .ensures))))
+    (asked .indexed, start .pre .1 .0 .accepted, steps.block-inside (start .pre .1 .0) (start .args .at) (start .args .part .now) (start .pre .1 .1) (start .pre .1 .2) (the-block-first .result) (the-sentences-in .result) (the-block-first .ensures) (the-sentences-in .ensures ∙ ap sentencesIn (the-term-at .ensures))))
     (λ c κs.
     let start = c .before .before .before .before .before .before .before .before .before .before .before .before .before .before .before .before .before .before .before .before .before .before .before in
+    let asked = start .pre .1 .0 .asked in
     let the-block-first = c .before .before .before .before .before .block-first in
     let the-sentences-in = c .before .before .before .before .before .before .before .sentences-in in
     let the-term-at = c .before .before .before .before .before .before .before .before .term-at in
-    (steps.entered-less (fileOf (start .args .law .now)) (start .pre .1 .0 .asked .readable) (start .args .at) (the-sentences-in .result) (the-block-first .result) t (start .args .part .now) (start .pre .1 .1) (start .pre .1 .2) (the-sentences-in .ensures ∙ ap sentencesIn (the-term-at .ensures)) (steps.block-reads (start .pre .1 .0) (start .args .at) (start .args .part .now) (start .pre .1 .1) (start .pre .1 .2) (the-block-first .result) (the-block-first .ensures)) (start .pre .0), ((start .pre .1 .0), steps.block-inside (start .pre .1 .0) (start .args .at) (start .args .part .now) (start .pre .1 .1) (start .pre .1 .2) (the-block-first .result) (the-sentences-in .result) (the-block-first .ensures) (the-sentences-in .ensures ∙ ap sentencesIn (the-term-at .ensures)))))
+    (steps.entered-less (fileOf (start .args .law .now)) (asked .readable) (start .args .at) (the-sentences-in .result) (the-block-first .result) t (start .args .part .now) (start .pre .1 .1) (start .pre .1 .2) (the-sentences-in .ensures ∙ ap sentencesIn (the-term-at .ensures)) (steps.block-reads (start .pre .1 .0) (start .args .at) (start .args .part .now) (start .pre .1 .1) (start .pre .1 .2) (the-block-first .result) (the-block-first .ensures)) (start .pre .0), ((start .pre .1 .0), steps.block-inside (start .pre .1 .0) (start .args .at) (start .args .part .now) (start .pre .1 .1) (start .pre .1 .2) (the-block-first .result) (the-sentences-in .result) (the-block-first .ensures) (the-sentences-in .ensures ∙ ap sentencesIn (the-term-at .ensures)))))
     (λ c.
     let the-walk-sentences = c .before .before .walk-sentences in
+    let out-kept-by-sentences = the-walk-sentences .kept .1 .1 .1 .1 .1 .1 .1 .0 in
     let the-note-block = c .before .before .before .before .before .before .note-block in
+    let out-kept-by-block = the-note-block .kept .1 .1 .1 .1 .1 .0 in
     let the-walk-run = c .before .before .before .before .before .before .before .before .before .before .before .before .before .before .walk-run in
+    let out-kept-by-run = the-walk-run .kept .1 .1 .1 .1 .1 .1 .1 .0 in
     let the-note-call = c .before .before .before .before .before .before .before .before .before .before .before .before .before .before .before .before .before .before .before .before .note-call in
-    the-walk-sentences .kept .1 .1 .1 .1 .1 .1 .1 .0 ∙ the-note-block .kept .1 .1 .1 .1 .1 .0 ∙ the-walk-run .kept .1 .1 .1 .1 .1 .1 .1 .0 ∙ the-note-call .kept .1 .1 .1 .1 .1 .1 .0)
+    let out-kept-by-call = the-note-call .kept .1 .1 .1 .1 .1 .1 .0 in
+    out-kept-by-sentences ∙ out-kept-by-block ∙ out-kept-by-run ∙ out-kept-by-call)
     (λ c.
     let start = c .before .before .before .before .before .before .before .before .before .before .before .before .before .before .before .before .before .before .before .before .before .before .before .before .before .before in
+    let asked = start .pre .1 .0 .asked in
     let the-walk-sentences = c .before .before .walk-sentences in
+    let out-after-sentences = the-walk-sentences .last .1 .1 .1 .1 .1 .1 .1 .0 in
     let the-note-block = c .before .before .before .before .before .before .note-block in
+    let out-after-block = the-note-block .last .1 .1 .1 .1 .1 .0 in
     let the-block-first = c .before .before .before .before .before .before .before .before .block-first in
     let the-sentences-in = c .before .before .before .before .before .before .before .before .before .before .sentences-in in
     let the-term-at = c .before .before .before .before .before .before .before .before .before .before .before .term-at in
     let the-walk-run = c .before .before .before .before .before .before .before .before .before .before .before .before .before .before .walk-run in
+    let out-after-run = the-walk-run .last .1 .1 .1 .1 .1 .1 .1 .0 in
     let the-end-of = c .before .before .before .before .before .before .before .before .before .before .before .before .before .before .before .before .before .end-of in
     let the-note-call = c .before .before .before .before .before .before .before .before .before .before .before .before .before .before .before .before .before .before .before .before .note-call in
-    steps.term-steps (fileOf (start .args .law .now)) (formatsIn (fileOf (start .args .law .now)) (start .args .task .limit) (start .args .store .now)) (start .args .task) (start .pre .1 .0 .asked .readable) (start .args .at) (the-end-of .result) (the-sentences-in .result) (the-block-first .result) (start .args .part .now) (sinkOf (start .args .tally) (start .args .out .now)) (sinkOf (the-note-call .result) (the-note-call .last .1 .1 .1 .1 .1 .1 .0)) (sinkOf (the-walk-run .result) (the-walk-run .last .1 .1 .1 .1 .1 .1 .1 .0)) (sinkOf (the-note-block .result) (the-note-block .last .1 .1 .1 .1 .1 .0)) (sinkOf (the-walk-sentences .result) (the-walk-sentences .last .1 .1 .1 .1 .1 .1 .1 .0)) (start .pre .1 .1) (start .pre .1 .2) (the-end-of .ensures .0) (the-sentences-in .ensures ∙ ap sentencesIn (the-term-at .ensures)) (steps.block-reads (start .pre .1 .0) (start .args .at) (start .args .part .now) (start .pre .1 .1) (start .pre .1 .2) (the-block-first .result) (the-block-first .ensures)) (the-note-call .ensures) (the-walk-run .ensures) (the-note-block .ensures) (the-walk-sentences .ensures))
+    let out-after-call = the-note-call .last .1 .1 .1 .1 .1 .1 .0 in
+    steps.term-steps (fileOf (start .args .law .now)) (formatsIn (fileOf (start .args .law .now)) (start .args .task .limit) (start .args .store .now)) (start .args .task) (asked .readable) (start .args .at) (the-end-of .result) (the-sentences-in .result) (the-block-first .result) (start .args .part .now) (sinkOf (start .args .tally) (start .args .out .now)) (sinkOf (the-note-call .result) out-after-call) (sinkOf (the-walk-run .result) out-after-run) (sinkOf (the-note-block .result) out-after-block) (sinkOf (the-walk-sentences .result) out-after-sentences) (start .pre .1 .1) (start .pre .1 .2) (the-end-of .ensures .0) (the-sentences-in .ensures ∙ ap sentencesIn (the-term-at .ensures)) (steps.block-reads (start .pre .1 .0) (start .args .at) (start .args .part .now) (start .pre .1 .1) (start .pre .1 .2) (the-block-first .result) (the-block-first .ensures)) (the-note-call .ensures) (the-walk-run .ensures) (the-note-block .ensures) (the-walk-sentences .ensures))

@@ -40,8 +40,9 @@ lint-function-spec =
     let the-first-sentence2 = c .before .before .before .before .before .before .first-sentence2 in
     let the-first-sentence = c .before .before .before .before .before .before .before .first-sentence in
     let the-note-open = c .before .before .note-open in
+    let out-after = the-note-open .last .1 .1 .1 .1 .1 .0 in
     let the-if1 = c .before .before .before .before .if1 in
-    steps.function-open (fileOf (start .args .law .now)) (formatsIn (fileOf (start .args .law .now)) (start .args .task .limit) (start .args .store .now)) (start .args .task) (start .args .f) (the-first-sentence2 .result - the-first-sentence .result) (the-first-sentence .result) (steps.sentences-count (start .pre .0) (start .args .f) (start .pre .1) (the-first-sentence .result) (the-first-sentence2 .result) (the-first-sentence .ensures) (the-first-sentence2 .ensures)) (steps.sentences-first-reads (start .pre .0) (start .args .f) (start .pre .1) (the-first-sentence .result) (the-first-sentence2 .result) (the-first-sentence .ensures) (the-first-sentence2 .ensures)) (sinkOf (start .args .tally) (start .args .out .now)) (sinkOf (the-note-open .result) (the-note-open .last .1 .1 .1 .1 .1 .0)) (the-if1 .taken) (the-note-open .ensures))
+    steps.function-open (fileOf (start .args .law .now)) (formatsIn (fileOf (start .args .law .now)) (start .args .task .limit) (start .args .store .now)) (start .args .task) (start .args .f) (the-first-sentence2 .result - the-first-sentence .result) (the-first-sentence .result) (steps.sentences-count (start .pre .0) (start .args .f) (start .pre .1) (the-first-sentence .result) (the-first-sentence2 .result) (the-first-sentence .ensures) (the-first-sentence2 .ensures)) (steps.sentences-first-reads (start .pre .0) (start .args .f) (start .pre .1) (the-first-sentence .result) (the-first-sentence2 .result) (the-first-sentence .ensures) (the-first-sentence2 .ensures)) (sinkOf (start .args .tally) (start .args .out .now)) (sinkOf (the-note-open .result) out-after) (the-if1 .taken) (the-note-open .ensures))
     (λ c κs.
     let start = c .before .before .before .before .before .before .before .before in
     let the-first-sentence = c .before .before .before .before .first-sentence in
@@ -53,12 +54,14 @@ lint-function-spec =
     (λ c. search needs)
     (λ c.
     let start = c .before .before .before .before .before .before .before .before .before .before .before .before .before in
+    let asked = start .pre .0 .asked in
     let the-first-sentence = c .before .before .before .before .before .before .before .before .before .first-sentence in
     let the-first-sentence2 = c .before .before .before .before .before .before .before .before .first-sentence2 in
     let the-if1 = c .before .before .before .before .before .before .if1 in
     let the-note-block = c .before .before .before .before .note-block in
+    let out-after = the-note-block .last .1 .1 .1 .1 .1 .0 in
     let alone = sym (c .before .none-inside .ensures) ∙ c .if2 .taken in
-    steps.function-steps (fileOf (start .args .law .now)) (formatsIn (fileOf (start .args .law .now)) (start .args .task .limit) (start .args .store .now)) (start .args .task) (start .args .f) (the-first-sentence2 .result - the-first-sentence .result) (the-first-sentence .result) (steps.sentences-count (start .pre .0) (start .args .f) (start .pre .1) (the-first-sentence .result) (the-first-sentence2 .result) (the-first-sentence .ensures) (the-first-sentence2 .ensures)) (steps.sentences-first-reads (start .pre .0) (start .args .f) (start .pre .1) (the-first-sentence .result) (the-first-sentence2 .result) (the-first-sentence .ensures) (the-first-sentence2 .ensures)) (sinkOf (start .args .tally) (start .args .out .now)) (sinkOf (the-note-block .result) (the-note-block .last .1 .1 .1 .1 .1 .0)) (sinkOf (the-note-block .result) (the-note-block .last .1 .1 .1 .1 .1 .0)) (the-if1 .left) (the-note-block .ensures) (nothing-inside (start .args .law .now) (start .args .index .now) (start .args .slots .now) (treeOf (fileOf (start .args .law .now))) (formatsIn (fileOf (start .args .law .now)) (start .args .task .limit) (start .args .store .now)) (start .args .task) (start .pre .0 .asked .indexed) (start .pre .0 .asked .readable) (start .pre .0 .asked .places .marked) alone (start .args .f) (the-first-sentence2 .result - the-first-sentence .result) (the-first-sentence .result) (start .pre .1) (steps.sentences-count (start .pre .0) (start .args .f) (start .pre .1) (the-first-sentence .result) (the-first-sentence2 .result) (the-first-sentence .ensures) (the-first-sentence2 .ensures)) (steps.sentences-first-reads (start .pre .0) (start .args .f) (start .pre .1) (the-first-sentence .result) (the-first-sentence2 .result) (the-first-sentence .ensures) (the-first-sentence2 .ensures)) (steps.sentences-inside (start .pre .0) (start .args .f) (start .pre .1) (the-first-sentence .result) (the-first-sentence2 .result) (the-first-sentence .ensures) (the-first-sentence2 .ensures)) (sinkOf (the-note-block .result) (the-note-block .last .1 .1 .1 .1 .1 .0))))
+    steps.function-steps (fileOf (start .args .law .now)) (formatsIn (fileOf (start .args .law .now)) (start .args .task .limit) (start .args .store .now)) (start .args .task) (start .args .f) (the-first-sentence2 .result - the-first-sentence .result) (the-first-sentence .result) (steps.sentences-count (start .pre .0) (start .args .f) (start .pre .1) (the-first-sentence .result) (the-first-sentence2 .result) (the-first-sentence .ensures) (the-first-sentence2 .ensures)) (steps.sentences-first-reads (start .pre .0) (start .args .f) (start .pre .1) (the-first-sentence .result) (the-first-sentence2 .result) (the-first-sentence .ensures) (the-first-sentence2 .ensures)) (sinkOf (start .args .tally) (start .args .out .now)) (sinkOf (the-note-block .result) out-after) (sinkOf (the-note-block .result) out-after) (the-if1 .left) (the-note-block .ensures) (nothing-inside (start .args .law .now) (start .args .index .now) (start .args .slots .now) (treeOf (fileOf (start .args .law .now))) (formatsIn (fileOf (start .args .law .now)) (start .args .task .limit) (start .args .store .now)) (start .args .task) (asked .indexed) (asked .readable) (asked .places .marked) alone (start .args .f) (the-first-sentence2 .result - the-first-sentence .result) (the-first-sentence .result) (start .pre .1) (steps.sentences-count (start .pre .0) (start .args .f) (start .pre .1) (the-first-sentence .result) (the-first-sentence2 .result) (the-first-sentence .ensures) (the-first-sentence2 .ensures)) (steps.sentences-first-reads (start .pre .0) (start .args .f) (start .pre .1) (the-first-sentence .result) (the-first-sentence2 .result) (the-first-sentence .ensures) (the-first-sentence2 .ensures)) (steps.sentences-inside (start .pre .0) (start .args .f) (start .pre .1) (the-first-sentence .result) (the-first-sentence2 .result) (the-first-sentence .ensures) (the-first-sentence2 .ensures)) (sinkOf (the-note-block .result) out-after)))
     (λ c κs.
     let start = c .before .before .before .before .before .before .before .before .before .before .before .before .before .before in
     let the-first-sentence = c .before .before .before .before .before .before .before .before .before .before .first-sentence in
@@ -71,5 +74,7 @@ lint-function-spec =
     let the-first-sentence2 = c .before .before .before .before .before .before .before .before .before .before .before .before .first-sentence2 in
     let the-if1 = c .before .before .before .before .before .before .before .before .before .before .if1 in
     let the-note-block = c .before .before .before .before .before .before .before .before .note-block in
+    let out-after-block = the-note-block .last .1 .1 .1 .1 .1 .0 in
     let the-walk-sentences = c .before .before .walk-sentences in
-    steps.function-steps (fileOf (start .args .law .now)) (formatsIn (fileOf (start .args .law .now)) (start .args .task .limit) (start .args .store .now)) (start .args .task) (start .args .f) (the-first-sentence2 .result - the-first-sentence .result) (the-first-sentence .result) (steps.sentences-count (start .pre .0) (start .args .f) (start .pre .1) (the-first-sentence .result) (the-first-sentence2 .result) (the-first-sentence .ensures) (the-first-sentence2 .ensures)) (steps.sentences-first-reads (start .pre .0) (start .args .f) (start .pre .1) (the-first-sentence .result) (the-first-sentence2 .result) (the-first-sentence .ensures) (the-first-sentence2 .ensures)) (sinkOf (start .args .tally) (start .args .out .now)) (sinkOf (the-note-block .result) (the-note-block .last .1 .1 .1 .1 .1 .0)) (sinkOf (the-walk-sentences .result) (the-walk-sentences .last .1 .1 .1 .1 .1 .1 .1 .0)) (the-if1 .left) (the-note-block .ensures) (the-walk-sentences .ensures)))
+    let out-after-sentences = the-walk-sentences .last .1 .1 .1 .1 .1 .1 .1 .0 in
+    steps.function-steps (fileOf (start .args .law .now)) (formatsIn (fileOf (start .args .law .now)) (start .args .task .limit) (start .args .store .now)) (start .args .task) (start .args .f) (the-first-sentence2 .result - the-first-sentence .result) (the-first-sentence .result) (steps.sentences-count (start .pre .0) (start .args .f) (start .pre .1) (the-first-sentence .result) (the-first-sentence2 .result) (the-first-sentence .ensures) (the-first-sentence2 .ensures)) (steps.sentences-first-reads (start .pre .0) (start .args .f) (start .pre .1) (the-first-sentence .result) (the-first-sentence2 .result) (the-first-sentence .ensures) (the-first-sentence2 .ensures)) (sinkOf (start .args .tally) (start .args .out .now)) (sinkOf (the-note-block .result) out-after-block) (sinkOf (the-walk-sentences .result) out-after-sentences) (the-if1 .left) (the-note-block .ensures) (the-walk-sentences .ensures)))

@@ -53,9 +53,11 @@ lint-law-spec =
     let start = c .before .before .before .before .before .before .before .before .before .before in
     let the-loop-test = c .before .before .before .before .loop-test in
     let the-lint-function = c .before .before .lint-function in
+    let out-after = the-lint-function .last .1 .1 .1 .1 .1 .1 .0 in
+    let out-kept = the-lint-function .kept .1 .1 .1 .1 .1 .1 .0 in
     let the-loop = c .before .before .before .before .before .loop in
     let the-functions = c .before .before .before .before .before .before .functions in
-    (omega (arith, the-loop-test .taken), the-lint-function .kept .1 .1 .1 .1 .1 .1 .0 ∙ the-loop .inv .1, steps.functions-next (fileOf (start .args .law .now)) (formatsIn (fileOf (start .args .law .now)) (start .args .task .limit) (start .args .store .now)) (start .args .task) (the-loop .f) (steps.after (fileOf (start .args .law .now)) (formatsIn (fileOf (start .args .law .now)) (start .args .task .limit) (start .args .store .now)) (start .args .task) (sinkOf (start .args .tally) (start .args .out .now)) (lintEvents (treeOf (fileOf (start .args .law .now))) (formatsIn (fileOf (start .args .law .now)) (start .args .task .limit) (start .args .store .now)) (start .args .task))) (sinkOf (the-loop .so-far) (the-loop .out)) (sinkOf (the-lint-function .result) (the-lint-function .last .1 .1 .1 .1 .1 .1 .0)) (omega (arith, the-loop-test .taken, steps.functions-read (start .pre) (the-functions .result) (the-functions .ensures))) (the-loop .inv .2) (the-lint-function .ensures)))
+    (omega (arith, the-loop-test .taken), out-kept ∙ the-loop .inv .1, steps.functions-next (fileOf (start .args .law .now)) (formatsIn (fileOf (start .args .law .now)) (start .args .task .limit) (start .args .store .now)) (start .args .task) (the-loop .f) (steps.after (fileOf (start .args .law .now)) (formatsIn (fileOf (start .args .law .now)) (start .args .task .limit) (start .args .store .now)) (start .args .task) (sinkOf (start .args .tally) (start .args .out .now)) (lintEvents (treeOf (fileOf (start .args .law .now))) (formatsIn (fileOf (start .args .law .now)) (start .args .task .limit) (start .args .store .now)) (start .args .task))) (sinkOf (the-loop .so-far) (the-loop .out)) (sinkOf (the-lint-function .result) out-after) (omega (arith, the-loop-test .taken, steps.functions-read (start .pre) (the-functions .result) (the-functions .ensures))) (the-loop .inv .2) (the-lint-function .ensures)))
     (λ c.
     let the-loop = c .before .loop in
     the-loop .inv .1)
