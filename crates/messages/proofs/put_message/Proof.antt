@@ -14,9 +14,12 @@ use borrow.Author.Needs.{needs}
 use Rattle.messages.proofs.put_message.Statement.{statement}
 use Rattle.messages.proofs.put_message.Tie as tie
 
--- where the first word is read
+-- where the first word is read, and the second
 abbrev first-read : tie.After-word5 → tie.After-word
 first-read c = c .before .before .before .before
+
+abbrev second-read : tie.After-word5 → tie.After-word2
+second-read c = c .before .before .before
 
 -- the start, from there and from where all words are read
 abbrev start-from-first : tie.After-word → tie.Start
@@ -31,7 +34,7 @@ file c = fileOf (start c .args .law .now)
 -- a finding has the words that are read
 abbrev Read : tie.After-word5 → Finding → Type 0
 Read c x =
-    Heard (file c) (start c .args .limit) (start c .args .store .now) (first-read c .word .result) (c .before .before .before .word2 .result)
+    Heard (file c) (start c .args .limit) (start c .args .store .now) (first-read c .word .result) (second-read c .word2 .result)
     (c .before .before .word3 .result) (c .before .word4 .result) (c .word5 .result) x
 
 -- any finding of the law that has them, and the one spoken of
@@ -39,12 +42,12 @@ any-heard : (c : tie.After-word5) (x : Finding) (severity : ℕ)
     → List·Memᴰ x (findingsOf (treeOf (file c)) (formatsIn (file c) (start c .args .limit) (start c .args .store .now)))
     → start c .args .words .now ≡ findingWords severity x → Read c x
 any-heard c =
-    heard (start c .pre .1) (start c .pre .0 .asked .readable) (first-read c .word .ensures) (c .before .before .before .word2 .ensures)
+    heard (start c .pre .1) (start c .pre .0 .asked .readable) (first-read c .word .ensures) (second-read c .word2 .ensures)
     (c .before .before .word3 .ensures) (c .before .word4 .ensures) (c .word5 .ensures)
 
 one-heard : (c : tie.After-word5) → Read c (start c .pre .1 .finding)
 one-heard c =
-    heard-one (start c .pre .1) (start c .pre .0 .asked .readable) (first-read c .word .ensures) (c .before .before .before .word2 .ensures)
+    heard-one (start c .pre .1) (start c .pre .0 .asked .readable) (first-read c .word .ensures) (second-read c .word2 .ensures)
     (c .before .before .word3 .ensures) (c .before .word4 .ensures) (c .word5 .ensures)
 
 pub put-message-spec : {M : Type 1} → statement M
