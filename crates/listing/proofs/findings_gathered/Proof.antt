@@ -18,9 +18,10 @@ findings-gathered-spec =
     (λ c κs.
     let start = c .before .before .before .before .before .before .before .before .before .before .before .before .before .before .before .before .before .before .before .before .before in
     let the-gather = c .before .before .before .before .before .before .before .before .before .before .before .gather in
+    let out-kept = the-gather .kept .1 .1 .1 .1 .1 .1 .1 .1 .0 in
     let the-slots-of = c .before .before .before .before .before .before .before .before .before .before .before .before .before .before .before .slots-of in
     let the-count = c .before .before .before .before .before .count in
-    (findings-collected (settingsFrom (start .args .mode) (start .args .overrides .now)) (the-gather .ensures) (start .pre) (the-slots-of .ensures) _ _ _ (the-count .given .1) (the-gather .kept .1 .1 .1 .1 .1 .1 .1 .1 .0), omega (arith, count-fits (settingsFrom (start .args .mode) (start .args .overrides .now)) (the-gather .ensures) (start .pre) (the-slots-of .ensures) _ _ _ (the-count .given .1))))
+    (findings-collected (settingsFrom (start .args .mode) (start .args .overrides .now)) (the-gather .ensures) (start .pre) (the-slots-of .ensures) _ _ _ (the-count .given .1) out-kept, omega (arith, count-fits (settingsFrom (start .args .mode) (start .args .overrides .now)) (the-gather .ensures) (start .pre) (the-slots-of .ensures) _ _ _ (the-count .given .1))))
     (λ c. search needs)
     (λ c. search needs)
     (λ c.

@@ -17,10 +17,11 @@ text-ready-spec =
     (λ c. search needs)
     (λ c. search needs)
     (λ c κs. let the-gather = c .before .before .before .before .before .before .before .before .before .before .gather in
+    let out-kept = the-gather .kept .1 .1 .1 .1 .1 .1 .1 .1 .0 in
     let the-slots-of = c .before .before .before .before .before .before .before .before .before .before .before .before .before .before .slots-of in
     let the-count = c .before .before .before .before .before .count in
     let start = c .before .before .before .before .before .before .before .before .before .before .before .before .before .before .before .before .before .before .before in
-    ((settingsFrom (start .args .mode) (start .args .overrides .now), findings-collected (settingsFrom (start .args .mode) (start .args .overrides .now)) (the-gather .ensures) (start .pre) (the-slots-of .ensures) _ _ _ (the-count .given .1) (the-gather .kept .1 .1 .1 .1 .1 .1 .1 .1 .0)), text-places (settingsFrom (start .args .mode) (start .args .overrides .now)) (the-gather .ensures) (start .pre) (the-slots-of .ensures) _ _ _ (the-count .given .1) (sym (the-gather .kept .1 .1 .1 .1 .1 .1 .1 .1 .0))))
+    ((settingsFrom (start .args .mode) (start .args .overrides .now), findings-collected (settingsFrom (start .args .mode) (start .args .overrides .now)) (the-gather .ensures) (start .pre) (the-slots-of .ensures) _ _ _ (the-count .given .1) out-kept), text-places (settingsFrom (start .args .mode) (start .args .overrides .now)) (the-gather .ensures) (start .pre) (the-slots-of .ensures) _ _ _ (the-count .given .1) (sym out-kept)))
     (λ c. search needs)
     (λ c. let the-gather = c .before .before .before .before .before .gather in
     let start = c .before .before .before .before .before .before .before .before .before .before .before .before .before .before in
@@ -32,7 +33,8 @@ text-ready-spec =
     (λ c. search needs)
     (λ c. search needs)
     (λ c. let the-gather = c .before .before .before .before .before .before .before .before .before .before .before .before .before .gather in
+    let out-kept = the-gather .kept .1 .1 .1 .1 .1 .1 .1 .1 .0 in
     let the-slots-of = c .before .before .before .before .before .before .before .before .before .before .before .before .before .before .before .before .before .slots-of in
     let the-count = c .before .before .before .before .before .before .before .before .count in
     let start = c .before .before .before .before .before .before .before .before .before .before .before .before .before .before .before .before .before .before .before .before .before .before in
-    text-told (settingsFrom (start .args .mode) (start .args .overrides .now)) (the-gather .ensures) (start .pre) (the-slots-of .ensures) _ _ _ (the-count .given .1) _ _ _ (c .before .before .tell .result) refl (c .before .before .tell .ensures (settingsFrom (start .args .mode) (start .args .overrides .now)) (findings-collected (settingsFrom (start .args .mode) (start .args .overrides .now)) (the-gather .ensures) (start .pre) (the-slots-of .ensures) _ _ _ (the-count .given .1) (the-gather .kept .1 .1 .1 .1 .1 .1 .1 .1 .0)))))
+    text-told (settingsFrom (start .args .mode) (start .args .overrides .now)) (the-gather .ensures) (start .pre) (the-slots-of .ensures) _ _ _ (the-count .given .1) _ _ _ (c .before .before .tell .result) refl (c .before .before .tell .ensures (settingsFrom (start .args .mode) (start .args .overrides .now)) (findings-collected (settingsFrom (start .args .mode) (start .args .overrides .now)) (the-gather .ensures) (start .pre) (the-slots-of .ensures) _ _ _ (the-count .given .1) out-kept))))
