@@ -18,13 +18,15 @@ deliver-tokens-spec =
     (λ c. search needs)
     (λ c. search needs)
     (λ c ts held stand.
-    let put = c .before .before .before .before .before .before .before .put-file .ensures ts held stand in
+    let the-put-file = c .before .before .before .before .before .before .before .put-file in
+    let put = the-put-file .ensures ts held stand in
     file-over _ _ (omega (arith, c .if1 .taken, put .end)))
     (λ c. search needs)
     (λ c.
     let put = c .before .before .before .before .before .before .before .before in
+    let out-kept = put .put-file .kept .1 .1 .1 .1 .1 .1 .0 in
     let begun = start put in
-    part-size (put .put-file .result) _ (begun .args .file .now) (omega (arith, c .before .if1 .left)) (begun .pre .2) (put .put-file .kept .1 .1 .1 .1 .1 .1 .0))
+    part-size (put .put-file .result) _ (begun .args .file .now) (omega (arith, c .before .if1 .left)) (begun .pre .2) out-kept)
     (λ c κs.
     let put = c .before .before .before .before .before .before .before .before .before .put-file in
     part-small (put .result) _ (omega (arith, c .before .before .if1 .left)))
