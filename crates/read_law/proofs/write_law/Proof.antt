@@ -16,10 +16,12 @@ write-law-spec =
     (λ c. search needs)
     (λ c.
     let written = c .before in
-    omega (arith, written-fits _ _ _ _ _ (written .bytes .given .1) (written .before .before .before .before .read .ensures)))
+    let the-read = written .before .before .before .before .read in
+    omega (arith, written-fits _ _ _ _ _ (written .bytes .given .1) (the-read .ensures)))
     (λ c.
     let written = c .before .before in
-    simp length-take (omega (arith, written-fits _ _ _ _ _ (written .bytes .given .1) (written .before .before .before .before .read .ensures))))
+    let the-read = written .before .before .before .before .read in
+    simp length-take (omega (arith, written-fits _ _ _ _ _ (written .bytes .given .1) (the-read .ensures))))
     (λ c κs. search needs)
     (λ c. search needs)
     (λ c. search needs)
