@@ -24,7 +24,8 @@ bilzarko-findings-spec =
     (λ c. search needs)
     (λ c.
     let at-count = c .before .before .before in
+    let listed = at-count .count .given .0 in
     let at-call = c .before .before .before .before .before .before .before .before .before in
     let at-start = at-call .before .before .before .before .before .before .before in
-    findings-listed (at-start .args .answer .now) (at-call .findings .ensures) (at-count .count .given .0 .0) (at-count .count .given .0 .1 .0)
-    (at-count .count .given .0 .1 .1 .0) (at-count .count .given .1) (c .before .settled-word .ensures)))
+    findings-listed (at-start .args .answer .now) (at-call .findings .ensures) (listed .0) (listed .1 .0)
+    (listed .1 .1 .0) (at-count .count .given .1) (c .before .settled-word .ensures)))
