@@ -3,7 +3,7 @@ use file::Symbol;
 use file::Term;
 use file::term_at;
 use law::runs::end_of;
-use matching::spelled;
+use matching::atoms::spelled;
 use names::names_equal;
 use numbers::capped_value;
 ghost use mathlib.Core.Path.{_≡_};

@@ -1,7 +1,7 @@
 // Rests of a pattern and of a row that have no match: what a search remembers of them, so that it does not try them again. A rest has four words, the positions
 // among the term records where the two rests begin and end.
-use matching::narrow;
-use matching::wide;
+use matching::bound::narrow;
+use matching::bound::wide;
 ghost use mathlib.Core.Path.{_≡_};
 ghost use mathlib.Core.Bool.{true};
 ghost use Prim.Native.Nat.{_<_};

@@ -1,7 +1,7 @@
 // Variables that stand again elsewhere, or have a value already.
 use file::word_at;
-use matching::atoms_same;
-use matching::wide;
+use matching::atoms::atoms_same;
+use matching::bound::wide;
 ghost use mathlib.Core.Path.{_≡_};
 ghost use mathlib.Core.Bool.{true, false};
 ghost use mathlib.Core.List.{List};

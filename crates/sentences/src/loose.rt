@@ -3,9 +3,9 @@
 use file::term_at;
 use file::word_at;
 use law::runs::end_of;
-use matching::atoms_same;
-use matching::is_bracket;
-use matching::may_stand;
+use matching::atoms::atoms_same;
+use matching::atoms::is_bracket;
+use matching::terms::may_stand;
 use searches::repeats::again;
 ghost use mathlib.Core.Path.{_≡_};
 ghost use mathlib.Core.Bool.{true, false};

@@ -2,7 +2,7 @@
 // what it matches have both an odd number of terms or both an even one.
 use file::word_at;
 use law::runs::end_of;
-use matching::atoms_same;
+use matching::atoms::atoms_same;
 ghost use mathlib.Core.Path.{_≡_};
 ghost use mathlib.Core.Bool.{Bool, true};
 ghost use mathlib.Core.List.{List, []};

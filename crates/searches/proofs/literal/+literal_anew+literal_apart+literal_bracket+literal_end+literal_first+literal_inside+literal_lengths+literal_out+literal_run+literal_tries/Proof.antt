@@ -61,16 +61,16 @@ use Rattle.searches.proofs.literal.literal_tries.Reads as literal-tries
 use Rattle.searches.proofs.literal.literal_tries.Kinds as literal-tries-kinds
 use Rattle.searches.proofs.literal.+literal_anew+literal_apart+literal_bracket+literal_end+literal_first+literal_inside+literal_lengths+literal_out+literal_run+literal_tries.Lts-literal_tries as literal-tries-lts
 use Rattle.law.proofs.runs.end_of.Reads as end-of-reads
-use Rattle.matching.proofs.bind.Reads as bind-reads
+use Rattle.matching.proofs.bound.bind.Reads as bind-reads
 use Rattle.searches.proofs.failed.failed_before.Reads as failed-before-reads
 use Rattle.searches.proofs.failed.note_failed.Reads as note-failed-reads
-use Rattle.matching.proofs.known_front.Reads as known-front-reads
+use Rattle.matching.proofs.front.known_front.Reads as known-front-reads
 use Rattle.searches.proofs.literal.push.Reads as push-reads
 use Rattle.searches.proofs.literal.unsure.Reads as unsure-reads
 use Rattle.searches.proofs.literal.holds_around.Reads as holds-around-reads
 use Rattle.searches.proofs.literal.holds_here.Reads as holds-here-reads
 use Rattle.searches.proofs.repeats.stands_apart.Reads as stands-apart-reads
-use Rattle.matching.proofs.wide.Reads as wide-reads
+use Rattle.matching.proofs.bound.wide.Reads as wide-reads
 use Rattle.searches.proofs.literal.+literal_anew+literal_apart+literal_bracket+literal_end+literal_first+literal_inside+literal_lengths+literal_out+literal_run+literal_tries.{
   statement,
 }

@@ -43,10 +43,10 @@ use Rattle.searches.proofs.shadow.shadow_tries.Reads as shadow-tries
 use Rattle.searches.proofs.shadow.shadow_tries.Kinds as shadow-tries-kinds
 use Rattle.searches.proofs.shadow.+shadow_anew+shadow_first+shadow_inside+shadow_lengths+shadow_run+shadow_tries.Lts-shadow_tries as shadow-tries-lts
 use Rattle.law.proofs.runs.end_of.Reads as end-of-reads
-use Rattle.matching.proofs.bind.Reads as bind-reads
+use Rattle.matching.proofs.bound.bind.Reads as bind-reads
 use Rattle.searches.proofs.failed.failed_before.Reads as failed-before-reads
 use Rattle.searches.proofs.failed.note_failed.Reads as note-failed-reads
-use Rattle.matching.proofs.known_front.Reads as known-front-reads
+use Rattle.matching.proofs.front.known_front.Reads as known-front-reads
 use Rattle.searches.proofs.repeats.closed.Reads as closed-reads
 use Rattle.searches.proofs.shadow.+shadow_anew+shadow_first+shadow_inside+shadow_lengths+shadow_run+shadow_tries.{
   statement,

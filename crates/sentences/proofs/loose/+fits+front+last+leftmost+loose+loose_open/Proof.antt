@@ -35,9 +35,9 @@ use Rattle.sentences.proofs.loose.+fits+front+last+leftmost+loose+loose
 use Rattle.file.proofs.term_at.Reads as term-at-reads
 use Rattle.file.proofs.word_at.Reads as word-at-reads
 use Rattle.law.proofs.runs.end_of.Reads as end-of-reads
-use Rattle.matching.proofs.atoms_same.Reads as atoms-same-reads
-use Rattle.matching.proofs.is_bracket.Reads as is-bracket-reads
-use Rattle.matching.proofs.may_stand.Reads as may-stand-reads
+use Rattle.matching.proofs.atoms.atoms_same.Reads as atoms-same-reads
+use Rattle.matching.proofs.atoms.is_bracket.Reads as is-bracket-reads
+use Rattle.matching.proofs.terms.may_stand.Reads as may-stand-reads
 use Rattle.sentences.proofs.loose.has_open.Reads as has-open-reads
 use Rattle.sentences.proofs.loose.skip.Reads as skip-reads
 use Rattle.sentences.proofs.loose.terms_in.Reads as terms-in-reads
