@@ -1,13 +1,11 @@
-// Values of variables: none, one more, and where a variable's value stands.
+// Values of variables: none, and one more.
 use crate::Bindings;
-use crate::Place;
-use crate::atoms::atoms_same;
 ghost use mathlib.Core.Path.{_≡_};
 ghost use mathlib.Core.List.{List};
-ghost use Prim.Native.Nat.{ℕ, _+_, _≤_, _<_};
-ghost use lib.ListN.{length, getD};
+ghost use Prim.Native.Nat.{ℕ, _<_};
+ghost use lib.ListN.{length};
 ghost use Rattle.matching.specs.Match.{none-bound};
-ghost use Rattle.matching.specs.Code.Bound.{valuesOf, Kept, Bound, places, HasPlace};
+ghost use Rattle.matching.specs.Code.Bound.{valuesOf, Kept, Bound};
 
 // No variable has a value.
 pub fn none() -> Bindings
@@ -48,23 +46,4 @@ pub fn bind(b: Bindings, key: usize, start: usize, size: usize) -> Bindings
     next.sizes[at] = narrow(size);
     next.count = at + 1;
     next
-}
-
-// The place of the variable that the pattern's first record is.
-pub fn place_of(text: &[u8], terms: &[u8], pattern: &[u8], keys: &[u16; 32], count: usize) -> Place
-    requires { ⌜ (count ≤ 32) × ((i : ℕ) → i < count → getD (now keys) i 0 + 24 ≤ length (now terms)) × (24 ≤ length (now pattern)) ⌝ }
-    ensures { λ r. ⌜ ((starts sizes : List ℕ) → Kept (now (text .entry)) (now (terms .entry)) (places (now (keys .entry)) starts sizes count)
-        → HasPlace (now (text .entry)) (now (terms .entry)) (now (pattern .entry)) (places (now (keys .entry)) starts sizes count) r) ⌝ }
-{
-    let mut i = count;
-    loop {
-        if i == 0 {
-            break Place::Free;
-        }
-        i -= 1;
-        let key = wide(keys[i]);
-        if atoms_same(text, &terms[key..], pattern) {
-            break Place::At(i);
-        }
-    }
 }

@@ -4,9 +4,7 @@ use crate::First;
 use crate::Place;
 use crate::atoms::atoms_same;
 use crate::atoms::is_bracket;
-use crate::bound::place_of;
 use crate::bound::wide;
-use crate::terms::is_open;
 use crate::terms::may_stand;
 use crate::values::begins;
 use file::Term;
@@ -16,8 +14,8 @@ use law::runs::end_of;
 ghost use mathlib.Core.Path.{_≡_};
 ghost use mathlib.Core.List.{List};
 ghost use mathlib.Core.Option.{none, some};
-ghost use Prim.Native.Nat.{ℕ, _+_, _≤_};
-ghost use lib.ListN.{length};
+ghost use Prim.Native.Nat.{ℕ, _+_, _≤_, _<_};
+ghost use lib.ListN.{length, getD};
 ghost use Rattle.file.specs.Head.{termAt};
 ghost use Rattle.file.specs.declared.Symbol.{Symbol};
 ghost use Rattle.file.specs.declared.Term.the-variants.{Symbol as Symbolic, Bracket};
@@ -25,8 +23,42 @@ ghost use Rattle.law.specs.Variables.{Variable};
 ghost use Rattle.matching.specs.Pattern.{Atom, variable};
 ghost use Rattle.matching.specs.Match.{Values, valueIn};
 ghost use Rattle.matching.specs.Code.Part.{atomOf};
-ghost use Rattle.matching.specs.Code.Bound.{rowAt, valuesOf, Kept, places};
-ghost use Rattle.matching.specs.Code.Step.{Leaves};
+ghost use Rattle.matching.specs.Code.Bound.{rowAt, valuesOf, Kept, places, HasPlace};
+ghost use Rattle.matching.specs.Code.Step.{openTerm, Leaves};
+
+// Is this term an e. variable?
+fn is_open(term: Term) -> bool
+    ensures { λ r. ⌜ r ≡ openTerm term ⌝ }
+{
+    match term {
+        Term::Symbol(_) => false,
+        Term::SVariable(_, _) => false,
+        Term::TVariable(_, _) => false,
+        Term::EVariable(_, _) => true,
+        Term::Bracket => false,
+        Term::Call(_, _) => false,
+        Term::Block(_) => false,
+    }
+}
+
+// The place of the variable that the pattern's first record is.
+fn place_of(text: &[u8], terms: &[u8], pattern: &[u8], keys: &[u16; 32], count: usize) -> Place
+    requires { ⌜ (count ≤ 32) × ((i : ℕ) → i < count → getD (now keys) i 0 + 24 ≤ length (now terms)) × (24 ≤ length (now pattern)) ⌝ }
+    ensures { λ r. ⌜ ((starts sizes : List ℕ) → Kept (now (text .entry)) (now (terms .entry)) (places (now (keys .entry)) starts sizes count)
+        → HasPlace (now (text .entry)) (now (terms .entry)) (now (pattern .entry)) (places (now (keys .entry)) starts sizes count) r) ⌝ }
+{
+    let mut i = count;
+    loop {
+        if i == 0 {
+            break Place::Free;
+        }
+        i -= 1;
+        let key = wide(keys[i]);
+        if atoms_same(text, &terms[key..], pattern) {
+            break Place::At(i);
+        }
+    }
+}
 
 // Symbols, as many as the pattern begins with: the row begins with the same.
 fn symbols_first(text: &[u8], pattern: &[u8], row: &[u8]) -> First

@@ -1,22 +1,7 @@
 // Which terms a variable may stand for.
 use file::Term;
 ghost use mathlib.Core.Path.{_≡_};
-ghost use Rattle.matching.specs.Code.Step.{openTerm, symbolTerm, singleOne, mayStand};
-
-// Is this term an e. variable?
-pub fn is_open(term: Term) -> bool
-    ensures { λ r. ⌜ r ≡ openTerm term ⌝ }
-{
-    match term {
-        Term::Symbol(_) => false,
-        Term::SVariable(_, _) => false,
-        Term::TVariable(_, _) => false,
-        Term::EVariable(_, _) => true,
-        Term::Bracket => false,
-        Term::Call(_, _) => false,
-        Term::Block(_) => false,
-    }
-}
+ghost use Rattle.matching.specs.Code.Step.{symbolTerm, singleOne, mayStand};
 
 // May an s. variable stand for this term?
 fn is_symbol(term: Term) -> bool

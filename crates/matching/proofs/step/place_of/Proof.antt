@@ -5,8 +5,8 @@ use borrow.Author.Needs.{needs}
 use native.Mathlib.Omega.{arith}
 use Rattle.matching.specs.Code.Bound.{Kept, places}
 use Rattle.matching.proofs.BoundLaws as laws
-use Rattle.matching.proofs.bound.place_of.Statement.{statement}
-use Rattle.matching.proofs.bound.place_of.Tie as tie
+use Rattle.matching.proofs.step.place_of.Statement.{statement}
+use Rattle.matching.proofs.step.place_of.Tie as tie
 
 abbrev Inv-loop : tie.InvT-loop
 Inv-loop text terms pattern keys count i₀ i =
