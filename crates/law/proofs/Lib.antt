@@ -11,6 +11,7 @@ pub mod DepthLaws
 pub mod PatternVariables
 pub mod Owners
 pub mod Forests
+pub mod LevelLaws
 pub mod IndexLaws
 pub mod FitLaws
 pub mod PartLaws

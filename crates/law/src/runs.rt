@@ -8,13 +8,14 @@ use crate::places::result;
 use crate::places::sentences;
 use file::word_at;
 ghost use mathlib.Core.Path.{_≡_};
-ghost use Prim.Native.Nat.{_+_, _≤_, _<_};
-ghost use lib.ListN.{length};
+ghost use Prim.Native.Nat.{_+_, _-_, _≤_, _<_};
+ghost use lib.ListN.{length, take, drop};
 ghost use Rattle.file.specs.Below.{every};
 ghost use Rattle.file.specs.Sections.{fileOf};
 ghost use Rattle.law.specs.Places.{conditionsOf, firstCondition};
 ghost use Rattle.law.specs.Runs.{endOf, runFits, conditionFits, sentenceFits};
 ghost use Rattle.law.specs.Code.Index.{Indexed};
+ghost use Rattle.law.specs.Code.Levels.{levelFits};
 
 // Where the contents of the run's first record end. Where it has none, the next record is known without a wait for its n.
 pub fn end_of(part: &[u8]) -> usize
@@ -29,25 +30,41 @@ pub fn end_of(part: &[u8]) -> usize
     if end < part.len() { end } else { part.len() }
 }
 
-// Whether no record's n passes the run that the record stands in. A record with nothing inside it needs no call.
-pub fn run_fits(part: &[u8]) -> bool
+// Whether no n of the records of one level, the bytes from `start` to `end`, passes that end. What is inside these records is passed over.
+fn level_fits(part: &[u8], start: usize, end: usize) -> bool
+    requires { ⌜ (start ≤ end) × (end ≤ length (now part)) ⌝ }
+    ensures { λ r. ⌜ r ≡ levelFits (take (end - start) (drop start (now (part .entry)))) ⌝ }
+{
+    let mut i = start;
+    while 24 <= end - i {
+        let size = 24 + 24 * word_at(part, i + 12) as usize;
+        if end - i < size {
+            return false;
+        }
+        i += size;
+    }
+    true
+}
+
+// Whether no record's n passes the run that the record stands in: the level inside each record fits. Every record is met, at whatever depth, so that
+// nothing recurses: records that stand within one another may be as many as the law has.
+fn run_fits(part: &[u8]) -> bool
     ensures { λ r. ⌜ r ≡ runFits (now (part .entry)) ⌝ }
 {
-    let mut i = 0;
-    while 24 <= part.len() - i {
+    let mut k = 0;
+    while 24 <= part.len() - 24 * k {
+        let i = 24 * k;
         let n = word_at(part, i + 12) as usize;
-        if n == 0 {
-            i += 24;
-        } else {
+        if n != 0 {
             let size = 24 + 24 * n;
             if part.len() - i < size {
                 return false;
             }
-            if !run_fits(&part[i + 24..i + size]) {
+            if !level_fits(part, i + 24, i + size) {
                 return false;
             }
-            i += size;
         }
+        k += 1;
     }
     true
 }
