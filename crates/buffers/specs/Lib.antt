@@ -1,3 +1,4 @@
 pub mod Written
+pub mod Fitted
 pub mod Decimal
 pub mod Code

@@ -9,6 +9,7 @@ use borrow.Author.Tests.{le-leb, lt-leb}
 use lib.ListN.{length, take, drop, take-append-drop}
 use Rattle.file.specs.Sections.{fileOf}
 use Rattle.law.specs.Reading.{treeOf}
+use Rattle.buffers.proofs.FittedLaws.{fits, too-long}
 use Rattle.buffers.specs.Code.Put.{Put}
 use Rattle.buffers.proofs.PutLaws.{put-room}
 use Rattle.lints.specs.Finding.{Finding, lintOf, findingWords}
@@ -98,17 +99,17 @@ module _ (settings : Settings) {limit : ℕ} {bytes index slots store own : List
     pub tell-short : {old part : List ℕ} {next : ℕ} (text : List ℕ) → length part ≡ 0 → Puts old next part → length text < next
         → toldPair (told.Refused turned.Text) (part ++ text) ≡ textOf text (findingAt fs position)
     tell-short {old} {part} {next} text empty h short =
-        rw (none part empty, here .at, lt-leb (length (message (here .finding))) (length text) (omega (arith, short, put {old = old} {now = part} {next = next} h .end)))
+        rw (none part empty, here .at, too-long 13 text (message (here .finding)) (omega (arith, short, put {old = old} {now = part} {next = next} h .end)))
 
     pub tell-written : {old part : List ℕ} {next last : ℕ} (text end : List ℕ) → length part ≡ 0 → Puts old next part → next ≤ length text
         → Puts (part ++ text) last end → toldPair (told.Written next) end ≡ textOf text (findingAt fs position)
-    tell-written {old} {part} {next} {last} text end empty h fits k =
+    tell-written {old} {part} {next} {last} text end empty h room k =
         let number : next ≡ length (message (here .finding)) = omega (arith, put {old = old} {now = part} {next = next} h .end) in
         let there : Puts text last end = rw (none part empty) at k in
         let again : last ≡ length (message (here .finding)) = omega (arith, put {old = text} {now = end} {next = last} there .end) in
         rw (
           here .at,
-          le-leb (length (message (here .finding))) (length text) (omega (arith, fits, number)),
-          put-room (put {old = text} {now = end} {next = last} there) (omega (arith, again, number, fits)),
+          fits 13 text (message (here .finding)) (omega (arith, room, number)),
+          put-room (put {old = text} {now = end} {next = last} there) (omega (arith, again, number, room)),
           number,
         )

@@ -13,6 +13,7 @@ use Rattle.law.specs.Tree.{Law}
 use Rattle.law.specs.Law.{lawOf}
 use Rattle.formats.specs.Store.{storeSize, storeWords}
 use Rattle.buffers.specs.Written.{written}
+use Rattle.buffers.specs.Fitted.{fitted}
 use Rattle.lints.specs.Finding.{Finding}
 use Rattle.lints.specs.Levels.{Settings, settingsAllowed, listingWords}
 use Rattle.lints.specs.Findings.{Listing, listing}
@@ -114,11 +115,6 @@ findingAt (f ∷ fs) (suc n) = findingAt fs n
 -- "The text call has its own findings of 256 places; more is 11."
 abbrev pub ownPlaces : ℕ
 ownPlaces = 256
-
--- bytes in a lent buffer: how many they are, and the buffer with them; or the refusal that they do not fit, which leaves it as it was
-abbrev pub fitted : ℕ → List ℕ → List ℕ → Answer ℕ × List ℕ
-fitted number buffer bytes =
-    cond (leb (length bytes) (length buffer)) (given (length bytes), written buffer 0 bytes) (refused number, buffer)
 
 -- 12, "no such finding", and 13, "the text does not fit"
 abbrev pub textOf : List ℕ → Option Finding → Answer ℕ × List ℕ

@@ -21,6 +21,7 @@ use Rattle.encoding.specs.Encode.{sentencesOf, encode}
 use Rattle.encoding.specs.TextTree.{treeOfText}
 use Rattle.encoding.specs.LawOfText.{allOf, countOver, spellingsShort, fewVariables, lawOfText}
 use Rattle.encoding.proofs.EncodedLaw.{encoded-law, encoded-tree}
+use Rattle.buffers.proofs.FittedLaws as fitted
 use Rattle.reader.specs.Outcome.{textFile, readBy, readOutcome}
 use Rattle.bilzarko.specs.Exported.{ReadExit, readExit}
 use Rattle.loader.specs.Rows.{After, returned}
@@ -80,14 +81,14 @@ module _ (bytes law : List ℕ) (answer : ℕ) where
     module _ (read : Law) (e : lawOfText bytes x ≡ given read) where
       short : length law < length (encode bytes x) → seenBy (textFile bytes) ≡ returned 17 [] law (answer ∷ [])
       unfolding readBy
-      short h = rw (here, e, lt-ltb (length law) (length (encode bytes x)) h) refl
+      short h = rw (here, e, fitted.too-long 17 law (encode bytes x) h) refl
 
       fits : length (encode bytes x) ≤ length law
           → seenBy (textFile bytes) ≡ returned 0 [] (encode bytes x ++ drop (length (encode bytes x)) law) (length (encode bytes x) ∷ [])
       unfolding readBy written
       fits h =
           let same : 0 + length (encode bytes x) ≡ length (encode bytes x) = omega arith in
-          rw (here, e, le-ltb (length law) (length (encode bytes x)) h, same) refl
+          rw (here, e, fitted.fits 17 law (encode bytes x) h, same) refl
 
   -- ---- from the exported contract
 

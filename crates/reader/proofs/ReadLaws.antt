@@ -16,6 +16,7 @@ use Rattle.law.specs.Tree as tree
 use Rattle.law.specs.Law.{lawOf, checkAnswer, checkOf}
 use Rattle.law.specs.declared.Check.{Check}
 use Rattle.law.specs.declared.Check.the-variants.{Accepted as Allowed, Refused as Turned}
+use Rattle.buffers.proofs.FittedLaws.{fits, too-long}
 use Rattle.buffers.specs.Written.{written}
 use Rattle.buffers.specs.Code.Put.{Put}
 use Rattle.buffers.proofs.PutLaws.{put-room}
@@ -40,7 +41,7 @@ use Rattle.reader.specs.Outcome.{lawFile, phraseFile, textFile, ReadOutc
 
 pub too-short : (file law : List ℕ) → length law < length file → readAfter (Refused Short) law ≡ readBy law (given file)
 unfolding readBy
-too-short file law h = rw (lt-ltb (length law) (length file) h)
+too-short file law h = rw (too-long 17 law file h)
 
 pub delivered : (file law after : List ℕ) (end : ℕ) → length file ≤ length law → Put law 0 file end after
     → readAfter (Written end) after ≡ readBy law (given file)
@@ -48,7 +49,7 @@ unfolding readBy
 delivered file law after end h p =
     let size : end ≡ length file = omega (arith, p .end) in
     let there : after ≡ written law 0 file = put-room p (omega (arith, size, h)) in
-    rw (le-ltb (length law) (length file) h, size, there)
+    rw (fits 17 law file h, size, there)
 
 -- ---- whether the file is a law
 

@@ -2,7 +2,6 @@
 -- outside the grammar, then with 1, 4, 5, 8 or 9 in document 01's order, then with 17 an output buffer too short."
 -- docs/SPECIFICATION.md, 19.8, 19.9.
 use Prim.Native.Nat.{ℕ}
-use mathlib.Core.Bool.{cond}
 use mathlib.Core.List.{List}
 use mathlib.Core.Option.{Option, none, some}
 use lib.ListN.{length}
@@ -10,7 +9,7 @@ use lib.Dec.{ltb}
 use Rattle.file.specs.Answer.{Answer, refused, given, refuseIf, _>>=_, _>>_}
 use Rattle.file.specs.Sections.{numberOf}
 use Rattle.law.specs.Law.{lawOf}
-use Rattle.buffers.specs.Written.{written}
+use Rattle.buffers.specs.Fitted.{fitted}
 use Rattle.grammar.specs.Grammar.{Text}
 use Rattle.grammar.specs.Read.{phraseOf}
 use Rattle.encoding.specs.Encode.{encode}
@@ -40,10 +39,7 @@ pub record ReadOutcome : Type 0 where
 -- the file at the start of a buffer; 17 where it is too short, and as it was with every refusal
 unfoldable pub readBy : List ℕ → Answer (List ℕ) → ReadOutcome
 readBy law (refused n) = record { answer = refused n; law = law }
-readBy law (given file) =
-    cond (ltb (length law) (length file))
-    (record { answer = refused 17; law = law })
-    (record { answer = given (length file); law = written law 0 file })
+readBy law (given file) = record { answer = fitted 17 law file .0; law = fitted 17 law file .1 }
 
 unfoldable pub readOutcome : (text law : List ℕ) → ReadOutcome
 readOutcome text law = readBy law (textFile text)

@@ -12,7 +12,8 @@ use Rattle.shapes.specs.Format.{Shapes, end, of}
 use Rattle.shapes.specs.Words.{isBracket, insideOpen, shapesEnd, shapesIn, readFormat}
 use Rattle.shapes.specs.Code.Words.{rowEnd}
 use Rattle.buffers.specs.Code.Put.{Put}
-use Rattle.shapes.specs.Display.{spaced, display, shownOutcome, textAt}
+use Rattle.buffers.specs.Fitted.{fittedAt}
+use Rattle.shapes.specs.Display.{spaced, display, shownAnswer}
 use Rattle.shapes.specs.Code.Shown.{shown, firstShown}
 use Rattle.shapes.specs.declared.display.Shown.the-variants.{At, NoRoom}
 use Rattle.shapes.proofs.WordLaws.{shapes-none, shapes-leaf, shapes-bracket}
@@ -132,7 +133,7 @@ show-whole s old one two last at start next after f e a b c = rw (display-row s 
 -- ---- a text put into a buffer
 
 -- a position past the buffer
-pub text-past : (buffer : List ℕ) (at : ℕ) (text : List ℕ) → length buffer < at → shownOutcome NoRoom buffer ≡ textAt buffer at text
+pub text-past : (buffer : List ℕ) (at : ℕ) (text : List ℕ) → length buffer < at → (shownAnswer NoRoom, buffer) ≡ fittedAt 13 buffer at text
 text-past buffer at text h = rw (lt-leb (at + length text) (length buffer) (omega arith))
 
 -- an empty part
@@ -142,11 +143,11 @@ none (x ∷ part) h = absurd (omega arith)
 
 -- the text was put into an empty part, which only found the position after it
 module _ (buffer : List ℕ) (at : ℕ) (text part : List ℕ) (empty : length part ≡ 0) where
-  pub text-over : (next : ℕ) → next ≡ at + length text → length buffer < next → shownOutcome NoRoom (part ++ buffer) ≡ textAt buffer at text
+  pub text-over : (next : ℕ) → next ≡ at + length text → length buffer < next → (shownAnswer NoRoom, part ++ buffer) ≡ fittedAt 13 buffer at text
   text-over next e h = rw (none part empty, lt-leb (at + length text) (length buffer) (omega arith))
 
   pub text-fits : (next after : ℕ) (last : List ℕ) → next ≡ at + length text → next ≤ length buffer → Put (part ++ buffer) at text after last
-      → shownOutcome (At next) last ≡ textAt buffer at text
+      → (shownAnswer (At next), last) ≡ fittedAt 13 buffer at text
   text-fits next after last e h p =
       let put : Put buffer at text after last = rw (none part empty) at p in
       rw (le-leb (at + length text) (length buffer) (omega arith), e, put-room put (omega (arith, put .end)))

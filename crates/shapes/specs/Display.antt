@@ -1,14 +1,13 @@
 -- A format as formats.rs displays it: `never`, or its items between `[` and `]`, one space between them, with `..` last where it is open.
 -- docs/SPECIFICATION.md, 6.1.
-use Prim.Native.Nat.{ℕ, _+_}
-use mathlib.Core.Bool.{true, false, cond}
+use Prim.Native.Nat.{ℕ}
+use mathlib.Core.Bool.{true, false}
 use mathlib.Core.List.{List, [], _∷_, _++_}
-use lib.ListN.{length, drop}
-use lib.Dec.{leb}
+use lib.ListN.{drop}
 use Rattle.file.specs.Answer.{Answer, refused, given}
 use Rattle.shapes.specs.Leaf.{leafByte}
 use Rattle.shapes.specs.Format.{Shapes, end, item, group, Format, never, of}
-use Rattle.buffers.specs.Written.{written}
+use Rattle.buffers.specs.Fitted.{fittedAt}
 use Rattle.shapes.specs.declared.display.Shown.{Shown}
 use Rattle.shapes.specs.declared.display.Shown.the-variants.{At, NoRoom}
 
@@ -30,17 +29,6 @@ abbrev pub shownAnswer : Shown → Answer ℕ
 shownAnswer (At next) = given next
 shownAnswer NoRoom = refused 13
 
--- what is answered, and the buffer after it
-pub record ShownOutcome : Type 0 where
-  pub answer : Answer ℕ
-  pub buffer : List ℕ
-
-abbrev pub shownOutcome : Shown → List ℕ → ShownOutcome
-shownOutcome r bytes = record { answer = shownAnswer r; buffer = bytes }
-
--- a text at a position of a buffer: all of it is written; where there is no room for all of it the buffer stays as it is
-abbrev pub textAt : List ℕ → ℕ → List ℕ → ShownOutcome
-textAt buffer at text =
-    cond (leb (at + length text) (length buffer))
-    (record { answer = given (at + length text); buffer = written buffer at text })
-    (record { answer = refused 13; buffer = buffer })
+-- a format's text at a position of a buffer: all of it is written; where there is no room for all of it the buffer stays as it is
+abbrev pub displayAt : List ℕ → ℕ → Format → Answer ℕ × List ℕ
+displayAt buffer at f = fittedAt 13 buffer at (display f)

@@ -10,7 +10,7 @@ use Rattle.shapes.specs.Leaf.{character, number, identifier, anySymbol, 
 use Rattle.shapes.specs.Format.{Shapes, end, item, group, Format, never, of, size, isOpen}
 use Rattle.shapes.specs.Words.{shapeWords, formatWords, shapesEnd, shapesOf, shapesIn, readFormat}
 use Rattle.buffers.specs.Written.{written}
-use Rattle.shapes.specs.Display.{spaced, display, textAt}
+use Rattle.shapes.specs.Display.{spaced, display, displayAt}
 
 -- the ends of a row
 abbrev pub closed : Shapes
@@ -37,8 +37,8 @@ displays = (refl, refl, refl, refl, refl, refl, refl)
 -- a text where there is room for it, and where one byte is wanting; no words are the empty format
 abbrev Texts : Type 0
 Texts =
-    (textAt (replicate 3 0) 1 (bytesOf "[]") ≡ record { answer = given 3; buffer = 0 ∷ 91 ∷ 93 ∷ [] })
-    × (textAt (replicate 3 0) 2 (bytesOf "[]") ≡ record { answer = refused 13; buffer = 0 ∷ 0 ∷ 0 ∷ [] })
+    (displayAt (replicate 3 0) 1 (of closed) ≡ (given 3, 0 ∷ 91 ∷ 93 ∷ []))
+    × (displayAt (replicate 3 0) 2 (of closed) ≡ (refused 13, 0 ∷ 0 ∷ 0 ∷ []))
     × (display (readFormat []) ≡ bytesOf "[]")
 
 texts : Texts

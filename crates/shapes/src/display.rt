@@ -15,7 +15,7 @@ ghost use Prim.Native.Nat.{_+_, _*_, _≤_};
 ghost use lib.ListN.{length};
 ghost use Rattle.shapes.specs.Words.{shapesEnd, shapesIn, readFormat};
 ghost use Rattle.buffers.specs.Code.Put.{Put, largest};
-ghost use Rattle.shapes.specs.Display.{display, shownOutcome, textAt};
+ghost use Rattle.shapes.specs.Display.{display, shownAnswer, displayAt};
 ghost use Rattle.shapes.specs.Code.Shown.{shown, firstShown};
 
 // The position after a text, or that there is no room for it.
@@ -89,7 +89,7 @@ pub fn show_format(format: &[u32], out: &mut [u8], at: usize) -> usize
 
 // A format as text at a position, where there is room for all of it; else the buffer stays as it is.
 pub fn display_format(format: &[u32], out: &mut [u8], at: usize) -> Shown
-    ensures { λ r. ⌜ shownOutcome r (now (out .exit)) ≡ textAt (now (out .entry)) at (display (readFormat (now (format .entry)))) ⌝ }
+    ensures { λ r. ⌜ (shownAnswer r, now (out .exit)) ≡ displayAt (now (out .entry)) at (readFormat (now (format .entry))) ⌝ }
 {
     let room = out.len();
     if room < at {

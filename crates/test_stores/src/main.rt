@@ -6,10 +6,11 @@
 // text and its words.
 //
 // All cases share a store, so that words which a call should have set to 0 show what the case before left there.
-use file::refusal_number;
 use formats::Answered;
 use formats::infer_formats;
 use libc::STDOUT_FILENO;
+use listing::Turned;
+use listing::turned_number;
 use shapes::display::Shown;
 use shapes::display::display_format;
 use test_cases::LABEL;
@@ -100,9 +101,9 @@ fn print_store(store: &[u32]) {
 }
 
 // Writes the end of a refused case's line.
-fn print_refused(number: u64) {
+fn print_refused(why: Turned) {
     io::write_all(STDOUT_FILENO, b" refused ");
-    io::print_decimal(STDOUT_FILENO, number);
+    io::print_decimal(STDOUT_FILENO, turned_number(why) as u64);
     io::write_all(STDOUT_FILENO, b"\n");
 }
 
@@ -120,9 +121,9 @@ fn print_rounds(rounds: usize, settled: bool) {
 // Writes the end of a case's line, and the formats.
 fn print_answer(answer: Answered, store: &[u32]) {
     match answer {
-        Answered::Refused(refusal) => print_refused(refusal_number(refusal) as u64),
-        Answered::ShapesOver => print_refused(10),
-        Answered::StoreShort => print_refused(15),
+        Answered::Refused(refusal) => print_refused(Turned::File(refusal)),
+        Answered::ShapesOver => print_refused(Turned::Shapes),
+        Answered::StoreShort => print_refused(Turned::Store),
         Answered::Formed(rounds, settled) => {
             print_rounds(rounds, settled);
             print_store(store);
