@@ -5,7 +5,7 @@ use mathlib.Core.List.{List, [], _∷_, _++_}
 use mathlib.Core.Option.{some}
 use mathlib.Core.Path.{_≡_, refl, sym, _∙_, ap}
 use native.Mathlib.Omega.{arith}
-use borrow.Author.Tests.{lt-ltb, le-ltb, ltb-true, ltb-false, lt-leb, le-leb, leb-true, leb-false}
+use borrow.Author.Tests.{lt-ltb, le-ltb, ltb-true, ltb-false, leb-true, leb-false}
 use lib.Dec.{ltb, leb}
 use lib.ListN.{length, drop, getD}
 use Rattle.file.specs.Answer.{Answer, refused, given}
@@ -15,6 +15,7 @@ use Rattle.lints.specs.Finding.{Finding}
 use Rattle.lints.specs.Levels.{Settings}
 use Rattle.lints.specs.Findings.{Listing, listing}
 use Rattle.lints.specs.Message.{message}
+use Rattle.buffers.proofs.FittedLaws as fitted
 use Rattle.listing.specs.Outcome.{front, findingAt, textFront, textOutcome}
 use Rattle.listing.proofs.TellLaws.{none-at}
 use Rattle.bilzarko.specs.Exported.{TextExit, textExit}
@@ -64,14 +65,14 @@ module _ (settings : Settings) (bytes store : List ℕ) (position : ℕ) (text :
         here = rw (at .is, ← at .number) (some-at (at .earlier) f (at .later))
 
         short : length text < length (message f) → seenBy (given law) ≡ returned 13 (filled l store) text (answer ∷ [])
-        short h = rw (e, le-ltb 256 (length (l .findings)) places, here, lt-leb (length (message f)) (length text) h) refl
+        short h = rw (e, le-ltb 256 (length (l .findings)) places, here, fitted.too-long 13 text (message f) h) refl
 
         fits : length (message f) ≤ length text
             → seenBy (given law) ≡ returned 0 (filled l store) (message f ++ drop (length (message f)) text) (length (message f) ∷ [])
         unfolding written
         fits h =
             let same : 0 + length (message f) ≡ length (message f) = omega arith in
-            rw (e, le-ltb 256 (length (l .findings)) places, here, le-leb (length (message f)) (length text) h, same) refl
+            rw (e, le-ltb 256 (length (l .findings)) places, here, fitted.fits 13 text (message f) h, same) refl
 
   -- ---- from the exported contract
 
