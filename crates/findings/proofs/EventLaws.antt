@@ -293,7 +293,9 @@ module _ (settings : Settings) where
           go true = refl
           go false = refl
       recognitions-say p (f ∷ fs) h =
-          let (here, later) = parts (someOver limit law formats (sentenceCalls (f .sentences))) (someOver limit law formats (each (λ (g : Function). sentenceCalls (g .sentences)) fs)) (rw (over-append (sentenceCalls (f .sentences)) (each (λ (g : Function). sentenceCalls (g .sentences)) fs)) at h) in
+          let (here, later) = parts (someOver limit law formats (sentenceCalls (f .sentences)))
+          (someOver limit law formats (each (λ (g : Function). sentenceCalls (g .sentences)) fs))
+          (rw (over-append (sentenceCalls (f .sentences)) (each (λ (g : Function). sentenceCalls (g .sentences)) fs)) at h) in
           rw (
             recognition-says p f here,
             recognitions-say (suc p) fs later,

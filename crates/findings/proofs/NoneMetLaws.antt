@@ -70,7 +70,11 @@ module _ (onCall : CallOf → List Event) (onBlock : Sentences → List Event) (
     unfolding walked conditionsFrom
     none-in-conditions s zero c = refl
     none-in-conditions s (suc n) c =
-        rw (none-in-run (conditionResultAt file s c) (conditionResultPart file s c), none-in-run (conditionResultAt file s c + conditionResultSize file c) (conditionPatternPart file s c), none-in-conditions s n (suc c))
+        rw (
+          none-in-run (conditionResultAt file s c) (conditionResultPart file s c),
+          none-in-run (conditionResultAt file s c + conditionResultSize file c) (conditionPatternPart file s c),
+          none-in-conditions s n (suc c),
+        )
 
     none-in-sentences : Readable file → (n s : ℕ) → s + n ≤ file .sentences .count → walkedSentences onCall onBlock true (keep n (sentencesAt file s)) ≡ []
     unfolding walked keep

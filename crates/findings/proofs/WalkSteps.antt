@@ -70,7 +70,8 @@ module _ (file : File) where
         start,
         ← add-assoc (24 * at) 16 4,
       )
-      (words-calls (file .text .records) (markAt at (file .terms .records) (24 * at + 16)) (wordAt (file .terms .records) (24 * at + 4)) (wordAt (file .terms .records) (24 * at + 8)) (argumentIn file at) (wordAt (file .terms .records) (24 * at)))
+      (words-calls (file .text .records) (markAt at (file .terms .records) (24 * at + 16)) (wordAt (file .terms .records) (24 * at + 4))
+      (wordAt (file .terms .records) (24 * at + 8)) (argumentIn file at) (wordAt (file .terms .records) (24 * at)))
 
   -- a symbol or a variable is one record
   leaf-end : Readable file → (at : ℕ) (p : List ℕ) → PartAt file at p → 24 ≤ length p → wordAt p 0 < 6 → 24 ≡ endOf p
@@ -119,14 +120,17 @@ module _ (file : File) (formats : Formats) (task : Task) where
   run-first : (at : ℕ) (p : List ℕ) → 24 ≤ length p → runMet at p ≡ termMet at p ++ runMet (at + 1 + wordAt p 12) (rest 24 endOf p)
   run-first at p some =
       rw (run-node file (own file) at p some)
-      (run-walked (callEvents (treeOf file) formats task) (blockEvents task) (eqb (task .lint) 1) (file .text .records) (own file) at (markAt at p 16) (termAt p 0) (runOf file (own file) (at + 1) (contents 24 endOf p)) (runOf file (own file) (at + 1 + wordAt p 12) (rest 24 endOf p)))
+      (run-walked (callEvents (treeOf file) formats task) (blockEvents task) (eqb (task .lint) 1) (file .text .records) (own file) at (markAt at p 16)
+      (termAt p 0) (runOf file (own file) (at + 1) (contents 24 endOf p)) (runOf file (own file) (at + 1 + wordAt p 12) (rest 24 endOf p)))
 
   -- nothing is met in a symbol or a variable
   leaf-none : (at : ℕ) (p : List ℕ) → 24 ≤ length p → wordAt p 0 < 6 → termMet at p ≡ []
   unfolding termAt
   leaf-none at p some h =
       rw (run-node file (own file) at p some)
-      (leaf-walked (callEvents (treeOf file) formats task) (blockEvents task) (eqb (task .lint) 1) (file .text .records) (own file) at (markAt at p 16) (wordAt p 4) (wordAt p 8) (runOf file (own file) (at + 1) (contents 24 endOf p)) (runOf file (own file) (at + 1 + wordAt p 12) (rest 24 endOf p)) (wordAt p 0) h)
+      (leaf-walked (callEvents (treeOf file) formats task) (blockEvents task) (eqb (task .lint) 1) (file .text .records) (own file) at (markAt at p 16)
+      (wordAt p 4) (wordAt p 8) (runOf file (own file) (at + 1) (contents 24 endOf p))
+      (runOf file (own file) (at + 1 + wordAt p 12) (rest 24 endOf p)) (wordAt p 0) h)
 
   module _ (readable : Readable file) where
     -- what is met in it; e is where its contents end
@@ -139,7 +143,8 @@ module _ (file : File) (formats : Formats) (task : Task) where
     unfolding own
     term-first at e p part some end =
         rw (end, run-node file (own file) at p some, calls-at file readable at p part some)
-        (term-walked (callEvents (treeOf file) formats task) (blockEvents task) (eqb (task .lint) 1) (file .text .records) (own file) at (markAt at p 16) (termAt p 0) (wordAt p 12) (runOf file (own file) (at + 1) (contents 24 endOf p)) (runOf file (own file) (at + 1 + wordAt p 12) (rest 24 endOf p))
+        (term-walked (callEvents (treeOf file) formats task) (blockEvents task) (eqb (task .lint) 1) (file .text .records) (own file) at (markAt at p 16)
+        (termAt p 0) (wordAt p 12) (runOf file (own file) (at + 1) (contents 24 endOf p)) (runOf file (own file) (at + 1 + wordAt p 12) (rest 24 endOf p))
         (part-inside file readable at p part some)
         (contents-none file (at + 1) p)
         (own-none file at)
@@ -279,7 +284,12 @@ module _ (file : File) (formats : Formats) (task : Task) where
       let both = rw (a, b, c, d) at (collect-then (task .room) now left t _ _ j k) in
       inv
       ∙ rw (less, conditions-first file formats task s (count - (i + 1)) (first + i))
-      (rw (collect-append (task .room) now (runMet file formats task (conditionResultAt file s (first + i)) (conditionResultPart file s (first + i)) ++ patternMet file formats task (conditionResultAt file s (first + i) + conditionResultSize file (first + i)) (conditionPatternPart file s (first + i))), ← both, place) refl)
+      (rw (
+        collect-append (task .room) now (runMet file formats task (conditionResultAt file s (first + i)) (conditionResultPart file s (first + i))
+            ++ patternMet file formats task (conditionResultAt file s (first + i) + conditionResultSize file (first + i)) (conditionPatternPart file s (first + i))),
+        ← both,
+        place,
+      ) refl)
 
   pub conditions-start : (s count first : ℕ) (start : Sink) → first ≡ firstCondition file s → count ≡ conditionsOf file s
       → after start (conditionsMet file formats task s (conditionsOf file s) (firstCondition file s))
@@ -354,7 +364,8 @@ module _ (file : File) where
     unfolding own
     run-size at e p part some end =
         rw (end, run-node file (own file) at p some)
-        (term-size (file .text .records) (own file) at (markAt at p 16) (termAt p 0) (wordAt p 12) (runOf file (own file) (at + 1) (contents 24 endOf p)) (runOf file (own file) (at + 1 + wordAt p 12) (rest 24 endOf p))
+        (term-size (file .text .records) (own file) at (markAt at p 16) (termAt p 0) (wordAt p 12) (runOf file (own file) (at + 1) (contents 24 endOf p))
+        (runOf file (own file) (at + 1 + wordAt p 12) (rest 24 endOf p))
         (part-inside file readable at p part some)
         (contents-none file (at + 1) p)
         (own-none file at))

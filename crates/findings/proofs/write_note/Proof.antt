@@ -33,4 +33,5 @@ write-note-spec =
     (λ c. search needs)
     (λ c. simp length-set (omega (arith, c .pre)))
     (λ c. search needs)
-    (λ c. write-eight (c .args .out .now) (c .args .at) (c .args .task .lint) (c .args .task .severity) (c .args .note .start) (c .args .note .end) (c .args .note .a) (c .args .note .b) (c .args .task .position) (c .args .note .subject) (c .pre)))
+    (λ c. write-eight (c .args .out .now) (c .args .at) (c .args .task .lint) (c .args .task .severity) (c .args .note .start) (c .args .note .end)
+    (c .args .note .a) (c .args .note .b) (c .args .task .position) (c .args .note .subject) (c .pre)))

@@ -9,4 +9,5 @@ task-of-spec = tie.close (tie.spec
     (λ c κs. search needs)
     (λ c.
     let start = c .before .before .before in
-    task-is (start .args .mode) (start .args .overrides .now) (start .args .room) (start .args .limit) (c .before .severity-of .ensures) (c .is-shown .ensures)))
+    task-is (start .args .mode) (start .args .overrides .now) (start .args .room) (start .args .limit)
+    (c .before .severity-of .ensures) (c .is-shown .ensures)))

@@ -27,4 +27,5 @@ call-note-spec =
     (λ c.
     let p = c .before .before .before .before .pre in
     let a = c .before .before .before .before .args in
-    note-is (fileOf (a .law .now)) (accepted-readable (a .law .now) (p .1) .whole) (a .t) (p .2) (c .before .before .records .ensures) (a .a) (c .before .word-at .ensures) (c .word-at2 .ensures)))
+    note-is (fileOf (a .law .now)) (accepted-readable (a .law .now) (p .1) .whole) (a .t) (p .2) (c .before .before .records .ensures) (a .a)
+    (c .before .word-at .ensures) (c .word-at2 .ensures)))

@@ -17,7 +17,8 @@ note-builtin-spec =
     (λ c κs.
     let p = c .before .before .before .before .before .pre in
     let a = c .before .before .before .before .before .args in
-    name-inside (fileOf (a .law .now)) (a .t) (p .1 .fields) (p .2) (p .3) (c .before .before .text .ensures) (c .before .term-word .ensures) (c .term-word2 .ensures))
+    name-inside (fileOf (a .law .now)) (a .t) (p .1 .fields) (p .2) (p .3) (c .before .before .text .ensures) (c .before .term-word .ensures)
+    (c .term-word2 .ensures))
     (λ c κs. search needs)
     (λ c κs. search needs)
     (λ c κs. search needs)
@@ -30,4 +31,6 @@ note-builtin-spec =
     let the-name-in = c .before .before .before .before .before .before .name-in in
     let the-argument = c .before .before .before .before .before .argument in
     let a = c .before .before .before .before .before .before .before .before .before .before .before .before .args in
-    builtin-met (fileOf (a .law .now)) (a .t) (a .task) (treeOf (fileOf (a .law .now))) (a .task .room) (sinkOf (a .tally) (a .out .now)) (the-text .ensures) (the-term-word .ensures) (the-term-word2 .ensures) (the-name-in .ensures) (the-argument .ensures) (the-builtin-fails .ensures) (c .before .before .note-failure .ensures)))
+    builtin-met (fileOf (a .law .now)) (a .t) (a .task) (treeOf (fileOf (a .law .now))) (a .task .room) (sinkOf (a .tally) (a .out .now)) (the-text .ensures)
+    (the-term-word .ensures) (the-term-word2 .ensures) (the-name-in .ensures) (the-argument .ensures) (the-builtin-fails .ensures)
+    (c .before .before .note-failure .ensures)))

@@ -16,7 +16,8 @@ note-call-spec =
     (λ c κs. search needs)
     (λ c.
     let a = c .before .before .before .before .before .args in
-    met-none (fileOf (a .law .now)) (a .t) (c .before .term-word .ensures) (a .task .room) (sinkOf (a .tally) (a .out .now)) (callEvents (treeOf (fileOf (a .law .now))) (formatsIn (fileOf (a .law .now)) (a .task .limit) (a .store .now)) (a .task)) (c .if1 .taken))
+    met-none (fileOf (a .law .now)) (a .t) (c .before .term-word .ensures) (a .task .room) (sinkOf (a .tally) (a .out .now))
+    (callEvents (treeOf (fileOf (a .law .now))) (formatsIn (fileOf (a .law .now)) (a .task .limit) (a .store .now)) (a .task)) (c .if1 .taken))
     (λ c κs.
     let the-term-word = c .before .before .before .before .term-word in
     let the-if1 = c .before .before .before .if1 in
@@ -29,7 +30,9 @@ note-call-spec =
     let the-term-word = c .before .before .before .before .before .before .before .term-word in
     let the-if1 = c .before .before .before .before .before .before .if1 in
     let a = c .before .before .before .before .before .before .before .before .before .before .before .args in
-    met-recognition (fileOf (a .law .now)) (a .t) (the-term-word .ensures) (treeOf (fileOf (a .law .now))) (formatsIn (fileOf (a .law .now)) (a .task .limit) (a .store .now)) (a .task) (the-if1 .left) (a .task .room) (sinkOf (a .tally) (a .out .now)) (the-if2 .taken) (c .before .before .note-recognition .ensures))
+    met-recognition (fileOf (a .law .now)) (a .t) (the-term-word .ensures) (treeOf (fileOf (a .law .now)))
+    (formatsIn (fileOf (a .law .now)) (a .task .limit) (a .store .now)) (a .task) (the-if1 .left) (a .task .room) (sinkOf (a .tally) (a .out .now))
+    (the-if2 .taken) (c .before .before .note-recognition .ensures))
     (λ c κs. let the-term-word = c .before .before .before .before .before .before .term-word in
     let the-if1 = c .before .before .before .before .before .if1 in
     let p = c .before .before .before .before .before .before .before .before .before .before .pre in
@@ -41,9 +44,13 @@ note-call-spec =
     let the-term-word = c .before .before .before .before .before .before .before .before .before .term-word in
     let the-if1 = c .before .before .before .before .before .before .before .before .if1 in
     let a = c .before .before .before .before .before .before .before .before .before .before .before .before .before .args in
-    met-builtin (fileOf (a .law .now)) (a .t) (the-term-word .ensures) (treeOf (fileOf (a .law .now))) (formatsIn (fileOf (a .law .now)) (a .task .limit) (a .store .now)) (a .task) (the-if1 .left) (a .task .room) (sinkOf (a .tally) (a .out .now)) (the-if3 .taken) (c .before .before .note-builtin .ensures))
+    met-builtin (fileOf (a .law .now)) (a .t) (the-term-word .ensures) (treeOf (fileOf (a .law .now)))
+    (formatsIn (fileOf (a .law .now)) (a .task .limit) (a .store .now)) (a .task) (the-if1 .left) (a .task .room) (sinkOf (a .tally) (a .out .now))
+    (the-if3 .taken) (c .before .before .note-builtin .ensures))
     (λ c.
     let the-if1 = c .before .before .before .before .if1 in
     let the-term-word = c .before .before .before .before .before .term-word in
     let a = c .before .before .before .before .before .before .before .before .before .args in
-    met-other (fileOf (a .law .now)) (a .t) (the-term-word .ensures) (treeOf (fileOf (a .law .now))) (formatsIn (fileOf (a .law .now)) (a .task .limit) (a .store .now)) (a .task) (the-if1 .left) (a .task .room) (sinkOf (a .tally) (a .out .now)) (c .before .before .if2 .left) (c .if3 .left)))
+    met-other (fileOf (a .law .now)) (a .t) (the-term-word .ensures) (treeOf (fileOf (a .law .now)))
+    (formatsIn (fileOf (a .law .now)) (a .task .limit) (a .store .now)) (a .task) (the-if1 .left) (a .task .room) (sinkOf (a .tally) (a .out .now))
+    (c .before .before .if2 .left) (c .if3 .left)))

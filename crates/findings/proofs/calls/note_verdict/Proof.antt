@@ -20,17 +20,21 @@ note-verdict-spec =
     (λ c κs. search needs)
     (λ c.
     let a = c .before .before .before .before .args in
-    met-by (verdictEvents (fileOf (a .law .now)) (a .task) (a .t)) (a .task .room) (sinkOf (a .tally) (a .out .now)) (c .enum-told .given .1) (collect-none (a .task .room) (sinkOf (a .tally) (a .out .now))))
+    met-by (verdictEvents (fileOf (a .law .now)) (a .task) (a .t)) (a .task .room) (sinkOf (a .tally) (a .out .now)) (c .enum-told .given .1)
+    (collect-none (a .task .room) (sinkOf (a .tally) (a .out .now))))
     (λ c.
     let a = c .before .before .before .before .args in
-    met-by (verdictEvents (fileOf (a .law .now)) (a .task) (a .t)) (a .task .room) (sinkOf (a .tally) (a .out .now)) (c .enum-told2 .given .1) (collect-wide (a .task .room) (a .tally) (a .out .now)))
+    met-by (verdictEvents (fileOf (a .law .now)) (a .task) (a .t)) (a .task .room) (sinkOf (a .tally) (a .out .now)) (c .enum-told2 .given .1)
+    (collect-wide (a .task .room) (a .tally) (a .out .now)))
     (λ c. search needs)
     (λ c.
     let the-enum-told3 = c .before .before .before .before .enum-told3 in
     let a = c .before .before .before .before .before .before .before .before .args in
-    met-by (verdictEvents (fileOf (a .law .now)) (a .task) (a .t)) (a .task .room) (sinkOf (a .tally) (a .out .now)) (the-enum-told3 .given .1) (c .before .before .put-shown .ensures))
+    met-by (verdictEvents (fileOf (a .law .now)) (a .task) (a .t)) (a .task .room) (sinkOf (a .tally) (a .out .now)) (the-enum-told3 .given .1)
+    (c .before .before .put-shown .ensures))
     (λ c. search needs)
     (λ c.
     let the-enum-told4 = c .before .before .before .before .enum-told4 in
     let a = c .before .before .before .before .before .before .before .before .args in
-    met-by (verdictEvents (fileOf (a .law .now)) (a .task) (a .t)) (a .task .room) (sinkOf (a .tally) (a .out .now)) (the-enum-told4 .given .1) (c .before .before .put-shown2 .ensures)))
+    met-by (verdictEvents (fileOf (a .law .now)) (a .task) (a .t)) (a .task .room) (sinkOf (a .tally) (a .out .now)) (the-enum-told4 .given .1)
+    (c .before .before .put-shown2 .ensures)))

@@ -15,4 +15,5 @@ put-call-spec =
     (λ c.
     let the-call-note = c .before .before .before .before .call-note in
     let a = c .before .before .before .before .before .before .before .args in
-    put-met (fileOf (a .law .now)) (a .task) (a .t) (a .a) (a .task .room) (a .tally) (a .out .now) (the-call-note .ensures) (c .before .before .put-note .ensures)))
+    put-met (fileOf (a .law .now)) (a .task) (a .t) (a .a) (a .task .room) (a .tally) (a .out .now) (the-call-note .ensures)
+    (c .before .before .put-note .ensures)))

@@ -12,10 +12,12 @@ pub put-shown-spec : {M : Type 1} → statement M
 put-shown-spec = tie.close (tie.spec
     (λ c.
     let a = c .before .before .before .before .args in
-    shown-not (a .task .room) (sinkOf (a .tally) (a .out .now)) (a .task .shown) (callFound (fileOf (a .law .now)) (a .task) (a .t) (a .a) ∷ []) (c .if1 .taken))
+    shown-not (a .task .room) (sinkOf (a .tally) (a .out .now)) (a .task .shown)
+    (callFound (fileOf (a .law .now)) (a .task) (a .t) (a .a) ∷ []) (c .if1 .taken))
     (λ c κs. search needs)
     (λ c. search needs)
     (λ c.
     let the-if1 = c .before .before .before .before .if1 in
     let a = c .before .before .before .before .before .before .before .before .args in
-    shown-one (a .task .room) (callFound (fileOf (a .law .now)) (a .task) (a .t) (a .a)) (a .tally) (a .out .now) (a .task .shown) (the-if1 .left) (c .before .before .put-call .ensures)))
+    shown-one (a .task .room) (callFound (fileOf (a .law .now)) (a .task) (a .t) (a .a)) (a .tally) (a .out .now) (a .task .shown) (the-if1 .left)
+    (c .before .before .put-call .ensures)))

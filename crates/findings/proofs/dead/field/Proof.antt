@@ -23,7 +23,13 @@ field-spec =
     omega (arith, sentences-limit (start .args .law .now) (start .args .index .now) (start .pre .0), start .pre .1, start .pre .2, c .wide .ensures .1))
     (λ c κs.
     let start = c .before .before .before in
-    omega (arith, laws.sentence-word-inside (start .args .law .now) (start .args .index .now) (start .pre .0) (start .args .s) (start .args .at) (start .pre .1) (start .pre .2), c .wide .ensures .0))
+    omega (
+      arith,
+      laws.sentence-word-inside (start .args .law .now) (start .args .index .now) (start .pre .0) (start .args .s) (start .args .at) (start .pre .1)
+          (start .pre .2),
+      c .wide .ensures .0,
+    ))
     (λ c.
     let start = c .before .before .before .before in
-    c .word-at .ensures ∙ rw (c .before .wide .ensures .0) (laws.sentence-word (start .args .law .now) (start .args .index .now) (start .pre .0) (start .args .s) (start .args .at) (start .pre .1) (start .pre .2))))
+    c .word-at .ensures ∙ rw (c .before .wide .ensures .0)
+    (laws.sentence-word (start .args .law .now) (start .args .index .now) (start .pre .0) (start .args .s) (start .args .at) (start .pre .1) (start .pre .2))))

@@ -47,9 +47,12 @@ note-dead-spec =
     let start = c .before .before .before .before .before .before .before .before in (
       omega (arith, the-loop-test .taken),
       out-kept ∙ the-loop .inv .1,
-      laws.dead-again (fileOf (start .args .law .now)) (start .args .task) (start .args .first) (start .args .count) (accepted-readable (start .args .law .now) (start .pre .1)) (the-loop .later) (the-loop-test .taken) (start .pre .2) _ _ _ (the-loop .inv .2) (c .before .before .note-sentence .ensures),
+      laws.dead-again (fileOf (start .args .law .now)) (start .args .task) (start .args .first) (start .args .count) (accepted-readable (start .args .law .now)
+          (start .pre .1)) (the-loop .later) (the-loop-test .taken) (start .pre .2) _ _ _ (the-loop .inv .2) (c .before .before .note-sentence .ensures),
     ))
     (λ c. c .before .loop .inv .1)
     (λ c.
     let start = c .before .before .before .before in
-    λ inBlock. rw (laws.dead-starts (fileOf (start .args .law .now)) (start .args .task) (start .args .first) (start .args .count) inBlock) (laws.dead-ends (fileOf (start .args .law .now)) (start .args .task) (start .args .first) (start .args .count) (c .before .loop .later) (omega (arith, c .loop-test .left)) _ _ (c .before .loop .inv .2) inBlock)))
+    λ inBlock. rw (laws.dead-starts (fileOf (start .args .law .now)) (start .args .task) (start .args .first) (start .args .count) inBlock)
+    (laws.dead-ends (fileOf (start .args .law .now)) (start .args .task) (start .args .first) (start .args .count) (c .before .loop .later)
+    (omega (arith, c .loop-test .left)) _ _ (c .before .loop .inv .2) inBlock)))

@@ -10,7 +10,8 @@ note-sentence-spec =
     (tie.spec
     (λ c.
     let start = c .before .before .before in
-    laws.sentence-ended (fileOf (start .args .law .now)) (start .args .task) (start .args .first) (start .args .out .now) (start .args .later) (start .args .tally) (c .if1 .taken))
+    laws.sentence-ended (fileOf (start .args .law .now)) (start .args .task) (start .args .first) (start .args .out .now) (start .args .later)
+    (start .args .tally) (c .if1 .taken))
     (λ c κs. search needs)
     (λ c. search needs)
     (λ c. search needs))

@@ -13,7 +13,8 @@ note-shadowed-spec =
     (λ c κs. search needs)
     (λ c.
     let start = c .before .before .before .before in
-    laws.not-dead (fileOf (start .args .law .now)) (start .args .task) (start .args .first) (start .args .out .now) (start .args .tally) (start .args .later) (c .before .earliest-shadow .ensures .0) (c .if1 .taken))
+    laws.not-dead (fileOf (start .args .law .now)) (start .args .task) (start .args .first) (start .args .out .now) (start .args .tally) (start .args .later)
+    (c .before .earliest-shadow .ensures .0) (c .if1 .taken))
     (λ c.
     let start = c .before .before .before .before in
     omega (arith, start .pre .2, sentences-limit (start .args .law .now) (start .args .index .now) (start .pre .0)))
@@ -32,4 +33,5 @@ note-shadowed-spec =
     let the-if1 = c .before .before .before .before .if1 in
     let the-earliest-shadow = c .before .before .before .before .before .earliest-shadow in
     let start = c .before .before .before .before .before .before .before .before in
-    laws.is-dead (fileOf (start .args .law .now)) (start .args .task) (start .args .first) (start .args .out .now) (start .args .tally) (start .args .later) (the-earliest-shadow .ensures .0) (the-if1 .left) (c .before .before .put-sentence .ensures)))
+    laws.is-dead (fileOf (start .args .law .now)) (start .args .task) (start .args .first) (start .args .out .now) (start .args .tally) (start .args .later)
+    (the-earliest-shadow .ensures .0) (the-if1 .left) (c .before .before .put-sentence .ensures)))

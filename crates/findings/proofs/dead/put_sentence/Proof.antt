@@ -21,4 +21,5 @@ put-sentence-spec =
     let the-field2 = c .before .before .before .before .field2 in
     let the-field = c .before .before .before .before .before .field in
     let start = c .before .before .before .before .before .before .before .before in
-    laws.sentence-noted (fileOf (start .args .law .now)) (start .args .task) (start .args .s) (start .args .a) (start .args .b) (the-field .result) (the-field2 .result) (start .args .tally) (start .args .out .now) (the-field .ensures) (the-field2 .ensures) (c .before .before .put-note .ensures)))
+    laws.sentence-noted (fileOf (start .args .law .now)) (start .args .task) (start .args .s) (start .args .a) (start .args .b) (the-field .result)
+    (the-field2 .result) (start .args .tally) (start .args .out .now) (the-field .ensures) (the-field2 .ensures) (c .before .before .put-note .ensures)))

@@ -27,8 +27,13 @@ note-open-spec =
     Inv-loop
     μ-loop
     (λ c.
-    let start = c .before .before in
-    (omega arith, refl, ap (collect (start .args .task .room) (sinkOf (start .args .tally) (start .args .out .now))) (laws.open-starts (fileOf (start .args .law .now)) (accepted-readable (start .args .law .now) (start .pre .1)) (start .args .task) (start .args .first) (start .args .count))))
+    let start = c .before .before in (
+      omega arith,
+      refl,
+      ap (collect (start .args .task .room) (sinkOf (start .args .tally) (start .args .out .now)))
+          (laws.open-starts (fileOf (start .args .law .now)) (accepted-readable (start .args .law .now) (start .pre .1)) (start .args .task)
+          (start .args .first) (start .args .count)),
+    ))
     (λ c.
     let start = c .before .before .before .before in
     omega (arith, c .loop-test .taken, start .pre .2, sentences-limit (start .args .law .now) (start .args .index .now) (start .pre .0)))
@@ -50,9 +55,11 @@ note-open-spec =
     let start = c .before .before .before .before .before .before .before .before in (
       omega (arith, the-loop-test .taken),
       out-kept ∙ the-loop .inv .1,
-      laws.open-again (fileOf (start .args .law .now)) (accepted-readable (start .args .law .now) (start .pre .1)) (start .args .task) (start .args .first) (start .args .count) (the-loop .i) (the-loop-test .taken) (start .pre .2) _ _ _ (the-loop .inv .2) (c .before .before .note-pattern .ensures),
+      laws.open-again (fileOf (start .args .law .now)) (accepted-readable (start .args .law .now) (start .pre .1)) (start .args .task) (start .args .first)
+          (start .args .count) (the-loop .i) (the-loop-test .taken) (start .pre .2) _ _ _ (the-loop .inv .2) (c .before .before .note-pattern .ensures),
     ))
     (λ c. c .before .loop .inv .1)
     (λ c.
     let start = c .before .before .before .before in
-    laws.open-ends (fileOf (start .args .law .now)) (accepted-readable (start .args .law .now) (start .pre .1)) (start .args .task) (start .args .first) (start .args .count) (c .before .loop .i) (omega (arith, c .loop-test .left)) _ _ (c .before .loop .inv .2)))
+    laws.open-ends (fileOf (start .args .law .now)) (accepted-readable (start .args .law .now) (start .pre .1)) (start .args .task) (start .args .first)
+    (start .args .count) (c .before .loop .i) (omega (arith, c .loop-test .left)) _ _ (c .before .loop .inv .2)))

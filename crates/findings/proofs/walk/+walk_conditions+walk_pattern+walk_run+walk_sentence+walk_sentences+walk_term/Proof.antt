@@ -150,8 +150,10 @@ walk-conditions-Inv-loop law index slots store task s out₀ tally first count s
     × (count ≡ conditionsOf (fileOf law) s)
     × (i ≤ count)
     × (length out ≡ length out₀)
-    × (steps.after (fileOf law) (formatsIn (fileOf law) (task .limit) store) task (sinkOf so-far₀ out₀) (steps.conditionsMet (fileOf law) (formatsIn (fileOf law) (task .limit) store) task s (conditionsOf (fileOf law) s) (firstCondition (fileOf law) s))
-    ≡ steps.after (fileOf law) (formatsIn (fileOf law) (task .limit) store) task (sinkOf so-far out) (steps.conditionsMet (fileOf law) (formatsIn (fileOf law) (task .limit) store) task s (count - i) (first + i)))
+    × (steps.after (fileOf law) (formatsIn (fileOf law) (task .limit) store) task (sinkOf so-far₀ out₀)
+    (steps.conditionsMet (fileOf law) (formatsIn (fileOf law) (task .limit) store) task s (conditionsOf (fileOf law) s) (firstCondition (fileOf law) s))
+    ≡ steps.after (fileOf law) (formatsIn (fileOf law) (task .limit) store) task (sinkOf so-far out)
+    (steps.conditionsMet (fileOf law) (formatsIn (fileOf law) (task .limit) store) task s (count - i) (first + i)))
 
 abbrev walk-conditions-μ-loop : walk-conditions-lts.MeasureT-loop
 walk-conditions-μ-loop law index slots store task s out₀ tally first count so-far₀ i₀ out so-far i = count - i
@@ -168,8 +170,10 @@ abbrev walk-sentences-Inv-loop : walk-sentences-lts.InvT-loop
 walk-sentences-Inv-loop law index slots store task first count out₀ tally so-far₀ i₀ out so-far i =
     (i ≤ count)
     × (length out ≡ length out₀)
-    × (steps.after (fileOf law) (formatsIn (fileOf law) (task .limit) store) task (sinkOf so-far₀ out₀) (steps.sentencesMet (fileOf law) (formatsIn (fileOf law) (task .limit) store) task count first)
-    ≡ steps.after (fileOf law) (formatsIn (fileOf law) (task .limit) store) task (sinkOf so-far out) (steps.sentencesMet (fileOf law) (formatsIn (fileOf law) (task .limit) store) task (count - i) (first + i)))
+    × (steps.after (fileOf law) (formatsIn (fileOf law) (task .limit) store) task (sinkOf so-far₀ out₀)
+    (steps.sentencesMet (fileOf law) (formatsIn (fileOf law) (task .limit) store) task count first)
+    ≡ steps.after (fileOf law) (formatsIn (fileOf law) (task .limit) store) task (sinkOf so-far out)
+    (steps.sentencesMet (fileOf law) (formatsIn (fileOf law) (task .limit) store) task (count - i) (first + i)))
 
 abbrev walk-sentences-μ-loop : walk-sentences-lts.MeasureT-loop
 walk-sentences-μ-loop law index slots store task first count out₀ tally so-far₀ i₀ out so-far i = count - i
@@ -206,38 +210,62 @@ pub +walk-conditions+walk-pattern+walk-run+walk-sentence+walk-sentences+walk-ter
     walk-conditions-μ-loop
     (λ c κs.
     let start = c .before .before .before in
-    omega (arith, steps.sentences-small (start .pre .1 .0), (start .pre .1 .1)))
+    omega (arith, steps.sentences-small (start .pre .1 .0), start .pre .1 .1))
     (λ c.
     let start = c .before .before .before .before in
-    omega (arith, steps.sentences-small (start .pre .1 .0), (start .pre .1 .1)))
+    omega (arith, steps.sentences-small (start .pre .1 .0), start .pre .1 .1))
     (λ c κs.
     let start = c .before .before .before .before in
-    omega (arith, steps.sentences-small (start .pre .1 .0), (start .pre .1 .1)))
+    omega (arith, steps.sentences-small (start .pre .1 .0), start .pre .1 .1))
     (λ c.
     let start = c .before .before .before .before .before in
     let the-first-condition = c .before .first-condition in
     let the-first-condition2 = c .first-condition2 in
-    omega (arith, steps.conditions-first-reads (start .pre .1 .0) (start .args .s) (start .pre .1 .1) (the-first-condition .result) (the-first-condition .ensures), steps.conditions-next-reads (start .pre .1 .0) (start .args .s) (start .pre .1 .1) (the-first-condition2 .result) (the-first-condition2 .ensures)))
+    omega (
+      arith,
+      steps.conditions-first-reads (start .pre .1 .0) (start .args .s) (start .pre .1 .1) (the-first-condition .result)
+          (the-first-condition .ensures),
+      steps.conditions-next-reads (start .pre .1 .0) (start .args .s) (start .pre .1 .1) (the-first-condition2 .result)
+          (the-first-condition2 .ensures),
+    ))
     (λ c.
     let start = c .before .before .before .before .before in
+    let before = sinkOf (start .args .tally) (start .args .out .now) in
+    let file = fileOf (start .args .law .now) in
+    let formats = formatsIn file (start .args .task .limit) (start .args .store .now) in
     let the-first-condition = c .before .first-condition in
     let the-first-condition2 = c .first-condition2 in
-    (steps.conditions-first-reads (start .pre .1 .0) (start .args .s) (start .pre .1 .1) (the-first-condition .result) (the-first-condition .ensures), steps.conditions-count (start .pre .1 .0) (start .args .s) (start .pre .1 .1) (the-first-condition .result) (the-first-condition2 .result) (the-first-condition .ensures) (the-first-condition2 .ensures), omega arith, refl, steps.conditions-start (fileOf (start .args .law .now)) (formatsIn (fileOf (start .args .law .now)) (start .args .task .limit) (start .args .store .now)) (start .args .task) (start .args .s) (the-first-condition2 .result - the-first-condition .result) (the-first-condition .result) (sinkOf (start .args .tally) (start .args .out .now)) (steps.conditions-first-reads (start .pre .1 .0) (start .args .s) (start .pre .1 .1) (the-first-condition .result) (the-first-condition .ensures)) (steps.conditions-count (start .pre .1 .0) (start .args .s) (start .pre .1 .1) (the-first-condition .result) (the-first-condition2 .result) (the-first-condition .ensures) (the-first-condition2 .ensures))))
+    let count = the-first-condition2 .result - the-first-condition .result in
+    let first = the-first-condition .result in (
+      steps.conditions-first-reads (start .pre .1 .0) (start .args .s) (start .pre .1 .1) first (the-first-condition .ensures),
+      steps.conditions-count (start .pre .1 .0) (start .args .s) (start .pre .1 .1) first (the-first-condition2 .result) (the-first-condition .ensures)
+          (the-first-condition2 .ensures),
+      omega arith,
+      refl,
+      steps.conditions-start file formats (start .args .task) (start .args .s) count first before
+          (steps.conditions-first-reads (start .pre .1 .0) (start .args .s) (start .pre .1 .1) first (the-first-condition .ensures))
+          (steps.conditions-count (start .pre .1 .0) (start .args .s) (start .pre .1 .1) first (the-first-condition2 .result) (the-first-condition .ensures)
+          (the-first-condition2 .ensures)),
+    ))
     (λ c.
     let start = c .before .before .before .before .before .before .before in
     let the-first-condition = c .before .before .before .first-condition in
     let the-first-condition2 = c .before .before .first-condition2 in
     let the-loop = c .before .loop in
     let the-loop-test = c .loop-test in
-    omega (arith, steps.condition-small (start .pre .1 .0) (start .args .s) (start .pre .1 .1) (the-first-condition .result) (the-first-condition2 .result - the-first-condition .result) (the-loop .i) (the-loop .inv .0) (the-loop .inv .1) (the-loop-test .taken)))
+    omega (arith, steps.condition-small (start .pre .1 .0) _ (start .pre .1 .1) _ _ _ (the-loop .inv .0) (the-loop .inv .1) (the-loop-test .taken)))
     (λ c κs.
     let start = c .before .before .before .before .before .before .before in
     let asked = start .pre .1 .0 .asked in
     let the-first-condition = c .before .before .before .first-condition in
     let the-first-condition2 = c .before .before .first-condition2 in
     let the-loop = c .before .loop in
-    let the-loop-test = c .loop-test in
-    (asked .indexed, (start .pre .1 .1), steps.condition-inside (start .pre .1 .0) (start .args .s) (start .pre .1 .1) (the-first-condition .result) (the-first-condition2 .result - the-first-condition .result) (the-loop .i) (the-loop .inv .0) (the-loop .inv .1) (the-loop-test .taken)))
+    let the-loop-test = c .loop-test in (
+      asked .indexed,
+      start .pre .1 .1,
+      steps.condition-inside (start .pre .1 .0) _ (start .pre .1 .1) _ _ _ (the-loop .inv .0)
+          (the-loop .inv .1) (the-loop-test .taken),
+    ))
     (λ c κs.
     let start = c .before .before .before .before .before .before .before .before in
     let asked = start .pre .1 .0 .asked in
@@ -245,7 +273,7 @@ pub +walk-conditions+walk-pattern+walk-run+walk-sentence+walk-sentences+walk-ter
     let the-first-condition2 = c .before .before .before .first-condition2 in
     let the-loop = c .before .before .loop in
     let the-loop-test = c .before .loop-test in
-    (asked .indexed, steps.condition-owned (start .pre .1 .0) (start .args .s) (start .pre .1 .1) (the-first-condition .result) (the-first-condition2 .result - the-first-condition .result) (the-loop .i) (the-loop .inv .0) (the-loop .inv .1) (the-loop-test .taken)))
+    (asked .indexed, steps.condition-owned (start .pre .1 .0) _ (start .pre .1 .1) _ _ _ (the-loop .inv .0) (the-loop .inv .1) (the-loop-test .taken)))
     (λ c κs.
     let start = c .before .before .before .before .before .before .before .before .before .before in
     let the-first-condition = c .before .before .before .before .before .before .first-condition in
@@ -253,8 +281,15 @@ pub +walk-conditions+walk-pattern+walk-run+walk-sentence+walk-sentences+walk-ter
     let the-loop = c .before .before .before .before .loop in
     let the-loop-test = c .before .before .before .loop-test in
     let the-condition-result-at = c .before .before .condition-result-at in
-    let the-condition-result = c .before .condition-result in
-    (steps.asked-falls (start .pre .1 .0) (start .args .s) (start .pre .1 .1) (the-first-condition .result) (the-first-condition2 .result - the-first-condition .result) (the-loop .i) (the-loop .inv .0) (the-loop .inv .1) (the-loop-test .taken) (the-condition-result-at .result) t (the-condition-result .result .now) (the-condition-result-at .ensures) (the-condition-result .ensures) (start .pre .0), ((start .pre .1 .0), steps.condition-result-reads (start .pre .1 .0) (start .args .s) (start .pre .1 .1) (the-first-condition .result) (the-first-condition2 .result - the-first-condition .result) (the-loop .i) (the-loop .inv .0) (the-loop .inv .1) (the-loop-test .taken) (the-condition-result-at .result) (the-condition-result .result .now) (the-condition-result-at .ensures) (the-condition-result .ensures))))
+    let the-condition-result = c .before .condition-result in (
+      steps.asked-falls (start .pre .1 .0) _ (start .pre .1 .1) _ _ _ (the-loop .inv .0) (the-loop .inv .1) (the-loop-test .taken)
+          (the-condition-result-at .result) t (the-condition-result .result .now) (the-condition-result-at .ensures) (the-condition-result .ensures) (start .pre .0),
+      (
+        start .pre .1 .0,
+        steps.condition-result-reads (start .pre .1 .0) _ (start .pre .1 .1) _ _ _ (the-loop .inv .0) (the-loop .inv .1) (the-loop-test .taken)
+            (the-condition-result-at .result) (the-condition-result .result .now) (the-condition-result-at .ensures) (the-condition-result .ensures),
+      ),
+    ))
     (λ c κs.
     let start = c .before .before .before .before .before .before .before .before .before .before .before .before .before in
     let asked = start .pre .1 .0 .asked in
@@ -262,7 +297,7 @@ pub +walk-conditions+walk-pattern+walk-run+walk-sentence+walk-sentences+walk-ter
     let the-first-condition2 = c .before .before .before .before .before .before .before .before .first-condition2 in
     let the-loop = c .before .before .before .before .before .before .before .loop in
     let the-loop-test = c .before .before .before .before .before .before .loop-test in
-    (asked .indexed, steps.condition-inside (start .pre .1 .0) (start .args .s) (start .pre .1 .1) (the-first-condition .result) (the-first-condition2 .result - the-first-condition .result) (the-loop .i) (the-loop .inv .0) (the-loop .inv .1) (the-loop-test .taken)))
+    (asked .indexed, steps.condition-inside (start .pre .1 .0) _ (start .pre .1 .1) _ _ _ (the-loop .inv .0) (the-loop .inv .1) (the-loop-test .taken)))
     (λ c.
     let start = c .before .before .before .before .before .before .before .before .before .before .before .before .before .before in
     let the-first-condition = c .before .before .before .before .before .before .before .before .before .before .first-condition in
@@ -271,7 +306,11 @@ pub +walk-conditions+walk-pattern+walk-run+walk-sentence+walk-sentences+walk-ter
     let the-loop-test = c .before .before .before .before .before .before .before .loop-test in
     let the-condition-result-at = c .before .before .before .before .before .before .condition-result-at in
     let the-condition-result-size = c .condition-result-size in
-    omega (arith, steps.condition-pattern-small (start .pre .1 .0) (start .args .s) (start .pre .1 .1) (the-first-condition .result) (the-first-condition2 .result - the-first-condition .result) (the-loop .i) (the-loop .inv .0) (the-loop .inv .1) (the-loop-test .taken) (the-condition-result-at .result) (the-condition-result-size .result) (the-condition-result-at .ensures) (the-condition-result-size .ensures)))
+    omega (
+      arith,
+      steps.condition-pattern-small (start .pre .1 .0) _ (start .pre .1 .1) _ _ _ (the-loop .inv .0) (the-loop .inv .1) (the-loop-test .taken)
+          (the-condition-result-at .result) (the-condition-result-size .result) (the-condition-result-at .ensures) (the-condition-result-size .ensures),
+    ))
     (λ c κs.
     let start = c .before .before .before .before .before .before .before .before .before .before .before .before .before .before in
     let asked = start .pre .1 .0 .asked in
@@ -279,7 +318,7 @@ pub +walk-conditions+walk-pattern+walk-run+walk-sentence+walk-sentences+walk-ter
     let the-first-condition2 = c .before .before .before .before .before .before .before .before .before .first-condition2 in
     let the-loop = c .before .before .before .before .before .before .before .before .loop in
     let the-loop-test = c .before .before .before .before .before .before .before .loop-test in
-    (asked .indexed, steps.condition-owned (start .pre .1 .0) (start .args .s) (start .pre .1 .1) (the-first-condition .result) (the-first-condition2 .result - the-first-condition .result) (the-loop .i) (the-loop .inv .0) (the-loop .inv .1) (the-loop-test .taken)))
+    (asked .indexed, steps.condition-owned (start .pre .1 .0) _ (start .pre .1 .1) _ _ _ (the-loop .inv .0) (the-loop .inv .1) (the-loop-test .taken)))
     (λ c κs.
     let start = c .before .before .before .before .before .before .before .before .before .before .before .before .before .before .before .before in
     let the-first-condition = c .before .before .before .before .before .before .before .before .before .before .before .before .first-condition in
@@ -288,8 +327,17 @@ pub +walk-conditions+walk-pattern+walk-run+walk-sentence+walk-sentences+walk-ter
     let the-loop-test = c .before .before .before .before .before .before .before .before .before .loop-test in
     let the-condition-result-at = c .before .before .before .before .before .before .before .before .condition-result-at in
     let the-condition-result-size = c .before .before .condition-result-size in
-    let the-condition-pattern = c .before .condition-pattern in
-    (steps.wanted-falls (start .pre .1 .0) (start .args .s) (start .pre .1 .1) (the-first-condition .result) (the-first-condition2 .result - the-first-condition .result) (the-loop .i) (the-loop .inv .0) (the-loop .inv .1) (the-loop-test .taken) (the-condition-result-at .result) (the-condition-result-size .result) t (the-condition-pattern .result .now) (the-condition-result-at .ensures) (the-condition-result-size .ensures) (the-condition-pattern .ensures) (start .pre .0), ((start .pre .1 .0), steps.condition-pattern-reads (start .pre .1 .0) (start .args .s) (start .pre .1 .1) (the-first-condition .result) (the-first-condition2 .result - the-first-condition .result) (the-loop .i) (the-loop .inv .0) (the-loop .inv .1) (the-loop-test .taken) (the-condition-result-at .result) (the-condition-result-size .result) (the-condition-pattern .result .now) (the-condition-result-at .ensures) (the-condition-result-size .ensures) (the-condition-pattern .ensures))))
+    let the-condition-pattern = c .before .condition-pattern in (
+      steps.wanted-falls (start .pre .1 .0) _ (start .pre .1 .1) _ _ _ (the-loop .inv .0) (the-loop .inv .1) (the-loop-test .taken)
+          (the-condition-result-at .result) (the-condition-result-size .result) t (the-condition-pattern .result .now) (the-condition-result-at .ensures)
+          (the-condition-result-size .ensures) (the-condition-pattern .ensures) (start .pre .0),
+      (
+        start .pre .1 .0,
+        steps.condition-pattern-reads (start .pre .1 .0) _ (start .pre .1 .1) _ _ _ (the-loop .inv .0) (the-loop .inv .1) (the-loop-test .taken)
+            (the-condition-result-at .result) (the-condition-result-size .result) (the-condition-pattern .result .now) (the-condition-result-at .ensures)
+            (the-condition-result-size .ensures) (the-condition-pattern .ensures),
+      ),
+    ))
     (λ c.
     let the-loop-test = c .before .before .before .before .before .before .before .before .before .before .before .before .loop-test in
     omega (arith, the-loop-test .taken))
@@ -298,6 +346,10 @@ pub +walk-conditions+walk-pattern+walk-run+walk-sentence+walk-sentences+walk-ter
     omega (arith, the-loop-test .taken))
     (λ c.
     let start = c .before .before .before .before .before .before .before .before .before .before .before .before .before .before .before .before .before .before .before in
+    let task = start .args .task in
+    let before = sinkOf (start .args .tally) (start .args .out .now) in
+    let file = fileOf (start .args .law .now) in
+    let formats = formatsIn file (start .args .task .limit) (start .args .store .now) in
     let the-loop = c .before .before .before .before .before .before .before .before .before .before .before .before .before .loop in
     let the-loop-test = c .before .before .before .before .before .before .before .before .before .before .before .before .loop-test in
     let the-walk-pattern = c .before .before .walk-pattern in
@@ -308,29 +360,50 @@ pub +walk-conditions+walk-pattern+walk-run+walk-sentence+walk-sentences+walk-ter
     let out-kept-by-run = the-walk-run .kept .1 .1 .1 .1 .1 .1 .1 .0 in
     let the-first-condition2 = c .before .before .before .before .before .before .before .before .before .before .before .before .before .before .first-condition2 in
     let the-first-condition = c .before .before .before .before .before .before .before .before .before .before .before .before .before .before .before .first-condition in
+    let count = the-first-condition2 .result - the-first-condition .result in
     let the-condition-result-at = c .before .before .before .before .before .before .before .before .before .before .before .condition-result-at in
     let the-condition-result-size = c .before .before .before .before .before .condition-result-size in
     let the-condition-result = c .before .before .before .before .before .before .before .before .before .before .condition-result in
-    let the-condition-pattern = c .before .before .before .before .condition-pattern in
-    (the-loop .inv .0, the-loop .inv .1, omega (arith, the-loop-test .taken), out-kept-by-pattern ∙ out-kept-by-run ∙ the-loop .inv .3, steps.conditions-next (fileOf (start .args .law .now)) (formatsIn (fileOf (start .args .law .now)) (start .args .task .limit) (start .args .store .now)) (start .args .task) (start .args .s) (the-first-condition2 .result - the-first-condition .result) (the-first-condition .result) (the-loop .i) (the-condition-result-at .result) (the-condition-result-size .result) (the-condition-result .result .now) (the-condition-pattern .result .now) (steps.after (fileOf (start .args .law .now)) (formatsIn (fileOf (start .args .law .now)) (start .args .task .limit) (start .args .store .now)) (start .args .task) (sinkOf (start .args .tally) (start .args .out .now)) (steps.conditionsMet (fileOf (start .args .law .now)) (formatsIn (fileOf (start .args .law .now)) (start .args .task .limit) (start .args .store .now)) (start .args .task) (start .args .s) (conditionsOf (fileOf (start .args .law .now)) (start .args .s)) (firstCondition (fileOf (start .args .law .now)) (start .args .s)))) (sinkOf (the-loop .so-far) (the-loop .out)) (sinkOf (the-walk-run .result) out-after-run) (sinkOf (the-walk-pattern .result) out-after-pattern) (the-loop-test .taken) (the-condition-result-at .ensures) (the-condition-result .ensures) (the-condition-result-size .ensures) (the-condition-pattern .ensures) (the-loop .inv .4) (the-walk-run .ensures) (the-walk-pattern .ensures)))
+    let the-condition-pattern = c .before .before .before .before .condition-pattern in (
+      the-loop .inv .0,
+      the-loop .inv .1,
+      omega (arith, the-loop-test .taken),
+      out-kept-by-pattern ∙ out-kept-by-run ∙ the-loop .inv .3,
+      steps.conditions-next file formats task (start .args .s) count (the-first-condition .result) (the-loop .i) (the-condition-result-at .result)
+          (the-condition-result-size .result) (the-condition-result .result .now) (the-condition-pattern .result .now)
+          (steps.after file formats task before (steps.conditionsMet file formats task (start .args .s) (conditionsOf file (start .args .s))
+          (firstCondition file (start .args .s)))) (sinkOf (the-loop .so-far) (the-loop .out)) (sinkOf (the-walk-run .result) out-after-run)
+          (sinkOf (the-walk-pattern .result) out-after-pattern) (the-loop-test .taken) (the-condition-result-at .ensures) (the-condition-result .ensures)
+          (the-condition-result-size .ensures) (the-condition-pattern .ensures) (the-loop .inv .4) (the-walk-run .ensures) (the-walk-pattern .ensures),
+    ))
     (λ c.
     let the-loop = c .before .loop in
     the-loop .inv .3)
     (λ c.
     let start = c .before .before .before .before .before .before .before in
+    let task = start .args .task in
+    let before = sinkOf (start .args .tally) (start .args .out .now) in
+    let file = fileOf (start .args .law .now) in
+    let formats = formatsIn file (start .args .task .limit) (start .args .store .now) in
     let the-first-condition2 = c .before .before .first-condition2 in
     let the-first-condition = c .before .before .before .first-condition in
+    let count = the-first-condition2 .result - the-first-condition .result in
     let the-loop = c .before .loop in
     let the-loop-test = c .loop-test in
-    steps.conditions-end (fileOf (start .args .law .now)) (formatsIn (fileOf (start .args .law .now)) (start .args .task .limit) (start .args .store .now)) (start .args .task) (start .args .s) (the-first-condition2 .result - the-first-condition .result) (the-first-condition .result) (the-loop .i) (steps.after (fileOf (start .args .law .now)) (formatsIn (fileOf (start .args .law .now)) (start .args .task .limit) (start .args .store .now)) (start .args .task) (sinkOf (start .args .tally) (start .args .out .now)) (steps.conditionsMet (fileOf (start .args .law .now)) (formatsIn (fileOf (start .args .law .now)) (start .args .task .limit) (start .args .store .now)) (start .args .task) (start .args .s) (conditionsOf (fileOf (start .args .law .now)) (start .args .s)) (firstCondition (fileOf (start .args .law .now)) (start .args .s)))) (sinkOf (the-loop .so-far) (the-loop .out)) (the-loop-test .left) (the-loop .inv .4)))
+    steps.conditions-end file formats task (start .args .s) count (the-first-condition .result) (the-loop .i)
+    (steps.after file formats task before (steps.conditionsMet file formats task (start .args .s) (conditionsOf file (start .args .s))
+    (firstCondition file (start .args .s)))) (sinkOf (the-loop .so-far) (the-loop .out)) (the-loop-test .left) (the-loop .inv .4)))
     (λ t. walk-pattern-lts.spec
     (walk-run-below t, walk-run.Post)
     (walk-pattern-at t)
     walk-pattern.Post
     (λ c.
     let start = c .before .before .before .before .before .before in
+    let before = sinkOf (start .args .tally) (start .args .out .now) in
+    let file = fileOf (start .args .law .now) in
+    let formats = formatsIn file (start .args .task .limit) (start .args .store .now) in
     let the-if1 = c .if1 in
-    steps.pattern-passed (fileOf (start .args .law .now)) (formatsIn (fileOf (start .args .law .now)) (start .args .task .limit) (start .args .store .now)) (start .args .task) (start .args .at) (start .args .part .now) (sinkOf (start .args .tally) (start .args .out .now)) (the-if1 .taken))
+    steps.pattern-passed file formats (start .args .task) (start .args .at) (start .args .part .now) before (the-if1 .taken))
     (λ c κs.
     let start = c .before .before .before .before .before .before .before in
     (steps.run-less (fileOf (start .args .law .now)) (start .args .at) t (start .args .part .now) (start .pre .0), start .pre .1))
@@ -340,10 +413,14 @@ pub +walk-conditions+walk-pattern+walk-run+walk-sentence+walk-sentences+walk-ter
     out-kept)
     (λ c.
     let start = c .before .before .before .before .before .before .before .before .before .before in
+    let before = sinkOf (start .args .tally) (start .args .out .now) in
+    let file = fileOf (start .args .law .now) in
+    let formats = formatsIn file (start .args .task .limit) (start .args .store .now) in
     let the-walk-run = c .before .before .walk-run in
     let out-after = the-walk-run .last .1 .1 .1 .1 .1 .1 .1 .0 in
     let the-if1 = c .before .before .before .before .if1 in
-    steps.pattern-walked (fileOf (start .args .law .now)) (formatsIn (fileOf (start .args .law .now)) (start .args .task .limit) (start .args .store .now)) (start .args .task) (start .args .at) (start .args .part .now) (sinkOf (start .args .tally) (start .args .out .now)) (sinkOf (the-walk-run .result) out-after) (the-if1 .left) (the-walk-run .ensures)))
+    steps.pattern-walked file formats (start .args .task) (start .args .at) (start .args .part .now) before (sinkOf (the-walk-run .result) out-after)
+    (the-if1 .left) (the-walk-run .ensures)))
     (λ t. walk-run-lts.spec (
       word-at-reads.Asked,
       word-at-reads.Learnt,
@@ -358,9 +435,10 @@ pub +walk-conditions+walk-pattern+walk-run+walk-sentence+walk-sentences+walk-ter
     walk-run-μ-loop
     (λ c.
     let start = c .before .before .before .before in
+    let before = sinkOf (start .args .tally) (start .args .out .now) in
     let file = fileOf (start .args .law .now) in
     let formats = formatsIn file (start .args .task .limit) (start .args .store .now) in
-    (refl, steps.left-start file formats (start .args .task) (start .args .at) (start .args .part .now) (sinkOf (start .args .tally) (start .args .out .now)) (start .pre .1 .1)))
+    (refl, steps.left-start file formats (start .args .task) (start .args .at) (start .args .part .now) before (start .pre .1 .1)))
     (λ c κs.
     let start = c .before .before .before .before .before .before in
     let asked = start .pre .1 .0 .asked in
@@ -375,8 +453,11 @@ pub +walk-conditions+walk-pattern+walk-run+walk-sentence+walk-sentences+walk-ter
     let start = c .before .before .before .before .before .before .before .before in
     let the-loop = c .before .before .before .loop in
     let readable = start .pre .1 .0 .asked .readable in
-    let the-word-at = c .before .word-at in
-    (the-loop .inv .0, steps.leaf-next (the-loop .inv .1) (steps.left-more (the-loop .inv .1) readable (c .before .before .loop-test .taken)) readable (start .pre .1 .1) (the-word-at .result) (the-word-at .ensures) (c .if1 .taken)))
+    let the-word-at = c .before .word-at in (
+      the-loop .inv .0,
+      steps.leaf-next (the-loop .inv .1) (steps.left-more (the-loop .inv .1) readable (c .before .before .loop-test .taken)) readable
+          (start .pre .1 .1) (the-word-at .result) (the-word-at .ensures) (c .if1 .taken),
+    ))
     (λ c.
     let the-loop = c .before .before .before .loop in
     the-loop .inv .1 .within)
@@ -391,7 +472,11 @@ pub +walk-conditions+walk-pattern+walk-run+walk-sentence+walk-sentences+walk-ter
     let asked = start .pre .1 .0 .asked in
     let the-left = c .before .before .before .before .loop .inv .1 in
     let more = steps.left-more the-left (asked .readable) (the-loop-test .taken) in
-    omega (arith, steps.at-small (start .pre .1 .0) (start .args .at + the-loop .i / 24) (from (the-loop .i) (start .args .part .now)) (the-left .part) (steps.left-some the-left more)))
+    omega (
+      arith,
+      steps.at-small (start .pre .1 .0) (start .args .at + the-loop .i / 24) (from (the-loop .i) (start .args .part .now)) (the-left .part)
+          (steps.left-some the-left more),
+    ))
     (λ c κs.
     let the-loop-test = c .before .before .before .before .loop-test in
     let start = c .before .before .before .before .before .before .before .before .before .before in
@@ -407,7 +492,11 @@ pub +walk-conditions+walk-pattern+walk-run+walk-sentence+walk-sentences+walk-ter
     (λ c.
     let start = c .before .before .before .before .before .before .before .before .before .before .before .before .before .before in
     let the-left = c .before .before .before .before .before .before .before .before .before .loop .inv .1 in
-    omega (arith, steps.next-within the-left (c .end-of .ensures .2), steps.run-small (start .pre .1 .0) (start .args .at) (start .args .part .now) (start .pre .1 .1)))
+    omega (
+      arith,
+      steps.next-within the-left (c .end-of .ensures .2),
+      steps.run-small (start .pre .1 .0) (start .args .at) (start .args .part .now) (start .pre .1 .1),
+    ))
     (λ c. let the-loop-test = c .before .before .before .before .before .before .before .before .loop-test in
     omega (arith, c .end-of .ensures .1, the-loop-test .taken))
     (λ c. let the-loop-test = c .before .before .before .before .before .before .before .before .loop-test in
@@ -419,7 +508,8 @@ pub +walk-conditions+walk-pattern+walk-run+walk-sentence+walk-sentences+walk-ter
     let out-after = the-walk-term .last .1 .1 .1 .1 .1 .1 .1 .0 in
     let out-kept = the-walk-term .kept .1 .1 .1 .1 .1 .1 .1 .0 in (
       out-kept ∙ the-loop .inv .0,
-      steps.left-next (the-loop .inv .1) more readable (start .pre .1 .1) (c .end-of .result) (sinkOf (the-walk-term .result) out-after) (c .end-of .ensures .0) (the-walk-term .ensures),
+      steps.left-next (the-loop .inv .1) more readable (start .pre .1 .1) (c .end-of .result) (sinkOf (the-walk-term .result) out-after) (c .end-of .ensures .0)
+          (the-walk-term .ensures),
     ))
     (λ c. c .before .loop .inv .0)
     (λ c. steps.left-end (c .before .loop .inv .1) (c .loop-test .left)))
@@ -448,31 +538,48 @@ pub +walk-conditions+walk-pattern+walk-run+walk-sentence+walk-sentences+walk-ter
     (λ c κs.
     let start = c .before .before .before .before in
     let asked = start .pre .1 .0 .asked in
-    (asked .indexed, (start .pre .1 .1)))
+    (asked .indexed, start .pre .1 .1))
     (λ c κs.
     let start = c .before .before .before .before .before .before in
+    let file = fileOf (start .args .law .now) in
     let asked = start .pre .1 .0 .asked in
     let the-pattern-at = c .before .before .pattern-at in
-    let the-pattern = c .before .pattern in
-    (steps.pattern-less (fileOf (start .args .law .now)) (asked .readable) (start .args .s) (the-pattern-at .result) t (the-pattern .result .now) (start .pre .1 .1) (the-pattern-at .ensures) (the-pattern .ensures) (start .pre .0), ((start .pre .1 .0), steps.pattern-reads (start .pre .1 .0) (start .args .s) (start .pre .1 .1) (the-pattern-at .result) (the-pattern .result .now) (the-pattern-at .ensures) (the-pattern .ensures))))
+    let the-pattern = c .before .pattern in (
+      steps.pattern-less file (asked .readable) (start .args .s) (the-pattern-at .result) t (the-pattern .result .now) (start .pre .1 .1)
+          (the-pattern-at .ensures) (the-pattern .ensures) (start .pre .0),
+      (
+        start .pre .1 .0,
+        steps.pattern-reads (start .pre .1 .0) (start .args .s) (start .pre .1 .1) (the-pattern-at .result) (the-pattern .result .now)
+            (the-pattern-at .ensures) (the-pattern .ensures),
+      ),
+    ))
     (λ c κs.
     let start = c .before .before .before .before .before .before .before .before .before .before in
+    let file = fileOf (start .args .law .now) in
     let asked = start .pre .1 .0 .asked in
-    (steps.conditions-less (fileOf (start .args .law .now)) (asked .readable) (start .args .s) t (start .pre .1 .1) (start .pre .0), ((start .pre .1 .0), (start .pre .1 .1))))
+    (steps.conditions-less file (asked .readable) (start .args .s) t (start .pre .1 .1) (start .pre .0), (start .pre .1 .0, start .pre .1 .1)))
     (λ c κs.
     let start = c .before .before .before .before .before .before .before .before .before .before .before .before .before in
     let asked = start .pre .1 .0 .asked in
-    (asked .indexed, (start .pre .1 .1)))
+    (asked .indexed, start .pre .1 .1))
     (λ c κs.
     let start = c .before .before .before .before .before .before .before .before .before .before .before .before .before .before in
     let asked = start .pre .1 .0 .asked in
-    (asked .indexed, (start .pre .1 .1)))
+    (asked .indexed, start .pre .1 .1))
     (λ c κs.
     let start = c .before .before .before .before .before .before .before .before .before .before .before .before .before .before .before .before in
+    let file = fileOf (start .args .law .now) in
     let asked = start .pre .1 .0 .asked in
     let the-result-at = c .before .before .result-at in
-    let the-result = c .before .result in
-    (steps.result-less (fileOf (start .args .law .now)) (asked .readable) (start .args .s) (the-result-at .result) t (the-result .result .now) (start .pre .1 .1) (the-result-at .ensures) (the-result .ensures) (start .pre .0), ((start .pre .1 .0), steps.result-reads (start .pre .1 .0) (start .args .s) (start .pre .1 .1) (the-result-at .result) (the-result .result .now) (the-result-at .ensures) (the-result .ensures))))
+    let the-result = c .before .result in (
+      steps.result-less file (asked .readable) (start .args .s) (the-result-at .result) t (the-result .result .now) (start .pre .1 .1) (the-result-at .ensures)
+          (the-result .ensures) (start .pre .0),
+      (
+        start .pre .1 .0,
+        steps.result-reads (start .pre .1 .0) (start .args .s) (start .pre .1 .1) (the-result-at .result) (the-result .result .now)
+            (the-result-at .ensures) (the-result .ensures),
+      ),
+    ))
     (λ c.
     let the-walk-run = c .before .before .walk-run in
     let out-kept-by-run = the-walk-run .kept .1 .1 .1 .1 .1 .1 .1 .0 in
@@ -483,6 +590,9 @@ pub +walk-conditions+walk-pattern+walk-run+walk-sentence+walk-sentences+walk-ter
     out-kept-by-run ∙ out-kept-by-conditions ∙ out-kept-by-pattern)
     (λ c.
     let start = c .before .before .before .before .before .before .before .before .before .before .before .before .before .before .before .before .before .before .before in
+    let before = sinkOf (start .args .tally) (start .args .out .now) in
+    let file = fileOf (start .args .law .now) in
+    let formats = formatsIn file (start .args .task .limit) (start .args .store .now) in
     let asked = start .pre .1 .0 .asked in
     let the-pattern-at = c .before .before .before .before .before .before .before .before .before .before .before .before .before .before .before .pattern-at in
     let the-result-at = c .before .before .before .before .before .result-at in
@@ -494,7 +604,10 @@ pub +walk-conditions+walk-pattern+walk-run+walk-sentence+walk-sentences+walk-ter
     let out-after-conditions = the-walk-conditions .last .1 .1 .1 .1 .1 .1 .0 in
     let the-walk-run = c .before .before .walk-run in
     let out-after-run = the-walk-run .last .1 .1 .1 .1 .1 .1 .1 .0 in
-    steps.sentence-steps (fileOf (start .args .law .now)) (formatsIn (fileOf (start .args .law .now)) (start .args .task .limit) (start .args .store .now)) (start .args .task) (asked .readable) (start .args .s) (the-pattern-at .result) (the-result-at .result) (the-pattern .result .now) (the-result .result .now) (sinkOf (start .args .tally) (start .args .out .now)) (sinkOf (the-walk-pattern .result) out-after-pattern) (sinkOf (the-walk-conditions .result) out-after-conditions) (sinkOf (the-walk-run .result) out-after-run) (start .pre .1 .1) (the-pattern-at .ensures) (the-pattern .ensures) (the-result-at .ensures) (the-result .ensures) (the-walk-pattern .ensures) (the-walk-conditions .ensures) (the-walk-run .ensures)))
+    steps.sentence-steps file formats (start .args .task) (asked .readable) (start .args .s) (the-pattern-at .result) (the-result-at .result)
+    (the-pattern .result .now) (the-result .result .now) before (sinkOf (the-walk-pattern .result) out-after-pattern)
+    (sinkOf (the-walk-conditions .result) out-after-conditions) (sinkOf (the-walk-run .result) out-after-run) (start .pre .1 .1) (the-pattern-at .ensures)
+    (the-pattern .ensures) (the-result-at .ensures) (the-result .ensures) (the-walk-pattern .ensures) (the-walk-conditions .ensures) (the-walk-run .ensures)))
     (λ t. walk-sentences-lts.spec
     (walk-sentence-below t, walk-sentence.Post)
     (walk-sentences-at t)
@@ -503,17 +616,24 @@ pub +walk-conditions+walk-pattern+walk-run+walk-sentence+walk-sentences+walk-ter
     walk-sentences-μ-loop
     (λ c.
     let start = c .before .before .before in
-    (omega arith, refl, steps.sentences-start (fileOf (start .args .law .now)) (formatsIn (fileOf (start .args .law .now)) (start .args .task .limit) (start .args .store .now)) (start .args .task) (start .args .count) (start .args .first) (sinkOf (start .args .tally) (start .args .out .now))))
+    let before = sinkOf (start .args .tally) (start .args .out .now) in
+    let file = fileOf (start .args .law .now) in
+    let formats = formatsIn file (start .args .task .limit) (start .args .store .now) in
+    (omega arith, refl, steps.sentences-start file formats (start .args .task) (start .args .count) (start .args .first) before))
     (λ c.
     let start = c .before .before .before .before .before in
     let the-loop-test = c .loop-test in
-    omega (arith, steps.sentences-small (start .pre .1 .0), (start .pre .1 .1), the-loop-test .taken))
+    omega (arith, steps.sentences-small (start .pre .1 .0), start .pre .1 .1, the-loop-test .taken))
     (λ c κs.
     let start = c .before .before .before .before .before .before in
+    let file = fileOf (start .args .law .now) in
     let asked = start .pre .1 .0 .asked in
     let the-loop = c .before .before .loop in
-    let the-loop-test = c .before .loop-test in
-    (steps.sentence-less (fileOf (start .args .law .now)) (asked .readable) (start .args .count) (start .args .first) (the-loop .i) t (the-loop-test .taken) (start .pre .1 .1) (start .pre .0), ((start .pre .1 .0), omega (arith, (start .pre .1 .1), the-loop-test .taken))))
+    let the-loop-test = c .before .loop-test in (
+      steps.sentence-less file (asked .readable) (start .args .count) (start .args .first) (the-loop .i) t (the-loop-test .taken) (start .pre .1 .1)
+          (start .pre .0),
+      (start .pre .1 .0, omega (arith, start .pre .1 .1, the-loop-test .taken)),
+    ))
     (λ c.
     let the-loop-test = c .before .before .before .before .loop-test in
     omega (arith, the-loop-test .taken))
@@ -522,21 +642,37 @@ pub +walk-conditions+walk-pattern+walk-run+walk-sentence+walk-sentences+walk-ter
     omega (arith, the-loop-test .taken))
     (λ c.
     let start = c .before .before .before .before .before .before .before .before .before in
+    let task = start .args .task in
+    let before = sinkOf (start .args .tally) (start .args .out .now) in
+    let file = fileOf (start .args .law .now) in
+    let formats = formatsIn file (start .args .task .limit) (start .args .store .now) in
     let asked = start .pre .1 .0 .asked in
     let the-loop-test = c .before .before .before .before .loop-test in
     let the-walk-sentence = c .before .before .walk-sentence in
     let out-after = the-walk-sentence .last .1 .1 .1 .1 .1 .1 .0 in
     let out-kept = the-walk-sentence .kept .1 .1 .1 .1 .1 .1 .0 in
-    let the-loop = c .before .before .before .before .before .loop in
-    (omega (arith, the-loop-test .taken), out-kept ∙ the-loop .inv .1, steps.sentences-next (fileOf (start .args .law .now)) (formatsIn (fileOf (start .args .law .now)) (start .args .task .limit) (start .args .store .now)) (start .args .task) (asked .readable) (start .args .count) (start .args .first) (the-loop .i) (steps.after (fileOf (start .args .law .now)) (formatsIn (fileOf (start .args .law .now)) (start .args .task .limit) (start .args .store .now)) (start .args .task) (sinkOf (start .args .tally) (start .args .out .now)) (steps.sentencesMet (fileOf (start .args .law .now)) (formatsIn (fileOf (start .args .law .now)) (start .args .task .limit) (start .args .store .now)) (start .args .task) (start .args .count) (start .args .first))) (sinkOf (the-loop .so-far) (the-loop .out)) (sinkOf (the-walk-sentence .result) out-after) (the-loop-test .taken) (start .pre .1 .1) (the-loop .inv .2) (the-walk-sentence .ensures)))
+    let the-loop = c .before .before .before .before .before .loop in (
+      omega (arith, the-loop-test .taken),
+      out-kept ∙ the-loop .inv .1,
+      steps.sentences-next file formats task (asked .readable) (start .args .count) (start .args .first) (the-loop .i)
+          (steps.after file formats task before (steps.sentencesMet file formats task (start .args .count) (start .args .first)))
+          (sinkOf (the-loop .so-far) (the-loop .out)) (sinkOf (the-walk-sentence .result) out-after) (the-loop-test .taken) (start .pre .1 .1) (the-loop .inv .2)
+          (the-walk-sentence .ensures),
+    ))
     (λ c.
     let the-loop = c .before .loop in
     the-loop .inv .1)
     (λ c.
     let start = c .before .before .before .before .before in
+    let task = start .args .task in
+    let before = sinkOf (start .args .tally) (start .args .out .now) in
+    let file = fileOf (start .args .law .now) in
+    let formats = formatsIn file (start .args .task .limit) (start .args .store .now) in
     let the-loop = c .before .loop in
     let the-loop-test = c .loop-test in
-    steps.sentences-end (fileOf (start .args .law .now)) (formatsIn (fileOf (start .args .law .now)) (start .args .task .limit) (start .args .store .now)) (start .args .task) (start .args .count) (start .args .first) (the-loop .i) (steps.after (fileOf (start .args .law .now)) (formatsIn (fileOf (start .args .law .now)) (start .args .task .limit) (start .args .store .now)) (start .args .task) (sinkOf (start .args .tally) (start .args .out .now)) (steps.sentencesMet (fileOf (start .args .law .now)) (formatsIn (fileOf (start .args .law .now)) (start .args .task .limit) (start .args .store .now)) (start .args .task) (start .args .count) (start .args .first))) (sinkOf (the-loop .so-far) (the-loop .out)) (the-loop-test .left) (the-loop .inv .2)))
+    steps.sentences-end file formats task (start .args .count) (start .args .first) (the-loop .i)
+    (steps.after file formats task before (steps.sentencesMet file formats task (start .args .count) (start .args .first)))
+    (sinkOf (the-loop .so-far) (the-loop .out)) (the-loop-test .left) (the-loop .inv .2)))
     λ t. walk-term-lts.spec (
       note-call-reads.Asked,
       note-call-reads.Learnt,
@@ -559,7 +695,7 @@ pub +walk-conditions+walk-pattern+walk-run+walk-sentence+walk-sentences+walk-ter
     walk-term.Post
     (λ c κs.
     let start = c .before .before .before .before .before in
-    (start .pre .1 .0, steps.at-inside (start .pre .1 .0) (start .args .at) (start .args .part .now) (start .pre .1 .1) (start .pre .1 .2)))
+    (start .pre .1 .0, steps.at-inside (start .pre .1 .0) _ _ (start .pre .1 .1) (start .pre .1 .2)))
     (λ c κs. let the-pre = c .before .before .before .before .before .before .before .before .pre in
     the-pre .1 .2)
     (λ c. c .end-of .ensures .1)
@@ -567,12 +703,16 @@ pub +walk-conditions+walk-pattern+walk-run+walk-sentence+walk-sentences+walk-ter
     (λ c. c .end-of .ensures .2)
     (λ c.
     let start = c .before .before .before .before .before .before .before .before .before .before in
-    omega (arith, steps.at-small (start .pre .1 .0) (start .args .at) (start .args .part .now) (start .pre .1 .1) (start .pre .1 .2)))
+    omega (arith, steps.at-small (start .pre .1 .0) _ _ (start .pre .1 .1) (start .pre .1 .2)))
     (λ c κs.
     let start = c .before .before .before .before .before .before .before .before .before .before .before in
+    let file = fileOf (start .args .law .now) in
     let asked = start .pre .1 .0 .asked in
-    let the-end-of = c .before .before .end-of in
-    (steps.inside-less (fileOf (start .args .law .now)) (asked .readable) (start .args .at) (the-end-of .result) t (start .args .part .now) (start .pre .1 .1) (start .pre .1 .2) (the-end-of .ensures .0) (start .pre .0), ((start .pre .1 .0), steps.inside-part (start .pre .1 .0) (start .args .at) (start .args .part .now) (start .pre .1 .1) (start .pre .1 .2) (the-end-of .result) (the-end-of .ensures .0))))
+    let the-end-of = c .before .before .end-of in (
+      steps.inside-less file (asked .readable) (start .args .at) (the-end-of .result) t (start .args .part .now) (start .pre .1 .1) (start .pre .1 .2)
+          (the-end-of .ensures .0) (start .pre .0),
+      (start .pre .1 .0, steps.inside-part (start .pre .1 .0) _ _ (start .pre .1 .1) (start .pre .1 .2) (the-end-of .result) (the-end-of .ensures .0)),
+    ))
     (λ c κs. let the-pre = c .before .before .before .before .before .before .before .before .before .before .before .before .before .before .pre in
     omega (arith, the-pre .1 .2))
     (λ c κs. search needs)
@@ -584,6 +724,9 @@ pub +walk-conditions+walk-pattern+walk-run+walk-sentence+walk-sentences+walk-ter
     out-kept-by-run ∙ out-kept-by-call)
     (λ c.
     let start = c .before .before .before .before .before .before .before .before .before .before .before .before .before .before .before .before .before in
+    let before = sinkOf (start .args .tally) (start .args .out .now) in
+    let file = fileOf (start .args .law .now) in
+    let formats = formatsIn file (start .args .task .limit) (start .args .store .now) in
     let asked = start .pre .1 .0 .asked in
     let the-sentences-in = c .before .sentences-in in
     let the-term-at = c .before .before .term-at in
@@ -592,24 +735,40 @@ pub +walk-conditions+walk-pattern+walk-run+walk-sentence+walk-sentences+walk-ter
     let the-end-of = c .before .before .before .before .before .before .before .before .end-of in
     let the-note-call = c .before .before .before .before .before .before .before .before .before .before .before .note-call in
     let out-after-call = the-note-call .last .1 .1 .1 .1 .1 .1 .0 in
-    steps.term-ends (fileOf (start .args .law .now)) (formatsIn (fileOf (start .args .law .now)) (start .args .task .limit) (start .args .store .now)) (start .args .task) (asked .readable) (start .args .at) (the-end-of .result) (the-sentences-in .result) (start .args .part .now) (sinkOf (start .args .tally) (start .args .out .now)) (sinkOf (the-note-call .result) out-after-call) (sinkOf (the-walk-run .result) out-after-run) (start .pre .1 .1) (start .pre .1 .2) (the-end-of .ensures .0) (the-sentences-in .ensures ∙ ap sentencesIn (the-term-at .ensures)) (c .if1 .taken) (the-note-call .ensures) (the-walk-run .ensures))
+    steps.term-ends file formats (start .args .task) (asked .readable) (start .args .at) (the-end-of .result) (the-sentences-in .result)
+    (start .args .part .now) before (sinkOf (the-note-call .result) out-after-call) (sinkOf (the-walk-run .result) out-after-run) (start .pre .1 .1)
+    (start .pre .1 .2) (the-end-of .ensures .0) (the-sentences-in .ensures ∙ ap sentencesIn (the-term-at .ensures)) (c .if1 .taken)
+    (the-note-call .ensures) (the-walk-run .ensures))
     (λ c κs.
     let start = c .before .before .before .before .before .before .before .before .before .before .before .before .before .before .before .before .before in
-    steps.at-small (start .pre .1 .0) (start .args .at) (start .args .part .now) (start .pre .1 .1) (start .pre .1 .2))
+    steps.at-small (start .pre .1 .0) _ _ (start .pre .1 .1) (start .pre .1 .2))
     (λ c κs.
     let start = c .before .before .before .before .before .before .before .before .before .before .before .before .before .before .before .before .before .before .before in
     let asked = start .pre .1 .0 .asked in
     let the-block-first = c .before .block-first in
     let the-sentences-in = c .before .before .before .sentences-in in
-    let the-term-at = c .before .before .before .before .term-at in
-    (asked .indexed, start .pre .1 .0 .accepted, steps.block-inside (start .pre .1 .0) (start .args .at) (start .args .part .now) (start .pre .1 .1) (start .pre .1 .2) (the-block-first .result) (the-sentences-in .result) (the-block-first .ensures) (the-sentences-in .ensures ∙ ap sentencesIn (the-term-at .ensures))))
+    let the-term-at = c .before .before .before .before .term-at in (
+      asked .indexed,
+      start .pre .1 .0 .accepted,
+      steps.block-inside (start .pre .1 .0) _ _ (start .pre .1 .1) (start .pre .1 .2) (the-block-first .result) (the-sentences-in .result)
+          (the-block-first .ensures) (the-sentences-in .ensures ∙ ap sentencesIn (the-term-at .ensures)),
+    ))
     (λ c κs.
     let start = c .before .before .before .before .before .before .before .before .before .before .before .before .before .before .before .before .before .before .before .before .before .before .before in
+    let file = fileOf (start .args .law .now) in
     let asked = start .pre .1 .0 .asked in
     let the-block-first = c .before .before .before .before .before .block-first in
     let the-sentences-in = c .before .before .before .before .before .before .before .sentences-in in
-    let the-term-at = c .before .before .before .before .before .before .before .before .term-at in
-    (steps.entered-less (fileOf (start .args .law .now)) (asked .readable) (start .args .at) (the-sentences-in .result) (the-block-first .result) t (start .args .part .now) (start .pre .1 .1) (start .pre .1 .2) (the-sentences-in .ensures ∙ ap sentencesIn (the-term-at .ensures)) (steps.block-reads (start .pre .1 .0) (start .args .at) (start .args .part .now) (start .pre .1 .1) (start .pre .1 .2) (the-block-first .result) (the-block-first .ensures)) (start .pre .0), ((start .pre .1 .0), steps.block-inside (start .pre .1 .0) (start .args .at) (start .args .part .now) (start .pre .1 .1) (start .pre .1 .2) (the-block-first .result) (the-sentences-in .result) (the-block-first .ensures) (the-sentences-in .ensures ∙ ap sentencesIn (the-term-at .ensures)))))
+    let the-term-at = c .before .before .before .before .before .before .before .before .term-at in (
+      steps.entered-less file (asked .readable) (start .args .at) (the-sentences-in .result) (the-block-first .result) t (start .args .part .now)
+          (start .pre .1 .1) (start .pre .1 .2) (the-sentences-in .ensures ∙ ap sentencesIn (the-term-at .ensures)) (steps.block-reads (start .pre .1 .0) _ _
+          (start .pre .1 .1) (start .pre .1 .2) (the-block-first .result) (the-block-first .ensures)) (start .pre .0),
+      (
+        start .pre .1 .0,
+        steps.block-inside (start .pre .1 .0) _ _ (start .pre .1 .1) (start .pre .1 .2) (the-block-first .result) (the-sentences-in .result)
+            (the-block-first .ensures) (the-sentences-in .ensures ∙ ap sentencesIn (the-term-at .ensures)),
+      ),
+    ))
     (λ c.
     let the-walk-sentences = c .before .before .walk-sentences in
     let out-kept-by-sentences = the-walk-sentences .kept .1 .1 .1 .1 .1 .1 .1 .0 in
@@ -622,6 +781,9 @@ pub +walk-conditions+walk-pattern+walk-run+walk-sentence+walk-sentences+walk-ter
     out-kept-by-sentences ∙ out-kept-by-block ∙ out-kept-by-run ∙ out-kept-by-call)
     (λ c.
     let start = c .before .before .before .before .before .before .before .before .before .before .before .before .before .before .before .before .before .before .before .before .before .before .before .before .before .before in
+    let before = sinkOf (start .args .tally) (start .args .out .now) in
+    let file = fileOf (start .args .law .now) in
+    let formats = formatsIn file (start .args .task .limit) (start .args .store .now) in
     let asked = start .pre .1 .0 .asked in
     let the-walk-sentences = c .before .before .walk-sentences in
     let out-after-sentences = the-walk-sentences .last .1 .1 .1 .1 .1 .1 .1 .0 in
@@ -635,4 +797,9 @@ pub +walk-conditions+walk-pattern+walk-run+walk-sentence+walk-sentences+walk-ter
     let the-end-of = c .before .before .before .before .before .before .before .before .before .before .before .before .before .before .before .before .before .end-of in
     let the-note-call = c .before .before .before .before .before .before .before .before .before .before .before .before .before .before .before .before .before .before .before .before .note-call in
     let out-after-call = the-note-call .last .1 .1 .1 .1 .1 .1 .0 in
-    steps.term-steps (fileOf (start .args .law .now)) (formatsIn (fileOf (start .args .law .now)) (start .args .task .limit) (start .args .store .now)) (start .args .task) (asked .readable) (start .args .at) (the-end-of .result) (the-sentences-in .result) (the-block-first .result) (start .args .part .now) (sinkOf (start .args .tally) (start .args .out .now)) (sinkOf (the-note-call .result) out-after-call) (sinkOf (the-walk-run .result) out-after-run) (sinkOf (the-note-block .result) out-after-block) (sinkOf (the-walk-sentences .result) out-after-sentences) (start .pre .1 .1) (start .pre .1 .2) (the-end-of .ensures .0) (the-sentences-in .ensures ∙ ap sentencesIn (the-term-at .ensures)) (steps.block-reads (start .pre .1 .0) (start .args .at) (start .args .part .now) (start .pre .1 .1) (start .pre .1 .2) (the-block-first .result) (the-block-first .ensures)) (the-note-call .ensures) (the-walk-run .ensures) (the-note-block .ensures) (the-walk-sentences .ensures))
+    steps.term-steps file formats (start .args .task) (asked .readable) (start .args .at) (the-end-of .result) (the-sentences-in .result)
+    (the-block-first .result) (start .args .part .now) before (sinkOf (the-note-call .result) out-after-call) (sinkOf (the-walk-run .result) out-after-run)
+    (sinkOf (the-note-block .result) out-after-block) (sinkOf (the-walk-sentences .result) out-after-sentences) (start .pre .1 .1) (start .pre .1 .2)
+    (the-end-of .ensures .0) (the-sentences-in .ensures ∙ ap sentencesIn (the-term-at .ensures))
+    (steps.block-reads (start .pre .1 .0) _ _ (start .pre .1 .1) (start .pre .1 .2) (the-block-first .result) (the-block-first .ensures))
+    (the-note-call .ensures) (the-walk-run .ensures) (the-note-block .ensures) (the-walk-sentences .ensures))

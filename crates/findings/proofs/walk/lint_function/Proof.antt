@@ -28,53 +28,86 @@ lint-function-spec =
     let start = c .before .before .before .before .before in
     let the-first-sentence = c .before .first-sentence in
     let the-first-sentence2 = c .first-sentence2 in
-    omega (arith, steps.sentences-next-reads (start .pre .0) (start .args .f) (start .pre .1) (the-first-sentence .result) (the-first-sentence2 .result) (the-first-sentence .ensures) (the-first-sentence2 .ensures)))
+    omega (arith, steps.sentences-next-reads (start .pre .0) _ (start .pre .1) _ _ (the-first-sentence .ensures) (the-first-sentence2 .ensures)))
     (λ c κs.
     let start = c .before .before .before .before .before .before .before .before in
     let the-first-sentence = c .before .before .before .before .first-sentence in
-    let the-first-sentence2 = c .before .before .before .first-sentence2 in
-    (start .pre .0 .asked .indexed, start .pre .0 .accepted, steps.sentences-inside (start .pre .0) (start .args .f) (start .pre .1) (the-first-sentence .result) (the-first-sentence2 .result) (the-first-sentence .ensures) (the-first-sentence2 .ensures)))
+    let the-first-sentence2 = c .before .before .before .first-sentence2 in (
+      start .pre .0 .asked .indexed,
+      start .pre .0 .accepted,
+      steps.sentences-inside (start .pre .0) _ (start .pre .1) _ _ (the-first-sentence .ensures) (the-first-sentence2 .ensures),
+    ))
     (λ c. search needs)
     (λ c.
     let start = c .before .before .before .before .before .before .before .before .before .before .before in
+    let before = sinkOf (start .args .tally) (start .args .out .now) in
+    let file = fileOf (start .args .law .now) in
+    let formats = formatsIn file (start .args .task .limit) (start .args .store .now) in
     let the-first-sentence2 = c .before .before .before .before .before .before .first-sentence2 in
     let the-first-sentence = c .before .before .before .before .before .before .before .first-sentence in
+    let counted = steps.sentences-count (start .pre .0) _ (start .pre .1) _ _ (the-first-sentence .ensures) (the-first-sentence2 .ensures) in
+    let read = steps.sentences-first-reads (start .pre .0) _ (start .pre .1) _ _ (the-first-sentence .ensures) (the-first-sentence2 .ensures) in
+    let count = the-first-sentence2 .result - the-first-sentence .result in
     let the-note-open = c .before .before .note-open in
     let out-after = the-note-open .last .1 .1 .1 .1 .1 .0 in
     let the-if1 = c .before .before .before .before .if1 in
-    steps.function-open (fileOf (start .args .law .now)) (formatsIn (fileOf (start .args .law .now)) (start .args .task .limit) (start .args .store .now)) (start .args .task) (start .args .f) (the-first-sentence2 .result - the-first-sentence .result) (the-first-sentence .result) (steps.sentences-count (start .pre .0) (start .args .f) (start .pre .1) (the-first-sentence .result) (the-first-sentence2 .result) (the-first-sentence .ensures) (the-first-sentence2 .ensures)) (steps.sentences-first-reads (start .pre .0) (start .args .f) (start .pre .1) (the-first-sentence .result) (the-first-sentence2 .result) (the-first-sentence .ensures) (the-first-sentence2 .ensures)) (sinkOf (start .args .tally) (start .args .out .now)) (sinkOf (the-note-open .result) out-after) (the-if1 .taken) (the-note-open .ensures))
+    steps.function-open file formats (start .args .task) (start .args .f) count (the-first-sentence .result) counted read before
+    (sinkOf (the-note-open .result) out-after) (the-if1 .taken) (the-note-open .ensures))
     (λ c κs.
     let start = c .before .before .before .before .before .before .before .before in
     let the-first-sentence = c .before .before .before .before .first-sentence in
-    let the-first-sentence2 = c .before .before .before .first-sentence2 in
-    (start .pre .0 .asked .indexed, start .pre .0 .accepted, steps.sentences-inside (start .pre .0) (start .args .f) (start .pre .1) (the-first-sentence .result) (the-first-sentence2 .result) (the-first-sentence .ensures) (the-first-sentence2 .ensures)))
+    let the-first-sentence2 = c .before .before .before .first-sentence2 in (
+      start .pre .0 .asked .indexed,
+      start .pre .0 .accepted,
+      steps.sentences-inside (start .pre .0) _ (start .pre .1) _ _ (the-first-sentence .ensures) (the-first-sentence2 .ensures),
+    ))
     (λ c κs.
     let start = c .before .before .before .before .before .before .before .before .before .before .before in
     steps.functions-few (start .pre .0))
     (λ c. search needs)
     (λ c.
     let start = c .before .before .before .before .before .before .before .before .before .before .before .before .before in
+    let task = start .args .task in
+    let before = sinkOf (start .args .tally) (start .args .out .now) in
+    let file = fileOf (start .args .law .now) in
+    let formats = formatsIn file (start .args .task .limit) (start .args .store .now) in
     let asked = start .pre .0 .asked in
     let the-first-sentence = c .before .before .before .before .before .before .before .before .before .first-sentence in
     let the-first-sentence2 = c .before .before .before .before .before .before .before .before .first-sentence2 in
+    let counted = steps.sentences-count (start .pre .0) _ (start .pre .1) _ _ (the-first-sentence .ensures) (the-first-sentence2 .ensures) in
+    let read = steps.sentences-first-reads (start .pre .0) _ (start .pre .1) _ _ (the-first-sentence .ensures) (the-first-sentence2 .ensures) in
+    let count = the-first-sentence2 .result - the-first-sentence .result in
+    let first = the-first-sentence .result in
     let the-if1 = c .before .before .before .before .before .before .if1 in
     let the-note-block = c .before .before .before .before .note-block in
     let out-after = the-note-block .last .1 .1 .1 .1 .1 .0 in
     let alone = sym (c .before .none-inside .ensures) ∙ c .if2 .taken in
-    steps.function-steps (fileOf (start .args .law .now)) (formatsIn (fileOf (start .args .law .now)) (start .args .task .limit) (start .args .store .now)) (start .args .task) (start .args .f) (the-first-sentence2 .result - the-first-sentence .result) (the-first-sentence .result) (steps.sentences-count (start .pre .0) (start .args .f) (start .pre .1) (the-first-sentence .result) (the-first-sentence2 .result) (the-first-sentence .ensures) (the-first-sentence2 .ensures)) (steps.sentences-first-reads (start .pre .0) (start .args .f) (start .pre .1) (the-first-sentence .result) (the-first-sentence2 .result) (the-first-sentence .ensures) (the-first-sentence2 .ensures)) (sinkOf (start .args .tally) (start .args .out .now)) (sinkOf (the-note-block .result) out-after) (sinkOf (the-note-block .result) out-after) (the-if1 .left) (the-note-block .ensures) (nothing-inside (start .args .law .now) (start .args .index .now) (start .args .slots .now) (treeOf (fileOf (start .args .law .now))) (formatsIn (fileOf (start .args .law .now)) (start .args .task .limit) (start .args .store .now)) (start .args .task) (asked .indexed) (asked .readable) (asked .places .marked) alone (start .args .f) (the-first-sentence2 .result - the-first-sentence .result) (the-first-sentence .result) (start .pre .1) (steps.sentences-count (start .pre .0) (start .args .f) (start .pre .1) (the-first-sentence .result) (the-first-sentence2 .result) (the-first-sentence .ensures) (the-first-sentence2 .ensures)) (steps.sentences-first-reads (start .pre .0) (start .args .f) (start .pre .1) (the-first-sentence .result) (the-first-sentence2 .result) (the-first-sentence .ensures) (the-first-sentence2 .ensures)) (steps.sentences-inside (start .pre .0) (start .args .f) (start .pre .1) (the-first-sentence .result) (the-first-sentence2 .result) (the-first-sentence .ensures) (the-first-sentence2 .ensures)) (sinkOf (the-note-block .result) out-after)))
+    let noted = sinkOf (the-note-block .result) out-after in
+    let inside = steps.sentences-inside (start .pre .0) _ (start .pre .1) _ _ (the-first-sentence .ensures) (the-first-sentence2 .ensures) in
+    let none = nothing-inside (start .args .law .now) (start .args .index .now) (start .args .slots .now) (treeOf file) formats task (asked .indexed)
+    (asked .readable) (asked .places .marked) alone (start .args .f) count first (start .pre .1) counted read inside noted in
+    steps.function-steps file formats task (start .args .f) count first counted read before noted noted (the-if1 .left) (the-note-block .ensures) none)
     (λ c κs.
     let start = c .before .before .before .before .before .before .before .before .before .before .before .before .before .before in
     let the-first-sentence = c .before .before .before .before .before .before .before .before .before .before .first-sentence in
     let the-first-sentence2 = c .before .before .before .before .before .before .before .before .before .first-sentence2 in
-    (start .pre .0, steps.sentences-inside (start .pre .0) (start .args .f) (start .pre .1) (the-first-sentence .result) (the-first-sentence2 .result) (the-first-sentence .ensures) (the-first-sentence2 .ensures)))
+    (start .pre .0, steps.sentences-inside (start .pre .0) _ (start .pre .1) _ _ (the-first-sentence .ensures) (the-first-sentence2 .ensures)))
     (λ c. search needs)
     (λ c.
     let start = c .before .before .before .before .before .before .before .before .before .before .before .before .before .before .before .before .before in
+    let before = sinkOf (start .args .tally) (start .args .out .now) in
+    let file = fileOf (start .args .law .now) in
+    let formats = formatsIn file (start .args .task .limit) (start .args .store .now) in
     let the-first-sentence = c .before .before .before .before .before .before .before .before .before .before .before .before .before .first-sentence in
     let the-first-sentence2 = c .before .before .before .before .before .before .before .before .before .before .before .before .first-sentence2 in
+    let counted = steps.sentences-count (start .pre .0) _ (start .pre .1) _ _ (the-first-sentence .ensures) (the-first-sentence2 .ensures) in
+    let read = steps.sentences-first-reads (start .pre .0) _ (start .pre .1) _ _ (the-first-sentence .ensures) (the-first-sentence2 .ensures) in
+    let count = the-first-sentence2 .result - the-first-sentence .result in
     let the-if1 = c .before .before .before .before .before .before .before .before .before .before .if1 in
     let the-note-block = c .before .before .before .before .before .before .before .before .note-block in
     let out-after-block = the-note-block .last .1 .1 .1 .1 .1 .0 in
     let the-walk-sentences = c .before .before .walk-sentences in
     let out-after-sentences = the-walk-sentences .last .1 .1 .1 .1 .1 .1 .1 .0 in
-    steps.function-steps (fileOf (start .args .law .now)) (formatsIn (fileOf (start .args .law .now)) (start .args .task .limit) (start .args .store .now)) (start .args .task) (start .args .f) (the-first-sentence2 .result - the-first-sentence .result) (the-first-sentence .result) (steps.sentences-count (start .pre .0) (start .args .f) (start .pre .1) (the-first-sentence .result) (the-first-sentence2 .result) (the-first-sentence .ensures) (the-first-sentence2 .ensures)) (steps.sentences-first-reads (start .pre .0) (start .args .f) (start .pre .1) (the-first-sentence .result) (the-first-sentence2 .result) (the-first-sentence .ensures) (the-first-sentence2 .ensures)) (sinkOf (start .args .tally) (start .args .out .now)) (sinkOf (the-note-block .result) out-after-block) (sinkOf (the-walk-sentences .result) out-after-sentences) (the-if1 .left) (the-note-block .ensures) (the-walk-sentences .ensures)))
+    steps.function-steps file formats (start .args .task) (start .args .f) count (the-first-sentence .result) counted read before
+    (sinkOf (the-note-block .result) out-after-block) (sinkOf (the-walk-sentences .result) out-after-sentences) (the-if1 .left) (the-note-block .ensures)
+    (the-walk-sentences .ensures)))
