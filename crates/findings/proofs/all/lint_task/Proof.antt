@@ -14,15 +14,18 @@ lint-task-spec =
     (λ c κs. search needs)
     (λ c.
     let start = c .before .before .before .before .before in
-    not-due (treeOf (fileOf (start .args .law .now))) (formatsIn (fileOf (start .args .law .now)) (start .args .task .limit) (start .args .store .now))
-    (start .args .task) (start .args .task .room) (sinkOf (start .args .tally) (start .args .out .now)) (c .before .is-due .ensures)
-    (not-true _ (c .if1 .taken)))
+    let before = sinkOf (start .args .tally) (start .args .out .now) in
+    let file = fileOf (start .args .law .now) in
+    let formats = formatsIn file (start .args .task .limit) (start .args .store .now) in
+    not-due (treeOf file) formats (start .args .task) (start .args .task .room) before (c .before .is-due .ensures) (not-true _ (c .if1 .taken)))
     (λ c κs. search needs)
     (λ c. search needs)
     (λ c.
     let the-if1 = c .before .before .before .before .if1 in
     let the-is-due = c .before .before .before .before .before .is-due in
     let start = c .before .before .before .before .before .before .before .before .before in
-    is-due (treeOf (fileOf (start .args .law .now))) (formatsIn (fileOf (start .args .law .now)) (start .args .task .limit) (start .args .store .now))
-    (start .args .task) (start .args .task .room) (sinkOf (start .args .tally) (start .args .out .now)) (the-is-due .ensures) (not-false _ (the-if1 .left))
+    let before = sinkOf (start .args .tally) (start .args .out .now) in
+    let file = fileOf (start .args .law .now) in
+    let formats = formatsIn file (start .args .task .limit) (start .args .store .now) in
+    is-due (treeOf file) formats (start .args .task) (start .args .task .room) before (the-is-due .ensures) (not-false _ (the-if1 .left))
     (c .before .before .lint-law .ensures)))

@@ -31,6 +31,7 @@ note-builtin-spec =
     let the-name-in = c .before .before .before .before .before .before .name-in in
     let the-argument = c .before .before .before .before .before .argument in
     let a = c .before .before .before .before .before .before .before .before .before .before .before .before .args in
-    builtin-met (fileOf (a .law .now)) (a .t) (a .task) (treeOf (fileOf (a .law .now))) (a .task .room) (sinkOf (a .tally) (a .out .now)) (the-text .ensures)
-    (the-term-word .ensures) (the-term-word2 .ensures) (the-name-in .ensures) (the-argument .ensures) (the-builtin-fails .ensures)
-    (c .before .before .note-failure .ensures)))
+    let before = sinkOf (a .tally) (a .out .now) in
+    let file = fileOf (a .law .now) in
+    builtin-met file (a .t) (a .task) (treeOf file) (a .task .room) before (the-text .ensures) (the-term-word .ensures) (the-term-word2 .ensures)
+    (the-name-in .ensures) (the-argument .ensures) (the-builtin-fails .ensures) (c .before .before .note-failure .ensures)))

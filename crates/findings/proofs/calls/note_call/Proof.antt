@@ -16,8 +16,10 @@ note-call-spec =
     (λ c κs. search needs)
     (λ c.
     let a = c .before .before .before .before .before .args in
-    met-none (fileOf (a .law .now)) (a .t) (c .before .term-word .ensures) (a .task .room) (sinkOf (a .tally) (a .out .now))
-    (callEvents (treeOf (fileOf (a .law .now))) (formatsIn (fileOf (a .law .now)) (a .task .limit) (a .store .now)) (a .task)) (c .if1 .taken))
+    let before = sinkOf (a .tally) (a .out .now) in
+    let file = fileOf (a .law .now) in
+    let formats = formatsIn file (a .task .limit) (a .store .now) in
+    met-none file (a .t) (c .before .term-word .ensures) (a .task .room) before (callEvents (treeOf file) formats (a .task)) (c .if1 .taken))
     (λ c κs.
     let the-term-word = c .before .before .before .before .term-word in
     let the-if1 = c .before .before .before .if1 in
@@ -30,9 +32,11 @@ note-call-spec =
     let the-term-word = c .before .before .before .before .before .before .before .term-word in
     let the-if1 = c .before .before .before .before .before .before .if1 in
     let a = c .before .before .before .before .before .before .before .before .before .before .before .args in
-    met-recognition (fileOf (a .law .now)) (a .t) (the-term-word .ensures) (treeOf (fileOf (a .law .now)))
-    (formatsIn (fileOf (a .law .now)) (a .task .limit) (a .store .now)) (a .task) (the-if1 .left) (a .task .room) (sinkOf (a .tally) (a .out .now))
-    (the-if2 .taken) (c .before .before .note-recognition .ensures))
+    let before = sinkOf (a .tally) (a .out .now) in
+    let file = fileOf (a .law .now) in
+    let formats = formatsIn file (a .task .limit) (a .store .now) in
+    met-recognition file (a .t) (the-term-word .ensures) (treeOf file) formats (a .task) (the-if1 .left) (a .task .room) before (the-if2 .taken)
+    (c .before .before .note-recognition .ensures))
     (λ c κs. let the-term-word = c .before .before .before .before .before .before .term-word in
     let the-if1 = c .before .before .before .before .before .if1 in
     let p = c .before .before .before .before .before .before .before .before .before .before .pre in
@@ -44,13 +48,17 @@ note-call-spec =
     let the-term-word = c .before .before .before .before .before .before .before .before .before .term-word in
     let the-if1 = c .before .before .before .before .before .before .before .before .if1 in
     let a = c .before .before .before .before .before .before .before .before .before .before .before .before .before .args in
-    met-builtin (fileOf (a .law .now)) (a .t) (the-term-word .ensures) (treeOf (fileOf (a .law .now)))
-    (formatsIn (fileOf (a .law .now)) (a .task .limit) (a .store .now)) (a .task) (the-if1 .left) (a .task .room) (sinkOf (a .tally) (a .out .now))
-    (the-if3 .taken) (c .before .before .note-builtin .ensures))
+    let before = sinkOf (a .tally) (a .out .now) in
+    let file = fileOf (a .law .now) in
+    let formats = formatsIn file (a .task .limit) (a .store .now) in
+    met-builtin file (a .t) (the-term-word .ensures) (treeOf file) formats (a .task) (the-if1 .left) (a .task .room) before (the-if3 .taken)
+    (c .before .before .note-builtin .ensures))
     (λ c.
     let the-if1 = c .before .before .before .before .if1 in
     let the-term-word = c .before .before .before .before .before .term-word in
     let a = c .before .before .before .before .before .before .before .before .before .args in
-    met-other (fileOf (a .law .now)) (a .t) (the-term-word .ensures) (treeOf (fileOf (a .law .now)))
-    (formatsIn (fileOf (a .law .now)) (a .task .limit) (a .store .now)) (a .task) (the-if1 .left) (a .task .room) (sinkOf (a .tally) (a .out .now))
+    let before = sinkOf (a .tally) (a .out .now) in
+    let file = fileOf (a .law .now) in
+    let formats = formatsIn file (a .task .limit) (a .store .now) in
+    met-other file (a .t) (the-term-word .ensures) (treeOf file) formats (a .task) (the-if1 .left) (a .task .room) before
     (c .before .before .if2 .left) (c .if3 .left)))

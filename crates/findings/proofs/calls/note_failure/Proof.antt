@@ -23,26 +23,30 @@ note-failure-spec =
     (λ c κs. search needs)
     (λ c.
     let a = c .before .before .before .before .args in
-    met-by (λ (x : Fails). failureEvents (fileOf (a .law .now)) (a .task) (a .t) (failureIn x)) (a .task .room) (sinkOf (a .tally) (a .out .now))
-    (c .enum-told .given .1) (collect-none (a .task .room) (sinkOf (a .tally) (a .out .now))))
+    let before = sinkOf (a .tally) (a .out .now) in
+    met-by (λ (x : Fails). failureEvents (fileOf (a .law .now)) (a .task) (a .t) (failureIn x)) (a .task .room) before (c .enum-told .given .1)
+    (collect-none (a .task .room) before))
     (λ c. search needs)
     (λ c.
     let the-enum-told2 = c .before .before .before .before .enum-told2 in
     let a = c .before .before .before .before .before .before .before .before .args in
-    met-by (λ (x : Fails). failureEvents (fileOf (a .law .now)) (a .task) (a .t) (failureIn x)) (a .task .room) (sinkOf (a .tally) (a .out .now))
-    (the-enum-told2 .given .1) (collect-met (a .task .room) (callFound (fileOf (a .law .now)) (a .task) (a .t) 1) (a .tally) (a .out .now)
-    (c .before .before .put-call .ensures)))
+    let before = sinkOf (a .tally) (a .out .now) in
+    let file = fileOf (a .law .now) in
+    met-by (λ (x : Fails). failureEvents file (a .task) (a .t) (failureIn x)) (a .task .room) before (the-enum-told2 .given .1)
+    (collect-met (a .task .room) (callFound file (a .task) (a .t) 1) (a .tally) (a .out .now) (c .before .before .put-call .ensures)))
     (λ c. search needs)
     (λ c.
     let the-enum-told3 = c .before .before .before .before .enum-told3 in
     let a = c .before .before .before .before .before .before .before .before .args in
-    met-by (λ (x : Fails). failureEvents (fileOf (a .law .now)) (a .task) (a .t) (failureIn x)) (a .task .room) (sinkOf (a .tally) (a .out .now))
-    (the-enum-told3 .given .1) (collect-met (a .task .room) (callFound (fileOf (a .law .now)) (a .task) (a .t) 2) (a .tally) (a .out .now)
-    (c .before .before .put-call2 .ensures)))
+    let before = sinkOf (a .tally) (a .out .now) in
+    let file = fileOf (a .law .now) in
+    met-by (λ (x : Fails). failureEvents file (a .task) (a .t) (failureIn x)) (a .task .room) before (the-enum-told3 .given .1)
+    (collect-met (a .task .room) (callFound file (a .task) (a .t) 2) (a .tally) (a .out .now) (c .before .before .put-call2 .ensures)))
     (λ c. search needs)
     (λ c.
     let the-enum-told4 = c .before .before .before .before .enum-told4 in
     let a = c .before .before .before .before .before .before .before .before .args in
-    met-by (λ (x : Fails). failureEvents (fileOf (a .law .now)) (a .task) (a .t) (failureIn x)) (a .task .room) (sinkOf (a .tally) (a .out .now))
-    (the-enum-told4 .given .1) (collect-met (a .task .room) (callFound (fileOf (a .law .now)) (a .task) (a .t) 3) (a .tally) (a .out .now)
-    (c .before .before .put-call3 .ensures))))
+    let before = sinkOf (a .tally) (a .out .now) in
+    let file = fileOf (a .law .now) in
+    met-by (λ (x : Fails). failureEvents file (a .task) (a .t) (failureIn x)) (a .task .room) before (the-enum-told4 .given .1)
+    (collect-met (a .task .room) (callFound file (a .task) (a .t) 3) (a .tally) (a .out .now) (c .before .before .put-call3 .ensures))))

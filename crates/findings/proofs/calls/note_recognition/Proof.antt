@@ -17,14 +17,17 @@ note-recognition-spec =
     (λ c κs. search needs)
     (λ c.
     let a = c .before .before .before .before .before .args in
-    collect-over (a .task .room) (a .tally) (a .out .now)
-    (recognitionEvents (treeOf (fileOf (a .law .now))) (formatsIn (fileOf (a .law .now)) (a .task .limit) (a .store .now)) (a .task)
-    (callAt (fileOf (a .law .now)) (a .t))) (sym (c .before .is-over .ensures) ∙ c .if1 .taken))
+    let file = fileOf (a .law .now) in
+    let formats = formatsIn file (a .task .limit) (a .store .now) in
+    collect-over (a .task .room) (a .tally) (a .out .now) (recognitionEvents (treeOf file) formats (a .task) (callAt file (a .t)))
+    (sym (c .before .is-over .ensures) ∙ c .if1 .taken))
     (λ c κs. search needs)
     (λ c κs. search needs)
     (λ c. search needs)
     (λ c.
     let the-judge-call = c .before .before .before .before .judge-call in
     let a = c .before .before .before .before .before .before .before .before .before .before .args in
-    recognition-met (fileOf (a .law .now)) (a .task) (formatsIn (fileOf (a .law .now)) (a .task .limit) (a .store .now)) (treeOf (fileOf (a .law .now))) (a .t)
-    (a .task .room) (sinkOf (a .tally) (a .out .now)) (the-judge-call .ensures) (c .before .before .note-verdict .ensures)))
+    let before = sinkOf (a .tally) (a .out .now) in
+    let file = fileOf (a .law .now) in
+    let formats = formatsIn file (a .task .limit) (a .store .now) in
+    recognition-met file (a .task) formats (treeOf file) (a .t) (a .task .room) before (the-judge-call .ensures) (c .before .before .note-verdict .ensures)))

@@ -20,21 +20,22 @@ note-verdict-spec =
     (λ c κs. search needs)
     (λ c.
     let a = c .before .before .before .before .args in
-    met-by (verdictEvents (fileOf (a .law .now)) (a .task) (a .t)) (a .task .room) (sinkOf (a .tally) (a .out .now)) (c .enum-told .given .1)
-    (collect-none (a .task .room) (sinkOf (a .tally) (a .out .now))))
+    let before = sinkOf (a .tally) (a .out .now) in
+    met-by (verdictEvents (fileOf (a .law .now)) (a .task) (a .t)) (a .task .room) before (c .enum-told .given .1) (collect-none (a .task .room) before))
     (λ c.
     let a = c .before .before .before .before .args in
-    met-by (verdictEvents (fileOf (a .law .now)) (a .task) (a .t)) (a .task .room) (sinkOf (a .tally) (a .out .now)) (c .enum-told2 .given .1)
+    let before = sinkOf (a .tally) (a .out .now) in
+    met-by (verdictEvents (fileOf (a .law .now)) (a .task) (a .t)) (a .task .room) before (c .enum-told2 .given .1)
     (collect-wide (a .task .room) (a .tally) (a .out .now)))
     (λ c. search needs)
     (λ c.
     let the-enum-told3 = c .before .before .before .before .enum-told3 in
     let a = c .before .before .before .before .before .before .before .before .args in
-    met-by (verdictEvents (fileOf (a .law .now)) (a .task) (a .t)) (a .task .room) (sinkOf (a .tally) (a .out .now)) (the-enum-told3 .given .1)
-    (c .before .before .put-shown .ensures))
+    let before = sinkOf (a .tally) (a .out .now) in
+    met-by (verdictEvents (fileOf (a .law .now)) (a .task) (a .t)) (a .task .room) before (the-enum-told3 .given .1) (c .before .before .put-shown .ensures))
     (λ c. search needs)
     (λ c.
     let the-enum-told4 = c .before .before .before .before .enum-told4 in
     let a = c .before .before .before .before .before .before .before .before .args in
-    met-by (verdictEvents (fileOf (a .law .now)) (a .task) (a .t)) (a .task .room) (sinkOf (a .tally) (a .out .now)) (the-enum-told4 .given .1)
-    (c .before .before .put-shown2 .ensures)))
+    let before = sinkOf (a .tally) (a .out .now) in
+    met-by (verdictEvents (fileOf (a .law .now)) (a .task) (a .t)) (a .task .room) before (the-enum-told4 .given .1) (c .before .before .put-shown2 .ensures)))

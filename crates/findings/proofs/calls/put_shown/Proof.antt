@@ -12,8 +12,8 @@ pub put-shown-spec : {M : Type 1} → statement M
 put-shown-spec = tie.close (tie.spec
     (λ c.
     let a = c .before .before .before .before .args in
-    shown-not (a .task .room) (sinkOf (a .tally) (a .out .now)) (a .task .shown)
-    (callFound (fileOf (a .law .now)) (a .task) (a .t) (a .a) ∷ []) (c .if1 .taken))
+    let before = sinkOf (a .tally) (a .out .now) in
+    shown-not (a .task .room) before (a .task .shown) (callFound (fileOf (a .law .now)) (a .task) (a .t) (a .a) ∷ []) (c .if1 .taken))
     (λ c κs. search needs)
     (λ c. search needs)
     (λ c.

@@ -44,11 +44,12 @@ note-dead-spec =
     let the-note-sentence = c .before .before .note-sentence in
     let out-kept = the-note-sentence .kept .1 .1 .1 .1 .1 .0 in
     let the-loop = c .before .before .before .before .before .loop in
-    let start = c .before .before .before .before .before .before .before .before in (
+    let start = c .before .before .before .before .before .before .before .before in
+    let readable = accepted-readable (start .args .law .now) (start .pre .1) in (
       omega (arith, the-loop-test .taken),
       out-kept ∙ the-loop .inv .1,
-      laws.dead-again (fileOf (start .args .law .now)) (start .args .task) (start .args .first) (start .args .count) (accepted-readable (start .args .law .now)
-          (start .pre .1)) (the-loop .later) (the-loop-test .taken) (start .pre .2) _ _ _ (the-loop .inv .2) (c .before .before .note-sentence .ensures),
+      laws.dead-again (fileOf (start .args .law .now)) (start .args .task) (start .args .first) (start .args .count) readable (the-loop .later)
+          (the-loop-test .taken) (start .pre .2) _ _ _ (the-loop .inv .2) (c .before .before .note-sentence .ensures),
     ))
     (λ c. c .before .loop .inv .1)
     (λ c.

@@ -27,11 +27,12 @@ note-open-spec =
     Inv-loop
     μ-loop
     (λ c.
-    let start = c .before .before in (
+    let start = c .before .before in
+    let readable = accepted-readable (start .args .law .now) (start .pre .1) in
+    let before = sinkOf (start .args .tally) (start .args .out .now) in (
       omega arith,
       refl,
-      ap (collect (start .args .task .room) (sinkOf (start .args .tally) (start .args .out .now)))
-          (laws.open-starts (fileOf (start .args .law .now)) (accepted-readable (start .args .law .now) (start .pre .1)) (start .args .task)
+      ap (collect (start .args .task .room) before) (laws.open-starts (fileOf (start .args .law .now)) readable (start .args .task)
           (start .args .first) (start .args .count)),
     ))
     (λ c.
@@ -52,14 +53,16 @@ note-open-spec =
     let the-note-pattern = c .before .before .note-pattern in
     let out-kept = the-note-pattern .kept .1 .1 .1 .1 .0 in
     let the-loop = c .before .before .before .before .before .loop in
-    let start = c .before .before .before .before .before .before .before .before in (
+    let start = c .before .before .before .before .before .before .before .before in
+    let readable = accepted-readable (start .args .law .now) (start .pre .1) in (
       omega (arith, the-loop-test .taken),
       out-kept ∙ the-loop .inv .1,
-      laws.open-again (fileOf (start .args .law .now)) (accepted-readable (start .args .law .now) (start .pre .1)) (start .args .task) (start .args .first)
-          (start .args .count) (the-loop .i) (the-loop-test .taken) (start .pre .2) _ _ _ (the-loop .inv .2) (c .before .before .note-pattern .ensures),
+      laws.open-again (fileOf (start .args .law .now)) readable (start .args .task) (start .args .first) (start .args .count) (the-loop .i)
+          (the-loop-test .taken) (start .pre .2) _ _ _ (the-loop .inv .2) (c .before .before .note-pattern .ensures),
     ))
     (λ c. c .before .loop .inv .1)
     (λ c.
     let start = c .before .before .before .before in
-    laws.open-ends (fileOf (start .args .law .now)) (accepted-readable (start .args .law .now) (start .pre .1)) (start .args .task) (start .args .first)
-    (start .args .count) (c .before .loop .i) (omega (arith, c .loop-test .left)) _ _ (c .before .loop .inv .2)))
+    let readable = accepted-readable (start .args .law .now) (start .pre .1) in
+    laws.open-ends (fileOf (start .args .law .now)) readable (start .args .task) (start .args .first) (start .args .count) (c .before .loop .i)
+    (omega (arith, c .loop-test .left)) _ _ (c .before .loop .inv .2)))

@@ -14,15 +14,16 @@ note-pattern-spec =
     (λ c κs. search needs)
     (λ c.
     let start = c .before .before .before .before .before in
-    laws.open-few (fileOf (start .args .law .now)) (accepted-readable (start .args .law .now) (start .pre .1)) (start .args .task) (start .args .s)
-    (c .before .e-occurrences .result) _ (start .args .out .now) (start .args .tally) (start .pre .2) (c .before .before .pattern .ensures)
-    (c .before .e-occurrences .ensures .0) (c .if1 .taken))
+    let readable = accepted-readable (start .args .law .now) (start .pre .1) in
+    laws.open-few (fileOf (start .args .law .now)) readable (start .args .task) (start .args .s) (c .before .e-occurrences .result) _ (start .args .out .now)
+    (start .args .tally) (start .pre .2) (c .before .before .pattern .ensures) (c .before .e-occurrences .ensures .0) (c .if1 .taken))
     (λ c.
     let start = c .before .before .before .before .before in
+    let readable = accepted-readable (start .args .law .now) (start .pre .1) in
     omega (
       arith,
-      laws.occurrences-few (start .args .law .now) (start .args .index .now) (start .pre .0) (accepted-readable (start .args .law .now)
-          (start .pre .1)) (start .args .s) (c .before .e-occurrences .result) _ (c .before .before .pattern .ensures) (c .before .e-occurrences .ensures .1),
+      laws.occurrences-few (start .args .law .now) (start .args .index .now) (start .pre .0) readable (start .args .s)
+          (c .before .e-occurrences .result) _ (c .before .before .pattern .ensures) (c .before .e-occurrences .ensures .1),
     ))
     (λ c κs. search needs)
     (λ c. search needs)
@@ -31,6 +32,7 @@ note-pattern-spec =
     let the-e-occurrences = c .before .before .before .before .before .e-occurrences in
     let the-pattern = c .before .before .before .before .before .before .pattern in
     let start = c .before .before .before .before .before .before .before .before .before in
-    laws.open-many (fileOf (start .args .law .now)) (accepted-readable (start .args .law .now) (start .pre .1)) (start .args .task) (start .args .s)
-    (the-e-occurrences .result) _ (start .args .out .now) (start .args .tally) (start .pre .2) (the-pattern .ensures) (the-e-occurrences .ensures .0) _
-    (omega (arith, the-if1 .left)) (c .before .before .put-sentence .ensures)))
+    let readable = accepted-readable (start .args .law .now) (start .pre .1) in
+    laws.open-many (fileOf (start .args .law .now)) readable (start .args .task) (start .args .s) (the-e-occurrences .result) _ (start .args .out .now)
+    (start .args .tally) (start .pre .2) (the-pattern .ensures) (the-e-occurrences .ensures .0) _ (omega (arith, the-if1 .left))
+    (c .before .before .put-sentence .ensures)))

@@ -13,12 +13,13 @@ note-block-spec =
     tie.close
     (tie.spec
     (λ c. let start = c .before .before .before .before in
-    block-passed (start .args .task) (keep (start .args .count) (sentencesAt (fileOf (start .args .law .now)) (start .args .first)))
-    (sinkOf (start .args .tally) (start .args .out .now)) (c .if1 .taken))
+    let before = sinkOf (start .args .tally) (start .args .out .now) in
+    block-passed (start .args .task) (keep (start .args .count) (sentencesAt (fileOf (start .args .law .now)) (start .args .first))) before (c .if1 .taken))
     (λ c κs. search needs)
     (λ c. search needs)
     (λ c.
     let the-if1 = c .before .before .before .before .if1 in
     let start = c .before .before .before .before .before .before .before .before in
-    block-noted (start .args .task) (keep (start .args .count) (sentencesAt (fileOf (start .args .law .now)) (start .args .first)))
-    (sinkOf (start .args .tally) (start .args .out .now)) _ (the-if1 .left) (c .before .before .note-dead .ensures true)))
+    let before = sinkOf (start .args .tally) (start .args .out .now) in
+    block-noted (start .args .task) (keep (start .args .count) (sentencesAt (fileOf (start .args .law .now)) (start .args .first))) before _ (the-if1 .left)
+    (c .before .before .note-dead .ensures true)))
