@@ -10,5 +10,13 @@ character-fields-spec =
     (tie.spec
     (λ c κs. search needs)
     (λ c. rw (← (c .before .scalar-allowed .ensures), not-true (c .before .scalar-allowed .result) (c .if1 .taken)))
-    (λ c. rw (← (c .before .before .scalar-allowed .ensures), not-false (c .before .before .scalar-allowed .result) (c .before .if1 .left), eq-eqb _ _ (c .if2 .taken)))
-    (λ c. rw (← (c .before .before .scalar-allowed .ensures), not-false (c .before .before .scalar-allowed .result) (c .before .if1 .left), ne-eqb _ _ (c .if2 .left))))
+    (λ c. rw (
+      ← (c .before .before .scalar-allowed .ensures),
+      not-false (c .before .before .scalar-allowed .result) (c .before .if1 .left),
+      eq-eqb _ _ (c .if2 .taken),
+    ))
+    (λ c. rw (
+      ← (c .before .before .scalar-allowed .ensures),
+      not-false (c .before .before .scalar-allowed .result) (c .before .if1 .left),
+      ne-eqb _ _ (c .if2 .left),
+    )))

@@ -65,7 +65,8 @@ fields-allowed-spec =
     (λ c κs. (search needs, c .before .is-named .ensures))
     (λ c.
     let start = c .before .before .before .before .before .before .before .before .before .before .before in
-    sym (fields-parts (start .args .law .now) (start .args .sections) (start .pre .1) ∙ first-fails _ _ (sym (c .before .functions-allowed .ensures) ∙ not-true _ (c .if1 .taken))))
+    sym (fields-parts (start .args .law .now) (start .args .sections) (start .pre .1)
+    ∙ first-fails _ _ (sym (c .before .functions-allowed .ensures) ∙ not-true _ (c .if1 .taken))))
     (λ c. search needs)
     (λ c. search needs)
     (λ c.
@@ -78,4 +79,5 @@ fields-allowed-spec =
     let start = c .before .before .before .before .before .before .before .before .before .before .before .before .before in
     let the-functions-allowed = c .before .before .before .functions-allowed in
     let the-if1 = c .before .before .if1 in
-    c .terms-allowed .ensures ∙ sym (rw (sym (the-functions-allowed .ensures) ∙ not-false _ (the-if1 .left)) at (fields-parts (start .args .law .now) (start .args .sections) (start .pre .1)))))
+    c .terms-allowed .ensures ∙ sym (rw (sym (the-functions-allowed .ensures) ∙ not-false _ (the-if1 .left)) at
+    (fields-parts (start .args .law .now) (start .args .sections) (start .pre .1)))))

@@ -34,14 +34,19 @@ functions-allowed-spec =
     let the-loop-test = c .before .before .before .before .loop-test in
     let the-word-at = c .before .before .before .word-at in
     let i = c .before .before .before .before .before .loop .i in
-    sym (every-fails _ _ i (the-loop-test .taken) (function-tested _ _ _ _ _ _ (the-word-at .ensures) (c .before .before .word-at2 .ensures) (c .before .spelled-name .ensures) ∙ not-true _ (c .if1 .taken))))
+    sym (every-fails _ _ i (the-loop-test .taken)
+    (function-tested _ _ _ _ _ _ (the-word-at .ensures) (c .before .before .word-at2 .ensures) (c .before .spelled-name .ensures)
+    ∙ not-true _ (c .if1 .taken))))
     (λ c. omega arith)
     (λ c. omega arith)
     (λ c.
     let the-word-at = c .before .before .before .word-at in
     let the-loop = c .before .before .before .before .before .loop in
-    let i = c .before .before .before .before .before .loop .i in
-    (omega arith, every-next i _ (the-loop .inv .1) (function-tested _ _ _ _ _ _ (the-word-at .ensures) (c .before .before .word-at2 .ensures) (c .before .spelled-name .ensures) ∙ not-false _ (c .if1 .left))))
+    let i = c .before .before .before .before .before .loop .i in (
+      omega arith,
+      every-next i _ (the-loop .inv .1) (function-tested _ _ _ _ _ _ (the-word-at .ensures) (c .before .before .word-at2 .ensures)
+          (c .before .spelled-name .ensures) ∙ not-false _ (c .if1 .left)),
+    ))
     (λ c.
     let the-args = c .before .before .before .before .args in
     let e : c .before .loop .i ≡ the-args .count = omega arith in

@@ -40,6 +40,8 @@ term-allowed-spec =
     let none-to-eight = c .match .rest in
     let none-to-four = none-to-eight .0 .0 .0 .0 in
     let none-to-three = none-to-four .0 in
-    let four : 4 ≤ k = above 3 k (above 2 k (above 1 k (above 0 k (omega arith) (none-to-three .0 .0 .0 .1)) (none-to-three .0 .0 .1)) (none-to-three .0 .1)) (none-to-three .1) in
-    let nine : 9 ≤ k = above 8 k (above 7 k (above 6 k (above 5 k (above 4 k four (none-to-four .1)) (none-to-eight .0 .0 .0 .1)) (none-to-eight .0 .0 .1)) (none-to-eight .0 .1)) (none-to-eight .1) in
+    let four : 4 ≤ k = above 3 k (above 2 k (above 1 k (above 0 k (omega arith) (none-to-three .0 .0 .0 .1)) (none-to-three .0 .0 .1)) (none-to-three .0 .1))
+    (none-to-three .1) in
+    let nine : 9 ≤ k = above 8 k (above 7 k (above 6 k (above 5 k (above 4 k four (none-to-four .1)) (none-to-eight .0 .0 .0 .1)) (none-to-eight .0 .0 .1))
+    (none-to-eight .0 .1)) (none-to-eight .1) in
     sym (kind-over (s .text .now) k (s .a) (s .b) (s .n) nine)))

@@ -24,6 +24,8 @@ term-from-spec =
     let k = c .before .args .kind in
     let none-to-seven = c .match .rest in
     let none-to-three = none-to-seven .0 .0 .0 .0 in
-    let four : 4 ≤ k = above 3 k (above 2 k (above 1 k (above 0 k (omega arith) (none-to-three .0 .0 .0 .1)) (none-to-three .0 .0 .1)) (none-to-three .0 .1)) (none-to-three .1) in
-    let eight : 8 ≤ k = above 7 k (above 6 k (above 5 k (above 4 k four (none-to-seven .0 .0 .0 .1)) (none-to-seven .0 .0 .1)) (none-to-seven .0 .1)) (none-to-seven .1) in
+    let four : 4 ≤ k = above 3 k (above 2 k (above 1 k (above 0 k (omega arith) (none-to-three .0 .0 .0 .1)) (none-to-three .0 .0 .1)) (none-to-three .0 .1))
+    (none-to-three .1) in
+    let eight : 8 ≤ k = above 7 k (above 6 k (above 5 k (above 4 k four (none-to-seven .0 .0 .0 .1)) (none-to-seven .0 .0 .1)) (none-to-seven .0 .1))
+    (none-to-seven .1) in
     sym (term-past k _ _ eight)))

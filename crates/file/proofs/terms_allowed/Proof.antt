@@ -40,7 +40,9 @@ terms-allowed-spec =
     let the-loop-test = c .before .before .before .before .before .before .loop-test in
     let the-word-at = c .before .before .before .before .before .word-at in
     let i = c .before .before .before .before .before .before .before .loop .i in
-    sym (every-fails _ _ i (the-loop-test .taken) (term-tested _ _ _ _ _ _ _ _ (the-word-at .ensures) (the-word-at2 .ensures) (the-word-at3 .ensures) (c .before .before .word-at4 .ensures) (c .before .term-allowed .ensures) ∙ not-true _ (c .if1 .taken))))
+    sym (every-fails _ _ i (the-loop-test .taken)
+    (term-tested _ _ _ _ _ _ _ _ (the-word-at .ensures) (the-word-at2 .ensures) (the-word-at3 .ensures) (c .before .before .word-at4 .ensures)
+    (c .before .term-allowed .ensures) ∙ not-true _ (c .if1 .taken))))
     (λ c. omega arith)
     (λ c. omega arith)
     (λ c.
@@ -48,8 +50,11 @@ terms-allowed-spec =
     let the-word-at3 = c .before .before .before .word-at3 in
     let the-loop = c .before .before .before .before .before .before .before .loop in
     let the-word-at = c .before .before .before .before .before .word-at in
-    let i = c .before .before .before .before .before .before .before .loop .i in
-    (omega arith, every-next i _ (the-loop .inv .1) (term-tested _ _ _ _ _ _ _ _ (the-word-at .ensures) (the-word-at2 .ensures) (the-word-at3 .ensures) (c .before .before .word-at4 .ensures) (c .before .term-allowed .ensures) ∙ not-false _ (c .if1 .left))))
+    let i = c .before .before .before .before .before .before .before .loop .i in (
+      omega arith,
+      every-next i _ (the-loop .inv .1) (term-tested _ _ _ _ _ _ _ _ (the-word-at .ensures) (the-word-at2 .ensures) (the-word-at3 .ensures)
+          (c .before .before .word-at4 .ensures) (c .before .term-allowed .ensures) ∙ not-false _ (c .if1 .left)),
+    ))
     (λ c.
     let the-args = c .before .before .before .before .args in
     let e : c .before .loop .i ≡ the-args .count = omega arith in
