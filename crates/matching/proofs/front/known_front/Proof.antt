@@ -23,7 +23,8 @@ known-front-spec =
     Inv-loop
     μ-loop
     (λ c. let a = c .before .before .before .before .args in
-    laws.passed-none (a .text .now) (a .pattern .now) (a .row .now) (valuesOf (a .text .now) (a .terms .now) (places (a .keys .now) (a .starts .now) (a .sizes .now) (a .count))))
+    laws.passed-none (a .text .now) (a .pattern .now) (a .row .now)
+    (valuesOf (a .text .now) (a .terms .now) (places (a .keys .now) (a .starts .now) (a .sizes .now) (a .count))))
     (λ c. begin-inside (c .loop .inv .begins))
     (λ c. begin-inside (c .loop .inv .begins))
     (λ c. search needs)

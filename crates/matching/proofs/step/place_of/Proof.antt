@@ -10,7 +10,8 @@ use Rattle.matching.proofs.step.place_of.Tie as tie
 
 abbrev Inv-loop : tie.InvT-loop
 Inv-loop text terms pattern keys count i₀ i =
-    (i ≤ count) × ((starts sizes : List ℕ) → Kept text terms (places keys starts sizes count) → laws.NotFrom text terms pattern (places keys starts sizes count) i)
+    (i ≤ count) × ((starts sizes : List ℕ) → Kept text terms (places keys starts sizes count)
+    → laws.NotFrom text terms pattern (places keys starts sizes count) i)
 
 abbrev μ-loop : tie.MeasureT-loop
 μ-loop text terms pattern keys count i₀ i = i
@@ -32,17 +33,29 @@ place-of-spec =
     let the-loop = c .before .before .before .loop in
     let the-args = c .before .before .before .before .before .before .before .args in
     let the-pre = c .before .before .before .before .before .before .before .pre in
-    omega (arith, laws.key-inside (the-args .terms .now) (the-args .keys .now) (the-pre .1) (the-loop .inv .0) (c .before .before .if1 .left) (c .wide .ensures .0)))
+    omega (
+      arith,
+      laws.key-inside (the-args .terms .now) (the-args .keys .now) (the-pre .1) (the-loop .inv .0)
+          (c .before .before .if1 .left) (c .wide .ensures .0),
+    ))
     (λ c.
     let the-loop = c .before .before .before .loop in
     let the-args = c .before .before .before .before .before .before .before .args in
     let the-pre = c .before .before .before .before .before .before .before .pre in
-    omega (arith, laws.key-inside (the-args .terms .now) (the-args .keys .now) (the-pre .1) (the-loop .inv .0) (c .before .before .if1 .left) (c .wide .ensures .0)))
+    omega (
+      arith,
+      laws.key-inside (the-args .terms .now) (the-args .keys .now) (the-pre .1) (the-loop .inv .0)
+          (c .before .before .if1 .left) (c .wide .ensures .0),
+    ))
     (λ c.
     let the-loop = c .before .before .before .loop in
     let the-args = c .before .before .before .before .before .before .before .args in
     let the-pre = c .before .before .before .before .before .before .before .pre in
-    omega (arith, laws.key-inside (the-args .terms .now) (the-args .keys .now) (the-pre .1) (the-loop .inv .0) (c .before .before .if1 .left) (c .wide .ensures .0)))
+    omega (
+      arith,
+      laws.key-inside (the-args .terms .now) (the-args .keys .now) (the-pre .1) (the-loop .inv .0)
+          (c .before .before .if1 .left) (c .wide .ensures .0),
+    ))
     (λ c κs.
     let the-loop = c .before .before .before .before .loop in
     let the-if1 = c .before .before .before .if1 in
@@ -55,11 +68,13 @@ place-of-spec =
     let the-if1 = c .before .before .before .before .before .if1 in
     let so-far = c .before .before .before .before .before .before .loop .inv in (
       omega (arith, so-far .0),
-      λ starts sizes kept. laws.place-next (so-far .1 starts sizes kept) kept (the-if1 .left) (the-wide .ensures .0) (c .before .atoms-same .ensures) (c .if2 .left),
+      λ starts sizes kept. laws.place-next (so-far .1 starts sizes kept) kept (the-if1 .left) (the-wide .ensures .0)
+          (c .before .atoms-same .ensures) (c .if2 .left),
     ))
     (λ c. λ starts sizes kept. laws.place-free (c .before .loop .inv .1 starts sizes kept) (c .if1 .taken))
     (λ c.
     let the-wide = c .before .before .before .wide in
     let the-loop = c .before .before .before .before .before .before .loop in
     let the-if1 = c .before .before .before .before .before .if1 in
-    λ starts sizes kept. laws.place-here (the-loop .inv .1 starts sizes kept) kept (the-if1 .left) (the-wide .ensures .0) (c .before .atoms-same .ensures) (c .if2 .taken)))
+    λ starts sizes kept. laws.place-here (the-loop .inv .1 starts sizes kept) kept (the-if1 .left) (the-wide .ensures .0)
+    (c .before .atoms-same .ensures) (c .if2 .taken)))

@@ -17,29 +17,50 @@ variable-first-spec =
     (λ c.
     let the-place-of = c .before .before .before .place-of in
     let start = c .before .before .before .before .before .before .before .before in
-    omega (arith, start .pre .0 .few, places.place-is (start .args .pattern .now) (start .pre .0) (c .before .i .given .1) (the-place-of .ensures _ _ (start .pre .0)) .0))
+    omega (
+      arith,
+      start .pre .0 .few,
+      places.place-is (start .args .pattern .now) (start .pre .0) (c .before .i .given .1) (the-place-of .ensures
+          _ _ (start .pre .0)) .0,
+    ))
     (λ c.
     let the-place-of = c .before .before .before .place-of in
     let start = c .before .before .before .before .before .before .before .before in
-    omega (arith, start .pre .0 .few, places.place-is (start .args .pattern .now) (start .pre .0) (c .before .i .given .1) (the-place-of .ensures _ _ (start .pre .0)) .0))
+    omega (
+      arith,
+      start .pre .0 .few,
+      places.place-is (start .args .pattern .now) (start .pre .0) (c .before .i .given .1) (the-place-of .ensures
+          _ _ (start .pre .0)) .0,
+    ))
     (λ c κs. search needs)
     (λ c.
     let the-i = c .before .before .before .i in
     let the-place-of = c .before .before .before .before .before .place-of in
     let start = c .before .before .before .before .before .before .before .before .before .before in
-    omega (arith, start .pre .0 .few, places.place-is (start .args .pattern .now) (start .pre .0) (the-i .given .1) (the-place-of .ensures _ _ (start .pre .0)) .0))
+    omega (
+      arith,
+      start .pre .0 .few,
+      places.place-is (start .args .pattern .now) (start .pre .0) (the-i .given .1) (the-place-of .ensures
+          _ _ (start .pre .0)) .0,
+    ))
     (λ c.
     let the-i = c .before .before .before .i in
     let the-place-of = c .before .before .before .before .before .place-of in
     let start = c .before .before .before .before .before .before .before .before .before .before in
-    omega (arith, start .pre .0 .few, places.place-is (start .args .pattern .now) (start .pre .0) (the-i .given .1) (the-place-of .ensures _ _ (start .pre .0)) .0))
+    omega (
+      arith,
+      start .pre .0 .few,
+      places.place-is (start .args .pattern .now) (start .pre .0) (the-i .given .1) (the-place-of .ensures
+          _ _ (start .pre .0)) .0,
+    ))
     (λ c κs. search needs)
     (λ c κs.
     let the-wide = c .before .before .wide in
     let the-i = c .before .before .before .before .before .i in
     let the-place-of = c .before .before .before .before .before .before .before .place-of in
     let start = c .before .before .before .before .before .before .before .before .before .before .before .before in
-    let inside = start .pre .0 .inside (the-i .given .0 .0) (places.place-is (start .args .pattern .now) (start .pre .0) (the-i .given .1) (the-place-of .ensures _ _ (start .pre .0)) .0) in
+    let inside = start .pre .0 .inside (the-i .given .0 .0)
+    (places.place-is (start .args .pattern .now) (start .pre .0) (the-i .given .1) (the-place-of .ensures _ _ (start .pre .0)) .0) in
     (omega (arith, the-wide .ensures .0, c .wide2 .ensures .0, inside), start .pre .1))
     (λ c. search needs)
     (λ c κs. search needs)
@@ -53,4 +74,6 @@ variable-first-spec =
     (λ c.
     let the-place-of = c .before .before .before .place-of in
     let start = c .before .before .before .before .before .before .before .before in
-    λ v first. c .free-first .ensures _ v _ first (sym (places.place-is (start .args .pattern .now) (start .pre .0) (c .before .enum-told .given .1) (the-place-of .ensures _ _ (start .pre .0)) .1 v first))))
+    λ v first. c .free-first .ensures _ v _ first
+    (sym (places.place-is (start .args .pattern .now) (start .pre .0) (c .before .enum-told .given .1)
+    (the-place-of .ensures _ _ (start .pre .0)) .1 v first))))
