@@ -135,7 +135,8 @@ module _ {A : Type 0} (same : A → A → Bool) (ofLaw : Symbol → A) (isSymbol
             (each (λ (q : Terms A × Terms A). found p (q .1) (noted o' v (q .0) us)) (may o' (v .kind) x))
         go o o' e below =
             rw e
-            (paired-same l (λ (q : Terms A × Terms A). found p (q .1) (noted o' v (q .0) vs)) (λ (q : Terms A × Terms A). found p (q .1) (noted o' v (q .0) us)) (λ q. below o' q) (may o' (v .kind) x))
+            (paired-same l (λ (q : Terms A × Terms A). found p (q .1) (noted o' v (q .0) vs))
+            (λ (q : Terms A × Terms A). found p (q .1) (noted o' v (q .0) us)) (λ q. below o' q) (may o' (v .kind) x))
     matches-agree (symbol other p) x vs us among h = tt
     matches-agree (brackets c p) nothing vs us among h = tt
     matches-agree (brackets c p) (symbol a x) vs us among h = tt

@@ -192,7 +192,10 @@ module _ {text terms : List ℕ} {p : Pending} {at : ℕ} {keys : List ℕ} {sur
       few = omega (arith, so .few);
       row-from = getD (p .rows) (n - 1) 0;
       inside = rw ends (next .5);
-      whole = λ starts sizes kept h. so .whole starts sizes kept (rw coming-level (closed-both (variablesIn (between text terms from end)) (comingIn (levels text terms (p .patterns) (p .rows) end (getD (p .rows) (n - 1) 0) (n - 1)))
+      whole =
+          λ starts sizes kept h. so .whole starts sizes kept
+          (rw coming-level (closed-both (variablesIn (between text terms from end))
+          (comingIn (levels text terms (p .patterns) (p .rows) end (getD (p .rows) (n - 1) 0) (n - 1)))
           (valuesUpTo text terms keys starts sizes sure) (valuesUpTo text terms keys starts sizes count) (λ vs. closed starts sizes vs kept) h));
     }
 

@@ -40,7 +40,8 @@ pub stands-at : (whole s : List ℕ) (a m : ℕ) → Stands whole s (24 * a) →
 stands-at whole s a m stands h =
     let long : 24 ≤ length (from (24 * m) s) = omega (arith, from-length (24 * m) s) in
     let here : termAt (from (24 * m) s) 0 ≡ termAt s (0 + 24 * m) = stands-term s (from (24 * m) s) (0 + 24 * m) (stands-from s s 0 (24 * m) (stands-whole s) (omega arith)) long in
-    let there : termAt (from (24 * m) s) 0 ≡ termAt whole (24 * a + 24 * m) = stands-term whole (from (24 * m) s) (24 * a + 24 * m) (stands-from whole s (24 * a) (24 * m) stands (omega arith)) long in
+    let there : termAt (from (24 * m) s) 0 ≡ termAt whole (24 * a + 24 * m) = stands-term whole (from (24 * m) s) (24 * a + 24 * m)
+    (stands-from whole s (24 * a) (24 * m) stands (omega arith)) long in
     let i : 0 + 24 * m ≡ 24 * m = omega arith in
     let j : 24 * a + 24 * m ≡ 24 * (a + m) = omega arith in
     (rw i at (sym here)) ∙ (rw j at there)

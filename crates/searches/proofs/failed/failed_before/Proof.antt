@@ -37,4 +37,5 @@ failed-before-spec =
     let the-if1 = c .before .before .before .before .before .before .before .before .if1 in
     let the-wide2 = c .before .before .before .before .before .before .wide2 in
     let the-if2 = c .before .before .before .before .before .if2 in
-    λ e. rest-within (the-args .failed .now) (the-slot .result) (the-wide .ensures .0) (the-if1 .left) (the-wide2 .ensures .0) (the-if2 .left) (the-wide3 .ensures .0) (c .before .before .if3 .left) (c .wide4 .ensures .0) e))
+    λ e. rest-within (the-args .failed .now) (the-slot .result) (the-wide .ensures .0) (the-if1 .left) (the-wide2 .ensures .0) (the-if2 .left)
+    (the-wide3 .ensures .0) (c .before .before .if3 .left) (c .wide4 .ensures .0) e))

@@ -281,8 +281,10 @@ pub +literal-anew+literal-apart+literal-bracket+literal-end+literal-first+litera
     (λ c. c .before .end-of2 .ensures .1)
     (λ c. search needs)
     (λ c. search needs)
-    (λ c. let start = c .before .before .before .before .before .before .before .before .pre .1 .0 in omega (arith, start .0 .asked .pattern-stands .inside, start .0 .asked .small, start .1))
-    (λ c. let start = c .before .before .before .before .before .before .before .before .pre .1 .0 in omega (arith, start .0 .asked .row-stands .inside, start .0 .asked .small, start .2 .some))
+    (λ c. let start = c .before .before .before .before .before .before .before .before .pre .1 .0 in
+    omega (arith, start .0 .asked .pattern-stands .inside, start .0 .asked .small, start .1))
+    (λ c. let start = c .before .before .before .before .before .before .before .before .pre .1 .0 in
+    omega (arith, start .0 .asked .row-stands .inside, start .0 .asked .small, start .2 .some))
     (λ c κs.
     let the-end-of = c .before .before .before .before .end-of in
     let the-end-of2 = c .before .before .before .end-of2 in
@@ -298,7 +300,8 @@ pub +literal-anew+literal-apart+literal-bracket+literal-end+literal-first+litera
     let the-end-of = c .before .before .before .before .before .before .end-of in
     let the-end-of2 = c .before .before .before .before .before .end-of2 in
     let start = the-pre .1 .0 in (
-      alone.bracket-none _ _ _ (the-pre .1 .1 .0) _ _ _ _ _ (the-end-of .ensures .0) (the-end-of2 .ensures .0) _ _ _ _ (c .before .literal-run .ensures .0) (not-true _ (c .if1 .taken)),
+      alone.bracket-none _ _ _ (the-pre .1 .1 .0) _ _ _ _ _ (the-end-of .ensures .0) (the-end-of2 .ensures .0) _ _ _ _ (c .before .literal-run .ensures .0)
+          (not-true _ (c .if1 .taken)),
       alone.remembered-inside (start .0) (the-pre .1 .1 .0) (start .1) (start .2) _ _ (c .before .literal-run .ensures .1),
     ))
     (λ c. let the-end-of = c .before .before .before .before .before .before .end-of in
@@ -310,9 +313,11 @@ pub +literal-anew+literal-apart+literal-bracket+literal-end+literal-first+litera
     (λ c. search needs)
     (λ c. search needs)
     (λ c. let the-end-of = c .before .before .before .before .before .before .before .before .end-of in
-    let asked = c .before .before .before .before .before .before .before .before .before .before .before .before .before .pre .1 .0 .0 .asked in omega (arith, asked .pattern-stands .inside, asked .small, the-end-of .ensures .2))
+    let asked = c .before .before .before .before .before .before .before .before .before .before .before .before .before .pre .1 .0 .0 .asked in
+    omega (arith, asked .pattern-stands .inside, asked .small, the-end-of .ensures .2))
     (λ c. let the-end-of2 = c .before .before .before .before .before .before .before .end-of2 in
-    let asked = c .before .before .before .before .before .before .before .before .before .before .before .before .before .pre .1 .0 .0 .asked in omega (arith, asked .row-stands .inside, asked .small, the-end-of2 .ensures .2))
+    let asked = c .before .before .before .before .before .before .before .before .before .before .before .before .before .pre .1 .0 .0 .asked in
+    omega (arith, asked .row-stands .inside, asked .small, the-end-of2 .ensures .2))
     (λ c κs.
     let the-literal-run = c .before .before .before .before .literal-run in
     let the-pre = c .before .before .before .before .before .before .before .before .before .before .before .before .before .before .pre in
@@ -324,7 +329,8 @@ pub +literal-anew+literal-apart+literal-bracket+literal-end+literal-first+litera
       (
         level.literal-later (start .0) _ _ begins (the-end-of2 .ensures .2),
         around.remembering-later (start .0) _ _ (ends .2) (the-end-of2 .ensures .2) begins
-            (around.remembering-then (start .3) (alone.remembered-inside (start .0) (the-pre .1 .1 .0) (start .1) (start .2) _ _ (the-literal-run .ensures .1))),
+            (around.remembering-then (start .3) (alone.remembered-inside (start .0) (the-pre .1 .1 .0) (start .1) (start .2) _ _
+            (the-literal-run .ensures .1))),
       ),
     ))
     (λ c.
@@ -366,8 +372,10 @@ pub +literal-anew+literal-apart+literal-bracket+literal-end+literal-first+litera
     let apart = c .before .before .stands-apart .ensures (c .before .if1 .taken) in
     (omega (arith, start .0), (start .1, (apart .0, rw (the-end-of .ensures .0) at (apart .1)))))
     (λ c. c .literal-apart .ensures)
-    (λ c κs. let start = c .before .before .before .before .before .before .before .before .before .before .pre in (omega (arith, start .0), (start .1 .0, start .1 .1, start .1 .2)))
-    (λ c. let start = c .before .before .before .before .before .before .before .before .before .before .before .pre in (c .literal-inside .ensures .0, around.remembered-same (start .1 .3) (c .literal-inside .ensures .1))))
+    (λ c κs. let start = c .before .before .before .before .before .before .before .before .before .before .pre in
+    (omega (arith, start .0), (start .1 .0, start .1 .1, start .1 .2)))
+    (λ c. let start = c .before .before .before .before .before .before .before .before .before .before .before .pre in
+    (c .literal-inside .ensures .0, around.remembered-same (start .1 .3) (c .literal-inside .ensures .1))))
     (λ t. literal-end-lts.spec (
       holds-around-reads.Asked,
       holds-around-reads.Learnt,
@@ -381,18 +389,22 @@ pub +literal-anew+literal-apart+literal-bracket+literal-end+literal-first+litera
     (literal-end-at t)
     literal-end.Post
     (λ c κs. let start = c .before .before .pre .1 in (start .0 .2, start .1 .1 .0 .few, (_, start .0 .1)))
-    (λ c κs. let start = c .before .before .before .before .before .pre in (omega (arith, start .0), ((start .1 .0 .0, start .1 .0 .1, start .1 .0 .2), start .1 .1 .0)))
-    (λ c. let start = c .before .before .before .before .before .before .pre .1 in (c .literal-out .ensures .0, around.remembered-unchanged (start .1 .1 .1) (c .literal-out .ensures .1)))
+    (λ c κs. let start = c .before .before .before .before .before .pre in
+    (omega (arith, start .0), ((start .1 .0 .0, start .1 .0 .1, start .1 .0 .2), start .1 .1 .0)))
+    (λ c. let start = c .before .before .before .before .before .before .pre .1 in
+    (c .literal-out .ensures .0, around.remembered-unchanged (start .1 .1 .1) (c .literal-out .ensures .1)))
     (λ c κs. tt)
     (λ c.
     let the-holds-around = c .before .before .before .before .holds-around in
     let the-if1 = c .before .before .before .if1 in
     let start = c .before .before .before .before .before .before .before .pre .1 in
     let (known, closed) = the-holds-around .ensures (not-false _ (the-if1 .left)) in (
-      around.out-known _ _ _ _ _ (around.closed-levels (closed _) (start .1 .1 .0)) (start .1 .1 .1 known) _ _ (c .before .failed-before .ensures (c .if2 .taken)),
+      around.out-known _ _ _ _ _ (around.closed-levels (closed _) (start .1 .1 .0)) (start .1 .1 .1 known) _ _
+          (c .before .failed-before .ensures (c .if2 .taken)),
       around.remembered-unchanged (start .1 .1 .1) refl,
     ))
-    (λ c κs. let start = c .before .before .before .before .before .before .before .before .pre in (omega (arith, start .0), ((start .1 .0 .0, start .1 .0 .1, start .1 .0 .2), start .1 .1 .0)))
+    (λ c κs. let start = c .before .before .before .before .before .before .before .before .pre in
+    (omega (arith, start .0), ((start .1 .0 .0, start .1 .0 .1, start .1 .0 .2), start .1 .1 .0)))
     (λ c κs.
     let the-literal-out2 = c .before .before .literal-out2 in
     let start = c .before .before .before .before .before .before .before .before .before .before .before .pre .1 in
@@ -412,7 +424,8 @@ pub +literal-anew+literal-apart+literal-bracket+literal-end+literal-first+litera
     let (known, closed) = the-holds-around .ensures (not-false _ (the-if1 .left)) in (
       out .0,
       around.remembered-here known
-          (around.out-noted _ _ _ _ _ (around.closed-levels (closed _) (start .1 .1 .0)) (out .0) (not-true _ (c .before .before .if3 .taken)) (remembers-same (start .1 .1 .1 known) (out .1)) _ _ (c .note-failed .ensures)),
+          (around.out-noted _ _ _ _ _ (around.closed-levels (closed _) (start .1 .1 .0)) (out .0) (not-true _ (c .before .before .if3 .taken))
+          (remembers-same (start .1 .1 .1 known) (out .1)) _ _ (c .note-failed .ensures)),
     ))
     (λ c. let start = c .before .before .before .before .before .before .before .before .before .before .pre .1 in
     let out = c .before .literal-out2 .ensures in
@@ -477,19 +490,33 @@ pub +literal-anew+literal-apart+literal-bracket+literal-end+literal-first+litera
     let binds = first-record.binds-within (start .1 .1 .leaves) true _ (the-first .given .1) in (
       omega (arith, start .0, ends .ensures .1, ends .ensures .2, asked .pattern-stands .inside),
       (
-        level.literal-more (start .1 .0 .0) (stopped .some) (binds .1) (binds .0) (c .before .bind .ensures) (ends .result) (the-first .given .0 .0) (ends .ensures .0) (binds .0),
-        around.remembering-later (start .1 .0 .0) _ _ (ends .ensures .2) (binds .0) (sure.begin-second (stopped .some) (ends .ensures .0)) (around.remembering-bound (start .1 .0 .1) (c .before .bind .ensures)),
+        level.literal-more (start .1 .0 .0) (stopped .some) (binds .1) (binds .0) (c .before .bind .ensures) (ends .result) (the-first .given .0 .0)
+            (ends .ensures .0) (binds .0),
+        around.remembering-later (start .1 .0 .0) _ _ (ends .ensures .2) (binds .0) (sure.begin-second (stopped .some) (ends .ensures .0))
+            (around.remembering-bound (start .1 .0 .1) (c .before .bind .ensures)),
       ),
     ))
     (λ c. search needs)
     (λ c κs. let start = c .before .before .before .before .before .before .before .pre in
     let stopped = start .1 .1 in
-    let told = c .before .enum-told3 .given .1 in
-    (omega (arith, start .0), ((start .1 .0 .0, stopped .some, start .1 .0 .1), (first-record.tries-free (stopped .leaves) true told, λ back. first-record.step-tries (stopped .leaves) back told))))
+    let told = c .before .enum-told3 .given .1 in (
+      omega (arith, start .0),
+      (
+        (start .1 .0 .0, stopped .some, start .1 .0 .1),
+        (first-record.tries-free (stopped .leaves) true told, λ back. first-record.step-tries (stopped .leaves) back told),
+      ),
+    ))
     (λ c. search needs)
     (λ c κs. let start = c .before .before .before .before .before .before .before .pre in
-    let stopped = start .1 .1 in
-    (omega (arith, start .0), (start .1 .0 .0, stopped .some, first-record.inside-facing (stopped .leaves) true (c .before .enum-told4 .given .1), start .1 .0 .1)))
+    let stopped = start .1 .1 in (
+      omega (arith, start .0),
+      (
+        start .1 .0 .0,
+        stopped .some,
+        first-record.inside-facing (stopped .leaves) true (c .before .enum-told4 .given .1),
+        start .1 .0 .1,
+      ),
+    ))
     (λ c. let the-pre = c .before .before .before .before .before .before .pre in
     absurd (known.stops-fails (the-pre .1 .1) (c .enum-told .given .1)))
     (λ c. let the-pre = c .before .before .before .before .before .before .pre in
@@ -500,18 +527,26 @@ pub +literal-anew+literal-apart+literal-bracket+literal-end+literal-first+litera
     let ends = c .before .before .before .before .before .end-of in
     let binds = first-record.binds-within (start .1 .1 .leaves) true _ (the-first .given .1) in
     let values = calls.values-more (start .1 .0 .0 .asked) (stopped .some) (binds .1) (binds .0) (c .before .before .bind .ensures) in (
-      level.run-rest (start .1 .0 .0) (c .literal-run .result) (ends .result) (the-first .given .0 .0) (c .before .before .bind .result) (ends .ensures .2) (binds .0)
+      level.run-rest (start .1 .0 .0) (c .literal-run .result) (ends .result) (the-first .given .0 .0) (c .before .before .bind .result)
+          (ends .ensures .2) (binds .0)
           (first-record.step-binds (stopped .leaves) true _ _ _ (the-first .given .1) (ends .ensures .0) values) (c .literal-run .ensures .0),
-      around.remembered-bound (start .1 .0 .1) (c .before .before .bind .ensures) (around.remembered-later (start .1 .0 .0) _ _ (ends .ensures .2) (binds .0) (c .literal-run .ensures .1)),
+      around.remembered-bound (start .1 .0 .1) (c .before .before .bind .ensures) (around.remembered-later (start .1 .0 .0) _ _ (ends .ensures .2) (binds .0)
+          (c .literal-run .ensures .1)),
     ))
     (λ c.
     let the-enum-told3 = c .before .before .enum-told3 in
-    let the-pre = c .before .before .before .before .before .before .before .before .pre in
-    (level.run-same (the-pre .1 .0 .0) (c .literal-tries .result) _ (c .literal-tries .ensures .0) (first-record.step-tries (the-pre .1 .1 .leaves) true (the-enum-told3 .given .1)), c .literal-tries .ensures .1))
+    let the-pre = c .before .before .before .before .before .before .before .before .pre in (
+      level.run-same (the-pre .1 .0 .0) (c .literal-tries .result) _ (c .literal-tries .ensures .0) (first-record.step-tries (the-pre .1 .1 .leaves) true
+          (the-enum-told3 .given .1)),
+      c .literal-tries .ensures .1,
+    ))
     (λ c.
     let the-enum-told4 = c .before .before .enum-told4 in
-    let the-pre = c .before .before .before .before .before .before .before .before .pre in
-    (level.run-same (the-pre .1 .0 .0) (c .literal-bracket .result) _ (c .literal-bracket .ensures .0) (first-record.step-inside (the-pre .1 .1 .leaves) true (the-enum-told4 .given .1)), c .literal-bracket .ensures .1)))
+    let the-pre = c .before .before .before .before .before .before .before .before .pre in (
+      level.run-same (the-pre .1 .0 .0) (c .literal-bracket .result) _ (c .literal-bracket .ensures .0) (first-record.step-inside (the-pre .1 .1 .leaves) true
+          (the-enum-told4 .given .1)),
+      c .literal-bracket .ensures .1,
+    )))
     (λ t. literal-inside-lts.spec (
       end-of-reads.Asked,
       end-of-reads.Learnt,
@@ -567,7 +602,11 @@ pub +literal-anew+literal-apart+literal-bracket+literal-end+literal-first+litera
     let more = c .before .before .before .before .push .ensures in
     let unsure = c .before .unsure .ensures in (
       omega (arith, start .0, more .0, asked .pattern-stands .inside, start .1 .1),
-      (level.literal-inside (start .1 .0) (start .1 .1) (start .1 .2) _ _ (the-end-of .ensures .0) (the-end-of2 .ensures .0) (the-push .result) (more .0) (more .1) (more .2), around.remembering-nothing _ _ _ _ (unsure .0) (unsure .1) (unsure .2)),
+      (
+        level.literal-inside (start .1 .0) (start .1 .1) (start .1 .2) _ _ (the-end-of .ensures .0) (the-end-of2 .ensures .0) (the-push .result) (more .0)
+            (more .1) (more .2),
+        around.remembering-nothing _ _ _ _ (unsure .0) (unsure .1) (unsure .2),
+      ),
     ))
     (λ c.
     let the-unsure = c .before .before .unsure in
@@ -576,7 +615,8 @@ pub +literal-anew+literal-apart+literal-bracket+literal-end+literal-first+litera
     let start = c .before .before .before .before .before .before .before .before .before .before .before .before .pre in
     let the-push = c .before .before .before .before .before .push in
     let more = the-push .ensures in (
-      level.inside-answer (start .1 .0) (start .1 .1) (start .1 .2) _ _ (the-end-of .ensures .0) (the-end-of2 .ensures .0) (the-push .result) (more .0) (more .1) (more .2)
+      level.inside-answer (start .1 .0) (start .1 .1) (start .1 .2) _ _ (the-end-of .ensures .0) (the-end-of2 .ensures .0) (the-push .result)
+          (more .0) (more .1) (more .2)
           (c .literal-run .result) (c .literal-run .ensures .0),
       c .literal-run .ensures .1 .elsewhere (the-unsure .ensures .2),
     )))
@@ -626,13 +666,25 @@ pub +literal-anew+literal-apart+literal-bracket+literal-end+literal-first+litera
     let ends = c .before .before .before .before .before .end-of in
     let inside = begin-inside (the-loop .inv .0) in (
       omega (arith, start .0, ends .ensures .1, ends .ensures .2, asked .pattern-stands .inside),
-      (level.literal-more (start .1 .0 .0) (start .1 .0 .1) (start .1 .1) inside (c .before .bind .ensures) (ends .result) (the-loop .n) (ends .ensures .0) inside, around.remembering-later (start .1 .0 .0) _ _ (ends .ensures .2) inside (sure.begin-second (start .1 .0 .1) (ends .ensures .0)) (around.remembering-bound (around.remembering-then (start .1 .0 .2) (the-loop .inv .2)) (c .before .bind .ensures))),
+      (
+        level.literal-more (start .1 .0 .0) (start .1 .0 .1) (start .1 .1) inside (c .before .bind .ensures) (ends .result) (the-loop .n) (ends .ensures .0)
+            inside,
+        around.remembering-later (start .1 .0 .0) _ _ (ends .ensures .2) inside (sure.begin-second (start .1 .0 .1) (ends .ensures .0))
+            (around.remembering-bound (around.remembering-then (start .1 .0 .2) (the-loop .inv .2)) (c .before .bind .ensures)),
+      ),
     ))
     (λ c κs. c .if2 .left)
     (λ c. let the-loop = c .before .before .before .before .before .before .before .loop in
     let the-args = c .before .before .before .before .before .before .before .before .before .before .before .before .before .before .args in
     let asked = c .before .before .before .before .before .before .before .before .before .before .before .before .before .before .pre .1 .0 .0 .asked in
-    omega (arith, asked .row-stands .inside, asked .small, c .end-of2 .ensures .2, from-length (the-loop .n) (the-args .row .now), begin-inside (the-loop .inv .0)))
+    omega (
+      arith,
+      asked .row-stands .inside,
+      asked .small,
+      c .end-of2 .ensures .2,
+      from-length (the-loop .n) (the-args .row .now),
+      begin-inside (the-loop .inv .0),
+    ))
     (λ c. let the-args = c .before .before .before .before .before .before .before .before .before .before .before .before .before .before .args in
     let the-loop = c .before .before .before .before .before .before .before .loop in
     omega (arith, c .end-of2 .ensures .1, c .end-of2 .ensures .2, from-length (the-loop .n) (the-args .row .now), begin-inside (the-loop .inv .0)))
@@ -643,7 +695,8 @@ pub +literal-anew+literal-apart+literal-bracket+literal-end+literal-first+litera
     let the-bind = c .before .before .before .before .before .bind in
     let start = c .before .before .before .before .before .before .before .before .before .before .before .before .before .before .pre in (
       rw (c .end-of2 .ensures .0) (one-on (c .before .if2 .left) (the-loop .inv .0)),
-      rw (c .end-of2 .ensures .0) (level.length-next (start .1 .0 .0) (start .1 .0 .1) (start .1 .1) (the-end-of .ensures .0) (the-loop .inv .0) (the-bind .ensures)
+      rw (c .end-of2 .ensures .0) (level.length-next (start .1 .0 .0) (start .1 .0 .1) (start .1 .1) (the-end-of .ensures .0)
+          (the-loop .inv .0) (the-bind .ensures)
           (the-literal-run .result) (the-literal-run .ensures .0) (the-loop .inv .1) (c .before .before .if1 .left) (c .before .if2 .left)),
       around.remembered-then (the-loop .inv .2) (around.remembered-bound (around.remembering-then (start .1 .0 .2) (the-loop .inv .2)) (the-bind .ensures)
           (around.remembered-later (start .1 .0 .0) _ _ (the-end-of .ensures .2) (begin-inside (the-loop .inv .0)) (the-literal-run .ensures .1))),
@@ -653,7 +706,8 @@ pub +literal-anew+literal-apart+literal-bracket+literal-end+literal-first+litera
     let the-end-of = c .before .before .before .before .before .before .before .end-of in
     let the-loop = c .before .before .before .before .before .loop in
     let start = c .before .before .before .before .before .before .before .before .before .before .before .before .pre in (
-      level.length-found (start .1 .0 .0) (start .1 .0 .1) (start .1 .1) (the-end-of .ensures .0) (the-loop .inv .0) (the-bind .ensures) (c .before .literal-run .result)
+      level.length-found (start .1 .0 .0) (start .1 .0 .1) (start .1 .1) (the-end-of .ensures .0) (the-loop .inv .0) (the-bind .ensures)
+          (c .before .literal-run .result)
           (c .before .literal-run .ensures .0) (the-loop .inv .1) (c .if1 .taken),
       around.remembered-then (the-loop .inv .2) (around.remembered-bound (around.remembering-then (start .1 .0 .2) (the-loop .inv .2)) (the-bind .ensures)
           (around.remembered-later (start .1 .0 .0) _ _ (the-end-of .ensures .2) (begin-inside (the-loop .inv .0)) (c .before .literal-run .ensures .1))),
@@ -664,7 +718,8 @@ pub +literal-anew+literal-apart+literal-bracket+literal-end+literal-first+litera
     let the-end-of = c .before .before .before .before .before .before .before .before .end-of in
     let the-loop = c .before .before .before .before .before .before .loop in
     let start = c .before .before .before .before .before .before .before .before .before .before .before .before .before .pre in (
-      level.length-none (start .1 .0 .0) (start .1 .0 .1) (start .1 .1) (the-end-of .ensures .0) (the-loop .inv .0) (the-bind .ensures) (c .before .before .literal-run .result)
+      level.length-none (start .1 .0 .0) (start .1 .0 .1) (start .1 .1) (the-end-of .ensures .0) (the-loop .inv .0) (the-bind .ensures)
+          (c .before .before .literal-run .result)
           (the-literal-run .ensures .0) (the-loop .inv .1) (c .before .if1 .left) (c .if2 .taken),
       around.remembered-then (the-loop .inv .2) (around.remembered-bound (around.remembering-then (start .1 .0 .2) (the-loop .inv .2)) (the-bind .ensures)
           (around.remembered-later (start .1 .0 .0) _ _ (the-end-of .ensures .2) (begin-inside (the-loop .inv .0)) (the-literal-run .ensures .1))),
@@ -697,32 +752,38 @@ pub +literal-anew+literal-apart+literal-bracket+literal-end+literal-first+litera
     let the-if1 = c .before .before .before .before .if1 in
     let the-wide = c .before .before .wide in
     let start = c .before .before .before .before .before .before .before .pre in
-    level.out-pattern (start .1 .0 .0) (start .1 .0 .1) (start .1 .0 .2) (start .1 .1) (omega (arith, the-if1 .left)) (the-wide .ensures .0) (c .wide2 .ensures .0) .0)
+    level.out-pattern (start .1 .0 .0) (start .1 .0 .1) (start .1 .0 .2) (start .1 .1) (omega (arith, the-if1 .left)) (the-wide .ensures .0)
+    (c .wide2 .ensures .0) .0)
     (λ c.
     let the-if1 = c .before .before .before .before .if1 in
     let the-wide = c .before .before .wide in
     let start = c .before .before .before .before .before .before .before .pre in
-    level.out-pattern (start .1 .0 .0) (start .1 .0 .1) (start .1 .0 .2) (start .1 .1) (omega (arith, the-if1 .left)) (the-wide .ensures .0) (c .wide2 .ensures .0) .0)
+    level.out-pattern (start .1 .0 .0) (start .1 .0 .1) (start .1 .0 .2) (start .1 .1) (omega (arith, the-if1 .left)) (the-wide .ensures .0)
+    (c .wide2 .ensures .0) .0)
     (λ c.
     let the-if1 = c .before .before .before .before .if1 in
     let the-wide = c .before .before .wide in
     let start = c .before .before .before .before .before .before .before .pre in
-    level.out-pattern (start .1 .0 .0) (start .1 .0 .1) (start .1 .0 .2) (start .1 .1) (omega (arith, the-if1 .left)) (the-wide .ensures .0) (c .wide2 .ensures .0) .1)
+    level.out-pattern (start .1 .0 .0) (start .1 .0 .1) (start .1 .0 .2) (start .1 .1) (omega (arith, the-if1 .left)) (the-wide .ensures .0)
+    (c .wide2 .ensures .0) .1)
     (λ c.
     let the-wide = c .before .before .before .wide in
     let the-if1 = c .before .before .before .before .before .if1 in
     let start = c .before .before .before .before .before .before .before .before .pre in
-    level.out-row (start .1 .0 .0) (start .1 .0 .1) (start .1 .0 .2) (start .1 .1) (omega (arith, the-if1 .left)) (the-wide .ensures .0) (c .before .wide2 .ensures .0) .0)
+    level.out-row (start .1 .0 .0) (start .1 .0 .1) (start .1 .0 .2) (start .1 .1) (omega (arith, the-if1 .left)) (the-wide .ensures .0)
+    (c .before .wide2 .ensures .0) .0)
     (λ c.
     let the-wide = c .before .before .before .wide in
     let the-if1 = c .before .before .before .before .before .if1 in
     let start = c .before .before .before .before .before .before .before .before .pre in
-    level.out-row (start .1 .0 .0) (start .1 .0 .1) (start .1 .0 .2) (start .1 .1) (omega (arith, the-if1 .left)) (the-wide .ensures .0) (c .before .wide2 .ensures .0) .0)
+    level.out-row (start .1 .0 .0) (start .1 .0 .1) (start .1 .0 .2) (start .1 .1) (omega (arith, the-if1 .left)) (the-wide .ensures .0)
+    (c .before .wide2 .ensures .0) .0)
     (λ c.
     let the-wide = c .before .before .before .wide in
     let the-if1 = c .before .before .before .before .before .if1 in
     let start = c .before .before .before .before .before .before .before .before .pre in
-    level.out-row (start .1 .0 .0) (start .1 .0 .1) (start .1 .0 .2) (start .1 .1) (omega (arith, the-if1 .left)) (the-wide .ensures .0) (c .before .wide2 .ensures .0) .1)
+    level.out-row (start .1 .0 .0) (start .1 .0 .1) (start .1 .0 .2) (start .1 .1) (omega (arith, the-if1 .left)) (the-wide .ensures .0)
+    (c .before .wide2 .ensures .0) .1)
     (λ c κs. tt)
     (λ c κs.
     let the-wide2 = c .before .before .before .before .wide2 in
@@ -731,7 +792,11 @@ pub +literal-anew+literal-apart+literal-bracket+literal-end+literal-first+litera
     let start = c .before .before .before .before .before .before .before .before .before .before .before .pre in
     let unsure = c .before .unsure .ensures in (
       omega (arith, start .0, the-if1 .left),
-      (level.literal-out (start .1 .0 .0) (start .1 .0 .1) (start .1 .0 .2) (start .1 .1) (omega (arith, the-if1 .left)) (the-wide .ensures .0) (the-wide2 .ensures .0), around.remembering-nothing _ _ _ _ (unsure .0) (unsure .1) (unsure .2)),
+      (
+        level.literal-out (start .1 .0 .0) (start .1 .0 .1) (start .1 .0 .2) (start .1 .1) (omega (arith, the-if1 .left)) (the-wide .ensures .0)
+            (the-wide2 .ensures .0),
+        around.remembering-nothing _ _ _ _ (unsure .0) (unsure .1) (unsure .2),
+      ),
     ))
     (λ c.
     let the-unsure = c .before .before .unsure in
@@ -739,7 +804,8 @@ pub +literal-anew+literal-apart+literal-bracket+literal-end+literal-first+litera
     let the-wide = c .before .before .before .before .before .before .before .wide in
     let the-wide2 = c .before .before .before .before .before .wide2 in
     let start = c .before .before .before .before .before .before .before .before .before .before .before .before .pre in (
-      level.out-answer (start .1 .0 .0) (start .1 .0 .1) (start .1 .0 .2) (start .1 .1) (omega (arith, the-if1 .left)) (the-wide .ensures .0) (the-wide2 .ensures .0)
+      level.out-answer (start .1 .0 .0) (start .1 .0 .1) (start .1 .0 .2) (start .1 .1) (omega (arith, the-if1 .left))
+          (the-wide .ensures .0) (the-wide2 .ensures .0)
           (c .literal-run .result) (c .literal-run .ensures .0),
       c .literal-run .ensures .1 .elsewhere (the-unsure .ensures .2),
     )))
@@ -764,18 +830,26 @@ pub +literal-anew+literal-apart+literal-bracket+literal-end+literal-first+litera
     let the-known-front = c .before .before .before .known-front in
     known.known-end (the-known-front .ensures) _ _ (c .before .n .given .1) .0 .within)
     (λ c. search needs)
-    (λ c. let asked = c .before .before .before .before .before .before .before .before .before .before .before .before .before .before .pre .1 .0 .asked in omega (arith, asked .pattern-stands .inside, asked .small))
-    (λ c. let asked = c .before .before .before .before .before .before .before .before .before .before .before .before .before .before .pre .1 .0 .asked in omega (arith, asked .row-stands .inside, asked .small))
+    (λ c. let asked = c .before .before .before .before .before .before .before .before .before .before .before .before .before .before .pre .1 .0 .asked in
+    omega (arith, asked .pattern-stands .inside, asked .small))
+    (λ c. let asked = c .before .before .before .before .before .before .before .before .before .before .before .before .before .before .pre .1 .0 .asked in
+    omega (arith, asked .row-stands .inside, asked .small))
     (λ c κs. let start = c .before .before .before .before .before .before .before .before .before .before .before .before .before .before .before .pre in
     let asked = start .1 .0 in (
       omega (arith, start .0),
-      ((asked .asked .small, asked .around, asked .asked .kept, asked .asked .pattern-stands .inside), (level.out-capacity asked, (around.settled-around (start .1 .1), start .1 .1 .here))),
+      (
+        (asked .asked .small, asked .around, asked .asked .kept, asked .asked .pattern-stands .inside),
+        (level.out-capacity asked, (around.settled-around (start .1 .1), start .1 .1 .here)),
+      ),
     ))
     (λ c. let the-known-front = c .before .before .before .before .before .before .before .known-front in
     let the-n = c .before .before .before .before .before .n in
     let the-pre = c .before .before .before .before .before .before .before .before .before .before .before .before .before .before .before .before .pre in
-    let (passed, short) = known.known-end (the-known-front .ensures) _ _ (the-n .given .1) in
-    (level.run-one (the-pre .1 .0) (c .literal-end .result) (passed .search true ∙ step.end-both _ _ _ true _ short (c .before .before .if1 .taken)) (c .literal-end .ensures .0), c .literal-end .ensures .1))
+    let (passed, short) = known.known-end (the-known-front .ensures) _ _ (the-n .given .1) in (
+      level.run-one (the-pre .1 .0) (c .literal-end .result) (passed .search true ∙ step.end-both _ _ _ true _ short (c .before .before .if1 .taken))
+          (c .literal-end .ensures .0),
+      c .literal-end .ensures .1,
+    ))
     (λ c. search needs)
     (λ c.
     let the-known-front = c .before .before .before .known-front in
@@ -810,10 +884,18 @@ pub +literal-anew+literal-apart+literal-bracket+literal-end+literal-first+litera
     let asked = start .1 .0 .asked in
     let (passed, stopped) = known.known-stop (the-known-front .ensures) _ _ _ (the-m .given .1) in (
       omega (arith, start .0, begin-inside (passed .begins), asked .pattern-stands .inside),
-      ((level.literal-later (start .1 .0) _ _ (passed .begins) (passed .within), around.remembering-later (start .1 .0) _ _ (begin-inside (passed .begins)) (passed .within) (passed .begins) (start .1 .1)), stopped),
+      (
+        (
+          level.literal-later (start .1 .0) _ _ (passed .begins) (passed .within),
+          around.remembering-later (start .1 .0) _ _ (begin-inside (passed .begins)) (passed .within) (passed .begins) (start .1 .1),
+        ),
+        stopped,
+      ),
     ))
-    (λ c. let the-pre = c .before .before .before .before .before .before .before .before .before .before .before .pre in
-    (level.run-none (the-pre .1 .0) (known.known-fails (c .before .before .known-front .ensures) (c .enum-told .given .1) true), around.remembered-same (the-pre .1 .1) refl))
+    (λ c. let the-pre = c .before .before .before .before .before .before .before .before .before .before .before .pre in (
+      level.run-none (the-pre .1 .0) (known.known-fails (c .before .before .known-front .ensures) (c .enum-told .given .1) true),
+      around.remembered-same (the-pre .1 .1) refl,
+    ))
     (λ c.
     let the-n = c .before .before .before .n in
     let the-known-front = c .before .before .before .before .before .known-front in
@@ -823,8 +905,12 @@ pub +literal-anew+literal-apart+literal-bracket+literal-end+literal-first+litera
     (λ c. let the-known-front = c .before .before .before .before .before .before .before .known-front in
     let the-m = c .before .before .before .before .before .m in
     let the-pre = c .before .before .before .before .before .before .before .before .before .before .before .before .before .before .before .before .pre in
-    let passed = known.known-stop (the-known-front .ensures) _ _ _ (the-m .given .1) .0 in
-    (level.run-rest (the-pre .1 .0) (c .literal-first .result) _ _ _ (begin-inside (passed .begins)) (passed .within) (passed .search true) (c .literal-first .ensures .0), around.remembered-later (the-pre .1 .0) _ _ (begin-inside (passed .begins)) (passed .within) (c .literal-first .ensures .1))))
+    let passed = known.known-stop (the-known-front .ensures) _ _ _ (the-m .given .1) .0 in (
+      level.run-rest (the-pre .1 .0) (c .literal-first .result) _ _ _ (begin-inside (passed .begins)) (passed .within) (passed .search true)
+          (c .literal-first .ensures .0),
+      around.remembered-later (the-pre .1 .0) _ _ (begin-inside (passed .begins)) (passed .within)
+          (c .literal-first .ensures .1),
+    )))
     λ t. literal-tries-lts.spec (
       holds-here-reads.Asked,
       holds-here-reads.Learnt,
@@ -842,23 +928,31 @@ pub +literal-anew+literal-apart+literal-bracket+literal-end+literal-first+litera
     (λ c. let asked = c .before .before .before .before .pre .1 .0 .0 .asked in omega (arith, asked .pattern-stands .inside, asked .small))
     (λ c. let asked = c .before .before .before .before .pre .1 .0 .0 .asked in omega (arith, asked .row-stands .inside, asked .small))
     (λ c κs. let start = c .before .before .before .before .pre .1 .0 in (start .0 .asked .kept, start .2 .settled .few, (_, start .0 .around)))
-    (λ c κs. let start = c .before .before .before .before .before .before .pre in (omega (arith, start .0), ((start .1 .0 .0, start .1 .0 .1), start .1 .1 .0)))
-    (λ c. let start = c .before .before .before .before .before .before .before .pre .1 in (c .literal-anew .ensures, around.remembered-same (start .0 .2) refl))
+    (λ c κs. let start = c .before .before .before .before .before .before .pre in
+    (omega (arith, start .0), ((start .1 .0 .0, start .1 .0 .1), start .1 .1 .0)))
+    (λ c. let start = c .before .before .before .before .before .before .before .pre .1 in
+    (c .literal-anew .ensures, around.remembered-same (start .0 .2) refl))
     (λ c κs. tt)
     (λ c.
     let the-holds-here = c .before .before .before .before .holds-here in
     let the-if1 = c .before .before .before .if1 in
     let start = c .before .before .before .before .before .before .before .before .before .pre .1 in
     let (known, closed) = the-holds-here .ensures (not-false _ (the-if1 .left)) in (
-      around.lengths-known (start .0 .0 .asked) _ _ (closed _ (start .0 .2 .settled)) (start .1 .1) (start .0 .1) (start .0 .2 .here known) (c .before .failed-before .ensures (c .if2 .taken)),
+      around.lengths-known (start .0 .0 .asked) _ _ (closed _ (start .0 .2 .settled)) (start .1 .1) (start .0 .1) (start .0 .2 .here known)
+          (c .before .failed-before .ensures (c .if2 .taken)),
       around.remembered-same (start .0 .2) refl,
     ))
     (λ c κs.
     let the-if1 = c .before .before .before .before .if1 in
     let the-holds-here = c .before .before .before .before .before .holds-here in
     let start = c .before .before .before .before .before .before .before .before .before .before .pre in
-    let (known, closed) = the-holds-here .ensures (not-false _ (the-if1 .left)) in
-    (omega (arith, start .0), ((start .1 .0 .0, start .1 .0 .1, around.remembering-all (start .1 .0 .2) known (closed _ (start .1 .0 .2 .settled))), start .1 .1 .0)))
+    let (known, closed) = the-holds-here .ensures (not-false _ (the-if1 .left)) in (
+      omega (arith, start .0),
+      (
+        (start .1 .0 .0, start .1 .0 .1, around.remembering-all (start .1 .0 .2) known (closed _ (start .1 .0 .2 .settled))),
+        start .1 .1 .0,
+      ),
+    ))
     (λ c κs.
     let the-literal-lengths = c .before .before .literal-lengths in
     let start = c .before .before .before .before .before .before .before .before .before .before .before .before .before .pre .1 .0 in
@@ -876,7 +970,8 @@ pub +literal-anew+literal-apart+literal-bracket+literal-end+literal-first+litera
     let lengths = c .before .before .before .literal-lengths in (
       lengths .ensures .0,
       around.remembered-here known
-          (around.lengths-noted (start .0 .0 .asked) _ _ (closed _ (start .0 .2 .settled)) (start .1 .1) (lengths .ensures .0) (not-true _ (c .before .before .if3 .taken)) (lengths .ensures .1 .here refl) (c .note-failed .ensures)),
+          (around.lengths-noted (start .0 .0 .asked) _ _ (closed _ (start .0 .2 .settled)) (start .1 .1) (lengths .ensures .0)
+          (not-true _ (c .before .before .if3 .taken)) (lengths .ensures .1 .here refl) (c .note-failed .ensures)),
     ))
     (λ c.
     let the-literal-lengths = c .before .literal-lengths in

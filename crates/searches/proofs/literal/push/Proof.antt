@@ -17,5 +17,8 @@ push-spec =
     (λ c. search needs)
     (λ c. search needs)
     (λ c.
-    let start = c .before .before in
-    (omega arith, ap (set (start .args .pending .patterns) (start .args .pending .count)) (c .before .narrow .ensures), ap (set (start .args .pending .rows) (start .args .pending .count)) (c .narrow2 .ensures))))
+    let start = c .before .before in (
+      omega arith,
+      ap (set (start .args .pending .patterns) (start .args .pending .count)) (c .before .narrow .ensures),
+      ap (set (start .args .pending .rows) (start .args .pending .count)) (c .narrow2 .ensures),
+    )))

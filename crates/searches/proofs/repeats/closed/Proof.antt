@@ -17,7 +17,8 @@ use Rattle.searches.proofs.repeats.closed.Tie as tie
 
 abbrev Inv-loop : tie.InvT-loop
 Inv-loop text terms pattern keys sure count i₀ i =
-    (i ≤ count) × ((starts sizes : List ℕ) (vs : Values Atom) → Kept text terms (places keys starts sizes count) → AgreeUpTo text terms pattern keys starts sizes sure vs
+    (i ≤ count) × ((starts sizes : List ℕ) (vs : Values Atom) → Kept text terms (places keys starts sizes count)
+    → AgreeUpTo text terms pattern keys starts sizes sure vs
     → AgreeUpTo text terms pattern keys starts sizes i vs)
 
 abbrev μ-loop : tie.MeasureT-loop
@@ -27,7 +28,8 @@ abbrev μ-loop : tie.MeasureT-loop
 strict : {i count : ℕ} → i ≤ count → (i ≡ count → ⊥) → i < count
 strict h k = omega (arith, k)
 
-keyed : (keys terms : List ℕ) {i count key : ℕ} → ((i : ℕ) → i < count → getD keys i 0 + 24 ≤ length terms) → i ≤ count → (i ≡ count → ⊥)
+keyed : (keys terms : List ℕ) {i count key : ℕ} → ((i : ℕ) → i < count → getD keys i 0 + 24 ≤ length terms) → i ≤ count
+    → (i ≡ count → ⊥)
     → key ≡ getD keys i 0 → key + 24 ≤ length terms
 keyed keys terms {i = i} inside h k e = omega (arith, e, inside i (strict h k))
 
@@ -61,7 +63,11 @@ closed-spec =
     let the-if1 = c .before .before .before .if1 in
     let the-args = c .before .before .before .before .before .before .before .before .args in
     let the-pre = c .before .before .before .before .before .before .before .before .pre in
-    omega (arith, keyed (the-args .keys .now) (the-args .terms .now) (the-pre .2) (the-loop .inv .0) (the-if1 .left) (c .before .wide .ensures .0), from-length (c .before .wide .result) (the-args .terms .now)))
+    omega (
+      arith,
+      keyed (the-args .keys .now) (the-args .terms .now) (the-pre .2) (the-loop .inv .0) (the-if1 .left) (c .before .wide .ensures .0),
+      from-length (c .before .wide .result) (the-args .terms .now),
+    ))
     (λ c. let the-loop = c .before .before .before .before .before .before .loop in
     let the-pre = c .before .before .before .before .before .before .before .before .before .before .pre in
     omega (arith, the-loop .inv .0, the-pre .1))
@@ -77,7 +83,8 @@ closed-spec =
     let the-if1 = c .before .before .before .before .before .if1 in
     let low : the-loop .i < the-args .count = strict (the-loop .inv .0) (the-if1 .left) in (
       omega (arith, low),
-      λ starts sizes vs kept known. laws.closed-next (the-args .pattern .now) kept low (the-wide .ensures .0) (c .before .again .ensures .0 (c .if2 .left)) vs (the-loop .inv .1 starts sizes vs kept known),
+      λ starts sizes vs kept known. laws.closed-next (the-args .pattern .now) kept low (the-wide .ensures .0) (c .before .again .ensures .0 (c .if2 .left)) vs
+          (the-loop .inv .1 starts sizes vs kept known),
     ))
     (λ c. λ e starts sizes vs kept known. rw (c .if1 .taken) at (c .before .loop .inv .1 starts sizes vs kept known))
     (λ c. λ e. absurd (false-not-true e)))

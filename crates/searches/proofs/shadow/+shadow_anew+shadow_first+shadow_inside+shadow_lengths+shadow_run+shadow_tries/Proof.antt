@@ -164,8 +164,13 @@ pub +shadow-anew+shadow-first+shadow-inside+shadow-lengths+shadow-run+shadow-tri
     (shadow-anew-at t)
     shadow-anew.Post
     (λ c κs. let start = c .before .before .before .before .before .pre in
-    let a = c .before .before .before .before .before .args in
-    (omega (arith, start .0), ((start .1 .0 .0, start .1 .0 .1, sure.settled-fixed _ _ _ _ (omega arith), failed.shadow-none (a .text .now) (a .terms .now) _), start .1 .1)))
+    let a = c .before .before .before .before .before .args in (
+      omega (arith, start .0),
+      (
+        (start .1 .0 .0, start .1 .0 .1, sure.settled-fixed _ _ _ _ (omega arith), failed.shadow-none (a .text .now) (a .terms .now) _),
+        start .1 .1,
+      ),
+    ))
     (λ c. let lengths = c .shadow-lengths .ensures in (lengths .0, lengths .1, lengths .3)))
     (λ t. shadow-first-lts.spec (
       end-of-reads.Asked,
@@ -224,9 +229,14 @@ pub +shadow-anew+shadow-first+shadow-inside+shadow-lengths+shadow-run+shadow-tri
     let stopped = start .pre .1 .1 in
     let ends = c .before .before .before .before .end-of in
     let binds = first-record.binds-within (start .pre .1 .1 .leaves) false _ (the-first .given .1) in (
-      omega (arith, after-falls (start .args .pattern .now) (ends .result) (length (start .args .pattern .now)) (stopped .some) (ends .ensures .0) refl, start .pre .0),
+      omega (
+        arith,
+        after-falls (start .args .pattern .now) (ends .result) (length (start .args .pattern .now)) (stopped .some) (ends .ensures .0) refl,
+        start .pre .0,
+      ),
       (
-        calls.asked-more (start .pre .1 .0 .0) (stopped .some) (binds .1) (binds .0) (c .before .bind .ensures) (ends .result) (the-first .given .0 .0) (ends .ensures .0) (binds .0),
+        calls.asked-more (start .pre .1 .0 .0) (stopped .some) (binds .1) (binds .0) (c .before .bind .ensures) (ends .result) (the-first .given .0 .0)
+            (ends .ensures .0) (binds .0),
         sure.settled-later _ (sure.settled-more (start .pre .1 .0 .1) (c .before .bind .ensures)) (sure.begin-second (stopped .some) (ends .ensures .0)),
         sure.remembers-fixed (sure.fixed-bound (c .before .bind .ensures) _ (sure.settled-low (start .pre .1 .0 .1))) (start .pre .1 .0 .2),
       ),
@@ -234,12 +244,25 @@ pub +shadow-anew+shadow-first+shadow-inside+shadow-lengths+shadow-run+shadow-tri
     (λ c. search needs)
     (λ c κs. let start = c .before .before .before .before .before .before .before .pre in
     let stopped = start .1 .1 in
-    let told = c .before .enum-told3 .given .1 in
-    (omega (arith, start .0), ((start .1 .0 .0, stopped .some, start .1 .0 .1, start .1 .0 .2), (first-record.tries-free (stopped .leaves) false told, λ back. first-record.step-tries (stopped .leaves) back told))))
+    let told = c .before .enum-told3 .given .1 in (
+      omega (arith, start .0),
+      (
+        (start .1 .0 .0, stopped .some, start .1 .0 .1, start .1 .0 .2),
+        (first-record.tries-free (stopped .leaves) false told, λ back. first-record.step-tries (stopped .leaves) back told),
+      ),
+    ))
     (λ c. search needs)
     (λ c κs. let start = c .before .before .before .before .before .before .before .pre in
-    let stopped = start .1 .1 in
-    (omega (arith, start .0), (start .1 .0 .0, stopped .some, first-record.inside-facing (stopped .leaves) false (c .before .enum-told4 .given .1), start .1 .0 .1, start .1 .0 .2)))
+    let stopped = start .1 .1 in (
+      omega (arith, start .0),
+      (
+        start .1 .0 .0,
+        stopped .some,
+        first-record.inside-facing (stopped .leaves) false (c .before .enum-told4 .given .1),
+        start .1 .0 .1,
+        start .1 .0 .2,
+      ),
+    ))
     (λ c. let the-pre = c .before .before .before .before .before .before .pre in
     absurd (known.stops-fails (the-pre .1 .1) (c .enum-told .given .1)))
     (λ c. let the-pre = c .before .before .before .before .before .before .pre in
@@ -251,18 +274,29 @@ pub +shadow-anew+shadow-first+shadow-inside+shadow-lengths+shadow-run+shadow-tri
     let binds = first-record.binds-within (start .1 .1 .leaves) false _ (the-first .given .1) in
     let values = calls.values-more (start .1 .0 .0) (stopped .some) (binds .1) (binds .0) (c .before .before .bind .ensures) in (
       c .shadow-run .ensures .0,
-      c .shadow-run .ensures .1 ∙ sym (ap firstIn (first-record.step-binds (stopped .leaves) false _ _ _ (the-first .given .1) (the-end-of .ensures .0) values)),
+      c .shadow-run .ensures .1 ∙ sym (ap firstIn
+          (first-record.step-binds (stopped .leaves) false _ _ _ (the-first .given .1) (the-end-of .ensures .0) values)),
       sure.remembers-back (sure.fixed-bound (c .before .before .bind .ensures) _ (sure.settled-low (start .1 .0 .1))) (c .shadow-run .ensures .2),
       sure.fixed-more (c .before .before .bind .ensures) (sure.settled-low (start .1 .0 .1)) (c .shadow-run .ensures .3),
     ))
     (λ c.
     let the-enum-told3 = c .before .before .enum-told3 in
-    let the-pre = c .before .before .before .before .before .before .before .before .pre in
-    (c .shadow-tries .ensures .0, c .shadow-tries .ensures .1 ∙ sym (ap firstIn (first-record.step-tries (the-pre .1 .1 .leaves) false (the-enum-told3 .given .1))), c .shadow-tries .ensures .2, c .shadow-tries .ensures .3))
+    let the-pre = c .before .before .before .before .before .before .before .before .pre in (
+      c .shadow-tries .ensures .0,
+      c .shadow-tries .ensures .1
+          ∙ sym (ap firstIn (first-record.step-tries (the-pre .1 .1 .leaves) false (the-enum-told3 .given .1))),
+      c .shadow-tries .ensures .2,
+      c .shadow-tries .ensures .3,
+    ))
     (λ c.
     let the-enum-told4 = c .before .before .enum-told4 in
-    let the-pre = c .before .before .before .before .before .before .before .before .pre in
-    (c .shadow-inside .ensures .0, c .shadow-inside .ensures .1 ∙ sym (ap firstIn (first-record.step-inside (the-pre .1 .1 .leaves) false (the-enum-told4 .given .1))), c .shadow-inside .ensures .2, c .shadow-inside .ensures .3)))
+    let the-pre = c .before .before .before .before .before .before .before .before .pre in (
+      c .shadow-inside .ensures .0,
+      c .shadow-inside .ensures .1
+          ∙ sym (ap firstIn (first-record.step-inside (the-pre .1 .1 .leaves) false (the-enum-told4 .given .1))),
+      c .shadow-inside .ensures .2,
+      c .shadow-inside .ensures .3,
+    )))
     (λ t. shadow-inside-lts.spec (
       end-of-reads.Asked,
       end-of-reads.Learnt,
@@ -293,7 +327,8 @@ pub +shadow-anew+shadow-first+shadow-inside+shadow-lengths+shadow-run+shadow-tri
     let ends = c .before .before .before .before .end-of in (
       omega (arith, inside-falls (the-args .pattern .now) (ends .result) (length (the-args .pattern .now)) (start .1 .1) (ends .ensures .0) refl, start .0),
       (
-        calls.asked-alone (calls.asked-inside (start .1 .0) (start .1 .1) (start .1 .2) (ends .result) (the-end-of2 .result) (ends .ensures .0) (the-end-of2 .ensures .0)),
+        calls.asked-alone (calls.asked-inside (start .1 .0) (start .1 .1) (start .1 .2) (ends .result) (the-end-of2 .result) (ends .ensures .0)
+            (the-end-of2 .ensures .0)),
         sure.settled-inside _ (start .1 .3) (ends .result) (ends .ensures .0) (calls.contents-within (start .1 .0) (start .1 .1) (start .1 .2)),
         start .1 .4,
       ),
@@ -343,7 +378,8 @@ pub +shadow-anew+shadow-first+shadow-inside+shadow-lengths+shadow-run+shadow-tri
     let start = c .before .before .before .before .before .before .before .before .before .before .before .before .before .before .before .before .before .pre in
     let inner = c .before .before .before .before .before .before .before .shadow-run in (
       c .shadow-run2 .ensures .0,
-      returns.inside-some (start .1 .0) (the-end-of .ensures .0) (the-end-of2 .ensures .0) (inner .result) (inner .ensures .1) _ (not-false _ (the-if1 .left)) (c .shadow-run2 .ensures .1),
+      returns.inside-some (start .1 .0) (the-end-of .ensures .0) (the-end-of2 .ensures .0) (inner .result) (inner .ensures .1) _ (not-false _ (the-if1 .left))
+          (c .shadow-run2 .ensures .1),
       sure.remembers-back (inner .ensures .3) (c .shadow-run2 .ensures .2),
       sure.fixed-after (inner .ensures .3) (c .shadow-run2 .ensures .3),
     )))
@@ -394,7 +430,8 @@ pub +shadow-anew+shadow-first+shadow-inside+shadow-lengths+shadow-run+shadow-tri
     let inside = begin-inside (the-loop .inv .0) in (
       omega (arith, after-falls (the-args .pattern .now) (ends .result) (length (the-args .pattern .now)) (start .1 .0 .1) (ends .ensures .0) refl, start .0),
       (
-        calls.asked-more (start .1 .0 .0) (start .1 .0 .1) (start .1 .1) inside (c .before .bind .ensures) (ends .result) (the-loop .n) (ends .ensures .0) inside,
+        calls.asked-more (start .1 .0 .0) (start .1 .0 .1) (start .1 .1) inside (c .before .bind .ensures) (ends .result) (the-loop .n)
+            (ends .ensures .0) inside,
         sure.settled-later _ (sure.settled-more (start .1 .0 .2) (c .before .bind .ensures)) (sure.begin-second (start .1 .0 .1) (ends .ensures .0)),
         sure.remembers-fixed (sure.fixed-bound (c .before .bind .ensures) _ (sure.settled-low (start .1 .0 .2))) (the-loop .inv .2),
       ),
@@ -403,7 +440,14 @@ pub +shadow-anew+shadow-first+shadow-inside+shadow-lengths+shadow-run+shadow-tri
     (λ c. let the-loop = c .before .before .before .before .before .before .before .loop in
     let the-args = c .before .before .before .before .before .before .before .before .before .before .before .before .before .before .args in
     let asked = c .before .before .before .before .before .before .before .before .before .before .before .before .before .before .pre .1 .0 .0 in
-    omega (arith, asked .row-stands .inside, asked .small, c .end-of2 .ensures .2, from-length (the-loop .n) (the-args .row .now), begin-inside (the-loop .inv .0)))
+    omega (
+      arith,
+      asked .row-stands .inside,
+      asked .small,
+      c .end-of2 .ensures .2,
+      from-length (the-loop .n) (the-args .row .now),
+      begin-inside (the-loop .inv .0),
+    ))
     (λ c. let the-args = c .before .before .before .before .before .before .before .before .before .before .before .before .before .before .args in
     let the-loop = c .before .before .before .before .before .before .before .loop in
     omega (arith, c .end-of2 .ensures .1, c .end-of2 .ensures .2, from-length (the-loop .n) (the-args .row .now), begin-inside (the-loop .inv .0)))
@@ -414,7 +458,8 @@ pub +shadow-anew+shadow-first+shadow-inside+shadow-lengths+shadow-run+shadow-tri
     let the-bind = c .before .before .before .before .before .bind in
     let start = c .before .before .before .before .before .before .before .before .before .before .before .before .before .before .pre in (
       rw (c .end-of2 .ensures .0) (one-on (c .before .if2 .left) (the-loop .inv .0)),
-      rw (c .end-of2 .ensures .0) (returns.length-next (start .1 .0 .0) (start .1 .0 .1) (start .1 .1) (the-end-of .ensures .0) (the-loop .inv .0) (the-bind .ensures)
+      rw (c .end-of2 .ensures .0) (returns.length-next (start .1 .0 .0) (start .1 .0 .1) (start .1 .1) (the-end-of .ensures .0)
+          (the-loop .inv .0) (the-bind .ensures)
           (the-shadow-run .result) (the-shadow-run .ensures .1) (the-loop .inv .1) (c .before .before .if1 .left) (c .before .if2 .left)),
       sure.remembers-back (sure.fixed-bound (the-bind .ensures) _ (sure.settled-low (start .1 .0 .2))) (the-shadow-run .ensures .2),
     ))
@@ -496,18 +541,30 @@ pub +shadow-anew+shadow-first+shadow-inside+shadow-lengths+shadow-run+shadow-tri
       omega (arith, start .0, begin-inside (passed .begins), from-length (the-m .given .0 .0) (the-args .pattern .now)),
       ((calls.asked-later (start .1 .0) _ _ (passed .begins) (passed .within), sure.settled-later _ (start .1 .1) (passed .begins), start .1 .2), stopped),
     ))
-    (λ c. let the-pre = c .before .before .before .before .before .before .before .before .before .before .before .pre in
-    (the-pre .1 .0 .kept, sym (ap firstIn (known.known-fails (c .before .before .known-front .ensures) (c .enum-told .given .1) false)), the-pre .1 .2, sure.fixed-same _ _ (sure.settled-low (the-pre .1 .1))))
+    (λ c. let the-pre = c .before .before .before .before .before .before .before .before .before .before .before .pre in (
+      the-pre .1 .0 .kept,
+      sym (ap firstIn (known.known-fails (c .before .before .known-front .ensures) (c .enum-told .given .1) false)),
+      the-pre .1 .2,
+      sure.fixed-same _ _ (sure.settled-low (the-pre .1 .1)),
+    ))
     (λ c.
     let the-known-front = c .before .before .before .before .known-front in
     let the-n = c .before .before .n in
     let the-pre = c .before .before .before .before .before .before .before .before .before .before .before .before .before .pre in
-    let (passed, short) = known.known-end (the-known-front .ensures) _ _ (the-n .given .1) in
-    (the-pre .1 .0 .kept, returns.run-end _ _ _ _ _ short ∙ sym (ap firstIn (passed .search false)), the-pre .1 .2, sure.fixed-same _ _ (sure.settled-low (the-pre .1 .1))))
+    let (passed, short) = known.known-end (the-known-front .ensures) _ _ (the-n .given .1) in (
+      the-pre .1 .0 .kept,
+      returns.run-end _ _ _ _ _ short ∙ sym (ap firstIn (passed .search false)),
+      the-pre .1 .2,
+      sure.fixed-same _ _ (sure.settled-low (the-pre .1 .1)),
+    ))
     (λ c. let the-known-front = c .before .before .before .before .before .before .before .known-front in
     let the-m = c .before .before .before .before .before .m in
-    let passed = known.known-stop (the-known-front .ensures) _ _ _ (the-m .given .1) .0 in
-    (c .shadow-first .ensures .0, c .shadow-first .ensures .1 ∙ sym (ap firstIn (passed .search false)), c .shadow-first .ensures .2, c .shadow-first .ensures .3)))
+    let passed = known.known-stop (the-known-front .ensures) _ _ _ (the-m .given .1) .0 in (
+      c .shadow-first .ensures .0,
+      c .shadow-first .ensures .1 ∙ sym (ap firstIn (passed .search false)),
+      c .shadow-first .ensures .2,
+      c .shadow-first .ensures .3,
+    )))
     λ t. shadow-tries-lts.spec (
       closed-reads.Asked,
       closed-reads.Learnt,
@@ -522,12 +579,16 @@ pub +shadow-anew+shadow-first+shadow-inside+shadow-lengths+shadow-run+shadow-tri
     )
     (shadow-tries-at t)
     shadow-tries.Post
-    (λ c κs. let start = c .before .before .before .before .before .before .pre .1 .0 in (omega (arith, start .2 .few), start .0 .kept .few, start .0 .kept .keyed))
-    (λ c κs. let start = c .before .before .before .before .before .before .before .before .pre in (omega (arith, start .0), ((start .1 .0 .0, start .1 .0 .1), start .1 .1 .0)))
+    (λ c κs. let start = c .before .before .before .before .before .before .pre .1 .0 in
+    (omega (arith, start .2 .few), start .0 .kept .few, start .0 .kept .keyed))
+    (λ c κs. let start = c .before .before .before .before .before .before .before .before .pre in
+    (omega (arith, start .0), ((start .1 .0 .0, start .1 .0 .1), start .1 .1 .0)))
     (λ c. let start = c .before .before .before .before .before .before .before .before .before .pre .1 .0 in
     (c .shadow-anew .ensures .0, c .shadow-anew .ensures .1, start .3, sure.fixed-fewer (c .shadow-anew .ensures .2) _ (sure.settled-low (start .2))))
-    (λ c. let asked = c .before .before .before .before .before .before .before .before .pre .1 .0 .0 in omega (arith, asked .pattern-stands .inside, asked .small))
-    (λ c. let asked = c .before .before .before .before .before .before .before .before .pre .1 .0 .0 in omega (arith, asked .row-stands .inside, asked .small))
+    (λ c. let asked = c .before .before .before .before .before .before .before .before .pre .1 .0 .0 in
+    omega (arith, asked .pattern-stands .inside, asked .small))
+    (λ c. let asked = c .before .before .before .before .before .before .before .before .pre .1 .0 .0 in
+    omega (arith, asked .row-stands .inside, asked .small))
     (λ c κs. tt)
     (λ c.
     let the-closed = c .before .before .before .before .closed in
@@ -565,7 +626,8 @@ pub +shadow-anew+shadow-first+shadow-inside+shadow-lengths+shadow-run+shadow-tri
     let lengths = c .before .before .before .before .shadow-lengths in (
       lengths .ensures .0,
       lengths .ensures .1,
-      failed.lengths-noted asked _ free (start .1 .1) (failed.none-matched _ _ (lengths .result) _ (lengths .ensures .1) (not-true _ (c .before .before .if3 .taken))) (lengths .ensures .2) (c .note-failed .ensures),
+      failed.lengths-noted asked _ free (start .1 .1) (failed.none-matched _ _ (lengths .result) _ (lengths .ensures .1)
+          (not-true _ (c .before .before .if3 .taken))) (lengths .ensures .2) (c .note-failed .ensures),
       lengths .ensures .3,
     ))
     (λ c. c .before .before .shadow-lengths .ensures)
