@@ -204,5 +204,6 @@ module _ (a b old : List ℕ) (at : ℕ) (s t : Bool) (e : s ≡ isBracket (getD
       let inside : next - at - 1 ≡ size inner = omega (arith, j .after) in
       rw (← e, ← f, g, h, ← u, ← v, ← i, ← k) (
         omega (arith, j .after),
-        rw (r, inside, j .ends, j .words, append-nil (shapeWords inner)) (written-front old at (bracketWord (size inner) (isOpen inner)) (shapeWords inner) (omega (arith, j .after, words-length inner))),
+        rw (r, inside, j .ends, j .words, append-nil (shapeWords inner)) (written-front old at (bracketWord (size inner) (isOpen inner)) (shapeWords inner)
+            (omega (arith, j .after, words-length inner))),
       )

@@ -91,7 +91,8 @@ disjoint-never-right a b t e h = rw (read-never b t e h) (go (readFormat a))
     go (of f) = refl
 
 -- the rows' answer is that of the formats
-pub disjoint-rows-are : (a b : List ℕ) (f g : Shapes) (r : Bool) → readFormat a ≡ of f → readFormat b ≡ of g → r ≡ disjointRows f g → r ≡ disjointFormats (readFormat a) (readFormat b)
+pub disjoint-rows-are : (a b : List ℕ) (f g : Shapes) (r : Bool) → readFormat a ≡ of f → readFormat b ≡ of g → r ≡ disjointRows f g
+    → r ≡ disjointFormats (readFormat a) (readFormat b)
 disjoint-rows-are a b f g r p q e = rw (p, q) e
 
 -- ---- join
@@ -170,7 +171,9 @@ words-same limit a b l x y = (to, back)
 -- an answer that is yes exactly of equal words is the test of their formats
 pub same-words-format : (limit : ℕ) (a b : List ℕ) (r : Bool) → limit ≤ 127 → FormatIn limit a → FormatIn limit b → (r ≡ true → a ≡ b) → (a ≡ b → r ≡ true)
     → r ≡ sameFormat (readFormat a) (readFormat b)
-same-words-format limit a b r l x y p q = rw (format-in-read limit a l x, format-in-read limit b l y) (go r (sameFormat (x .format) (y .format)) (λ e. words-same limit a b l x y .0 (p e)) (λ e. q (words-same limit a b l x y .1 e)))
+same-words-format limit a b r l x y p q =
+    rw (format-in-read limit a l x, format-in-read limit b l y)
+    (go r (sameFormat (x .format) (y .format)) (λ e. words-same limit a b l x y .0 (p e)) (λ e. q (words-same limit a b l x y .1 e)))
   where
     go : (s t : Bool) → (s ≡ true → t ≡ true) → (t ≡ true → s ≡ true) → s ≡ t
     go true t p q = sym (p refl)

@@ -147,7 +147,8 @@ read-shapes (item b f) h =
 read-shapes (group g f) h =
     let s : List ℕ = bracketWord (size g) (isOpen g) ∷ shapeWords g ++ shapeWords f in
     let is : isBracket (getD s 0 0) ≡ true = bracket-word-is (size g) (isOpen g) in
-    let e : suc (size g) ≡ shapesEnd s = bracket-end s (size g) (bracket-word-inside (size g) (isOpen g) (omega arith)) (omega (arith, length-append (shapeWords g) (shapeWords f), words-length g)) in
+    let e : suc (size g) ≡ shapesEnd s = bracket-end s (size g) (bracket-word-inside (size g) (isOpen g) (omega arith))
+    (omega (arith, length-append (shapeWords g) (shapeWords f), words-length g)) in
     shapes-bracket (isOpen f) s (suc (size g)) (omega arith) is e
     ∙ rw (
       bracket-word-open (size g) (isOpen g) (omega arith),

@@ -5,7 +5,8 @@ use native.Mathlib.Omega.{arith}
 use borrow.Author.Needs.{needs}
 use lib.ListN.{length}
 use Rattle.shapes.proofs.WordLaws.{shapes-contents-falls, shapes-rest-falls}
-use Rattle.shapes.proofs.FirstLaws.{disjoint-none-none, disjoint-none-some, disjoint-some-none, disjoint-first, disjoint-rest, apart-brackets, apart-bracket-leaf, apart-leaf-bracket, apart-leaves}
+use Rattle.shapes.proofs.FirstLaws.{disjoint-none-none, disjoint-none-some, disjoint-some-none, disjoint-first}
+use Rattle.shapes.proofs.FirstLaws.{disjoint-rest, apart-brackets, apart-bracket-leaf, apart-leaf-bracket, apart-leaves}
 use borrow.Fn.Kinds.{In}
 use borrow.Fn.PlainCycle.{Measures, is, falls, and}
 use Rattle.shapes.proofs.disjoint_rows.Reads as disjoint-rows
@@ -68,13 +69,17 @@ pub +disjoint-rows+disjoint-shapes-spec : {M : Type 1} → statement M
     )
     (disjoint-rows-at t)
     disjoint-rows.Post
-    (λ c. let x = c .before .before .before .before .args in disjoint-none-none (x .a .now) (x .a-open) (x .b .now) (x .b-open) (c .before .if1 .taken) (c .if2 .taken))
-    (λ c. let x = c .before .before .before .before .args in disjoint-none-some (x .a .now) (x .a-open) (x .b .now) (x .b-open) (c .before .if1 .taken) (c .if2 .left))
-    (λ c. let x = c .before .before .before .before .args in disjoint-some-none (x .a .now) (x .a-open) (x .b .now) (x .b-open) (c .before .if1 .left) (c .if3 .taken))
+    (λ c. let x = c .before .before .before .before .args in disjoint-none-none (x .a .now) (x .a-open) (x .b .now) (x .b-open)
+    (c .before .if1 .taken) (c .if2 .taken))
+    (λ c. let x = c .before .before .before .before .args in disjoint-none-some (x .a .now) (x .a-open) (x .b .now) (x .b-open)
+    (c .before .if1 .taken) (c .if2 .left))
+    (λ c. let x = c .before .before .before .before .args in disjoint-some-none (x .a .now) (x .a-open) (x .b .now) (x .b-open)
+    (c .before .if1 .left) (c .if3 .taken))
     (λ c κs. (omega arith, (c .before .if1 .left, c .if3 .left)))
     (λ c.
     let the-if1 = c .before .before .before .if1 in
-    let x = c .before .before .before .before .before .before .args in disjoint-first (x .a .now) (x .a-open) (x .b .now) (x .b-open) _ (the-if1 .left) (c .before .before .if3 .left) (c .before .disjoint-shapes .ensures) (c .if4 .taken))
+    let x = c .before .before .before .before .before .before .args in disjoint-first (x .a .now) (x .a-open) (x .b .now) (x .b-open) _ (the-if1 .left)
+    (c .before .before .if3 .left) (c .before .disjoint-shapes .ensures) (c .if4 .taken))
     (λ c κs. omega arith)
     (λ c κs. omega arith)
     (λ c. search needs)
@@ -97,7 +102,9 @@ pub +disjoint-rows+disjoint-shapes-spec : {M : Type 1} → statement M
     let the-if3 = c .before .before .before .before .before .before .before .if3 in
     let the-disjoint-shapes = c .before .before .before .before .before .before .disjoint-shapes in
     let the-if4 = c .before .before .before .before .before .if4 in
-    let x = c .before .before .before .before .before .before .before .before .before .before .before .args in disjoint-rest (x .a .now) (x .a-open) (x .b .now) (x .b-open) _ _ _ _ (the-if1 .left) (the-if3 .left) (the-disjoint-shapes .ensures) (the-if4 .left) (the-end-of .ensures .0) (the-end-of2 .ensures .0) (c .disjoint-rows .ensures)))
+    let x = c .before .before .before .before .before .before .before .before .before .before .before .args in disjoint-rest (x .a .now) (x .a-open) (x .b .now)
+    (x .b-open) _ _ _ _ (the-if1 .left) (the-if3 .left) (the-disjoint-shapes .ensures) (the-if4 .left) (the-end-of .ensures .0) (the-end-of2 .ensures .0)
+    (c .disjoint-rows .ensures)))
     λ t. disjoint-shapes-lts.spec (
       is-bracket-reads.Asked,
       is-bracket-reads.Learnt,
@@ -139,20 +146,25 @@ pub +disjoint-rows+disjoint-shapes-spec : {M : Type 1} → statement M
     let the-if2 = c .before .before .before .before .before .before .before .if2 in
     let the-end-of = c .before .before .before .before .before .before .end-of in
     let the-end-of2 = c .before .before .before .before .before .end-of2 in
-    let x = c .before .before .before .before .before .before .before .before .before .before .before .before .before .before .before .args in apart-brackets (x .a .now) (x .b .now) _ _ (the-is-bracket .ensures) (the-is-bracket2 .ensures) _ _ _ _ _ (the-if1 .taken) (the-if2 .taken) (the-end-of .ensures .0) (the-end-of2 .ensures .0) (the-inside-open .ensures) (c .before .inside-open2 .ensures) (c .disjoint-rows .ensures))
+    let x = c .before .before .before .before .before .before .before .before .before .before .before .before .before .before .before .args in
+    apart-brackets (x .a .now) (x .b .now) _ _ (the-is-bracket .ensures) (the-is-bracket2 .ensures) _ _ _ _ _ (the-if1 .taken) (the-if2 .taken)
+    (the-end-of .ensures .0) (the-end-of2 .ensures .0) (the-inside-open .ensures) (c .before .inside-open2 .ensures) (c .disjoint-rows .ensures))
     (λ c κs. search needs)
     (λ c.
     let the-is-bracket = c .before .before .before .before .is-bracket in
     let the-if1 = c .before .before .before .if1 in
-    let x = c .before .before .before .before .before .before .before .before .before .args in apart-bracket-leaf (x .a .now) (x .b .now) _ _ (the-is-bracket .ensures) (c .before .before .is-bracket2 .ensures) _ (the-if1 .taken) (c .before .if2 .left) (c .holds-brackets .ensures))
+    let x = c .before .before .before .before .before .before .before .before .before .args in apart-bracket-leaf (x .a .now) (x .b .now) _ _
+    (the-is-bracket .ensures) (c .before .before .is-bracket2 .ensures) _ (the-if1 .taken) (c .before .if2 .left) (c .holds-brackets .ensures))
     (λ c κs. search needs)
     (λ c κs. search needs)
     (λ c.
     let the-is-bracket = c .before .before .before .before .is-bracket in
     let the-if1 = c .before .before .before .if1 in
-    let x = c .before .before .before .before .before .before .before .before .before .args in apart-leaf-bracket (x .a .now) (x .b .now) _ _ (the-is-bracket .ensures) (c .before .before .is-bracket3 .ensures) _ (the-if1 .left) (c .before .if3 .taken) (c .holds-brackets2 .ensures))
+    let x = c .before .before .before .before .before .before .before .before .before .args in apart-leaf-bracket (x .a .now) (x .b .now) _ _
+    (the-is-bracket .ensures) (c .before .before .is-bracket3 .ensures) _ (the-if1 .left) (c .before .if3 .taken) (c .holds-brackets2 .ensures))
     (λ c κs. search needs)
     (λ c.
     let the-is-bracket = c .before .before .before .before .is-bracket in
     let the-if1 = c .before .before .before .if1 in
-    let x = c .before .before .before .before .before .before .before .before .before .args in apart-leaves (x .a .now) (x .b .now) _ _ (the-is-bracket .ensures) (c .before .before .is-bracket3 .ensures) _ (the-if1 .left) (c .before .if3 .left) (c .leaves-apart .ensures))
+    let x = c .before .before .before .before .before .before .before .before .before .args in apart-leaves (x .a .now) (x .b .now) _ _
+    (the-is-bracket .ensures) (c .before .before .is-bracket3 .ensures) _ (the-if1 .left) (c .before .if3 .left) (c .leaves-apart .ensures))

@@ -147,11 +147,17 @@ pub +join-rows+join-shapes-spec : {M : Type 1} → statement M
           (c .before .if2 .taken) (or-right (args .a-open) (args .b-open) (c .if3 .left)),
     ))
     (λ c.
-    let args = rows-start t (c .before .before) .args in
-    (omega arith, join-none-some (args .a .now) (args .a-open) (args .b .now) (args .b-open) (args .out .now) (args .at) (c .before .if1 .taken) (c .if2 .left)))
+    let args = rows-start t (c .before .before) .args in (
+      omega arith,
+      join-none-some (args .a .now) (args .a-open) (args .b .now) (args .b-open) (args .out .now) (args .at)
+          (c .before .if1 .taken) (c .if2 .left),
+    ))
     (λ c.
-    let args = rows-start t (c .before .before) .args in
-    (omega arith, join-some-none (args .a .now) (args .a-open) (args .b .now) (args .b-open) (args .out .now) (args .at) (c .before .if1 .left) (c .if4 .taken)))
+    let args = rows-start t (c .before .before) .args in (
+      omega arith,
+      join-some-none (args .a .now) (args .a-open) (args .b .now) (args .b-open) (args .out .now) (args .at)
+          (c .before .if1 .left) (c .if4 .taken),
+    ))
     (λ c κs. search needs)
     (λ c κs. search needs)
     (λ c κs. search needs)

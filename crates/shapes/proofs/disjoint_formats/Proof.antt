@@ -34,6 +34,8 @@ disjoint-formats-spec =
     let first = heads .before .header-of .ensures in
     let second = heads .header-of2 .ensures in
     disjoint-rows-are (x .a .now) (x .b .now) _ _ _
-    (read-shapes (x .a .now) _ _ _ (tests .before .before .is-never .ensures ∙ ap (leb 512) first) (tests .before .if1 .left) (the-row-open .ensures ∙ ap (leb 256) first) (rows .shapes-of .ensures))
-    (read-shapes (x .b .now) _ _ _ (tests .is-never2 .ensures ∙ ap (leb 512) second) (rows .before .if2 .left) (c .before .row-open2 .ensures ∙ ap (leb 256) second) (c .before .before .shapes-of2 .ensures))
+    (read-shapes (x .a .now) _ _ _ (tests .before .before .is-never .ensures ∙ ap (leb 512) first) (tests .before .if1 .left)
+    (the-row-open .ensures ∙ ap (leb 256) first) (rows .shapes-of .ensures))
+    (read-shapes (x .b .now) _ _ _ (tests .is-never2 .ensures ∙ ap (leb 512) second) (rows .before .if2 .left)
+    (c .before .row-open2 .ensures ∙ ap (leb 256) second) (c .before .before .shapes-of2 .ensures))
     (c .disjoint-rows .ensures)))

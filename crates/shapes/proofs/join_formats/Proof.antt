@@ -27,7 +27,8 @@ join-formats-spec =
     let the-if1 = c .before .before .before .before .if1 in
     let the-pre = c .before .before .before .before .before .before .before .before .before .before .before .pre in
     let the-is-never = c .before .before .before .before .before .is-never in
-    let x = c .before .before .before .before .before .before .before .before .before .before .before .args in join-never-left (x .limit) (x .a .now) (x .b .now) _ _ (the-pre .0) (the-pre .2) (the-is-never .ensures) (the-if1 .taken) (c .before .before .copy-words .ensures))
+    let x = c .before .before .before .before .before .before .before .before .before .before .before .args in
+    join-never-left (x .limit) (x .a .now) (x .b .now) _ _ (the-pre .0) (the-pre .2) (the-is-never .ensures) (the-if1 .taken) (c .before .before .copy-words .ensures))
     (λ c κs. search needs)
     (λ c κs.
     let start = c .before .before .before .before .before .before .before .before .before .before in
@@ -37,7 +38,8 @@ join-formats-spec =
     let the-if2 = c .before .before .before .before .if2 in
     let the-pre = c .before .before .before .before .before .before .before .before .before .before .before .before .before .pre in
     let the-is-never2 = c .before .before .before .before .before .is-never2 in
-    let x = c .before .before .before .before .before .before .before .before .before .before .before .before .before .args in join-never-right (x .limit) (x .a .now) (x .b .now) _ _ (the-pre .0) (the-pre .1) (the-is-never2 .ensures) (the-if2 .taken) (c .before .before .copy-words2 .ensures))
+    let x = c .before .before .before .before .before .before .before .before .before .before .before .before .before .args in
+    join-never-right (x .limit) (x .a .now) (x .b .now) _ _ (the-pre .0) (the-pre .1) (the-is-never2 .ensures) (the-if2 .taken) (c .before .before .copy-words2 .ensures))
     (λ c κs.
     let start = c .before .before .before .before .before .before .before .before .before in
     omega (arith, format-in-length (start .args .limit) (start .args .a .now) (start .pre .1)))
@@ -61,7 +63,8 @@ join-formats-spec =
     (λ c κs.
     let the-join-rows = c .before .before .before .join-rows in
     let the-row-end = c .before .before .before .before .before .before .before .before .before .before .before .before .before .before .row-end in
-    let start = c .before .before .before .before .before .before .before .before .before .before .before .before .before .before .before .before .before .before .before .before .before .before .before .before in
+    let start = c .before .before .before .before .before .before .before .before .before .before .before .before .before .before
+    .before .before .before .before .before .before .before .before .before .before in
     omega (arith, start .pre, the-row-end .ensures, the-join-rows .ensures .0, format-in-length (start .args .limit) (start .args .a .now) (start .pre .1)))
     (λ c. search needs)
     (λ c.
@@ -79,7 +82,10 @@ join-formats-spec =
     let the-row-end2 = c .before .before .before .before .before .before .before .before .before .before .before .before .before .before .row-end2 in
     let the-row-open2 = c .before .before .before .before .before .before .row-open2 in
     let the-clear-words = c .before .before .before .before .before .before .before .before .before .before .before .before .clear-words in
-    let x = c .before .before .before .before .before .before .before .before .before .before .before .before .before .before .before .before .before .before .before .before .before .before .before .before .before .args in let p = c .before .before .before .before .before .before .before .before .before .before .before .before .before .before .before .before .before .before .before .before .before .before .before .before .before .pre in
+    let x = c .before .before .before .before .before .before .before .before .before .before .before .before .before .before
+    .before .before .before .before .before .before .before .before .before .before .before .args in
+    let p = c .before .before .before .before .before .before .before .before .before .before .before .before .before .before
+    .before .before .before .before .before .before .before .before .before .before .before .pre in
     let long : length (x .a .now) ≡ x .limit + 1 = format-in-length (x .limit) (x .a .now) (p .1) in
     let others : length (x .b .now) ≡ x .limit + 1 = format-in-length (x .limit) (x .b .now) (p .2) in
     join-rows-are (x .limit) (x .a .now) (x .b .now) _ _ _ _ _ _ _

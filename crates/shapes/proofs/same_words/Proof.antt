@@ -35,5 +35,6 @@ same-words-spec =
     (λ c.
     let the-loop = c .before .before .before .before .loop in
     let the-loop-test = c .before .before .before .loop-test in
-    let x = c .before .before .before .before .before .before .args in same-next (x .a .now) (x .b .now) (the-loop .i) (the-loop .inv) (the-loop-test .taken) (c .if2 .left))
+    let x = c .before .before .before .before .before .before .args in same-next (x .a .now) (x .b .now) (the-loop .i) (the-loop .inv)
+    (the-loop-test .taken) (c .if2 .left))
     (λ c. let x = c .before .before .before .args in same-end (x .a .now) (x .b .now) (c .before .loop .i) (c .before .loop .inv) (c .loop-test .left)))

@@ -72,8 +72,13 @@ pub +show-row+show-shape-spec : {M : Type 1} → statement M
     let the-put-space = c .before .before .before .before .before .before .before .put-space in
     let the-if1 = c .before .before .before .before .before .before .before .before .before .before .if1 in
     let the-if2 = c .before .before .before .before .before .before .before .before .before .if2 in
-    let x = c .before .before .before .before .before .before .before .before .before .before .before .before .before .args in (omega (arith, the-put .ensures .end, the-put-space .ensures .end, space-length (x .first)), show-none-open (x .is-open) (x .first) (x .s .now) (x .out .now) (x .at) _ _ _ _ (the-if1 .taken) (the-if2 .taken) (the-put-space .ensures) (c .before .before .put .ensures)))
-    (λ c. let x = c .before .before .before .before .args in (omega arith, show-none-closed (x .is-open) (x .first) (x .s .now) (x .out .now) (x .at) (c .before .if1 .taken) (c .if2 .left)))
+    let x = c .before .before .before .before .before .before .before .before .before .before .before .before .before .args in (
+      omega (arith, the-put .ensures .end, the-put-space .ensures .end, space-length (x .first)),
+      show-none-open (x .is-open) (x .first) (x .s .now) (x .out .now) (x .at) _ _ _ _ (the-if1 .taken) (the-if2 .taken) (the-put-space .ensures)
+          (c .before .before .put .ensures),
+    ))
+    (λ c. let x = c .before .before .before .before .args in
+    (omega arith, show-none-closed (x .is-open) (x .first) (x .s .now) (x .out .now) (x .at) (c .before .if1 .taken) (c .if2 .left)))
     (λ c κs. omega arith)
     (λ c κs.
     let the-put-space2 = c .before .before .before .put-space2 in
@@ -89,8 +94,10 @@ pub +show-row+show-shape-spec : {M : Type 1} → statement M
     let the-if1 = c .before .before .before .before .before .before .before .before .before .before .before .if1 in
     let the-show-shape = c .before .before .before .before .before .show-shape in
     let the-put-space2 = c .before .before .before .before .before .before .before .before .before .put-space2 in
-    let start = c .before .before .before .before .before .before .before .before .before .before .before .before .before .before in
-    (omega (arith, shapes-rest-falls (start .args .s .now) (c .before .before .end-of .result) (the-if1 .left) (the-end-of .ensures .0)), omega (arith, c .before .before .end-of .ensures, the-show-shape .ensures .0, the-put-space2 .ensures .end, space-length (start .args .first), start .pre)))
+    let start = c .before .before .before .before .before .before .before .before .before .before .before .before .before .before in (
+      omega (arith, shapes-rest-falls (start .args .s .now) (c .before .before .end-of .result) (the-if1 .left) (the-end-of .ensures .0)),
+      omega (arith, c .before .before .end-of .ensures, the-show-shape .ensures .0, the-put-space2 .ensures .end, space-length (start .args .first), start .pre),
+    ))
     (λ c. omega arith)
     (λ c.
     let the-show-row = c .before .before .show-row in
@@ -100,7 +107,8 @@ pub +show-row+show-shape-spec : {M : Type 1} → statement M
     let the-if1 = c .before .before .before .before .before .before .before .before .before .before .before .before .before .before .if1 in
     let x = c .before .before .before .before .before .before .before .before .before .before .before .before .before .before .before .before .before .args in (
       omega (arith, the-show-row .ensures .0, the-end-of .ensures, the-show-shape .ensures .0, the-put-space2 .ensures .end, space-length (x .first)),
-      show-some (x .is-open) (x .first) (x .s .now) (x .out .now) (x .at) _ _ _ _ _ _ _ (the-if1 .left) (the-end-of .ensures .0) (the-put-space2 .ensures) (the-show-shape .ensures .1) (the-show-row .ensures .1),
+      show-some (x .is-open) (x .first) (x .s .now) (x .out .now) (x .at) _ _ _ _ _ _ _ (the-if1 .left) (the-end-of .ensures .0) (the-put-space2 .ensures)
+          (the-show-shape .ensures .1) (the-show-row .ensures .1),
     )))
     λ t. show-shape-lts.spec (
       end-of-reads.Asked,
@@ -131,8 +139,10 @@ pub +show-row+show-shape-spec : {M : Type 1} → statement M
     (λ c κs. search needs)
     (λ c κs. let the-end-of = c .before .before .before .before .before .before .before .before .before .before .end-of in
     let the-put = c .before .before .before .before .before .put in
-    let start = c .before .before .before .before .before .before .before .before .before .before .before .before .before .before in
-    (omega (arith, shapes-contents-falls (start .args .s .now) (the-end-of .result) (start .pre .1 .0) (the-end-of .ensures .0)), omega (arith, the-end-of .ensures, the-put .ensures .end, start .pre)))
+    let start = c .before .before .before .before .before .before .before .before .before .before .before .before .before .before in (
+      omega (arith, shapes-contents-falls (start .args .s .now) (the-end-of .result) (start .pre .1 .0) (the-end-of .ensures .0)),
+      omega (arith, the-end-of .ensures, the-put .ensures .end, start .pre),
+    ))
     (λ c. search needs)
     (λ c κs.
     let the-show-row = c .before .before .before .before .show-row in
@@ -151,7 +161,8 @@ pub +show-row+show-shape-spec : {M : Type 1} → statement M
     let the-inside-open = c .before .before .before .before .before .before .before .before .before .inside-open in
     let x = c .before .before .before .before .before .before .before .before .before .before .before .before .before .before .before .before .before .before .before .before .before .before .args in (
       omega (arith, the-put2 .ensures .end, the-show-row .ensures .0, the-end-of .ensures, the-put .ensures .end),
-      show-bracket (x .s .now) _ (the-is-bracket .ensures) (x .out .now) (x .at) _ _ _ _ _ _ _ _ (the-if1 .taken) (the-inside-open .ensures) (the-end-of .ensures .0) (the-put .ensures) (the-show-row .ensures .1) (c .before .before .put2 .ensures),
+      show-bracket (x .s .now) _ (the-is-bracket .ensures) (x .out .now) (x .at) _ _ _ _ _ _ _ _ (the-if1 .taken) (the-inside-open .ensures)
+          (the-end-of .ensures .0) (the-put .ensures) (the-show-row .ensures .1) (c .before .before .put2 .ensures),
     ))
     (λ c κs. search needs)
     (λ c κs. omega arith)
@@ -162,4 +173,8 @@ pub +show-row+show-shape-spec : {M : Type 1} → statement M
     let the-pre = c .before .before .before .before .before .before .before .before .before .before .before .pre in
     let the-is-bracket = c .before .before .before .before .before .before .is-bracket in
     let the-if1 = c .before .before .before .before .before .if1 in
-    let x = c .before .before .before .before .before .before .before .before .before .before .before .args in (omega (arith, the-put-byte .ensures .end, shapes-end-low (x .s .now) (the-pre .1 .0)), show-leaf (x .s .now) _ (the-is-bracket .ensures) (x .out .now) (x .at) _ _ _ (the-if1 .left) (the-leaf-byte .ensures) (c .before .before .put-byte .ensures)))
+    let x = c .before .before .before .before .before .before .before .before .before .before .before .args in (
+      omega (arith, the-put-byte .ensures .end, shapes-end-low (x .s .now) (the-pre .1 .0)),
+      show-leaf (x .s .now) _ (the-is-bracket .ensures) (x .out .now) (x .at) _ _ _ (the-if1 .left) (the-leaf-byte .ensures)
+          (c .before .before .put-byte .ensures),
+    ))

@@ -33,4 +33,5 @@ display-format-spec =
     let the-if2 = c .before .before .before .before .if2 in
     let x = c .before .before .before .before .before .before .before .before .before .before .before .before .args in
     let measured = c .before .before .before .before .before .before .before .show-format in
-    text-fits (x .out .now) (x .at) (text (x .format .now)) (measured .last .1 .0) (measured .kept .1 .0) _ _ _ (measured .ensures .end) (the-if2 .left) (c .before .before .show-format2 .ensures)))
+    text-fits (x .out .now) (x .at) (text (x .format .now)) (measured .last .1 .0) (measured .kept .1 .0) _ _ _ (measured .ensures .end) (the-if2 .left)
+    (c .before .before .show-format2 .ensures)))

@@ -52,5 +52,6 @@ show-format-spec =
     let some = tested .before .before .before in
     let x = tested .before .before .before .before .before .before .args in
     show-whole (x .format .now) (x .out .now) _ _ _ (x .at) _ _ _ _
-    (read-row (x .format .now) _ _ _ (some .if1 .left) (tested .before .is-never .ensures) (tested .if2 .left) (ended .row-end .ensures .0) (row .before .before .row-open .ensures))
+    (read-row (x .format .now) _ _ _ (some .if1 .left) (tested .before .is-never .ensures) (tested .if2 .left) (ended .row-end .ensures .0)
+    (row .before .before .row-open .ensures))
     (opened .put3 .ensures) (row .show-row .ensures .1) (c .before .before .put4 .ensures)))

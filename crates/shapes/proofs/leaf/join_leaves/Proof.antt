@@ -12,7 +12,9 @@ join-leaves-spec = tie.close (tie.spec
     simp (lt-leb _ _ (c .before .if1 .left), le-leb _ _ (c .if2 .taken)) at (leaves-join (start .args .x) (start .args .y)))
     (λ c.
     let start = c .before .before .before in
-    simp (lt-leb _ _ (c .before .before .if1 .left), lt-leb _ _ (c .before .if2 .left), eq-eqb _ _ (c .if3 .taken)) at (leaves-join (start .args .x) (start .args .y)))
+    simp (lt-leb _ _ (c .before .before .if1 .left), lt-leb _ _ (c .before .if2 .left), eq-eqb _ _ (c .if3 .taken)) at
+    (leaves-join (start .args .x) (start .args .y)))
     (λ c.
     let start = c .before .before .before in
-    simp (lt-leb _ _ (c .before .before .if1 .left), lt-leb _ _ (c .before .if2 .left), ne-eqb _ _ (c .if3 .left)) at (leaves-join (start .args .x) (start .args .y))))
+    simp (lt-leb _ _ (c .before .before .if1 .left), lt-leb _ _ (c .before .if2 .left), ne-eqb _ _ (c .if3 .left)) at
+    (leaves-join (start .args .x) (start .args .y))))

@@ -12,4 +12,5 @@ leaf-byte-spec = tie.close (tie.spec
     (λ c. search needs)
     (λ c.
     let none-to-three = c .match .rest in
-    rw (leaf-high (c .before .args .w) (leaf-word-past (c .before .args .w) (none-to-three .0 .0 .0 .1) (none-to-three .0 .0 .1) (none-to-three .0 .1) (none-to-three .1)))))
+    rw (leaf-high (c .before .args .w) (leaf-word-past (c .before .args .w) (none-to-three .0 .0 .0 .1) (none-to-three .0 .0 .1)
+    (none-to-three .0 .1) (none-to-three .1)))))
