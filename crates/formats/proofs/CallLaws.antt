@@ -102,7 +102,8 @@ pub infer-ten : (limit : ℕ) (law : Law) → OnlyTen (infer limit law)
 unfolding infer inferWithin
 infer-ten limit law =
     only-then (arguments limit law (allAt never (namesOf law)))
-    (λ found. roundsFrom limit (roundLimit law) law (allAt never (namesOf law)) 0 >>= (λ r. given (record { formats = record { arguments = found; results = r .results }; rounds = r .rounds; settled = r .settled })))
+    (λ found. roundsFrom limit (roundLimit law) law (allAt never (namesOf law))
+    0 >>= (λ r. given (record { formats = record { arguments = found; results = r .results }; rounds = r .rounds; settled = r .settled })))
     (arguments-ten limit law (allAt never (namesOf law)))
     (λ found. only-then (roundsFrom limit (roundLimit law) law (allAt never (namesOf law)) 0)
     (λ r. given (record { formats = record { arguments = found; results = r .results }; rounds = r .rounds; settled = r .settled }))

@@ -25,7 +25,8 @@ use Rattle.formats.specs.Code.Rows.{formatAt}
 use Rattle.formats.specs.Code.Turns.{RoundAsked, Holding, resultsIn, rowsJoined, formatNumber, turnOf, TurnIs, argumentsStop, roundStop, ArgumentsIs, RoundIs}
 use Rattle.formats.specs.declared.infer.Turn.{Turn}
 use Rattle.formats.specs.declared.infer.Turn.the-variants.{Over, Changed, Same}
-use Rattle.formats.proofs.EntryLaws.{format-encodable, functionResults, functionPatterns, arguments-next, arguments-over, arguments-end, arguments-stop-next, arguments-stop-over, round-next, round-over, round-end, round-stop-next, round-stop-over}
+use Rattle.formats.proofs.EntryLaws.{format-encodable, functionResults, functionPatterns, arguments-next, arguments-over, arguments-end}
+use Rattle.formats.proofs.EntryLaws.{arguments-stop-next, arguments-stop-over, round-next, round-over, round-end, round-stop-next, round-stop-over}
 use Rattle.formats.proofs.SlotLaws.{function-placed}
 use Rattle.formats.proofs.StateLaws.{whole-length, read-argument-format, read-result-format, write-argument, write-result}
 use Rattle.formats.proofs.SentenceLaws.{results-said}

@@ -441,7 +441,8 @@ module _ (limit : ℕ) (law : Law) (i : Inferred) (h : infer limit law ≡ given
       (w .format, w .is-found, each-sentence-at _ j (f .sentences) m p cs r after at-j (w .each))
 
   -- its result's format by a settled table adds nothing to the function's format there
-  pub result-closed : i .settled ≡ true → (format : Format) × (find (i .formats .results) (nameOf f) ≡ some format) × (joinFormats format (of (resultShapes (find (i .formats .results)) r)) ≡ format)
+  pub result-closed : i .settled ≡ true → (format : Format) × (find (i .formats .results) (nameOf f) ≡ some format)
+      × (joinFormats format (of (resultShapes (find (i .formats .results)) r)) ≡ format)
   result-closed settled =
       let w : ResultsWithin (i .formats .results) f = each-function-at (ResultsWithin (i .formats .results)) k law f at-k (infer-holds limit law i h .results settled) in
       (w .format, w .is-found, each-sentence-at _ j (f .sentences) m p cs r after at-j (w .each))

@@ -35,7 +35,8 @@ use Rattle.shapes.proofs.WordLaws.{words-length, format-words-length, read-writ
 use Rattle.buffers.proofs.WrittenLaws.{written-none, written-more, written-one, written-front, written-length}
 use Rattle.formats.specs.FormatOf.{variableShapes, patternShapes, chain, extend, Results, resultShapes}
 use Rattle.formats.specs.Code.Slots.{callFolded}
-use Rattle.formats.specs.Code.Rows.{formatAt, Knows, KeptOutside, RowIs, Between, Stored, storedAt, stepOf, calleeShapes, stepShapes, partShapes, firstShapes, RowAsked, LeafKind, leftOf, Onward, LeavesAre}
+use Rattle.formats.specs.Code.Rows.{formatAt, Knows, KeptOutside, RowIs, Between, Stored, storedAt, stepOf, calleeShapes}
+use Rattle.formats.specs.Code.Rows.{stepShapes, partShapes, firstShapes, RowAsked, LeafKind, leftOf, Onward, LeavesAre}
 use Rattle.formats.specs.declared.Row.{Row}
 use Rattle.formats.specs.declared.Row.the-variants.{Over, Ends}
 use Rattle.formats.specs.declared.rows.Step as steps
@@ -623,8 +624,14 @@ pub leaves-next : (part before middle : List ℕ) (from most n word : ℕ) → L
     → LeavesAre part before (set middle (from + n) word) from most (n + 1)
 unfolding termAt
 leaves-next part before middle from most n word so-far room enough kind leaf file at store limit count asked = record {
-  asked = rw (left-next n part, add-zero (at + n + 1), add-assoc at n 1) at (asked-rest now whole {n = 0} {next = from + (n + 1)} {out = set middle (from + n) word} ends none-inside (omega arith) (length-set middle (from + n) word));
-  goes = λ results after row r. onward .goes results after row (row-first-rest now whole results refl refl ends none-inside (written results) (rw (left-next n part, add-zero (at + n + 1), add-assoc at n 1, add-assoc from n 1) r));
+  asked =
+      rw (left-next n part, add-zero (at + n + 1), add-assoc at n 1) at
+      (asked-rest now whole {n = 0} {next = from + (n + 1)} {out = set middle (from + n) word} ends none-inside (omega arith)
+      (length-set middle (from + n) word));
+  goes =
+      λ results after row r. onward .goes results after row
+      (row-first-rest now whole results refl refl ends none-inside (written results)
+      (rw (left-next n part, add-zero (at + n + 1), add-assoc at n 1, add-assoc from n 1) r));
 }
   where
     onward : Onward file at part store limit count before middle from most n

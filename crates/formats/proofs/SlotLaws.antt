@@ -23,7 +23,8 @@ use Rattle.law.specs.Reading.{functionName, functionsFrom, treeOf, sentencesFro
 use Rattle.law.proofs.IndexLaws.{zero-offset}
 use Rattle.law.proofs.Functions.{tree-length}
 use Rattle.formats.specs.Infer.{insertName, namesOf}
-use Rattle.formats.specs.Code.Slots.{position, functionFolded, callFolded, fileNames, isAmong, namesFrom, lessCount, namesAt, newly, FilledTo, NamedFrom, Places, KeptFrom, Unused, SlotsUpTo, CalleeSlot}
+use Rattle.formats.specs.Code.Slots.{position, functionFolded, callFolded, fileNames, isAmong, namesFrom, lessCount, namesAt}
+use Rattle.formats.specs.Code.Slots.{newly, FilledTo, NamedFrom, Places, KeptFrom, Unused, SlotsUpTo, CalleeSlot}
 
 -- ---- sorted names
 
@@ -439,7 +440,8 @@ module _ (file : File) where
       → start ≡ wordAt (file .terms .records) (24 * t + 4) → len ≡ wordAt (file .terms .records) (24 * t + 8) → start + len ≤ length (file .text .records)
   call-name-inside t start len h l kind a b =
       rw (a, b)
-      (call-inside (file .text .records) (wordAt (file .terms .records) (24 * t)) (wordAt (file .terms .records) (24 * t + 4)) (wordAt (file .terms .records) (24 * t + 8)) (wordAt (file .terms .records) (24 * t + 12))
+      (call-inside (file .text .records) (wordAt (file .terms .records) (24 * t)) (wordAt (file .terms .records) (24 * t + 4))
+      (wordAt (file .terms .records) (24 * t + 8)) (wordAt (file .terms .records) (24 * t + 12))
       (term-at-allowed (file .text .records) (file .terms .records) (file .terms .count) t (fields-terms file h) l)
       kind)
 

@@ -166,8 +166,11 @@ module _ (limit : ℕ) (store : List ℕ) (k : ℕ) where
           let old = formatAt limit store k in
           let few : limit ≤ 127 = omega arith in
           let front : take (limit + 1) (joined ++ rest) ≡ joined = back-front l joined rest kept in
-          let read : readFormat joined ≡ joinedAt limit store k other = rw words (read-write limit (joinedAt limit store k other) (join-encodable limit (readFormat old) (readFormat other) (read-encodable limit old l x) (read-encodable limit other l y)) few) in
-          let test : same ≡ sameFormat (readFormat joined) (readFormat old) = same-words-format limit joined old same few (join-format-in limit old other joined few x y words) x (λ e. sym front ∙ (p e ∙ lent-is)) (λ e. q (front ∙ (e ∙ sym lent-is))) in
+          let read : readFormat joined ≡ joinedAt limit store k other = rw words
+          (read-write limit (joinedAt limit store k other)
+          (join-encodable limit (readFormat old) (readFormat other) (read-encodable limit old l x) (read-encodable limit other l y)) few) in
+          let test : same ≡ sameFormat (readFormat joined) (readFormat old) = same-words-format limit joined old same few
+          (join-format-in limit old other joined few x y words) x (λ e. sym front ∙ (p e ∙ lent-is)) (λ e. q (front ∙ (e ∙ sym lent-is))) in
           ap not (rw read at test)
 
 -- ---- a format that the store already has
@@ -232,7 +235,9 @@ never-told s = go (leb 512 (getD s 0 0)) refl
 module _ (limit : ℕ) (store : List ℕ) (k : ℕ) (other : List ℕ) {header : Bool} (l : limit ≤ 64) (y : FormatIn limit other)
     (here : header ≡ leb 512 (getD store (k * (limit + 1)) 0)) (said : header ≡ true) where
   started : readFormat (formatAt limit store k) ≡ never
-  started = read-never (formatAt limit store k) true (rw (getD-take (limit + 1) (drop (k * (limit + 1)) store) 0 0 (omega arith), getD-drop (k * (limit + 1)) store 0 0, add-zero) (sym said ∙ here)) refl
+  started =
+      read-never (formatAt limit store k) true
+      (rw (getD-take (limit + 1) (drop (k * (limit + 1)) store) 0 0 (omega arith), getD-drop (k * (limit + 1)) store 0 0, add-zero) (sym said ∙ here)) refl
 
   -- the other one is copied
   pub started-words : {copied : List ℕ} → copied ≡ other

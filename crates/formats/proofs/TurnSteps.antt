@@ -120,5 +120,19 @@ module _ {limit : ℕ} {names : List (List ℕ)} {store : List ℕ} (h : Holding
   number-within false p less = part-inside (h .holds) (2 * p + 1) (omega arith)
 
   pub number-format : (patterns : Bool) (p : ℕ) → p < length names → FormatIn limit (formatAt limit store (formatNumber patterns p))
-  number-format true p less = record { format = formatIn (h .arguments) p; encodable = format-encodable limit (h .arguments) p (h .holds .entries .argumentsEncodable); same = read-argument (h .holds) p less }
-  number-format false p less = record { format = formatIn (h .results) p; encodable = format-encodable limit (h .results) p (h .holds .entries .resultsEncodable); same = read-result (h .holds) p less }
+  number-format true p less =
+      record {
+        format =
+            formatIn (h .arguments) p;
+        encodable =
+            format-encodable limit (h .arguments) p (h .holds .entries .argumentsEncodable);
+        same = read-argument (h .holds) p less;
+      }
+  number-format false p less =
+      record {
+        format =
+            formatIn (h .results) p;
+        encodable =
+            format-encodable limit (h .results) p (h .holds .entries .resultsEncodable);
+        same = read-result (h .holds) p less;
+      }

@@ -25,4 +25,5 @@ infer-formats-spec =
     let start = c .before .before .before .before .before .before .before .before .before .before .before in
     let read = c .before .before .before .before .before .before .before .read-law in
     let inferred = c .before .before .infer-accepted in
-    outcome-accepted 64 (start .args .law .now) (start .args .store .now) _ (read .result) (the-enum-told .given .1) (read .ensures .0) (inferred .result) (inferred .ensures)))
+    outcome-accepted 64 (start .args .law .now) (start .args .store .now) _ (read .result) (the-enum-told .given .1) (read .ensures .0)
+    (inferred .result) (inferred .ensures)))

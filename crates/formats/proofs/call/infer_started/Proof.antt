@@ -46,7 +46,8 @@ infer-started-spec =
     let arguments = c .before .before .before .before .before .before .infer-arguments in
     let joined-kept = arguments .kept .1 .1 .1 .1 .1 .1 .0 in
     let joined-after = arguments .last .1 .1 .1 .1 .1 .1 .0 in
-    let (found, is, held) = started-arguments (start .args .limit) _ (start .pre .1 .0) _ (arguments .result) (not-false _ (c .before .before .if1 .left)) (arguments .ensures _ _ (start .pre .1 .0) (start .pre .1 .1)) in
+    let (found, is, held) = started-arguments (start .args .limit) _ (start .pre .1 .0) _ (arguments .result) (not-false _ (c .before .before .if1 .left))
+    (arguments .ensures _ _ (start .pre .1 .0) (start .pre .1 .1)) in
     (start .pre .0, holding held, back-length (start .pre .0 .small) joined-after _ joined-kept))
     (λ c. search needs)
     (λ c.

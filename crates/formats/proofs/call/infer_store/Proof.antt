@@ -14,13 +14,18 @@ infer-store-spec =
     (λ c. search needs)
     (λ c κs.
     let start = c .before .before .before .before .before in
-    let names = c .before .wide in
-    (start .pre .2, omega (arith, store-few (start .pre .0) (start .pre .1) (start .pre .4) (start .pre .2) (names .result) (names .ensures .0)), start .pre .3))
+    let names = c .before .wide in (
+      start .pre .2,
+      omega (arith, store-few (start .pre .0) (start .pre .1) (start .pre .4) (start .pre .2) (names .result) (names .ensures .0)),
+      start .pre .3,
+    ))
     (λ c κs.
     let start = c .before .before .before .before .before .before .before .before .before in
     let names = c .before .before .before .before .before .wide in
-    let begun = c .before .before .before .start-store in
-    (store-asked (start .pre .0) (start .pre .1) (start .pre .4) (start .pre .2) (names .result) (names .ensures .0), (_, store-started (start .pre .0) (start .pre .1) (start .pre .4) (start .pre .2) (names .result) (names .ensures .0) _ _ (begun .ensures))))
+    let begun = c .before .before .before .start-store in (
+      store-asked (start .pre .0) (start .pre .1) (start .pre .4) (start .pre .2) (names .result) (names .ensures .0),
+      (_, store-started (start .pre .0) (start .pre .1) (start .pre .4) (start .pre .2) (names .result) (names .ensures .0) _ _ (begun .ensures)),
+    ))
     (λ c. search needs)
     (λ c κs. search needs)
     (λ c. search needs)
@@ -32,7 +37,8 @@ infer-store-spec =
     let begun = c .before .before .before .before .before .before .before .before .before .before .before .before .start-store in
     let started = c .before .before .before .before .before .before .before .before .infer-started in
     let held = store-started (start .pre .0) (start .pre .1) (start .pre .4) (start .pre .2) (names .result) (names .ensures .0) _ _ (begun .ensures) in
-    infer-cleared (start .args .limit) _ (start .args .store .now) _ (started .result) (started .ensures _ held) _ (the-enum-told .given .1) (c .before .before .clear-store .ensures))
+    infer-cleared (start .args .limit) _ (start .args .store .now) _ (started .result) (started .ensures _ held) _ (the-enum-told .given .1)
+    (c .before .before .clear-store .ensures))
     (λ c. search needs)
     (λ c.
     let start = c .before .before .before .before .before .before .before .before .before .before .before .before .before .before .before in

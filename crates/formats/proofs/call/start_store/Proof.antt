@@ -27,8 +27,15 @@ start-store-spec =
     let start = c .before .before in
     (start .pre .0, start .pre .2))
     (λ c.
-    let start = c .before .before .before .before .before in
-    (omega arith, refl, rw (c .before .before .clear-store .ensures, cleared-past (start .args .limit) (start .args .store .now), start-none (start .args .limit))))
+    let start = c .before .before .before .before .before in (
+      omega arith,
+      refl,
+      rw (
+        c .before .before .clear-store .ensures,
+        cleared-past (start .args .limit) (start .args .store .now),
+        start-none (start .args .limit),
+      ),
+    ))
     (λ c. search needs)
     (λ c.
     let start = c .before .before .before .before .before .before .before in
@@ -38,12 +45,20 @@ start-store-spec =
     omega (arith, header-inside (start .args .limit) (c .before .loop .k) (omega (arith, c .loop-test .taken, start .pre .1)), start .pre .0))
     (λ c.
     let start = c .before .before .before .before .before .before .before in
-    omega (arith, header-inside (start .args .limit) (c .before .loop .k) (omega (arith, c .loop-test .taken, start .pre .1)), started-length (start .args .limit) (c .before .loop .k) _ _ (omega (arith, c .loop-test .taken, start .pre .1)) (c .before .loop .inv .2)))
+    omega (
+      arith,
+      header-inside (start .args .limit) (c .before .loop .k) (omega (arith, c .loop-test .taken, start .pre .1)),
+      started-length (start .args .limit) (c .before .loop .k) _ _ (omega (arith, c .loop-test .taken, start .pre .1)) (c .before .loop .inv .2),
+    ))
     (λ c. search needs)
     (λ c. omega (arith, c .loop-test .taken))
     (λ c.
-    let start = c .before .before .before .before .before .before .before in
-    (omega (arith, c .loop-test .taken), simp length-set (c .before .loop .inv .1), rw (c .before .loop .inv .2) (start-next (start .args .limit) (c .before .loop .k) (c .before .loop .k + 1) _ (omega (arith, c .loop-test .taken, start .pre .1)) (omega arith))))
+    let start = c .before .before .before .before .before .before .before in (
+      omega (arith, c .loop-test .taken),
+      simp length-set (c .before .loop .inv .1),
+      rw (c .before .loop .inv .2) (start-next (start .args .limit) (c .before .loop .k) (c .before .loop .k + 1) _
+          (omega (arith, c .loop-test .taken, start .pre .1)) (omega arith)),
+    ))
     (λ c. search needs)
     (λ c.
     let the-clear-store = c .before .before .before .before .clear-store in

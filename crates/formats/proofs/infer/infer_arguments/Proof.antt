@@ -6,12 +6,14 @@ use native.Mathlib.Omega.{arith}
 use lib.ListN.{length}
 use Rattle.file.specs.Sections.{fileOf}
 use Rattle.law.proofs.IndexLaws.{functions-limit}
-use Rattle.formats.proofs.FunctionSteps.{ArgumentsFrom, functions-read, tag-over, tag-not-over, arguments-start, arguments-holding, arguments-long, arguments-all, arguments-refused, arguments-more}
+use Rattle.formats.proofs.FunctionSteps.{ArgumentsFrom, functions-read, tag-over, tag-not-over, arguments-start}
+use Rattle.formats.proofs.FunctionSteps.{arguments-holding, arguments-long, arguments-all, arguments-refused, arguments-more}
 use Rattle.formats.proofs.infer.infer_arguments.Statement.{statement}
 use Rattle.formats.proofs.infer.infer_arguments.Tie as tie
 
 abbrev Inv-loop : tie.InvT-loop
-Inv-loop law index slots store₀ limit count joined₀ most f₀ store joined f = ArgumentsFrom limit (fileOf law) store₀ f store × (length joined ≡ limit + 1)
+Inv-loop law index slots store₀ limit count joined₀ most f₀ store joined f =
+    ArgumentsFrom limit (fileOf law) store₀ f store × (length joined ≡ limit + 1)
 
 abbrev μ-loop : tie.MeasureT-loop
 μ-loop law index slots store₀ limit count joined₀ most f₀ store joined f = most - f
@@ -53,11 +55,17 @@ infer-arguments-spec =
     let the-functions = c .before .before .before .before .before .before .before .before .before .before .before .functions in
     let turn = c .before .before .before .before .before .before .function-turn in
     let store-after = turn .last .1 .1 .1 .0 in
-    arguments-refused (the-loop .inv .0) store-after (turn .result) (turn .ensures) (tag-over _ (c .before .match .keys1)) (omega (arith, the-loop-test .taken, functions-read (the-pre .0) (the-functions .result) (the-functions .ensures))))
+    arguments-refused (the-loop .inv .0) store-after (turn .result) (turn .ensures) (tag-over _ (c .before .match .keys1))
+    (omega (arith, the-loop-test .taken, functions-read (the-pre .0) (the-functions .result) (the-functions .ensures))))
     (λ c. let the-loop-test = c .before .before .before .before .before .before .before .before .loop-test in
     let the-functions = c .before .before .before .before .before .before .before .before .before .before .functions in
     let start = c .before .before .before .before .before .before .before .before .before .before .before .before .before .before in
-    omega (arith, the-loop-test .taken, functions-read (start .pre .0) (the-functions .result) (the-functions .ensures), functions-limit (start .args .law .now) (start .args .index .now) (start .pre .0 .indexed)))
+    omega (
+      arith,
+      the-loop-test .taken,
+      functions-read (start .pre .0) (the-functions .result) (the-functions .ensures),
+      functions-limit (start .args .law .now) (start .args .index .now) (start .pre .0 .indexed),
+    ))
     (λ c. let the-loop-test = c .before .before .before .before .before .before .before .before .loop-test in
     omega (arith, the-loop-test .taken))
     (λ c. let the-loop = c .before .before .before .before .before .before .before .before .before .loop in
@@ -67,7 +75,8 @@ infer-arguments-spec =
     let turn = c .before .before .before .before .before .function-turn in
     let joined-kept = turn .kept .1 .1 .1 .1 .1 .1 .1 .1 .0 in
     let store-after = turn .last .1 .1 .1 .0 in (
-      arguments-more (the-loop .inv .0) store-after (turn .result) (turn .ensures) (tag-not-over _ (c .match .keys2)) (omega (arith, the-loop-test .taken, functions-read (the-pre .0) (the-functions .result) (the-functions .ensures))) (the-pre .0 .small),
+      arguments-more (the-loop .inv .0) store-after (turn .result) (turn .ensures) (tag-not-over _ (c .match .keys2))
+          (omega (arith, the-loop-test .taken, functions-read (the-pre .0) (the-functions .result) (the-functions .ensures))) (the-pre .0 .small),
       joined-kept ∙ the-loop .inv .1,
     ))
     (λ c. let the-pre = c .before .before .before .before .before .before .pre in
@@ -75,4 +84,5 @@ infer-arguments-spec =
     (λ c. let the-pre = c .before .before .before .before .before .before .pre in
     c .before .loop .inv .1 ∙ sym (the-pre .2))
     (λ c. let the-pre = c .before .before .before .before .before .before .pre in
-    arguments-all (c .before .loop .inv .0) (omega (arith, c .loop-test .left, functions-read (the-pre .0) (c .before .before .functions .result) (c .before .before .functions .ensures)))))
+    arguments-all (c .before .loop .inv .0) (omega
+    (arith, c .loop-test .left, functions-read (the-pre .0) (c .before .before .functions .result) (c .before .before .functions .ensures)))))

@@ -8,7 +8,8 @@ use lib.ListN.{length}
 use Rattle.file.specs.Sections.{fileOf}
 use Rattle.law.proofs.IndexLaws.{functions-limit}
 use Rattle.formats.specs.declared.infer.Turn.the-variants.{Changed, Same}
-use Rattle.formats.proofs.FunctionSteps.{RoundFrom, Marked, functions-read, tag-over, tag-changed, tag-same, round-start, round-holding, round-long, round-all, round-refused, round-more}
+use Rattle.formats.proofs.FunctionSteps.{RoundFrom, Marked, functions-read, tag-over, tag-changed, tag-same, round-start}
+use Rattle.formats.proofs.FunctionSteps.{round-holding, round-long, round-all, round-refused, round-more}
 use Rattle.formats.proofs.infer.infer_round.Statement.{statement}
 use Rattle.formats.proofs.infer.infer_round.Tie as tie
 
@@ -56,13 +57,19 @@ infer-round-spec =
     let the-functions = c .before .before .before .before .before .before .before .before .before .before .before .functions in
     let turn = c .before .before .before .before .before .before .function-turn in
     let store-after = turn .last .1 .1 .1 .0 in
-    round-refused (the-loop .inv .0) store-after (turn .result) (turn .ensures) (tag-over _ (c .before .match .keys1)) (omega (arith, the-loop-test .taken, functions-read (the-pre .0) (the-functions .result) (the-functions .ensures))) (the-pre .0 .small))
+    round-refused (the-loop .inv .0) store-after (turn .result) (turn .ensures) (tag-over _ (c .before .match .keys1))
+    (omega (arith, the-loop-test .taken, functions-read (the-pre .0) (the-functions .result) (the-functions .ensures))) (the-pre .0 .small))
     (λ c. c .match .keys2)
     (λ c. c .match .keys3)
     (λ c. let the-loop-test = c .before .before .before .before .before .before .before .before .loop-test in
     let the-functions = c .before .before .before .before .before .before .before .before .before .before .functions in
     let start = c .before .before .before .before .before .before .before .before .before .before .before .before .before .before in
-    omega (arith, the-loop-test .taken, functions-read (start .pre .0) (the-functions .result) (the-functions .ensures), functions-limit (start .args .law .now) (start .args .index .now) (start .pre .0 .indexed)))
+    omega (
+      arith,
+      the-loop-test .taken,
+      functions-read (start .pre .0) (the-functions .result) (the-functions .ensures),
+      functions-limit (start .args .law .now) (start .args .index .now) (start .pre .0 .indexed),
+    ))
     (λ c. let the-loop-test = c .before .before .before .before .before .before .before .before .loop-test in
     omega (arith, the-loop-test .taken))
     (λ c. let the-loop = c .before .before .before .before .before .before .before .before .before .loop in
@@ -74,7 +81,8 @@ infer-round-spec =
     let store-after = turn .last .1 .1 .1 .0 in
     let marked : Marked (turn .result) (the-loop .changed) (c .match .changed) =
     ⊎-elim (λ w. inl (tag-changed _ (w .0 .keys2), w .2)) (λ w. inr (tag-same _ (w .0 .keys3), w .2)) (c .match .came) in (
-      round-more (the-loop .inv .0) store-after (turn .result) (turn .ensures) (c .match .changed) marked (omega (arith, the-loop-test .taken, functions-read (the-pre .0) (the-functions .result) (the-functions .ensures))) (the-pre .0 .small),
+      round-more (the-loop .inv .0) store-after (turn .result) (turn .ensures) (c .match .changed) marked
+          (omega (arith, the-loop-test .taken, functions-read (the-pre .0) (the-functions .result) (the-functions .ensures))) (the-pre .0 .small),
       joined-kept ∙ the-loop .inv .1,
     ))
     (λ c.
@@ -89,7 +97,8 @@ infer-round-spec =
     let the-functions = c .before .before .before .functions in
     let the-loop = c .before .before .loop in
     let the-pre = c .before .before .before .before .before .before .before .pre in
-    round-all (the-loop .inv .0) Changed (rw (c .if1 .taken)) (omega (arith, c .before .loop-test .left, functions-read (the-pre .0) (the-functions .result) (the-functions .ensures))))
+    round-all (the-loop .inv .0) Changed (rw (c .if1 .taken))
+    (omega (arith, c .before .loop-test .left, functions-read (the-pre .0) (the-functions .result) (the-functions .ensures))))
     (λ c.
     let the-loop = c .before .before .loop in
     let the-pre = c .before .before .before .before .before .before .before .pre in
@@ -102,4 +111,5 @@ infer-round-spec =
     let the-functions = c .before .before .before .functions in
     let the-loop = c .before .before .loop in
     let the-pre = c .before .before .before .before .before .before .before .pre in
-    round-all (the-loop .inv .0) Same (rw (c .if1 .left)) (omega (arith, c .before .loop-test .left, functions-read (the-pre .0) (the-functions .result) (the-functions .ensures)))))
+    round-all (the-loop .inv .0) Same (rw (c .if1 .left))
+    (omega (arith, c .before .loop-test .left, functions-read (the-pre .0) (the-functions .result) (the-functions .ensures)))))

@@ -24,7 +24,8 @@ infer-rounds-spec =
     (tie.spec
     Inv-loop
     μ-loop
-    (λ c. let start = c .before .before .before in (start .pre .2, rounds-start (start .args .limit) (start .args .most) (treeOf (fileOf (start .args .law .now))) (start .args .store .now)))
+    (λ c. let start = c .before .before .before in
+    (start .pre .2, rounds-start (start .args .limit) (start .args .most) (treeOf (fileOf (start .args .law .now))) (start .args .store .now)))
     (λ c κs.
     let the-loop = c .before .before .before .loop in
     let p = c .before .before .before .before .before .before .before .pre in (p .0, rounds-holding (the-loop .inv .1) (p .1), the-loop .inv .0))

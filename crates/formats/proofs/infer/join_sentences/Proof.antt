@@ -21,7 +21,8 @@ use Rattle.formats.proofs.infer.join_sentences.Tie as tie
 
 abbrev Inv-loop : tie.InvT-loop
 Inv-loop law index slots store first number patterns limit count joined₀ row₀ end i₀ joined row i =
-    (length row ≡ 65) × RowsLeft limit (fileOf law) patterns (find (resultsIn limit (fileNames (fileOf law)) store)) (readFormat joined₀) first number i joined
+    (length row ≡ 65) × RowsLeft limit (fileOf law) patterns (find (resultsIn limit (fileNames (fileOf law)) store))
+    (readFormat joined₀) first number i joined
 
 abbrev μ-loop : tie.MeasureT-loop
 μ-loop law index slots store first number patterns limit count joined₀ row₀ end i₀ joined row i = number - i
@@ -31,7 +32,8 @@ lent-length : (limit : ℕ) (row : List ℕ) → limit ≤ 64 → length row ≡
 lent-length limit row small long = length-take-le (limit + 1) row (omega arith)
 
 -- the buffer with another front
-back-length : (limit : ℕ) (row new : List ℕ) → length new ≡ length (take (limit + 1) row) → length row ≡ 65 → length (new ++ drop (limit + 1) row) ≡ 65
+back-length : (limit : ℕ) (row new : List ℕ) → length new ≡ length (take (limit + 1) row) → length row ≡ 65
+    → length (new ++ drop (limit + 1) row) ≡ 65
 back-length limit row new same long = length-front row new (limit + 1) same ∙ long
 
 pub join-sentences-spec : {M : Type 1} → statement M

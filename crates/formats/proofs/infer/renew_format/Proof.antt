@@ -25,7 +25,8 @@ renew-format-spec =
     (λ c. search needs)
     (λ c κs.
     let start = c .before .before .before .before .before .before in
-    format-in-length (start .args .limit) (start .args .other .now) (start .pre .4) ∙ sym (lent-format-length (start .args .limit) (start .args .store .now) (start .args .k) (start .pre .3)))
+    format-in-length (start .args .limit) (start .args .other .now) (start .pre .4)
+    ∙ sym (lent-format-length (start .args .limit) (start .args .store .now) (start .args .k) (start .pre .3)))
     (λ c.
     let start = c .before .before .before .before .before .before .before .before .before .before in
     omega (arith, format-in-length (start .args .limit) (start .args .other .now) (start .pre .4)))
@@ -36,8 +37,10 @@ renew-format-spec =
     let the-is-never = c .before .before .before .before .before .before .before .is-never in
     let the-if1 = c .before .before .before .before .before .before .if1 in
     let start = c .before .before .before .before .before .before .before .before .before .before .before in (
-      started-words (start .args .limit) (start .args .store .now) (start .args .k) (start .args .other .now) (start .pre .0) (start .pre .4) (the-is-never .ensures) (the-if1 .taken) (the-copy-words .ensures),
-      started-test (start .args .limit) (start .args .store .now) (start .args .k) (start .args .other .now) (start .pre .0) (start .pre .4) (the-is-never .ensures) (the-if1 .taken) (c .is-never2 .ensures),
+      started-words (start .args .limit) (start .args .store .now) (start .args .k) (start .args .other .now) (start .pre .0) (start .pre .4)
+          (the-is-never .ensures) (the-if1 .taken) (the-copy-words .ensures),
+      started-test (start .args .limit) (start .args .store .now) (start .args .k) (start .args .other .now) (start .pre .0) (start .pre .4)
+          (the-is-never .ensures) (the-if1 .taken) (c .is-never2 .ensures),
     ))
     (λ c κs.
     let start = c .before .before .before .before .before in
@@ -59,8 +62,10 @@ renew-format-spec =
     let start = c .before .before .before .before .before .before .before .before .before .before .before in
     let the-end = c .before .before .before .before .before .row-end in
     let same = c .before .same-words .ensures .0 (c .if2 .taken) in (
-      kept-words (start .args .limit) (start .args .store .now) (start .args .k) (the-end .result) (start .args .other .now) (start .pre .0) (start .pre .3) (start .pre .4) (the-end .ensures .0) (the-end .ensures .2) same (start .pre .2),
-      kept-test (start .args .limit) (start .args .store .now) (start .args .k) (the-end .result) (start .args .other .now) (start .pre .0) (start .pre .3) (start .pre .4) (the-end .ensures .0) (the-end .ensures .2) same,
+      kept-words (start .args .limit) (start .args .store .now) (start .args .k) (the-end .result) (start .args .other .now) (start .pre .0) (start .pre .3)
+          (start .pre .4) (the-end .ensures .0) (the-end .ensures .2) same (start .pre .2),
+      kept-test (start .args .limit) (start .args .store .now) (start .args .k) (the-end .result) (start .args .other .now) (start .pre .0) (start .pre .3)
+          (start .pre .4) (the-end .ensures .0) (the-end .ensures .2) same,
     ))
     (λ c κs. search needs)
     (λ c. search needs)

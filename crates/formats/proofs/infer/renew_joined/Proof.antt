@@ -69,5 +69,6 @@ renew-joined-spec =
     let joined = c .before .before .before .before .before .before .before .before .before .before .join-formats in
     let out-kept = joined .kept .1 .1 .1 .0 in (
       renewed-words (a .limit) (a .store .now) (a .k) (p .3) _ (p .0) (p .4) out-kept (joined .ensures) (c .before .before .copy-words .ensures),
-      renewed-test (a .limit) (a .store .now) (a .k) (p .3) _ (p .0) (p .4) out-kept (joined .ensures) (the-same-words .ensures .0) (the-same-words .ensures .1),
+      renewed-test (a .limit) (a .store .now) (a .k) (p .3) _ (p .0) (p .4) out-kept (joined .ensures) (the-same-words .ensures .0)
+          (the-same-words .ensures .1),
     )))

@@ -46,4 +46,5 @@ row-format-spec =
     let the-clear-words = c .before .before .before .before .before .before .before .before .before .before .clear-words in
     let the-write-row = c .before .before .before .before .before .before .write-row in
     let p = c .before .before .before .before .before .before .before .before .before .before .before .before .before .before .before .before .pre in
-    λ t knows. made-written (the-args .limit) _ _ _ (the-clear-words .ensures ∙ ap (λ n. replicate n 0) (p .1)) refl (the-next .given .1) (c .header-word .ensures) (the-write-row .ensures .1 t knows)))
+    λ t knows. made-written (the-args .limit) _ _ _ (the-clear-words .ensures ∙ ap (λ n. replicate n 0) (p .1)) refl (the-next .given .1)
+    (c .header-word .ensures) (the-write-row .ensures .1 t knows)))

@@ -31,7 +31,8 @@ sentence-format-spec =
     let begins = c .before .before .before .before .before in
     let a = begins .before .before .before .before .before .args in
     let file = fileOf (a .law .now) in
-    pattern-made file (a .s) (c .before .before .row-format .ensures) (find (resultsIn (a .limit) (fileNames file) (a .store .now))) refl (begins .before .if1 .taken)
+    let known = find (resultsIn (a .limit) (fileNames file) (a .store .now)) in
+    pattern-made file (a .s) (c .before .before .row-format .ensures) known refl (begins .before .if1 .taken)
     (begins .pattern-at .ensures) (the-pattern .ensures))
     (λ c κs. search needs)
     (λ c κs. search needs)

@@ -28,7 +28,10 @@ sentences-format-spec =
     (λ c.
     let the-if1 = c .before .before .before .before .if1 in
     let start = c .before .before .before .before .before .before .before .before in
-    rows-none (start .args .limit) (fileOf (start .args .law .now)) (start .args .patterns) (find (resultsIn (start .args .limit) (fileNames (fileOf (start .args .law .now))) (start .args .store .now))) (start .args .from) (start .args .number) (length (start .args .out .now)) (the-if1 .taken) (c .before .before .clear-words .ensures) (start .pre .3))
+    let file = fileOf (start .args .law .now) in
+    let known = find (resultsIn (start .args .limit) (fileNames file) (start .args .store .now)) in
+    rows-none (start .args .limit) file (start .args .patterns) known (start .args .from) (start .args .number) (length (start .args .out .now))
+    (the-if1 .taken) (c .before .before .clear-words .ensures) (start .pre .3))
     (λ c κs.
     let start = c .before .before .before .before .before in
     (start .pre .0, start .pre .1, omega (arith, c .before .if1 .left, start .pre .2), start .pre .3))
@@ -40,7 +43,10 @@ sentences-format-spec =
     let the-sentence-format = c .before .before .before .sentence-format in
     let the-if1 = c .before .before .before .before .before .if1 in
     let start = c .before .before .before .before .before .before .before .before .before in
-    first-refused (start .args .limit) (fileOf (start .args .law .now)) (start .args .patterns) (find (resultsIn (start .args .limit) (fileNames (fileOf (start .args .law .now))) (start .args .store .now))) (start .args .from) (start .args .number) (the-sentence-format .ensures) (start .pre .0 .readable) (start .pre .2) (omega (arith, the-if1 .left)) (not-true _ (c .if2 .taken)))
+    let file = fileOf (start .args .law .now) in
+    let known = find (resultsIn (start .args .limit) (fileNames file) (start .args .store .now)) in
+    first-refused (start .args .limit) file (start .args .patterns) known (start .args .from) (start .args .number) (the-sentence-format .ensures)
+    (start .pre .0 .readable) (start .pre .2) (omega (arith, the-if1 .left)) (not-true _ (c .if2 .taken)))
     (λ c.
     let the-sentence-format = c .before .before .before .before .sentence-format in
     let out-kept = the-sentence-format .kept .1 .1 .1 .1 .1 .1 .1 .1 .0 in
@@ -49,7 +55,10 @@ sentences-format-spec =
     let the-sentence-format = c .before .before .before .before .sentence-format in
     let the-if1 = c .before .before .before .before .before .before .if1 in
     let start = c .before .before .before .before .before .before .before .before .before .before in
-    first-alone (start .args .limit) (fileOf (start .args .law .now)) (start .args .patterns) (find (resultsIn (start .args .limit) (fileNames (fileOf (start .args .law .now))) (start .args .store .now))) (start .args .from) (start .args .number) (the-sentence-format .ensures) (start .pre .0 .readable) (start .pre .2) (omega (arith, the-if1 .left)) (start .pre .0 .small) (not-false _ (c .before .if2 .left)) (c .if3 .taken))
+    let file = fileOf (start .args .law .now) in
+    let known = find (resultsIn (start .args .limit) (fileNames file) (start .args .store .now)) in
+    first-alone (start .args .limit) file (start .args .patterns) known (start .args .from) (start .args .number) (the-sentence-format .ensures)
+    (start .pre .0 .readable) (start .pre .2) (omega (arith, the-if1 .left)) (start .pre .0 .small) (not-false _ (c .before .if2 .left)) (c .if3 .taken))
     (λ c. let the-if1 = c .before .before .before .before .before .before .if1 in
     let start = c .before .before .before .before .before .before .before .before .before .before in
     omega (arith, the-if1 .left, start .pre .2, sentences-limit (start .args .law .now) (start .args .index .now) (start .pre .0 .indexed)))
@@ -57,11 +66,14 @@ sentences-format-spec =
     omega (arith, the-if1 .left))
     (λ c κs. let the-if1 = c .before .before .before .before .before .before .before .if1 in
     let the-sentence-format = c .before .before .before .before .before .sentence-format in
-    let start = c .before .before .before .before .before .before .before .before .before .before .before in (
+    let start = c .before .before .before .before .before .before .before .before .before .before .before in
+    let file = fileOf (start .args .law .now) in
+    let known = find (resultsIn (start .args .limit) (fileNames file) (start .args .store .now)) in (
       start .pre .0,
       start .pre .1,
       omega (arith, the-if1 .left, start .pre .2),
-      first-format (start .args .limit) (fileOf (start .args .law .now)) (start .args .patterns) (find (resultsIn (start .args .limit) (fileNames (fileOf (start .args .law .now))) (start .args .store .now))) (start .args .from) (start .args .number) (the-sentence-format .ensures) (start .pre .0 .readable) (start .pre .2) (omega (arith, the-if1 .left)) (start .pre .0 .small) (not-false _ (c .before .before .if2 .left)),
+      first-format (start .args .limit) file (start .args .patterns) known (start .args .from) (start .args .number) (the-sentence-format .ensures)
+          (start .pre .0 .readable) (start .pre .2) (omega (arith, the-if1 .left)) (start .pre .0 .small) (not-false _ (c .before .before .if2 .left)),
     ))
     (λ c.
     let the-join-sentences = c .before .before .join-sentences in
@@ -73,6 +85,10 @@ sentences-format-spec =
     let the-if1 = c .before .before .before .before .before .before .before .before .before .before .if1 in
     let the-if2 = c .before .before .before .before .before .if2 in
     let start = c .before .before .before .before .before .before .before .before .before .before .before .before .before .before in
+    let file = fileOf (start .args .law .now) in
+    let known = find (resultsIn (start .args .limit) (fileNames file) (start .args .store .now)) in
     let others = c .before .before .join-sentences in
     let joined-after = others .last .1 .1 .1 .1 .1 .1 .1 .1 .1 .0 in
-    first-joined (start .args .limit) (fileOf (start .args .law .now)) (start .args .patterns) (find (resultsIn (start .args .limit) (fileNames (fileOf (start .args .law .now))) (start .args .store .now))) (start .args .from) (start .args .number) (the-sentence-format .ensures) (start .pre .0 .readable) (start .pre .2) (omega (arith, the-if1 .left)) (start .pre .0 .small) (not-false _ (the-if2 .left)) (others .result) joined-after (others .ensures)))
+    first-joined (start .args .limit) file (start .args .patterns) known (start .args .from) (start .args .number) (the-sentence-format .ensures)
+    (start .pre .0 .readable) (start .pre .2) (omega (arith, the-if1 .left)) (start .pre .0 .small) (not-false _ (the-if2 .left)) (others .result)
+    joined-after (others .ensures)))

@@ -121,7 +121,8 @@ pub +write-bracket+write-first+write-row-spec : {M : Type 1} → statement M
     let start = c .before .before .before .before .before .before .before .before .before .before .before .before .before in
     let inside = c .before .before .before .before .write-row in (
       tt,
-      λ results knows. laws.bracket-over (start .pre .1 .0) (start .pre .1 .1) results (the-end-of .ensures .0) (c .enum-told .given .1) (inside .ensures .1 results knows),
+      λ results knows. laws.bracket-over (start .pre .1 .0) (start .pre .1 .1) results (the-end-of .ensures .0) (c .enum-told .given .1)
+          (inside .ensures .1 results knows),
     ))
     (λ c. let inside = c .before .before .before .before .before .before .write-row in
     let out-kept = inside .kept .1 .1 .1 .1 .1 .1 .1 .0 in
@@ -133,7 +134,8 @@ pub +write-bracket+write-first+write-row-spec : {M : Type 1} → statement M
     let ends = c .before .before .next .given .1 in
     let between = laws.ends-between ends (inside .ensures .0) in (
       (omega arith, omega arith),
-      λ results knows. laws.bracket-written (start .pre .1 .0) (start .pre .1 .1) results (the-end-of .ensures .0) ends (c .bracket-word .ensures) (inside .ensures .1 results knows),
+      λ results knows. laws.bracket-written (start .pre .1 .0) (start .pre .1 .1) results (the-end-of .ensures .0) ends (c .bracket-word .ensures)
+          (inside .ensures .1 results knows),
     )))
     (λ t. write-first-lts.spec (
       term-at-reads.Asked,
@@ -266,7 +268,8 @@ pub +write-bracket+write-first+write-row-spec : {M : Type 1} → statement M
     let onward = leaves .ensures .2 _ (start .args .at) (start .args .store .now) (start .args .limit) (start .args .count) (start .pre .1 .0) in
     let asked = onward .asked in (
       (omega arith, asked .begins),
-      λ results knows. onward .goes results _ _ (laws.row-none _ results _ (leftOf (leaves .result) (start .args .part .now)) (leaves .last .1 .0) (start .args .to + leaves .result) (start .args .most) (c .if1 .taken) (asked .begins) (asked .room)),
+      λ results knows. onward .goes results _ _ (laws.row-none _ results _ (leftOf (leaves .result) (start .args .part .now)) (leaves .last .1 .0)
+          (start .args .to + leaves .result) (start .args .most) (c .if1 .taken) (asked .begins) (asked .room)),
     ))
     (λ c κs. let start = c .before .before .before .before .before .before .before .before .before .before .before in
     let leaves = c .before .before .before .before .before .write-leaves in
@@ -284,8 +287,11 @@ pub +write-bracket+write-first+write-row-spec : {M : Type 1} → statement M
     let the-if1 = c .before .before .before .before .before .before .if1 in
     let start = c .before .before .before .before .before .before .before .before .before .before .before .before .before .before .before .before in
     let leaves = c .before .before .before .before .before .before .before .before .before .before .write-leaves in
-    let onward = leaves .ensures .2 _ (start .args .at) (start .args .store .now) (start .args .limit) (start .args .count) (start .pre .1 .0) in
-    (tt, λ results knows. onward .goes results _ _ (laws.row-first-over (onward .asked) (the-if1 .left) results (c .enum-told .given .1) (the-write-first .ensures .1 results knows))))
+    let onward = leaves .ensures .2 _ (start .args .at) (start .args .store .now) (start .args .limit) (start .args .count) (start .pre .1 .0) in (
+      tt,
+      λ results knows. onward .goes results _ _ (laws.row-first-over (onward .asked) (the-if1 .left) results (c .enum-told .given .1)
+          (the-write-first .ensures .1 results knows)),
+    ))
     (λ c. let the-write-first = c .before .before .before .before .before .before .write-first in
     let out-kept = the-write-first .kept .1 .1 .1 .1 .1 .1 .1 .0 in
     let the-write-leaves = c .before .before .before .before .before .before .before .before .before .before .before .before .write-leaves in
@@ -298,7 +304,8 @@ pub +write-bracket+write-first+write-row-spec : {M : Type 1} → statement M
     let ends = c .before .before .first .given .1 in
     let between = laws.ends-between ends (first .ensures .0) in (
       (omega (arith, between .0), between .1),
-      λ results knows. onward .goes results _ _ (laws.row-first-open (onward .asked) (the-if1 .left) results ends (c .if2 .taken) (first .ensures .1 results knows)),
+      λ results knows. onward .goes results _ _ (laws.row-first-open (onward .asked) (the-if1 .left) results ends (c .if2 .taken)
+          (first .ensures .1 results knows)),
     ))
     (λ c κs. search needs)
     (λ c. search needs)
@@ -325,8 +332,17 @@ pub +write-bracket+write-first+write-row-spec : {M : Type 1} → statement M
     let out-kept = first .kept .1 .1 .1 .1 .1 .1 .1 .0 in
     let some = c .before .before .before .before .before .before .before .before .before .before .before .before .if1 .left in
     let left = leftOf (leaves .result) (start .args .part .now) in (
-      omega (arith, after-falls left (the-end .result) (length left) some (the-end .ensures .0) refl, laws.left-length (leaves .result) (start .args .part .now), start .pre .0),
-      (laws.asked-rest (onward .asked) some (the-end .ensures .0) (c .before .word-at .ensures) (laws.ends-between (the-first .given .1) (first .ensures .0) .1) out-kept, start .pre .1 .1),
+      omega (
+        arith,
+        after-falls left (the-end .result) (length left) some (the-end .ensures .0) refl,
+        laws.left-length (leaves .result) (start .args .part .now),
+        start .pre .0,
+      ),
+      (
+        laws.asked-rest (onward .asked) some (the-end .ensures .0) (c .before .word-at .ensures) (laws.ends-between (the-first .given .1) (first .ensures .0) .1)
+            out-kept,
+        start .pre .1 .1,
+      ),
     ))
     (λ c.
     let the-write-row = c .before .before .write-row in
@@ -340,12 +356,14 @@ pub +write-bracket+write-first+write-row-spec : {M : Type 1} → statement M
     let the-if1 = c .before .before .before .before .before .before .before .before .before .before .before .before .before .before .before .if1 in
     let the-if2 = c .before .before .before .before .before .before .before .if2 in
     let the-end-of = c .before .before .before .before .before .before .end-of in
-    let start = c .before .before .before .before .before .before .before .before .before .before .before .before .before .before .before .before .before .before .before .before .before .before .before .before .before in
-    let leaves = c .before .before .before .before .before .before .before .before .before .before .before .before .before .before .before .before .before .before .before .write-leaves in
+    let at-write-leaves = c .before .before .before .before .before .before .before .before .before .before .before .before .before .before .before .before .before .before .before in
+    let start = at-write-leaves .before .before .before .before .before .before in
+    let leaves = at-write-leaves .write-leaves in
     let onward = leaves .ensures .2 _ (start .args .at) (start .args .store .now) (start .args .limit) (start .args .count) (start .pre .1 .0) in
     let first = c .before .before .before .before .before .before .before .before .before .before .before .before .before .write-first in
     let rest = c .before .before .write-row in
     let ends = c .before .before .before .before .before .before .before .before .before .first .given .1 in (
       laws.between-later _ (start .args .most) _ (rest .result) (omega (arith, laws.ends-between ends (first .ensures .0) .0)) (rest .ensures .0),
-      λ results knows. onward .goes results _ _ (laws.row-first-rest (onward .asked) (the-if1 .left) results ends (the-if2 .left) (the-end-of .ensures .0) (the-word-at .ensures) (first .ensures .1 results knows) (rest .ensures .1 results knows)),
+      λ results knows. onward .goes results _ _ (laws.row-first-rest (onward .asked) (the-if1 .left) results ends (the-if2 .left) (the-end-of .ensures .0)
+          (the-word-at .ensures) (first .ensures .1 results knows) (rest .ensures .1 results knows)),
     ))

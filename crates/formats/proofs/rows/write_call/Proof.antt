@@ -11,8 +11,11 @@ write-call-spec =
     tie.close
     (tie.spec
     (λ c.
-    let a = c .before .before .before .args in
-    ((omega arith, omega arith), row-unknown (a .store .now) (a .limit) (a .count) (a .place) (a .out .now) (a .to) (a .most) (c .if1 .taken) (omega arith) (omega arith)))
+    let a = c .before .before .before .args in (
+      (omega arith, omega arith),
+      row-unknown (a .store .now) (a .limit) (a .count) (a .place) (a .out .now) (a .to) (a .most) (c .if1 .taken)
+          (omega arith) (omega arith),
+    ))
     (λ c. search needs)
     (λ c. search needs)
     (λ c. search needs)
@@ -30,15 +33,21 @@ write-call-spec =
     omega (arith, callee-inside (a .store .now) (a .limit) (a .count) (a .place) (start .pre .0) (c .before .if1 .left)))
     (λ c.
     let start = c .before .before .before .before .before in
-    let a = start .args in
-    ((omega arith, omega arith), row-never (a .store .now) (a .limit) (a .count) (a .place) (start .pre .0) (c .before .before .if1 .left) (a .out .now) (a .to) (a .most) (omega arith) (omega arith) (c .if2 .taken)))
+    let a = start .args in (
+      (omega arith, omega arith),
+      row-never (a .store .now) (a .limit) (a .count) (a .place) (start .pre .0) (c .before .before .if1 .left) (a .out .now) (a .to)
+          (a .most) (omega arith) (omega arith) (c .if2 .taken),
+    ))
     (λ c. search needs)
     (λ c. search needs)
     (λ c.
     let the-if1 = c .before .before .before .if1 in
     let start = c .before .before .before .before .before .before in
-    let a = start .args in
-    (tt, row-callee-over (a .store .now) (a .limit) (a .count) (a .place) (start .pre .0) (the-if1 .left) (a .out .now) (a .to) (a .most) (omega arith) (omega arith) (c .before .if2 .left) (c .if3 .taken)))
+    let a = start .args in (
+      tt,
+      row-callee-over (a .store .now) (a .limit) (a .count) (a .place) (start .pre .0) (the-if1 .left) (a .out .now) (a .to) (a .most) (omega arith)
+          (omega arith) (c .before .if2 .left) (c .if3 .taken),
+    ))
     (λ c.
     let the-if1 = c .before .before .before .if1 in
     let start = c .before .before .before .before .before .before in
@@ -62,5 +71,8 @@ write-call-spec =
     let the-if1 = c .before .before .before .before .before .before .before .if1 in
     let the-if2 = c .before .before .before .before .before .if2 in
     let start = c .before .before .before .before .before .before .before .before .before .before in
-    let a = start .args in
-    ((omega arith, omega arith), row-callee (a .store .now) (a .limit) (a .count) (a .place) (start .pre .0) (the-if1 .left) (a .out .now) (a .to) (a .most) (omega arith) (omega arith) out-after (the-if2 .left) (the-if3 .left) (c .before .before .copy-row .ensures))))
+    let a = start .args in (
+      (omega arith, omega arith),
+      row-callee (a .store .now) (a .limit) (a .count) (a .place) (start .pre .0) (the-if1 .left) (a .out .now) (a .to) (a .most)
+          (omega arith) (omega arith) out-after (the-if2 .left) (the-if3 .left) (c .before .before .copy-row .ensures),
+    )))

@@ -56,7 +56,8 @@ write-leaves-spec =
       omega (arith, enough),
       omega arith,
       length-set (loop .out) _ _ ∙ loop .inv .2,
-      leaves-next (a .part .now) (a .out .now) (loop .out) (a .to) (a .most) (loop .n) (c .leaf-word .result) (loop .inv .3) (omega arith) (omega (arith, enough)) (omega (arith, kind .ensures)) (rw (kind .ensures) at (c .leaf-word .ensures)),
+      leaves-next (a .part .now) (a .out .now) (loop .out) (a .to) (a .most) (loop .n) (c .leaf-word .result) (loop .inv .3) (omega arith)
+          (omega (arith, enough)) (omega (arith, kind .ensures)) (rw (kind .ensures) at (c .leaf-word .ensures)),
     ))
     (λ c.
     let the-loop = c .before .before .loop in

@@ -24,13 +24,16 @@ callee-slot-spec =
     let the-term-word = c .before .before .before .before .before .before .term-word in
     let the-term-word2 = c .before .before .before .before .before .term-word2 in
     let start = c .before .before .before .before .before .before .before .before in
-    let name = call-name-read (fileOf (start .args .law .now)) _ _ _ _ _ (the-text .ensures) (the-term-word .ensures) (the-term-word2 .ensures) (the-name-in .ensures) in
-    slot-found _ _ _ (functions-limit _ _ (start .pre .0)) (rw name at (c .before .before .first-named .ensures)) (omega (arith, c .before .functions .ensures, start .pre .0 .words .functions)))
+    let name = call-name-read (fileOf (start .args .law .now)) _ _ _ _ _ (the-text .ensures) (the-term-word .ensures) (the-term-word2 .ensures)
+    (the-name-in .ensures) in
+    slot-found _ _ _ (functions-limit _ _ (start .pre .0)) (rw name at (c .before .before .first-named .ensures))
+    (omega (arith, c .before .functions .ensures, start .pre .0 .words .functions)))
     (λ c.
     let the-text = c .before .before .before .before .text in
     let the-name-in = c .before .before .before .name-in in
     let the-term-word = c .before .before .before .before .before .before .term-word in
     let the-term-word2 = c .before .before .before .before .before .term-word2 in
     let start = c .before .before .before .before .before .before .before .before in
-    let name = call-name-read (fileOf (start .args .law .now)) _ _ _ _ _ (the-text .ensures) (the-term-word .ensures) (the-term-word2 .ensures) (the-name-in .ensures) in
+    let name = call-name-read (fileOf (start .args .law .now)) _ _ _ _ _ (the-text .ensures) (the-term-word .ensures) (the-term-word2 .ensures)
+    (the-name-in .ensures) in
     slot-missing _ _ _ (rw name at (c .before .before .first-named .ensures)) (omega (arith, c .before .functions .ensures, start .pre .0 .words .functions))))

@@ -18,5 +18,8 @@ counted-spec =
     (λ c κs. search needs)
     (λ c.
     let the-if1 = c .before .before .before .if1 in
-    let p = c .before .before .before .before .before .before .before .pre in
-    (c .less-count .ensures .0 ∙ rw (c .before .names-order .ensures, c .before .before .function-name .ensures) (newly-all _ _ _ _ (p .2 _ (p .3)) (the-if1 .left)), c .less-count .ensures .1)))
+    let p = c .before .before .before .before .before .before .before .pre in (
+      c .less-count .ensures .0 ∙ rw (c .before .names-order .ensures, c .before .before .function-name .ensures) (newly-all _ _ _ _ (p .2 _ (p .3))
+          (the-if1 .left)),
+      c .less-count .ensures .1,
+    )))

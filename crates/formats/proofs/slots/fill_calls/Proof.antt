@@ -28,8 +28,11 @@ passed c =
     ⊎-elim
     (λ w.
     let wide = length-set (the-loop .slots) 577 1 ∙ the-loop .inv .2 in
-    rw (w .3)
-    (length-set (set (the-loop .slots) 577 1) _ _ ∙ wide, slots-next _ (the-loop .slots) (the-loop .t) _ (functions-limit _ _ (start .pre .0)) (terms-limit _ _ (start .pre .0)) (the-loop .inv .2) (the-loop .inv .3) (omega arith) (kind-read (fileOf (start .args .law .now)) _ _ (c .before .term-word .ensures) ∙ w .0 .taken) (w .1 .ensures)))
+    rw (w .3) (
+      length-set (set (the-loop .slots) 577 1) _ _ ∙ wide,
+      slots-next _ (the-loop .slots) (the-loop .t) _ (functions-limit _ _ (start .pre .0)) (terms-limit _ _ (start .pre .0)) (the-loop .inv .2) (the-loop .inv .3)
+          (omega arith) (kind-read (fileOf (start .args .law .now)) _ _ (c .before .term-word .ensures) ∙ w .0 .taken) (w .1 .ensures),
+    ))
     (λ w. rw (w .1) (the-loop .inv .2, slots-pass _ (the-loop .slots) (the-loop .t) _ (the-loop .inv .3) (c .before .term-word .ensures) (w .0 .left)))
     (c .if1 .came)
 

@@ -12,7 +12,8 @@ use Rattle.formats.proofs.slots.fill_functions.Tie as tie
 
 abbrev Inv-loop : tie.InvT-loop
 Inv-loop law index weights slots₀ count f₀ slots f =
-    (count ≡ fileOf law .functions .count) × (f ≤ count) × (length slots ≡ 578) × FilledTo slots f (λ i. position (fileNames (fileOf law)) (functionFolded (fileOf law) i))
+    (count ≡ fileOf law .functions .count) × (f ≤ count) × (length slots ≡ 578)
+    × FilledTo slots f (λ i. position (fileNames (fileOf law)) (functionFolded (fileOf law) i))
     × KeptFrom slots₀ slots (fileOf law .functions .count)
 
 abbrev μ-loop : tie.MeasureT-loop

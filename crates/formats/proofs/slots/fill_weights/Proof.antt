@@ -12,7 +12,8 @@ use Rattle.formats.proofs.slots.fill_weights.Tie as tie
 
 abbrev Inv-loop : tie.InvT-loop
 Inv-loop law index weights₀ count found₀ f₀ weights found f =
-    (count ≡ fileOf law .functions .count) × (length weights ≡ 64) × CountAt (fileOf law) (λ m. 1) found f × FilledTo weights f (λ i. newly (fileOf law) i 1)
+    (count ≡ fileOf law .functions .count) × (length weights ≡ 64) × CountAt (fileOf law) (λ m. 1) found f
+    × FilledTo weights f (λ i. newly (fileOf law) i 1)
 
 abbrev μ-loop : tie.MeasureT-loop
 μ-loop law index weights₀ count found₀ f₀ weights found f = count - f

@@ -24,8 +24,10 @@ first-named-spec =
     (λ c. let p = c .before .before .before .pre in (c .functions .ensures ∙ p .0 .words .functions, named-start _ _ _ (p .2)))
     (λ c κs. let p = c .before .before .before .before .before .pre in (p .0, omega arith, p .1))
     (λ c κs. tt)
-    (λ c. let i = c .before .before .before .before .loop .inv in named-here _ _ _ _ _ _ (i .1) (omega arith) (c .before .before .function-name .ensures) (c .before .names-equal .ensures) (c .if1 .taken))
+    (λ c. let i = c .before .before .before .before .loop .inv in named-here _ _ _ _ _ _ (i .1) (omega arith) (c .before .before .function-name .ensures)
+    (c .before .names-equal .ensures) (c .if1 .taken))
     (λ c. omega arith)
     (λ c. omega arith)
-    (λ c. let i = c .before .before .before .before .loop .inv in (i .0, named-next _ _ _ _ _ _ (i .1) (omega arith) (c .before .before .function-name .ensures) (c .before .names-equal .ensures) (c .if1 .left)))
+    (λ c. let i = c .before .before .before .before .loop .inv in
+    (i .0, named-next _ _ _ _ _ _ (i .1) (omega arith) (c .before .before .function-name .ensures) (c .before .names-equal .ensures) (c .if1 .left)))
     (λ c. let i = c .before .loop .inv in named-end _ _ _ _ (i .1) (omega arith)))

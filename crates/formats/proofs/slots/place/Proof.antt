@@ -36,7 +36,10 @@ place-spec =
     (λ c. omega arith)
     (λ c.
     let the-function-name = c .before .before .before .before .function-name in
-    let l = c .before .before .loop in
-    (l .inv .0, count-next _ _ (l .found) (l .g) _ (l .inv .1) (omega arith) (rw (the-function-name .ensures) at (c .counted .ensures .0)) (c .counted .ensures .1)))
+    let l = c .before .before .loop in (
+      l .inv .0,
+      count-next _ _ (l .found) (l .g) _ (l .inv .1) (omega arith) (rw (the-function-name .ensures) at (c .counted .ensures .0))
+          (c .counted .ensures .1),
+    ))
     (λ c. let the-pre = c .before .before .before .before .before .pre in
     let l = c .before .loop in count-before _ _ (the-pre .3) (l .found) (l .g) (l .inv .1) (omega arith)))

@@ -19,6 +19,10 @@ slots-of-spec =
     let the-fill-functions = c .before .fill-functions in
     let slots-after = the-fill-functions .last .1 .1 .1 .0 in
     let p = c .before .before .before .before .before .before .before .pre in
-    let f = c .before .fill-functions .ensures in
-    (p .0, p .1, length-set slots-after 576 _ ∙ f .0, slots-start _ slots-after _ (functions-limit _ _ (p .0)) (f .0) (f .1) (f .2) (the-fill-weights .ensures .0)))
+    let f = c .before .fill-functions .ensures in (
+      p .0,
+      p .1,
+      length-set slots-after 576 _ ∙ f .0,
+      slots-start _ slots-after _ (functions-limit _ _ (p .0)) (f .0) (f .1) (f .2) (the-fill-weights .ensures .0),
+    ))
     (λ c. search needs))

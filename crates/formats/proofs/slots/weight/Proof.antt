@@ -16,9 +16,15 @@ weight-spec =
     (λ c κs. search needs)
     (λ c.
     let the-function-name = c .before .before .before .function-name in
-    let the-pre = c .before .before .before .before .before .pre in
-    (weight-later _ _ _ _ (the-function-name .ensures) (c .before .before .first-named .ensures) (omega (arith, c .before .functions .ensures, the-pre .0 .words .functions)), omega arith))
+    let the-pre = c .before .before .before .before .before .pre in (
+      weight-later _ _ _ _ (the-function-name .ensures) (c .before .before .first-named .ensures)
+          (omega (arith, c .before .functions .ensures, the-pre .0 .words .functions)),
+      omega arith,
+    ))
     (λ c.
     let the-function-name = c .before .before .before .function-name in
-    let the-pre = c .before .before .before .before .before .pre in
-    (weight-last _ _ _ _ (the-function-name .ensures) (c .before .before .first-named .ensures) (omega (arith, c .before .functions .ensures, the-pre .0 .words .functions)), omega arith)))
+    let the-pre = c .before .before .before .before .before .pre in (
+      weight-last _ _ _ _ (the-function-name .ensures) (c .before .before .first-named .ensures)
+          (omega (arith, c .before .functions .ensures, the-pre .0 .words .functions)),
+      omega arith,
+    )))
