@@ -33,7 +33,8 @@ use Rattle.matching.specs.Literal.{isLiteral, literalTerms, literalMatches}
 use Rattle.matching.specs.Code.Part.{rowOf, literalPart, symbolsOf, Stands}
 use Rattle.searches.specs.Code.Capacity.{variablesIn}
 use Rattle.searches.specs.Code.Asked.{nesting}
-use Rattle.sentences.specs.Entry.{patternIn, argumentPart, argumentIn, literalCall, shadowIn, no-sentence, not-literal, answered, recogniseIn, shadowOutcome, recogniseOutcome, shadowAnswer, recogniseAnswer}
+use Rattle.sentences.specs.Entry.{patternIn, argumentPart, argumentIn, literalCall, shadowIn, no-sentence, not-literal}
+use Rattle.sentences.specs.Entry.{answered, recogniseIn, shadowOutcome, recogniseOutcome, shadowAnswer, recogniseAnswer}
 use Rattle.sentences.specs.declared.Shadowed.{Shadowed}
 use Rattle.sentences.specs.declared.Recognised.{Recognised}
 use Rattle.matching.proofs.PartLaws.{row-run}

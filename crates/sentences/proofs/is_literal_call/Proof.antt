@@ -12,11 +12,13 @@ is-literal-call-spec =
     (λ c κs. search needs)
     (λ c.
     let the-terms = c .before .before .before .terms in
-    let p = c .before .before .before .before .before .pre in call-other _ _ (p .0) _ (the-terms .ensures) _ _ (c .before .term-word .ensures) (c .if2 .taken) (c .before .before .if1 .left))
+    let p = c .before .before .before .before .before .pre in call-other _ _ (p .0) _ (the-terms .ensures) _ _ (c .before .term-word .ensures) (c .if2 .taken)
+    (c .before .before .if1 .left))
     (λ c κs. search needs)
     (λ c κs. search needs)
     (λ c.
     let the-if1 = c .before .before .before .before .if1 in
     let the-term-word = c .before .before .before .term-word in
     let the-terms = c .before .before .before .before .before .terms in
-    let p = c .before .before .before .before .before .before .before .pre in call-literal _ _ (p .0) _ (the-terms .ensures) _ _ _ _ (the-term-word .ensures) (c .before .before .if2 .left) (the-if1 .left) (c .before .argument .ensures) (c .is-literal .ensures)))
+    let p = c .before .before .before .before .before .before .before .pre in call-literal _ _ (p .0) _ (the-terms .ensures) _ _ _ _ (the-term-word .ensures)
+    (c .before .before .if2 .left) (the-if1 .left) (c .before .argument .ensures) (c .is-literal .ensures)))

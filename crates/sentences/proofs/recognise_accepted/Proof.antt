@@ -13,7 +13,8 @@ recognise-accepted-spec =
     (λ c κs. search needs)
     (λ c.
     let the-sentences = c .before .before .before .sentences in
-    let p = c .before .before .before .before .before .pre in recognise-other _ _ (p .0) _ (the-sentences .ensures) _ _ _ (c .before .before .if1 .left) (c .before .is-literal-call .ensures) (not-true _ (c .if2 .taken)))
+    let p = c .before .before .before .before .before .pre in recognise-other _ _ (p .0) _ (the-sentences .ensures) _ _ _ (c .before .before .if1 .left)
+    (c .before .is-literal-call .ensures) (not-true _ (c .if2 .taken)))
     (λ c κs.
     let the-sentences = c .before .before .before .sentences in
     let p = c .before .before .before .before .before .pre in
@@ -22,4 +23,5 @@ recognise-accepted-spec =
     (λ c.
     let the-sentences = c .before .before .before .before .sentences in
     let the-if1 = c .before .before .before .if1 in
-    let p = c .before .before .before .before .before .before .pre in recognise-answered _ _ (p .0) _ (the-sentences .ensures) _ _ _ _ (the-if1 .left) (c .before .before .is-literal-call .ensures) (not-false _ (c .before .if2 .left)) (c .literal-sentence .ensures)))
+    let p = c .before .before .before .before .before .before .pre in recognise-answered _ _ (p .0) _ (the-sentences .ensures) _ _ _ _ (the-if1 .left)
+    (c .before .before .is-literal-call .ensures) (not-false _ (c .before .if2 .left)) (c .literal-sentence .ensures)))

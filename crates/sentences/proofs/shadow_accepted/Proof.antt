@@ -9,8 +9,10 @@ shadow-accepted-spec =
     (tie.spec
     (λ c κs. search needs)
     (λ c. let p = c .before .before .before .pre in shadow-no-earlier _ _ (p .0) _ (c .before .sentences .ensures) _ _ (c .if1 .taken))
-    (λ c. let p = c .before .before .before .before .pre in shadow-no-later _ _ (p .0) _ (c .before .before .sentences .ensures) _ _ (c .before .if1 .left) (c .if2 .taken))
+    (λ c. let p = c .before .before .before .before .pre in shadow-no-later _ _ (p .0) _ (c .before .before .sentences .ensures) _ _
+    (c .before .if1 .left) (c .if2 .taken))
     (λ c κs. search needs)
     (λ c.
     let the-sentences = c .before .before .before .sentences in
-    let p = c .before .before .before .before .before .pre in shadow-answered _ _ (p .0) _ (the-sentences .ensures) _ _ _ (c .before .before .if1 .left) (c .before .if2 .left) (c .shadow-sentences .ensures)))
+    let p = c .before .before .before .before .before .pre in shadow-answered _ _ (p .0) _ (the-sentences .ensures) _ _ _ (c .before .before .if1 .left)
+    (c .before .if2 .left) (c .shadow-sentences .ensures)))

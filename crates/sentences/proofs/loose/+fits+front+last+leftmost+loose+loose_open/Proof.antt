@@ -212,8 +212,10 @@ pub +fits+front+last+leftmost+loose+loose-open-spec : {M : Type 1} → statement
     let the-word-at = c .before .before .before .word-at in
     let the-loop = c .before .before .before .before .before .before .before .loop in
     let the-args = c .before .before .before .before .before .before .before .before .before .before .before .args in
-    let the-pre = c .before .before .before .before .before .before .before .before .before .before .before .pre in
-    (omega (arith, from-length (the-loop .i) (the-args .pattern .now), the-pre .0), (the-if1 .left, c .before .if3 .left, omega (arith, c .if4 .left, the-word-at .ensures))))
+    let the-pre = c .before .before .before .before .before .before .before .before .before .before .before .pre in (
+      omega (arith, from-length (the-loop .i) (the-args .pattern .now), the-pre .0),
+      (the-if1 .left, c .before .if3 .left, omega (arith, c .if4 .left, the-word-at .ensures)),
+    ))
     (λ c κs.
     let the-if1 = c .before .before .before .before .if1 in
     the-if1 .left)
@@ -237,7 +239,8 @@ pub +fits+front+last+leftmost+loose+loose-open-spec : {M : Type 1} → statement
     let at-loop = c .before .before .before .before .before .before .before .before .before .loop in
     ⊎-elim
     (λ w. laws.front-next (at-loop .inv) (the-if1 .left) (the-word-at .ensures) (the-if2 .left) (the-if3 .left)
-    (laws.fits-symbol (a .text .now) (from (at-loop .i) (a .pattern .now)) (from (at-loop .j) (a .row .now)) (the-word-at .ensures) (w .0 .taken) (w .1 .ensures))
+    (laws.fits-symbol (a .text .now) (from (at-loop .i) (a .pattern .now)) (from (at-loop .j) (a .row .now)) (the-word-at .ensures)
+    (w .0 .taken) (w .1 .ensures))
     (not-false (w .1 .result) (w .2 .left)) (c .before .end-of .ensures .0) (c .end-of2 .ensures .0))
     (λ w. laws.front-next (at-loop .inv) (the-if1 .left) (the-word-at .ensures) (the-if2 .left) (the-if3 .left) (w .1 .ensures)
     (not-false (w .1 .result) (w .2 .left)) (c .before .end-of .ensures .0) (c .end-of2 .ensures .0))
@@ -259,7 +262,8 @@ pub +fits+front+last+leftmost+loose+loose-open-spec : {M : Type 1} → statement
     let a = c .before .before .before .before .before .before .before .before .before .before .before .before .before .args in
     let at-loop = c .before .before .before .before .before .before .before .before .before .loop in
     laws.front-differs (at-loop .inv) (the-if1 .left) (the-word-at .ensures) (the-if2 .left) (the-if3 .left)
-    (laws.fits-symbol (a .text .now) (from (at-loop .i) (a .pattern .now)) (from (at-loop .j) (a .row .now)) (the-word-at .ensures) (c .before .before .if4 .taken) (c .before .atoms-same .ensures))
+    (laws.fits-symbol (a .text .now) (from (at-loop .i) (a .pattern .now)) (from (at-loop .j) (a .row .now)) (the-word-at .ensures)
+    (c .before .before .if4 .taken) (c .before .atoms-same .ensures))
     (not-true (c .before .atoms-same .result) (c .if5 .taken)))
     (λ c.
     let the-if2 = c .before .before .before .before .if2 in
@@ -267,7 +271,8 @@ pub +fits+front+last+leftmost+loose+loose-open-spec : {M : Type 1} → statement
     let the-loop = c .before .before .before .before .before .before .before .before .before .loop in
     let the-if1 = c .before .before .before .before .before .before .if1 in
     let the-word-at = c .before .before .before .before .before .word-at in
-    laws.front-differs (the-loop .inv) (the-if1 .left) (the-word-at .ensures) (the-if2 .left) (the-if3 .left) (c .before .fits2 .ensures) (not-true (c .before .fits2 .result) (c .if6 .taken))))
+    laws.front-differs (the-loop .inv) (the-if1 .left) (the-word-at .ensures) (the-if2 .left) (the-if3 .left) (c .before .fits2 .ensures)
+    (not-true (c .before .fits2 .result) (c .if6 .taken))))
     (λ t. last-lts.spec (
       terms-in-reads.Asked,
       terms-in-reads.Learnt,
@@ -285,7 +290,8 @@ pub +fits+front+last+leftmost+loose+loose-open-spec : {M : Type 1} → statement
     let the-terms-in = c .before .before .terms-in in
     let the-pre = c .before .before .before .before .before .before .before .pre in
     let a = c .before .before .before .before .before .before .before .args in
-    ends.last-few (a .text .now) (a .pattern .now) (a .row .now) (the-pre .1) (the-terms-in .ensures .0 (a .text .now)) (c .before .terms-in2 .ensures .0 (a .text .now)) (c .if2 .taken))
+    ends.last-few (a .text .now) (a .pattern .now) (a .row .now) (the-pre .1) (the-terms-in .ensures .0 (a .text .now))
+    (c .before .terms-in2 .ensures .0 (a .text .now)) (c .if2 .taken))
     (λ c κs. λ text. omega (arith, c .before .terms-in2 .ensures .0 text))
     (λ c. c .skip .ensures .within)
     (λ c. c .skip .ensures .within)
@@ -298,7 +304,8 @@ pub +fits+front+last+leftmost+loose+loose-open-spec : {M : Type 1} → statement
     let the-pre = c .before .before .before .before .before .before .before .before .before .before .pre in
     let the-terms-in = c .before .before .before .before .before .terms-in in
     let a = c .before .before .before .before .before .before .before .before .before .before .args in
-    ends.last-there (a .text .now) (a .pattern .now) (a .row .now) (the-pre .1) (the-terms-in .ensures .0 (a .text .now)) (the-terms-in2 .ensures .0 (a .text .now))
+    ends.last-there (a .text .now) (a .pattern .now) (a .row .now) (the-pre .1) (the-terms-in .ensures .0 (a .text .now))
+    (the-terms-in2 .ensures .0 (a .text .now))
     (omega (arith, the-if2 .left)) (c .before .before .skip .ensures) (c .loose .ensures)))
     (λ t. leftmost-lts.spec
     (front-below t, front.Post, end-of-reads.Asked, end-of-reads.Learnt)
@@ -317,7 +324,12 @@ pub +fits+front+last+leftmost+loose+loose-open-spec : {M : Type 1} → statement
     let the-front = c .before .before .before .front in
     let the-loop = c .before .before .before .before .before .loop in
     let the-args = c .before .before .before .before .before .before .before .before .before .args in
-    omega (arith, from-length (the-loop .j) (the-args .row .now), laws.sought-within (the-loop .inv) (the-front .ensures) (c .before .m .given .1), the-loop .inv .within))
+    omega (
+      arith,
+      from-length (the-loop .j) (the-args .row .now),
+      laws.sought-within (the-loop .inv) (the-front .ensures) (c .before .m .given .1),
+      the-loop .inv .within,
+    ))
     (λ c. search needs)
     (λ c κs. c .if1 .left)
     (λ c. let the-loop = c .before .before .before .before .before .before .loop in
@@ -350,31 +362,39 @@ pub +fits+front+last+leftmost+loose+loose-open-spec : {M : Type 1} → statement
     (λ c. search needs)
     (λ c.
     let the-front = c .before .before .before .front in
-    let a = c .before .before .before .before .before .before .before .args in ends.loose-within (a .text .now) (a .pattern .now) (a .row .now) _ (the-front .ensures) (c .before .m .given .1) .0)
+    let a = c .before .before .before .before .before .before .before .args in ends.loose-within (a .text .now) (a .pattern .now) (a .row .now) _
+    (the-front .ensures) (c .before .m .given .1) .0)
     (λ c.
     let the-front = c .before .before .before .front in
-    let a = c .before .before .before .before .before .before .before .args in ends.loose-within (a .text .now) (a .pattern .now) (a .row .now) _ (the-front .ensures) (c .before .m .given .1) .0)
+    let a = c .before .before .before .before .before .before .before .args in ends.loose-within (a .text .now) (a .pattern .now) (a .row .now) _
+    (the-front .ensures) (c .before .m .given .1) .0)
     (λ c. search needs)
     (λ c.
     let the-front = c .before .before .before .before .front in
     let the-m = c .before .before .m in
-    let a = c .before .before .before .before .before .before .before .before .args in ends.loose-within (a .text .now) (a .pattern .now) (a .row .now) _ (the-front .ensures) (the-m .given .1) .1)
+    let a = c .before .before .before .before .before .before .before .before .args in ends.loose-within (a .text .now) (a .pattern .now) (a .row .now) _
+    (the-front .ensures) (the-m .given .1) .1)
     (λ c.
     let the-front = c .before .before .before .before .front in
     let the-m = c .before .before .m in
-    let a = c .before .before .before .before .before .before .before .before .args in ends.loose-within (a .text .now) (a .pattern .now) (a .row .now) _ (the-front .ensures) (the-m .given .1) .1)
+    let a = c .before .before .before .before .before .before .before .before .args in ends.loose-within (a .text .now) (a .pattern .now) (a .row .now) _
+    (the-front .ensures) (the-m .given .1) .1)
     (λ c. search needs)
     (λ c κs.
     let the-m = c .before .before .before .m in
     let the-pre = c .before .before .before .before .before .before .before .before .before .pre in
     let the-front = c .before .before .before .before .before .front in
-    let a = c .before .before .before .before .before .before .before .before .before .args in
-    (omega (arith, from-length (the-m .given .0 .0) (a .pattern .now), the-pre .0), ends.loose-start (a .text .now) (a .pattern .now) (a .row .now) _ (the-front .ensures) (the-m .given .1)))
-    (λ c. let a = c .before .before .before .before .before .before .args in ends.loose-fails (a .text .now) (a .pattern .now) (a .row .now) _ (c .before .before .front .ensures) (c .enum-told .given .1))
+    let a = c .before .before .before .before .before .before .before .before .before .args in (
+      omega (arith, from-length (the-m .given .0 .0) (a .pattern .now), the-pre .0),
+      ends.loose-start (a .text .now) (a .pattern .now) (a .row .now) _ (the-front .ensures) (the-m .given .1),
+    ))
+    (λ c. let a = c .before .before .before .before .before .before .args in ends.loose-fails (a .text .now) (a .pattern .now) (a .row .now) _
+    (c .before .before .front .ensures) (c .enum-told .given .1))
     (λ c.
     let the-m = c .before .before .before .before .m in
     let the-front = c .before .before .before .before .before .before .front in
-    let a = c .before .before .before .before .before .before .before .before .before .before .args in ends.loose-goes (a .text .now) (a .pattern .now) (a .row .now) _ (the-front .ensures) (the-m .given .1) (c .loose-open .ensures)))
+    let a = c .before .before .before .before .before .before .before .before .before .before .args in ends.loose-goes (a .text .now) (a .pattern .now)
+    (a .row .now) _ (the-front .ensures) (the-m .given .1) (c .loose-open .ensures)))
     λ t. loose-open-lts.spec (
       end-of-reads.Asked,
       end-of-reads.Learnt,
@@ -409,15 +429,29 @@ pub +fits+front+last+leftmost+loose+loose-open-spec : {M : Type 1} → statement
     let the-loop = c .before .before .before .before .before .before .before .loop in
     let the-args = c .before .before .before .before .before .before .before .before .before .before .before .args in
     let the-pre = c .before .before .before .before .before .before .before .before .before .before .before .pre in (
-      omega (arith, from-length (the-end-of .result) (from (the-loop .i) (the-args .pattern .now)), from-length (the-loop .i) (the-args .pattern .now), the-if1 .left, the-end-of .ensures .1, the-pre .0),
+      omega (
+        arith,
+        from-length (the-end-of .result) (from (the-loop .i) (the-args .pattern .now)),
+        from-length (the-loop .i) (the-args .pattern .now),
+        the-if1 .left,
+        the-end-of .ensures .1,
+        the-pre .0,
+      ),
       sym (c .before .has-open .ensures (the-args .text .now)) ∙ not-true (c .before .has-open .result) (c .if2 .taken),
     ))
     (λ c κs.
     let the-end-of = c .before .before .before .end-of in
     let the-loop = c .before .before .before .before .before .before .before .loop in
     let the-args = c .before .before .before .before .before .before .before .before .before .before .before .args in
-    let the-pre = c .before .before .before .before .before .before .before .before .before .before .before .pre in
-    (omega (arith, from-length (the-end-of .result) (from (the-loop .i) (the-args .pattern .now)), from-length (the-loop .i) (the-args .pattern .now), the-pre .0), tt))
+    let the-pre = c .before .before .before .before .before .before .before .before .before .before .before .pre in (
+      omega (
+        arith,
+        from-length (the-end-of .result) (from (the-loop .i) (the-args .pattern .now)),
+        from-length (the-loop .i) (the-args .pattern .now),
+        the-pre .0,
+      ),
+      tt,
+    ))
     (λ c. search needs)
     (λ c. search needs)
     (λ c.
@@ -430,7 +464,8 @@ pub +fits+front+last+leftmost+loose+loose-open-spec : {M : Type 1} → statement
     let the-args = c .before .before .before .before .before .before .before .before .before .before .before .before .before .before .before .args in
     omega (
       arith,
-      ends.opened-within (the-loop .inv) (the-if1 .left) (the-end-of .ensures .0) (the-has-open .ensures) (not-false (the-has-open .result) (the-if2 .left)) _ (the-leftmost .ensures) (c .before .m .given .1) .0,
+      ends.opened-within (the-loop .inv) (the-if1 .left) (the-end-of .ensures .0) (the-has-open .ensures) (not-false (the-has-open .result) (the-if2 .left)) _
+          (the-leftmost .ensures) (c .before .m .given .1) .0,
       from-length (the-end-of .result) (from (the-loop .i) (the-args .pattern .now)),
       from-length (the-loop .i) (the-args .pattern .now),
       the-loop .inv .within,
@@ -446,7 +481,8 @@ pub +fits+front+last+leftmost+loose+loose-open-spec : {M : Type 1} → statement
     let the-args = c .before .before .before .before .before .before .before .before .before .before .before .before .before .before .before .args in
     omega (
       arith,
-      ends.opened-within (the-loop .inv) (the-if1 .left) (the-end-of .ensures .0) (the-has-open .ensures) (not-false (the-has-open .result) (the-if2 .left)) _ (the-leftmost .ensures) (c .before .m .given .1) .0,
+      ends.opened-within (the-loop .inv) (the-if1 .left) (the-end-of .ensures .0) (the-has-open .ensures) (not-false (the-has-open .result) (the-if2 .left)) _
+          (the-leftmost .ensures) (c .before .m .given .1) .0,
       from-length (the-end-of .result) (from (the-loop .i) (the-args .pattern .now)),
       from-length (the-loop .i) (the-args .pattern .now),
       the-loop .inv .within,
@@ -462,7 +498,8 @@ pub +fits+front+last+leftmost+loose+loose-open-spec : {M : Type 1} → statement
     let the-args = c .before .before .before .before .before .before .before .before .before .before .before .before .before .before .before .args in
     omega (
       arith,
-      ends.opened-within (the-loop .inv) (the-if1 .left) (the-end-of .ensures .0) (the-has-open .ensures) (not-false (the-has-open .result) (the-if2 .left)) _ (the-leftmost .ensures) (c .before .m .given .1) .1,
+      ends.opened-within (the-loop .inv) (the-if1 .left) (the-end-of .ensures .0) (the-has-open .ensures) (not-false (the-has-open .result) (the-if2 .left)) _
+          (the-leftmost .ensures) (c .before .m .given .1) .1,
       from-length (the-loop .j) (the-args .row .now),
       the-loop .inv .row-within,
     ))
@@ -478,7 +515,8 @@ pub +fits+front+last+leftmost+loose+loose-open-spec : {M : Type 1} → statement
     let the-if1 = c .before .before .before .before .before .before .before .before .if1 in
     let the-end-of = c .before .before .before .before .before .before .before .end-of in
     let the-has-open = c .before .before .before .before .before .has-open in
-    ends.opened-next (the-loop .inv) (the-if1 .left) (the-end-of .ensures .0) (the-has-open .ensures) (not-false (the-has-open .result) (the-if2 .left)) _ (the-leftmost .ensures) (c .before .m .given .1))
+    ends.opened-next (the-loop .inv) (the-if1 .left) (the-end-of .ensures .0) (the-has-open .ensures) (not-false (the-has-open .result) (the-if2 .left)) _
+    (the-leftmost .ensures) (c .before .m .given .1))
     (λ c.
     let the-loop = c .before .before .before .loop in
     ends.opened-end (the-loop .inv) (c .if1 .taken))
@@ -493,4 +531,5 @@ pub +fits+front+last+leftmost+loose+loose-open-spec : {M : Type 1} → statement
     let the-loop = c .before .before .before .before .before .before .before .before .before .before .loop in
     let the-if1 = c .before .before .before .before .before .before .before .if1 in
     let the-end-of = c .before .before .before .before .before .before .end-of in
-    ends.opened-fails (the-loop .inv) (the-if1 .left) (the-end-of .ensures .0) (the-has-open .ensures) (not-false (the-has-open .result) (the-if2 .left)) _ (c .before .before .leftmost .ensures) (c .enum-told .given .1))
+    ends.opened-fails (the-loop .inv) (the-if1 .left) (the-end-of .ensures .0) (the-has-open .ensures) (not-false (the-has-open .result) (the-if2 .left)) _
+    (c .before .before .leftmost .ensures) (c .enum-told .given .1))
