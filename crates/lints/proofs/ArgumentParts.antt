@@ -7,7 +7,8 @@ use native.Mathlib.Omega.{arith}
 use native.Mathlib.Decide.{decLt}
 use Rattle.file.specs.Word.{wordAt}
 use Rattle.file.specs.Sections.{File}
-use Rattle.law.specs.Places.{patternSize, conditionsOf, resultSize, conditionResultSize, conditionPatternSize, firstCondition, patternAt, conditionResultAt, resultAt, termsAt, patternPart, resultPart, conditionResultPart, conditionPatternPart}
+use Rattle.law.specs.Places.{patternSize, conditionsOf, resultSize, conditionResultSize, conditionPatternSize, firstCondition, patternAt}
+use Rattle.law.specs.Places.{conditionResultAt, resultAt, termsAt, patternPart, resultPart, conditionResultPart, conditionPatternPart}
 use Rattle.law.specs.Runs.{runFits, usedUp}
 use Rattle.law.specs.Code.Index.{Readable, PartAt}
 use Rattle.law.proofs.PlaceLaws.{condition-next, asked-first, asked-next, asked-last, pattern-next, pattern-inside, result-inside, asked-inside}

@@ -25,7 +25,8 @@ use Rattle.law.specs.Reading.{markAt, symbolOf, termRun, forestRun}
 use Rattle.law.proofs.RunLaws.{end-low, end-high, terms-none, terms-node}
 use Rattle.matching.proofs.CutLaws.{from-length, from-from, from-all}
 use Rattle.lints.specs.Finding.{Failure, twoIntegersWanted, divisionByZero, digitsWanted}
-use Rattle.lints.specs.Builtin.{isSign, consFound, macrodigits, unsigned, allZero, secondFails, firstFails, integersFail, charactersOf, digitsFail, Domain, integers, digits, anything, failure}
+use Rattle.lints.specs.Builtin.{isSign, consFound, macrodigits, unsigned, allZero, secondFails, firstFails}
+use Rattle.lints.specs.Builtin.{integersFail, charactersOf, digitsFail, Domain, integers, digits, anything, failure}
 use Rattle.lints.specs.Open.{eOccurrences}
 use Rattle.lints.specs.Code.Part.{argumentOf, SignTaken, operandOf, decidedBy, allOf, both, zeroOf, digitOf}
 use Rattle.lints.specs.declared.builtin.Operand.{Operand}

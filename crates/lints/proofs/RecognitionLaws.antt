@@ -255,7 +255,8 @@ module _ {bytes index slots store : List ℕ} {limit : ℕ} (p : Prepared bytes 
       (holding-knows (fileOf bytes) slots known (p .asked .places) (p .holding) (k ∙ p .asked .places .count) (p .asked .small)))
 
   -- the argument has too many shapes
-  pub compared-wide : {words : List ℕ} {ok : Bool} → FormatMade limit (passed (formatsIn (fileOf bytes) limit store) (callAt (fileOf bytes) t)) ok words → ok ≡ false → TooWide ≡ comparison limit (formatsIn (fileOf bytes) limit store) (callAt (fileOf bytes) t)
+  pub compared-wide : {words : List ℕ} {ok : Bool} → FormatMade limit (passed (formatsIn (fileOf bytes) limit store) (callAt (fileOf bytes) t)) ok words
+      → ok ≡ false → TooWide ≡ comparison limit (formatsIn (fileOf bytes) limit store) (callAt (fileOf bytes) t)
   unfolding comparison
   compared-wide made bad = rw (lt-ltb limit (size (passed (formatsIn (fileOf bytes) limit store) (callAt (fileOf bytes) t))) (made-passes made bad))
 
@@ -275,7 +276,8 @@ module _ {bytes index slots store : List ℕ} {limit : ℕ} (p : Prepared bytes 
     accepted-few = omega (arith, number-inside (p .holding .holds .entries) (2 * place) (omega arith), p .asked .small)
 
     module _ {words : List ℕ} (rest : List ℕ) {ok : Bool} (made : FormatMade limit (passed (formatsIn (fileOf bytes) limit store) (callAt (fileOf bytes) t)) ok words) (good : ok ≡ true)
-        {r literal : Bool} (test : r ≡ disjointFormats (readFormat (take (limit + 1) (words ++ rest))) (readFormat (take (2 * place * (limit + 1) + (limit + 1) - 2 * place * (limit + 1)) (drop (2 * place * (limit + 1)) store))))
+        {r literal : Bool} (test : r ≡ disjointFormats (readFormat (take (limit + 1) (words ++ rest)))
+        (readFormat (take (2 * place * (limit + 1) + (limit + 1) - 2 * place * (limit + 1)) (drop (2 * place * (limit + 1)) store))))
         (known : literal ≡ isLiteral (argumentIn (fileOf bytes) t)) where
       compared-is : cond r ByFormats (cond literal ByLiterals Nothing) ≡ comparison limit (formatsIn (fileOf bytes) limit store) (callAt (fileOf bytes) t)
       unfolding comparison

@@ -18,7 +18,9 @@ use Rattle.file.specs.declared.Term.{Term}
 use Rattle.file.specs.declared.Term.the-variants.{Symbol as Symbolic, SVariable, TVariable, EVariable, Bracket, Call, Block}
 use Rattle.file.proofs.Below.{both-first, both-second}
 use Rattle.law.specs.Tree.{Name, Mark, Run, Sentences, Conditions, Law, keep}
-use Rattle.law.specs.Places.{sentencesOf, patternSize, conditionsOf, resultSize, conditionResultSize, conditionPatternSize, blockSize, firstSentence, blockFirst, firstCondition, patternAt, conditionResultAt, resultAt, termsAt, patternPart, resultPart, conditionResultPart, conditionPatternPart}
+use Rattle.law.specs.Places.{sentencesOf, patternSize, conditionsOf, resultSize, conditionResultSize, conditionPatternSize}
+use Rattle.law.specs.Places.{blockSize, firstSentence, blockFirst, firstCondition, patternAt, conditionResultAt, resultAt}
+use Rattle.law.specs.Places.{termsAt, patternPart, resultPart, conditionResultPart, conditionPatternPart}
 use Rattle.law.specs.Runs.{runFits}
 use Rattle.law.specs.Reading.{nameAt, symbolOf, markAt, termRun, runOf, conditionsFrom, sentenceAt, treeOf, sentencesAt, own}
 use Rattle.law.specs.Code.Terms.{sentencesIn}
@@ -26,13 +28,15 @@ use Rattle.law.specs.Law.{lawOf}
 use Rattle.law.specs.Code.Index.{Readable, PartAt}
 use Rattle.law.proofs.Accepted.{law-accepted}
 use Rattle.law.proofs.Terms.{term-allowed, block-size}
-use Rattle.law.proofs.PlaceLaws.{sentence-start, sentence-next, sentence-grows, block-start, block-grows, condition-next, pattern-next, pattern-within, result-within, asked-after, asked-within, terms-inside}
+use Rattle.law.proofs.PlaceLaws.{sentence-start, sentence-next, sentence-grows, block-start, block-grows, condition-next}
+use Rattle.law.proofs.PlaceLaws.{pattern-next, pattern-within, result-within, asked-after, asked-within, terms-inside}
 use Rattle.law.proofs.RunLaws.{run-none, run-first, fits-first, by-records}
 use Rattle.law.proofs.Allowed.{accepted-readable, all-used, pattern-fits, result-fits, condition-result-fits, condition-pattern-fits, block-after}
 use Rattle.law.proofs.Reading.{sentences-end, sentence-reads}
 use Rattle.law.proofs.Functions.{skip-at, functionsAt, tree-functions, functions-end, function-reads}
 use Rattle.formats.proofs.RoundLaws.{EachFunction}
-use Rattle.lints.proofs.Everywhere.{EachRecord, each-record-map, Numbered, NumberedLaw, Labelled, numbered-from, numbered-keep, EveryRun, EverySentence, EveryCondition, every-keep, every-skip, Passes}
+use Rattle.lints.proofs.Everywhere.{EachRecord, each-record-map, Numbered, NumberedLaw, Labelled, numbered-from}
+use Rattle.lints.proofs.Everywhere.{numbered-keep, EveryRun, EverySentence, EveryCondition, every-keep, every-skip, Passes}
 
 -- ---- a term record's symbol and name
 

@@ -45,7 +45,8 @@ earliest-shadow-spec =
     (λ c.
     let the-loop = c .before .before .before .loop in
     let start = c .before .before .before .before .before in
-    laws.conditions-grow (start .pre .0) _ _ (the-loop .i) _ _ (start .pre .2) (omega (arith, c .before .before .if1 .left)) (c .before .first-condition .ensures) (c .first-condition2 .ensures))
+    laws.conditions-grow (start .pre .0) _ _ (the-loop .i) _ _ (start .pre .2) (omega (arith, c .before .before .if1 .left))
+    (c .before .first-condition .ensures) (c .first-condition2 .ensures))
     (λ c.
     let start = c .before .before .before .before .before .before in
     omega (arith, start .pre .2, sentences-limit _ _ (start .pre .0)))
@@ -69,17 +70,25 @@ earliest-shadow-spec =
     let start = c .before .before .before .before .before .before in (
       omega (arith, the-if1 .left),
       ⊎-elim
-          (λ w. laws.again-pattern (start .pre .0) _ _ (the-loop .i) _ _ (start .pre .2) (omega (arith, the-if1 .left)) (c .before .before .first-condition .ensures) (c .before .first-condition2 .ensures) (w .0 .taken) (w .1 .ensures) (w .2 .left) (the-loop .inv .1))
-          (λ w. laws.again-conditions (start .pre .0) _ _ (the-loop .i) _ _ (start .pre .2) (omega (arith, the-if1 .left)) (c .before .before .first-condition .ensures) (c .before .first-condition2 .ensures) (w .left) (the-loop .inv .1))
+          (λ w. laws.again-pattern (start .pre .0) _ _ (the-loop .i) _ _ (start .pre .2) (omega (arith, the-if1 .left))
+          (c .before .before .first-condition .ensures) (c .before .first-condition2 .ensures) (w .0 .taken) (w .1 .ensures) (w .2 .left) (the-loop .inv .1))
+          (λ w. laws.again-conditions (start .pre .0) _ _ (the-loop .i) _ _ (start .pre .2) (omega (arith, the-if1 .left))
+          (c .before .before .first-condition .ensures) (c .before .first-condition2 .ensures) (w .left) (the-loop .inv .1))
           (c .if2 .came),
     ))
     (λ c.
-    let start = c .before .before .before in
-    (laws.search-ends (fileOf (start .args .law .now)) (start .args .first) (start .args .later) (c .before .loop .i) _ (c .if1 .taken) (c .before .loop .inv .0) (c .before .loop .inv .1), omega arith))
+    let start = c .before .before .before in (
+      laws.search-ends (fileOf (start .args .law .now)) (start .args .first) (start .args .later) (c .before .loop .i) _ (c .if1 .taken)
+          (c .before .loop .inv .0) (c .before .loop .inv .1),
+      omega arith,
+    ))
     (λ c.
     let the-first-condition = c .before .before .before .before .first-condition in
     let the-first-condition2 = c .before .before .before .first-condition2 in
     let the-loop = c .before .before .before .before .before .before .loop in
     let the-if1 = c .before .before .before .before .before .if1 in
-    let start = c .before .before .before .before .before .before .before .before in
-    (laws.shadow-found (start .pre .0) _ _ (the-loop .i) _ _ (start .pre .2) (omega (arith, the-if1 .left)) (the-first-condition .ensures) (the-first-condition2 .ensures) (c .before .before .if2 .taken) (c .before .shadow-sentences .ensures) (c .if3 .taken) (the-loop .inv .1), omega (arith, the-if1 .left))))
+    let start = c .before .before .before .before .before .before .before .before in (
+      laws.shadow-found (start .pre .0) _ _ (the-loop .i) _ _ (start .pre .2) (omega (arith, the-if1 .left)) (the-first-condition .ensures)
+          (the-first-condition2 .ensures) (c .before .before .if2 .taken) (c .before .shadow-sentences .ensures) (c .if3 .taken) (the-loop .inv .1),
+      omega (arith, the-if1 .left),
+    )))

@@ -83,7 +83,8 @@ compare-call-spec =
     let p = c .before .before .before .before .before .before .before .before .before .before .before .before .before .pre in
     let a = c .before .before .before .before .before .before .before .before .before .before .before .before .before .args in
     let made = argument-made (p .0 .0) (a .t) refl (the-argument .ensures) (the-wide .ensures .0) (the-row-format .ensures) in
-    compared-apart (p .0 .0) (a .t) (p .1 .0) (p .1 .1) (drop (a .limit + 1) (replicate 65 0)) made (not-false _ (the-if1 .left)) (c .before .disjoint-formats .ensures) (p .0 .2) (c .if2 .taken))
+    compared-apart (p .0 .0) (a .t) (p .1 .0) (p .1 .1) (drop (a .limit + 1) (replicate 65 0)) made (not-false _ (the-if1 .left))
+    (c .before .disjoint-formats .ensures) (p .0 .2) (c .if2 .taken))
     (λ c. let the-argument = c .before .before .before .before .before .before .before .before .before .before .before .argument in
     let the-wide = c .before .before .before .before .before .before .before .before .before .wide in
     let the-row-format = c .before .before .before .before .before .before .before .row-format in
@@ -91,7 +92,8 @@ compare-call-spec =
     let p = c .before .before .before .before .before .before .before .before .before .before .before .before .before .before .pre in
     let a = c .before .before .before .before .before .before .before .before .before .before .before .before .before .before .args in
     let made = argument-made (p .0 .0) (a .t) refl (the-argument .ensures) (the-wide .ensures .0) (the-row-format .ensures) in
-    compared-literal (p .0 .0) (a .t) (p .1 .0) (p .1 .1) (drop (a .limit + 1) (replicate 65 0)) made (not-false _ (the-if1 .left)) (c .before .before .disjoint-formats .ensures) (p .0 .2) (c .before .if2 .left) (c .if3 .taken))
+    compared-literal (p .0 .0) (a .t) (p .1 .0) (p .1 .1) (drop (a .limit + 1) (replicate 65 0)) made (not-false _ (the-if1 .left))
+    (c .before .before .disjoint-formats .ensures) (p .0 .2) (c .before .if2 .left) (c .if3 .taken))
     (λ c. let the-argument = c .before .before .before .before .before .before .before .before .before .before .before .argument in
     let the-wide = c .before .before .before .before .before .before .before .before .before .wide in
     let the-row-format = c .before .before .before .before .before .before .before .row-format in
@@ -99,4 +101,5 @@ compare-call-spec =
     let p = c .before .before .before .before .before .before .before .before .before .before .before .before .before .before .pre in
     let a = c .before .before .before .before .before .before .before .before .before .before .before .before .before .before .args in
     let made = argument-made (p .0 .0) (a .t) refl (the-argument .ensures) (the-wide .ensures .0) (the-row-format .ensures) in
-    compared-silent (p .0 .0) (a .t) (p .1 .0) (p .1 .1) (drop (a .limit + 1) (replicate 65 0)) made (not-false _ (the-if1 .left)) (c .before .before .disjoint-formats .ensures) (p .0 .2) (c .before .if2 .left) (c .if3 .left)))
+    compared-silent (p .0 .0) (a .t) (p .1 .0) (p .1 .1) (drop (a .limit + 1) (replicate 65 0)) made (not-false _ (the-if1 .left))
+    (c .before .before .disjoint-formats .ensures) (p .0 .2) (c .before .if2 .left) (c .if3 .left)))

@@ -31,7 +31,8 @@ judge-call-spec =
     let the-wide = c .before .before .before .wide in
     let p = c .before .before .before .before .before .before .before .pre in
     let a = c .before .before .before .before .before .before .before .args in
-    verdict-undefined (p .0) (a .t) (p .1) (p .2) (the-wide .ensures .0) (c .before .before .functions .ensures) (c .before .last-placed .ensures) (c .if1 .taken))
+    verdict-undefined (p .0) (a .t) (p .1) (p .2) (the-wide .ensures .0) (c .before .before .functions .ensures)
+    (c .before .last-placed .ensures) (c .if1 .taken))
     (λ c κs. search needs)
     (λ c κs. search needs)
     (λ c κs.
@@ -39,8 +40,14 @@ judge-call-spec =
     let the-last-placed = c .before .before .before .last-placed in
     let the-wide = c .before .before .before .before .before .wide in
     let p = c .before .before .before .before .before .before .before .before .before .pre in
-    let a = c .before .before .before .before .before .before .before .before .before .args in
-    ((p .0 .asked .indexed, p .0 .accepted), (function-here (p .0) (a .t) (p .1) (p .2) (the-wide .ensures .0) (the-functions .ensures) (the-last-placed .ensures) (c .before .before .if1 .left), p .1, (literal-read (fileOf (a .law .now)) (a .t) (c .before .argument .ensures) (c .is-literal .ensures)))))
+    let a = c .before .before .before .before .before .before .before .before .before .args in (
+      (p .0 .asked .indexed, p .0 .accepted),
+      (
+        function-here (p .0) (a .t) (p .1) (p .2) (the-wide .ensures .0) (the-functions .ensures) (the-last-placed .ensures) (c .before .before .if1 .left),
+        p .1,
+        (literal-read (fileOf (a .law .now)) (a .t) (c .before .argument .ensures) (c .is-literal .ensures)),
+      ),
+    ))
     (λ c.
     let the-if1 = c .before .before .before .before .if1 in
     let the-wide = c .before .before .before .before .before .before .before .wide in
@@ -48,7 +55,8 @@ judge-call-spec =
     let the-last-placed = c .before .before .before .before .before .last-placed in
     let p = c .before .before .before .before .before .before .before .before .before .before .before .pre in
     let a = c .before .before .before .before .before .before .before .before .before .before .before .args in
-    verdict-silent (p .0) (a .t) (p .1) (p .2) (the-wide .ensures .0) (the-functions .ensures) (the-last-placed .ensures) (the-if1 .left) (c .before .is-compared .ensures) (not-true _ (c .if2 .taken)))
+    verdict-silent (p .0) (a .t) (p .1) (p .2) (the-wide .ensures .0) (the-functions .ensures) (the-last-placed .ensures) (the-if1 .left)
+    (c .before .is-compared .ensures) (not-true _ (c .if2 .taken)))
     (λ c κs.
     let the-if1 = c .before .before .before .before .if1 in
     let the-argument = c .before .before .before .argument in
@@ -56,12 +64,18 @@ judge-call-spec =
     let the-functions = c .before .before .before .before .before .before .functions in
     let the-last-placed = c .before .before .before .before .before .last-placed in
     let p = c .before .before .before .before .before .before .before .before .before .before .before .pre in
-    let a = c .before .before .before .before .before .before .before .before .before .before .before .args in
-    ((p .0, p .1, (literal-read (fileOf (a .law .now)) (a .t) (the-argument .ensures) (c .before .before .is-literal .ensures))), (place-is (p .0) (a .t) (p .1) (p .2) (the-wide .ensures .0) (the-functions .ensures) (the-last-placed .ensures), place-inside (p .0) (a .t) (p .1) (p .2) (the-wide .ensures .0) (the-functions .ensures) (the-last-placed .ensures) (the-if1 .left))))
+    let a = c .before .before .before .before .before .before .before .before .before .before .before .args in (
+      (p .0, p .1, (literal-read (fileOf (a .law .now)) (a .t) (the-argument .ensures) (c .before .before .is-literal .ensures))),
+      (
+        place-is (p .0) (a .t) (p .1) (p .2) (the-wide .ensures .0) (the-functions .ensures) (the-last-placed .ensures),
+        place-inside (p .0) (a .t) (p .1) (p .2) (the-wide .ensures .0) (the-functions .ensures) (the-last-placed .ensures) (the-if1 .left),
+      ),
+    ))
     (λ c. let the-wide = c .before .before .before .before .before .before .before .before .wide in
     let the-functions = c .before .before .before .before .before .before .before .functions in
     let the-last-placed = c .before .before .before .before .before .before .last-placed in
     let the-if1 = c .before .before .before .before .before .if1 in
     let p = c .before .before .before .before .before .before .before .before .before .before .before .before .pre in
     let a = c .before .before .before .before .before .before .before .before .before .before .before .before .args in
-    verdict-compared (p .0) (a .t) (p .1) (p .2) (the-wide .ensures .0) (the-functions .ensures) (the-last-placed .ensures) (the-if1 .left) (c .before .before .is-compared .ensures) (not-false _ (c .before .if2 .left)) (c .compare-call .ensures)))
+    verdict-compared (p .0) (a .t) (p .1) (p .2) (the-wide .ensures .0) (the-functions .ensures) (the-last-placed .ensures) (the-if1 .left)
+    (c .before .before .is-compared .ensures) (not-false _ (c .before .if2 .left)) (c .compare-call .ensures)))

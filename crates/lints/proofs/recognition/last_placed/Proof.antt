@@ -27,15 +27,19 @@ last-placed-spec =
     let the-loop = c .before .before .before .before .loop in
     let the-loop-test = c .before .before .before .loop-test in
     let a = c .before .before .before .before .before .args in
-    last-here (a .slots .now) (a .place) (a .count) (the-loop .f) _ (omega (arith, the-loop-test .taken)) (sym (c .before .wide .ensures .0) ∙ c .if1 .taken) ∙ sym (the-loop .inv .1))
+    last-here (a .slots .now) (a .place) (a .count) (the-loop .f) _ (omega (arith, the-loop-test .taken)) (sym (c .before .wide .ensures .0) ∙ c .if1 .taken)
+    ∙ sym (the-loop .inv .1))
     (λ c.
     let the-loop-test = c .before .before .before .loop-test in
     omega (arith, the-loop-test .taken))
     (λ c.
     let the-loop = c .before .before .before .before .loop in
     let the-loop-test = c .before .before .before .loop-test in
-    let a = c .before .before .before .before .before .args in
-    (omega (arith, the-loop .inv .0), the-loop .inv .1 ∙ last-next (a .slots .now) (a .place) (a .count) (the-loop .f) _ (omega (arith, the-loop-test .taken)) (λ e. c .if1 .left (c .before .wide .ensures .0 ∙ e))))
+    let a = c .before .before .before .before .before .args in (
+      omega (arith, the-loop .inv .0),
+      the-loop .inv .1 ∙ last-next (a .slots .now) (a .place) (a .count) (the-loop .f) _ (omega (arith, the-loop-test .taken))
+          (λ e. c .if1 .left (c .before .wide .ensures .0 ∙ e)),
+    ))
     (λ c.
     let a = c .before .before .args in
     last-none (a .slots .now) (a .place) (a .count) (c .before .loop .f) (omega (arith, c .loop-test .left)) ∙ sym (c .before .loop .inv .1)))

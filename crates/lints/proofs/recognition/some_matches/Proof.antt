@@ -37,13 +37,20 @@ some-matches-spec =
     let p = c .before .before .before .pre in
     matches-start (p .0 .0) (the-args .f) (p .1 .0) _ _ (c .first-sentence2 .ensures) (c .before .first-sentence .ensures))
     (λ c κs. let the-args = c .before .before .before .before .before .args in
-    let p = c .before .before .before .before .before .pre in
-    (p .0, (omega (arith, c .loop-test .taken, c .before .loop .inv .few), p .1 .1, sym (argument-literal (fileOf (the-args .law .now)) (the-args .t)) ∙ p .1 .2)))
+    let p = c .before .before .before .before .before .pre in (
+      p .0,
+      (
+        omega (arith, c .loop-test .taken, c .before .loop .inv .few),
+        p .1 .1,
+        sym (argument-literal (fileOf (the-args .law .now)) (the-args .t)) ∙ p .1 .2,
+      ),
+    ))
     (λ c.
     let the-loop = c .before .before .before .loop in
     let the-args = c .before .before .before .before .before .before .before .args in
     let p = c .before .before .before .before .before .before .before .pre in
-    matches-here (the-args .t) (the-loop .inv) (accepted-readable (the-args .law .now) (p .0 .1)) (c .before .before .loop-test .taken) (c .before .literal-sentence .ensures) (c .if1 .taken))
+    matches-here (the-args .t) (the-loop .inv) (accepted-readable (the-args .law .now) (p .0 .1)) (c .before .before .loop-test .taken)
+    (c .before .literal-sentence .ensures) (c .if1 .taken))
     (λ c.
     let the-loop = c .before .before .before .loop in
     let the-args = c .before .before .before .before .before .before .before .args in
@@ -54,7 +61,8 @@ some-matches-spec =
     let the-loop = c .before .before .before .loop in
     let the-args = c .before .before .before .before .before .before .before .args in
     let p = c .before .before .before .before .before .before .before .pre in
-    matches-next (the-args .t) (the-loop .inv) (accepted-readable (the-args .law .now) (p .0 .1)) (c .before .before .loop-test .taken) (c .before .literal-sentence .ensures) (c .if1 .left))
+    matches-next (the-args .t) (the-loop .inv) (accepted-readable (the-args .law .now) (p .0 .1)) (c .before .before .loop-test .taken)
+    (c .before .literal-sentence .ensures) (c .if1 .left))
     (λ c. let the-args = c .before .before .before .before .before .args in
     let p = c .before .before .before .before .before .pre in
     matches-end (the-args .t) (c .before .loop .inv) (accepted-readable (the-args .law .now) (p .0 .1)) (c .loop-test .left)))
