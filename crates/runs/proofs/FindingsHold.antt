@@ -34,7 +34,8 @@ use Rattle.runs.proofs.Passed.{AnyCall, AnyRecord, SentencesPass, passe
 use Rattle.runs.proofs.Shadowed.{ShadowedIn, own-dead-shadowed}
 use Rattle.lints.proofs.Defined.{definition-in}
 use Rattle.runs.proofs.WholeRun.{Closed, anything-results, Unrecognised, ListedCall, listed-unrecognised, dead-unchosen}
-use Rattle.lints.proofs.Listed.{Found, dead-found, recognition-found, Remarked, finding-remarked, dead-remark, Judged, apart, literally, compared-literal, Recognition, recognition-finding, subject-record}
+use Rattle.lints.proofs.Listed.{Found, dead-found, recognition-found, Remarked, finding-remarked, dead-remark, Judged, apart}
+use Rattle.lints.proofs.Listed.{literally, compared-literal, Recognition, recognition-finding, subject-record}
 use Rattle.lints.proofs.CallsIn.{sentence-call, call-at, block-after-functions}
 
 -- ---- dead sentences
