@@ -17,7 +17,8 @@ use Rattle.file.specs.declared.Term.{Term}
 use Rattle.file.specs.declared.Term.the-variants.{Symbol as Symbolic, SVariable, TVariable, EVariable, Bracket, Call, Block}
 use Rattle.lints.specs.Calls.{Call as CallOf}
 use Rattle.law.specs.Tree.{Name, Mark, Symbol, Run, empty, symbol, variable, bracket, call, block, Sentences, noSentence, sentence, Conditions, noCondition, condition, Law, keep}
-use Rattle.law.specs.Places.{sentencesOf, firstSentence, blockFirst, conditionResultAt, conditionResultSize, conditionResultPart, conditionPatternPart, conditionsOf, firstCondition, patternAt, patternPart, resultAt, resultPart}
+use Rattle.law.specs.Places.{sentencesOf, firstSentence, blockFirst, conditionResultAt, conditionResultSize, conditionResultPart}
+use Rattle.law.specs.Places.{conditionPatternPart, conditionsOf, firstCondition, patternAt, patternPart, resultAt, resultPart}
 use Rattle.law.specs.Runs.{termForest}
 use Rattle.law.specs.Reading.{markAt, termRun, forestRun, runOf, conditionsFrom, sentencesFrom, sentencesAt, own}
 use Rattle.law.specs.Code.Index.{Indexed, Readable}

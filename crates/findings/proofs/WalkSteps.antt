@@ -15,7 +15,8 @@ use Rattle.file.specs.Forest.{contents, rest}
 use Rattle.file.specs.Head.{termAt}
 use Rattle.file.specs.Sections.{File, fileOf}
 use Rattle.law.specs.Tree.{empty, noSentence, keep}
-use Rattle.law.specs.Places.{blockFirst, sentencesOf, firstSentence, conditionsOf, firstCondition, patternAt, resultAt, patternPart, resultPart, conditionResultAt, conditionResultSize, conditionResultPart, conditionPatternPart}
+use Rattle.law.specs.Places.{blockFirst, sentencesOf, firstSentence, conditionsOf, firstCondition, patternAt, resultAt, patternPart}
+use Rattle.law.specs.Places.{resultPart, conditionResultAt, conditionResultSize, conditionResultPart, conditionPatternPart}
 use Rattle.law.specs.Code.Terms.{Owns, sentencesIn}
 use Rattle.law.specs.Runs.{endOf}
 use Rattle.law.specs.Reading.{markAt, runOf, own, sentencesAt, conditionsFrom, treeOf}
@@ -23,7 +24,8 @@ use Rattle.law.specs.Code.Index.{Indexed, Readable, PartAt}
 use Rattle.law.proofs.Parts.{part-word, terms-word, terms-contents}
 use Rattle.law.proofs.RunLaws.{end-high, run-empty, run-node, fits-first}
 use Rattle.law.proofs.Functions.{functionsAt, tree-functions, function-reads, functions-end as functions-over, kept-reads}
-use Rattle.law.proofs.PartLaws.{part-length, part-at, part-inside, part-leaf, part-end, part-sentences, contents-part, rest-part, part-small, pattern-part, result-part, condition-result-part, condition-pattern-part}
+use Rattle.law.proofs.PartLaws.{part-length, part-at, part-inside, part-leaf, part-end, part-sentences, contents-part, rest-part}
+use Rattle.law.proofs.PartLaws.{part-small, pattern-part, result-part, condition-result-part, condition-pattern-part}
 use Rattle.law.proofs.PlaceLaws.{function-inside}
 use Rattle.law.proofs.IndexLaws.{functions-limit, sentences-limit, conditions-limit, terms-limit, sentences-before, conditions-before, owns, owned, condition-result-fits}
 use Rattle.formats.specs.Infer.{Formats}
@@ -36,7 +38,9 @@ use Rattle.lints.specs.Code.Records.{Prepared}
 use Rattle.findings.specs.declared.Task.{Task}
 use Rattle.findings.specs.Code.Events.{Event, Sink, collect}
 use Rattle.findings.specs.Code.Walk.{walked}
-use Rattle.findings.specs.Code.Tasks.{callEvents, blockEvents, callsAt, runEvents, termEvents, insideEvents, conditionEvents, functionEvents, functionsEvents, lintEvents, atPosition, remarkEvents}
+use Rattle.findings.specs.Code.Tasks.{callEvents, blockEvents, callsAt, runEvents, termEvents, insideEvents}
+use Rattle.findings.specs.Code.Tasks.{conditionEvents, functionEvents, functionsEvents, lintEvents, atPosition}
+use Rattle.findings.specs.Code.Tasks.{remarkEvents}
 use Rattle.findings.proofs.CollectLaws.{collect-append, collect-none, collect-then}
 use Rattle.findings.proofs.WalkLaws.{runSize, sentencesSize, conditionsSize, term-size, callsOf, words-calls, run-walked, term-walked, leaf-walked, block-none, own-block}
 

@@ -754,11 +754,12 @@ pub +walk-conditions+walk-pattern+walk-run+walk-sentence+walk-sentences+walk-ter
           (the-block-first .ensures) (the-sentences-in .ensures ∙ ap sentencesIn (the-term-at .ensures)),
     ))
     (λ c κs.
-    let start = c .before .before .before .before .before .before .before .before .before .before .before .before .before .before .before .before .before .before .before .before .before .before .before in
+    let at-sentences-in = c .before .before .before .before .before .before .before in
+    let start = at-sentences-in .before .before .before .before .before .before .before .before .before .before .before .before .before .before .before .before in
     let file = fileOf (start .args .law .now) in
     let asked = start .pre .1 .0 .asked in
     let the-block-first = c .before .before .before .before .before .block-first in
-    let the-sentences-in = c .before .before .before .before .before .before .before .sentences-in in
+    let the-sentences-in = at-sentences-in .sentences-in in
     let the-term-at = c .before .before .before .before .before .before .before .before .term-at in (
       steps.entered-less file (asked .readable) (start .args .at) (the-sentences-in .result) (the-block-first .result) t (start .args .part .now)
           (start .pre .1 .1) (start .pre .1 .2) (the-sentences-in .ensures ∙ ap sentencesIn (the-term-at .ensures)) (steps.block-reads (start .pre .1 .0) _ _
@@ -780,7 +781,8 @@ pub +walk-conditions+walk-pattern+walk-run+walk-sentence+walk-sentences+walk-ter
     let out-kept-by-call = the-note-call .kept .1 .1 .1 .1 .1 .1 .0 in
     out-kept-by-sentences ∙ out-kept-by-block ∙ out-kept-by-run ∙ out-kept-by-call)
     (λ c.
-    let start = c .before .before .before .before .before .before .before .before .before .before .before .before .before .before .before .before .before .before .before .before .before .before .before .before .before .before in
+    let at-note-call = c .before .before .before .before .before .before .before .before .before .before .before .before .before .before .before .before .before .before .before .before in
+    let start = at-note-call .before .before .before .before .before .before in
     let before = sinkOf (start .args .tally) (start .args .out .now) in
     let file = fileOf (start .args .law .now) in
     let formats = formatsIn file (start .args .task .limit) (start .args .store .now) in
@@ -795,7 +797,7 @@ pub +walk-conditions+walk-pattern+walk-run+walk-sentence+walk-sentences+walk-ter
     let the-walk-run = c .before .before .before .before .before .before .before .before .before .before .before .before .before .before .walk-run in
     let out-after-run = the-walk-run .last .1 .1 .1 .1 .1 .1 .1 .0 in
     let the-end-of = c .before .before .before .before .before .before .before .before .before .before .before .before .before .before .before .before .before .end-of in
-    let the-note-call = c .before .before .before .before .before .before .before .before .before .before .before .before .before .before .before .before .before .before .before .before .note-call in
+    let the-note-call = at-note-call .note-call in
     let out-after-call = the-note-call .last .1 .1 .1 .1 .1 .1 .0 in
     steps.term-steps file formats (start .args .task) (asked .readable) (start .args .at) (the-end-of .result) (the-sentences-in .result)
     (the-block-first .result) (start .args .part .now) before (sinkOf (the-note-call .result) out-after-call) (sinkOf (the-walk-run .result) out-after-run)
