@@ -19,7 +19,8 @@ put-dead-sentence-spec =
     functions-few (the-pre .0) (c .functions .ensures))
     (λ c κs.
     let the-function-name = c .before .before .before .function-name in
-    let start = c .before .before .before .before .before .before in omega (arith, owner-short (start .pre .0) (start .args .position) (the-function-name .ensures)))
+    let start = c .before .before .before .before .before .before in
+    omega (arith, owner-short (start .pre .0) (start .args .position) (the-function-name .ensures)))
     (λ c. search needs)
     (λ c.
     let the-first-sentence = c .before .before .before .before .first-sentence in

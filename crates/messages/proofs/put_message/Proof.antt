@@ -76,7 +76,8 @@ put-message-spec =
     (λ c. search needs)
     (λ c f severity m e.
     let is-recognition = c .before .before .before .before in
-    rw (recognition-text (any-heard (is-recognition .before .before) f severity m e) (is-recognition .if2 .taken) .2) (c .before .before .put-recognition .ensures (f .owner)))
+    rw (recognition-text (any-heard (is-recognition .before .before) f severity m e) (is-recognition .if2 .taken) .2)
+    (c .before .before .put-recognition .ensures (f .owner)))
     (λ c κs.
     let read = c .before .before .before .before in
     let p = start read .pre in

@@ -24,9 +24,10 @@ put-dead-spec =
     (λ c κs. search needs)
     (λ c. search needs)
     (λ c.
-    let first = c .before .before .before .before .before .before .before .before .before .before .before .before .before .before .before .before .before .before .before .before .before .before .before .before .before .before .before .before .before .put in
-    let later = c .before .before .before .before .before .before .before .before .before .before .before .before .before .before .before .before .before .before .before .before .before .before .before .before .before .put-decimal in
-    let second = c .before .before .before .before .before .before .before .before .before .before .before .before .before .before .before .before .before .before .before .before .put2 in
+    let at-put2 = c .before .before .before .before .before .before .before .before .before .before .before .before .before .before .before .before .before .before .before .before in
+    let first = at-put2 .before .before .before .before .before .before .before .before .before .put in
+    let later = at-put2 .before .before .before .before .before .put-decimal in
+    let second = at-put2 .put2 in
     let owner = c .before .before .before .before .before .before .before .before .before .before .before .before .before .before .before .before .put-owner in
     let third = c .before .before .before .before .before .before .before .before .before .before .before .put3 in
     let earlier = c .before .before .before .before .before .before .before .put-decimal2 in

@@ -22,8 +22,9 @@ put-open-spec =
     (λ c κs. search needs)
     (λ c. search needs)
     (λ c.
-    let first = c .before .before .before .before .before .before .before .before .before .before .before .before .before .before .before .before .before .before .before .before .before .before .before .before .put in
-    let owner = c .before .before .before .before .before .before .before .before .before .before .before .before .before .before .before .before .before .before .before .before .put2 in
+    let at-put2 = c .before .before .before .before .before .before .before .before .before .before .before .before .before .before .before .before .before .before .before .before in
+    let first = at-put2 .before .before .before .before .put in
+    let owner = at-put2 .put2 in
     let second = c .before .before .before .before .before .before .before .before .before .before .before .before .before .before .before .put3 in
     let count = c .before .before .before .before .before .before .before .before .before .before .before .put-decimal in
     let third = c .before .before .before .before .before .before .put4 in
