@@ -46,7 +46,10 @@ module _ (limit : ℕ) (settings : Settings) (bytes store words filled after : L
   -- the findings fit
   fit : (law : Law) (count : Count) (l : Listing) → lawOf bytes ≡ given law → listing limit settings law ≡ given l → (b : Bool)
       → _≡_ {A = Answer Count × List ℕ}
-      (cond b (given (record { findings = length (l .findings); rounds = l .inferred .rounds; settled = l .inferred .settled }), written words 0 (listingWords settings (l .findings))) (refused 11, words))
+      (cond b (
+        given (record { findings = length (l .findings); rounds = l .inferred .rounds; settled = l .inferred .settled }),
+        written words 0 (listingWords settings (l .findings)),
+      ) (refused 11, words))
       (given count, after)
       → Claims law count
   fit law count l law-is listing-is true e is-settled zeros =

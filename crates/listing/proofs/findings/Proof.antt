@@ -44,4 +44,5 @@ findings-spec =
     let settings = settingsFrom (start .args .mode) (start .args .overrides .now) in
     let front = c .before .before .before .before .before .before .before .before .before .before .check-front in
     let ready = c .before .before .before .before .findings-ready in
-    findings-goes 64 settings (start .args .law .now) (start .args .store .now) _ _ (front .ensures .0 _ refl) _ _ _ (ready .result) (the-enum-told .given .1) (ready .ensures)))
+    findings-goes 64 settings (start .args .law .now) (start .args .store .now) _ _ (front .ensures .0 _ refl) _ _ _ (ready .result)
+    (the-enum-told .given .1) (ready .ensures)))

@@ -17,11 +17,14 @@ findings-gathered-spec =
     (λ c. search needs)
     (λ c κs.
     let start = c .before .before .before .before .before .before .before .before .before .before .before .before .before .before .before .before .before .before .before .before .before in
+    let settings = settingsFrom (start .args .mode) (start .args .overrides .now) in
     let the-gather = c .before .before .before .before .before .before .before .before .before .before .before .gather in
     let out-kept = the-gather .kept .1 .1 .1 .1 .1 .1 .1 .1 .0 in
     let the-slots-of = c .before .before .before .before .before .before .before .before .before .before .before .before .before .before .before .slots-of in
-    let the-count = c .before .before .before .before .before .count in
-    (findings-collected (settingsFrom (start .args .mode) (start .args .overrides .now)) (the-gather .ensures) (start .pre) (the-slots-of .ensures) _ _ _ (the-count .given .1) out-kept, omega (arith, count-fits (settingsFrom (start .args .mode) (start .args .overrides .now)) (the-gather .ensures) (start .pre) (the-slots-of .ensures) _ _ _ (the-count .given .1))))
+    let the-count = c .before .before .before .before .before .count in (
+      findings-collected settings (the-gather .ensures) (start .pre) (the-slots-of .ensures) _ _ _ (the-count .given .1) out-kept,
+      omega (arith, count-fits settings (the-gather .ensures) (start .pre) (the-slots-of .ensures) _ _ _ (the-count .given .1)),
+    ))
     (λ c. search needs)
     (λ c. search needs)
     (λ c.
@@ -38,7 +41,10 @@ findings-gathered-spec =
     (λ c. search needs)
     (λ c. search needs)
     (λ c. let the-count = c .before .before .before .before .before .before .before .before .count in
-    let start = c .before .before .before .before .before .before .before .before .before .before .before .before .before .before .before .before .before .before .before .before .before .before .before .before in
+    let at-slots-of = c .before .before .before .before .before .before .before .before .before .before .before .before .before .before .before .before .before .before in
+    let start = at-slots-of .before .before .before .before .before .before in
+    let settings = settingsFrom (start .args .mode) (start .args .overrides .now) in
     let the-gather = c .before .before .before .before .before .before .before .before .before .before .before .before .before .before .gather in
-    let the-slots-of = c .before .before .before .before .before .before .before .before .before .before .before .before .before .before .before .before .before .before .slots-of in
-    findings-listed (settingsFrom (start .args .mode) (start .args .overrides .now)) (the-gather .ensures) (start .pre) (the-slots-of .ensures) _ _ _ (the-count .given .1) _ _ refl (c .before .before .hand-over .ensures)))
+    let the-slots-of = at-slots-of .slots-of in
+    findings-listed settings (the-gather .ensures) (start .pre) (the-slots-of .ensures) _ _ _ (the-count .given .1) _ _ refl
+    (c .before .before .hand-over .ensures)))

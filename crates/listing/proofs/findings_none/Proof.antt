@@ -11,7 +11,8 @@ findings-none-spec =
     (tie.spec
     (λ c κs. search needs)
     (λ c. let a = c .before .before .before .before .args in
-    λ bytes words empty. none-settings (a .limit) (settingsFrom (a .mode) (a .overrides .now)) bytes (a .store .now) words empty (c .before .settings-allowed .ensures) (c .if1 .taken))
+    λ bytes words empty. none-settings (a .limit) (settingsFrom (a .mode) (a .overrides .now)) bytes (a .store .now) words empty
+    (c .before .settings-allowed .ensures) (c .if1 .taken))
     (λ c κs. search needs)
     (λ c.
     let the-settings-allowed = c .before .before .before .settings-allowed in
@@ -26,5 +27,6 @@ findings-none-spec =
     let allowed = c .before .before .before .before .before .before .before .settings-allowed in
     let the-if1 = c .before .before .before .before .before .before .if1 in
     let size = c .before .before .before .before .before .store-words in
-    λ bytes words empty. none-found (a .limit) (settingsFrom (a .mode) (a .overrides .now)) bytes (a .store .now) words empty (allowed .ensures) (the-if1 .left) _
+    λ bytes words empty. none-found (a .limit) (settingsFrom (a .mode) (a .overrides .now)) bytes (a .store .now) words empty
+    (allowed .ensures) (the-if1 .left) _
     (omega (arith, the-if2 .left, size .ensures)) (c .before .before .clear-store .ensures)))

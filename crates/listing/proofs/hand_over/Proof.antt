@@ -14,7 +14,8 @@ hand-over-spec =
     (λ c. search needs)
     (λ c.
     let start = c .before .before .before .before .before .before .before .before .before .before in
-    again (settingsFrom (start .args .mode) (start .args .overrides .now)) (start .pre .0) (start .args .words .now) (start .pre .1) _ _ _ refl (c .before .before .lint-all .ensures))
+    let settings = settingsFrom (start .args .mode) (start .args .overrides .now) in
+    again settings (start .pre .0) (start .args .words .now) (start .pre .1) _ _ _ refl (c .before .before .lint-all .ensures))
     (λ c.
     let start = c .before .before .before .before .before .before .before in
     own-part (settingsFrom (start .args .mode) (start .args .overrides .now)) (start .pre .0) (start .args .words .now) (start .pre .1) (c .before .if1 .left))
@@ -24,8 +25,11 @@ hand-over-spec =
     words-part (settingsFrom (start .args .mode) (start .args .overrides .now)) (start .pre .0) (start .args .words .now) (start .pre .1))
     (λ c κs.
     let start = c .before .before .before .before .before .before .before .before in
-    sym (own-part (settingsFrom (start .args .mode) (start .args .overrides .now)) (start .pre .0) (start .args .words .now) (start .pre .1) (c .before .before .if1 .left)) ∙ words-part (settingsFrom (start .args .mode) (start .args .overrides .now)) (start .pre .0) (start .args .words .now) (start .pre .1))
+    let settings = settingsFrom (start .args .mode) (start .args .overrides .now) in
+    sym (own-part settings (start .pre .0) (start .args .words .now) (start .pre .1) (c .before .before .if1 .left))
+    ∙ words-part settings (start .pre .0) (start .args .words .now) (start .pre .1))
     (λ c. search needs)
     (λ c. let the-if1 = c .before .before .before .before .before .if1 in
     let start = c .before .before .before .before .before .before .before .before .before .before .before in
-    handed (settingsFrom (start .args .mode) (start .args .overrides .now)) (start .pre .0) (start .args .words .now) (start .pre .1) _ (the-if1 .left) (c .before .before .copy-words .ensures)))
+    let settings = settingsFrom (start .args .mode) (start .args .overrides .now) in
+    handed settings (start .pre .0) (start .args .words .now) (start .pre .1) _ (the-if1 .left) (c .before .before .copy-words .ensures)))

@@ -27,7 +27,8 @@ tell-spec =
     let out-kept = the-put-message .kept .1 .1 .1 .1 .1 .1 .0 in
     let the-if1 = c .before .before .before .before .before .before .if1 in
     let start = c .before .before .before .before .before .before .before .before .before .before .before in
-    λ settings held. tell-short settings held (start .pre .1) (start .args .position) (the-if1 .left) (start .args .text .now) out-kept (the-put-message .ensures) (c .if2 .taken))
+    λ settings held. tell-short settings held (start .pre .1) (start .args .position) (the-if1 .left) (start .args .text .now) out-kept
+    (the-put-message .ensures) (c .if2 .taken))
     (λ c κs. let the-if1 = c .before .before .before .before .before .before .before .if1 in
     let start = c .before .before .before .before .before .before .before .before .before .before .before .before in
     (start .pre .0 .1 .prepared, spoken (start .pre .0 .0) (start .pre .0 .1) (start .pre .1) (start .args .position) (the-if1 .left)))
@@ -38,4 +39,5 @@ tell-spec =
     let the-put-message = c .before .before .before .before .before .before .before .put-message in
     let out-kept = the-put-message .kept .1 .1 .1 .1 .1 .1 .0 in
     let start = c .before .before .before .before .before .before .before .before .before .before .before .before .before .before .before in
-    λ settings held. tell-written settings held (start .pre .1) (start .args .position) (the-if1 .left) (start .args .text .now) _ out-kept (the-put-message .ensures) (the-if2 .left) (c .before .before .put-message2 .ensures)))
+    λ settings held. tell-written settings held (start .pre .1) (start .args .position) (the-if1 .left) (start .args .text .now) _ out-kept
+    (the-put-message .ensures) (the-if2 .left) (c .before .before .put-message2 .ensures)))

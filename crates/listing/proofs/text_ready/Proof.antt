@@ -21,7 +21,9 @@ text-ready-spec =
     let the-slots-of = c .before .before .before .before .before .before .before .before .before .before .before .before .before .before .slots-of in
     let the-count = c .before .before .before .before .before .count in
     let start = c .before .before .before .before .before .before .before .before .before .before .before .before .before .before .before .before .before .before .before in
-    ((settingsFrom (start .args .mode) (start .args .overrides .now), findings-collected (settingsFrom (start .args .mode) (start .args .overrides .now)) (the-gather .ensures) (start .pre) (the-slots-of .ensures) _ _ _ (the-count .given .1) out-kept), text-places (settingsFrom (start .args .mode) (start .args .overrides .now)) (the-gather .ensures) (start .pre) (the-slots-of .ensures) _ _ _ (the-count .given .1) (sym out-kept)))
+    let settings = settingsFrom (start .args .mode) (start .args .overrides .now) in
+    let collected = findings-collected settings (the-gather .ensures) (start .pre) (the-slots-of .ensures) _ _ _ (the-count .given .1) out-kept in
+    ((settings, collected), text-places settings (the-gather .ensures) (start .pre) (the-slots-of .ensures) _ _ _ (the-count .given .1) (sym out-kept)))
     (λ c. search needs)
     (λ c. let the-gather = c .before .before .before .before .before .gather in
     let start = c .before .before .before .before .before .before .before .before .before .before .before .before .before .before in
@@ -37,4 +39,7 @@ text-ready-spec =
     let the-slots-of = c .before .before .before .before .before .before .before .before .before .before .before .before .before .before .before .before .before .slots-of in
     let the-count = c .before .before .before .before .before .before .before .before .count in
     let start = c .before .before .before .before .before .before .before .before .before .before .before .before .before .before .before .before .before .before .before .before .before .before in
-    text-told (settingsFrom (start .args .mode) (start .args .overrides .now)) (the-gather .ensures) (start .pre) (the-slots-of .ensures) _ _ _ (the-count .given .1) _ _ _ (c .before .before .tell .result) refl (c .before .before .tell .ensures (settingsFrom (start .args .mode) (start .args .overrides .now)) (findings-collected (settingsFrom (start .args .mode) (start .args .overrides .now)) (the-gather .ensures) (start .pre) (the-slots-of .ensures) _ _ _ (the-count .given .1) out-kept))))
+    let settings = settingsFrom (start .args .mode) (start .args .overrides .now) in
+    let collected = findings-collected settings (the-gather .ensures) (start .pre) (the-slots-of .ensures) _ _ _ (the-count .given .1) out-kept in
+    text-told settings (the-gather .ensures) (start .pre) (the-slots-of .ensures) _ _ _ (the-count .given .1) _ _ _ (c .before .before .tell .result) refl
+    (c .before .before .tell .ensures settings collected)))

@@ -27,14 +27,16 @@ check-front-spec =
     let allowed = c .before .before .before .before .before .before .before .settings-allowed in
     let the-if1 = c .before .before .before .before .before .before .if1 in
     let read = c .before .before .before .before .read-law in
-    turned-store (start .args .limit) settings (start .args .law .now) (start .args .words) (start .args .index .now) (allowed .ensures) (not-false _ (the-if1 .left)) _ (read .ensures .0) (read .ensures .1)
+    turned-store (start .args .limit) settings (start .args .law .now) (start .args .words) (start .args .index .now) (allowed .ensures)
+    (not-false _ (the-if1 .left)) _ (read .ensures .0) (read .ensures .1)
     (the-enum-told .given .1) (omega (arith, c .if2 .taken, c .before .store-words .ensures)))
     (λ c. let start = c .before .before .before .before .before .before .before .before .before in
     let settings = settingsFrom (start .args .mode) (start .args .overrides .now) in
     let allowed = c .before .before .before .before .before .before .settings-allowed in
     let the-if1 = c .before .before .before .before .before .if1 in
     let read = c .before .before .before .read-law in
-    turned-file (start .args .limit) settings (start .args .law .now) (start .args .words) (start .args .index .now) (allowed .ensures) (not-false _ (the-if1 .left)) _ (read .ensures .0) (read .ensures .1) _
+    turned-file (start .args .limit) settings (start .args .law .now) (start .args .words) (start .args .index .now) (allowed .ensures)
+    (not-false _ (the-if1 .left)) _ (read .ensures .0) (read .ensures .1) _
     (c .before .why .given .1))
     (λ c.
     let the-enum-told = c .before .before .enum-told in
@@ -43,5 +45,6 @@ check-front-spec =
     let allowed = c .before .before .before .before .before .before .before .settings-allowed in
     let the-if1 = c .before .before .before .before .before .before .if1 in
     let read = c .before .before .before .before .read-law in
-    goes-on (start .args .limit) settings (start .args .law .now) (start .args .words) (start .args .index .now) (allowed .ensures) (not-false _ (the-if1 .left)) _ (read .ensures .0) (read .ensures .1)
+    goes-on (start .args .limit) settings (start .args .law .now) (start .args .words) (start .args .index .now) (allowed .ensures)
+    (not-false _ (the-if1 .left)) _ (read .ensures .0) (read .ensures .1)
     (the-enum-told .given .1) (start .pre .1) (omega (arith, c .if2 .left, c .before .store-words .ensures))))

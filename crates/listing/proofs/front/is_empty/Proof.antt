@@ -20,4 +20,5 @@ is-empty-spec =
     let the-sections = c .before .before .sections in
     let start = c .before .before .before .before .before .before in
     let the-sections-of = c .before .before .before .before .sections-of in
-    counts-empty (start .args .law .now) _ _ (cut-whole (start .args .law .now) _ _ (the-sections-of .ensures) (the-sections .given .1)) (c .no-records .ensures)))
+    counts-empty (start .args .law .now) _ _ (cut-whole (start .args .law .now) _ _ (the-sections-of .ensures) (the-sections .given .1))
+    (c .no-records .ensures)))

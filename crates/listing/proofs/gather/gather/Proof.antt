@@ -18,12 +18,19 @@ gather-spec =
     let the-rounds = c .before .before .before .rounds in
     let the-infer-store = c .before .before .before .before .before .before .before .infer-store in
     let start = c .before .before .before .before .before .before .before .before .before .before .before .before .before in
-    (filled-prepares (start .args .room) (settingsFrom (start .args .mode) (start .args .overrides .now)) _ (the-infer-store .result) (start .pre .0) (start .pre .1) (the-infer-store .ensures) _ _ (the-rounds .given .1), start .pre .1, filled-store (start .args .room) (settingsFrom (start .args .mode) (start .args .overrides .now)) _ (the-infer-store .result) (start .pre .0) (start .pre .1) (the-infer-store .ensures) _ _ (the-rounds .given .1)))
+    let settings = settingsFrom (start .args .mode) (start .args .overrides .now) in (
+      filled-prepares (start .args .room) settings _ (the-infer-store .result) (start .pre .0) (start .pre .1) (the-infer-store .ensures) _ _
+          (the-rounds .given .1),
+      start .pre .1,
+      filled-store (start .args .room) settings _ (the-infer-store .result) (start .pre .0) (start .pre .1)
+          (the-infer-store .ensures) _ _ (the-rounds .given .1),
+    ))
     (λ c. search needs)
     (λ c.
     let the-infer-store = c .before .before .before .before .infer-store in
     let start = c .before .before .before .before .before .before .before .before .before .before in
-    infer-wide (start .args .room) (settingsFrom (start .args .mode) (start .args .overrides .now)) _ (the-infer-store .result) (start .pre .0) (start .pre .1) (the-infer-store .ensures) _ (c .enum-told .given .1))
+    let settings = settingsFrom (start .args .mode) (start .args .overrides .now) in
+    infer-wide (start .args .room) settings _ (the-infer-store .result) (start .pre .0) (start .pre .1) (the-infer-store .ensures) _ (c .enum-told .given .1))
     (λ c. search needs)
     (λ c. search needs)
     (λ c.
@@ -31,4 +38,6 @@ gather-spec =
     let the-infer-store = c .before .before .before .before .before .before .before .before .before .before .before .before .infer-store in
     let the-rounds = c .before .before .before .before .before .before .before .before .rounds in
     let start = c .before .before .before .before .before .before .before .before .before .before .before .before .before .before .before .before .before .before in
-    gather-both (start .args .room) (settingsFrom (start .args .mode) (start .args .overrides .now)) _ (the-infer-store .result) (start .pre .0) (start .pre .1) (the-infer-store .ensures) _ _ (the-rounds .given .1) _ _ _ _ (the-gather-findings .ensures)))
+    let settings = settingsFrom (start .args .mode) (start .args .overrides .now) in
+    gather-both (start .args .room) settings _ (the-infer-store .result) (start .pre .0) (start .pre .1) (the-infer-store .ensures) _ _ (the-rounds .given .1) _
+    _ _ _ (the-gather-findings .ensures)))

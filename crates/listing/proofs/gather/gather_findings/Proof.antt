@@ -18,18 +18,23 @@ gather-findings-spec =
     (λ c.
     let the-if1 = c .before .before .before .before .if1 in
     let start = c .before .before .before .before .before .before .before .before .before .before .before .before .before .before in
+    let settings = settingsFrom (start .args .mode) (start .args .overrides .now) in
     let the-lint-all = c .before .before .before .before .before .before .before .lint-all in
-    gather-wide (start .args .room) (settingsFrom (start .args .mode) (start .args .overrides .now)) (start .args .out .now) _ (start .pre .0) (start .pre .1) (start .pre .2) (the-lint-all .ensures) _ (the-if1 .taken) (c .before .before .clear-store .ensures))
+    gather-wide (start .args .room) settings (start .args .out .now) _ (start .pre .0) (start .pre .1) (start .pre .2) (the-lint-all .ensures) _
+    (the-if1 .taken) (c .before .before .clear-store .ensures))
     (λ c. search needs)
     (λ c. search needs)
     (λ c.
     let start = c .before .before .before .before .before .before .before .before .before .before .before in
+    let settings = settingsFrom (start .args .mode) (start .args .overrides .now) in
     let the-lint-all = c .before .before .before .before .lint-all in
-    gather-full (start .args .room) (settingsFrom (start .args .mode) (start .args .overrides .now)) (start .args .out .now) _ (start .pre .0) (start .pre .1) (start .pre .2) (the-lint-all .ensures) (c .if2 .taken))
+    gather-full (start .args .room) settings (start .args .out .now) _ (start .pre .0) (start .pre .1) (start .pre .2) (the-lint-all .ensures) (c .if2 .taken))
     (λ c. search needs)
     (λ c. search needs)
     (λ c. search needs)
     (λ c.
     let start = c .before .before .before .before .before .before .before .before .before .before .before in
+    let settings = settingsFrom (start .args .mode) (start .args .overrides .now) in
     let the-lint-all = c .before .before .before .before .lint-all in
-    gather-upto (start .args .room) (settingsFrom (start .args .mode) (start .args .overrides .now)) (start .args .out .now) _ (start .pre .0) (start .pre .1) (start .pre .2) (the-lint-all .ensures) _ (omega (arith, (c .if2 .left), (c .before .if1 .left)))))
+    gather-upto (start .args .room) settings (start .args .out .now) _ (start .pre .0) (start .pre .1) (start .pre .2) (the-lint-all .ensures) _
+    (omega (arith, (c .if2 .left), (c .before .if1 .left)))))
