@@ -63,6 +63,6 @@ fields-parts bytes s h =
     (rw (
       part-slice 4 (fileOf bytes .text .count) bytes,
       part-slice (8 + fileOf bytes .text .count) (20 * fileOf bytes .functions .count) bytes,
-      part-slice (20 + fileOf bytes .text .count + 20 * fileOf bytes .functions .count + 20 * fileOf bytes .sentences .count + 16 * fileOf
-          bytes .conditions .count) (24 * fileOf bytes .terms .count) bytes,
+      part-slice (20 + fileOf bytes .text .count + 20 * fileOf bytes .functions .count + 20 * fileOf bytes .sentences .count
+          + 16 * fileOf bytes .conditions .count) (24 * fileOf bytes .terms .count) bytes,
     ))
