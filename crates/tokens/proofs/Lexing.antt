@@ -7,7 +7,9 @@ use mathlib.Core.Path.{_≡_, refl, sym, _∙_}
 use native.Mathlib.Omega.{arith}
 use lib.ListN.{length, drop, length-append}
 use lib.Seq.{drop-append-seam}
-use Rattle.tokens.specs.Token.{Sign, leftBrace, rightBrace, leftBracket, rightBracket, leftAngle, rightAngle, comma, colon, equals, semicolon, dollarEntry, dollarExtern, signBytes, Atom, identifier, number, variable, quoted, atomAllowed, atomBytes, sign, atom, Piece, blank, comment, token, pieceAllowed, pieceBytes, piecesBytes, Lexed}
+use Rattle.tokens.specs.Token.{Sign, leftBrace, rightBrace, leftBracket, rightBracket, leftAngle, rightAngle, comma, colon, equals}
+use Rattle.tokens.specs.Token.{semicolon, dollarEntry, dollarExtern, signBytes, Atom, identifier, number, variable, quoted, atomAllowed}
+use Rattle.tokens.specs.Token.{atomBytes, sign, atom, Piece, blank, comment, token, pieceAllowed, pieceBytes, piecesBytes, Lexed}
 use Rattle.tokens.specs.Lex.{guess, next, pieceBefore, lexFrom, lex}
 use Rattle.tokens.proofs.NextPiece.{next-sound, next-whole, piece-next, next-stands}
 

@@ -13,7 +13,10 @@ use Rattle.names.specs.Name.{between, digitByte, letterByte, nameByte, everyByt
 use Rattle.file.specs.Fields.{scalarAllowed}
 use Rattle.file.proofs.Below.{both, both-first, both-second, second-fails}
 use Rattle.law.specs.Tree.{Kind, symbolKind, termKind, expressionKind}
-use Rattle.tokens.specs.Token.{charactersBytes, Sign, leftBrace, rightBrace, leftBracket, rightBracket, leftAngle, rightAngle, comma, colon, equals, semicolon, dollarEntry, dollarExtern, signBytes, identifier, number, variable, quoted, quotable, atomAllowed, kindByte, atomBytes, Token, sign, atom, tokenAllowed, tokenBytes, Blank, space, tab, lineFeed, carriageReturn, blankByte, Piece, blank, comment, token, unclosed, pieceAllowed, pieceBytes, Fits, Longest, Stands}
+use Rattle.tokens.specs.Token.{charactersBytes, Sign, leftBrace, rightBrace, leftBracket, rightBracket, leftAngle, rightAngle, comma, colon}
+use Rattle.tokens.specs.Token.{equals, semicolon, dollarEntry, dollarExtern, signBytes, identifier, number, variable, quoted, quotable}
+use Rattle.tokens.specs.Token.{atomAllowed, kindByte, atomBytes, Token, sign, atom, tokenAllowed, tokenBytes, Blank, space, tab, lineFeed}
+use Rattle.tokens.specs.Token.{carriageReturn, blankByte, Piece, blank, comment, token, unclosed, pieceAllowed, pieceBytes, Fits, Longest, Stands}
 use Rattle.tokens.specs.Lex.{leading, begins, charactersTo, atQuote, atClose, variableKind, indexAfter, identifierOrVariable, guess, checked, next}
 use Rattle.tokens.proofs.Utf8.{characters-fewer, to-quote, to-close}
 use Rattle.tokens.proofs.Begins.{eqb-self, begins-append, begins-all, begins-found, leading-every, leading-begins, leading-append, every-append, grown}

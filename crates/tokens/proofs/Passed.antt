@@ -119,9 +119,15 @@ module _ {stop : List ℕ → Bool} {ok : ℕ → Bool} {all : ℕ} {s : List �
       both-hold more x y =
           let first : ok c ≡ true = every-first ok c more (every-back ok (h .found) (c ∷ more) x) in
           let joined : charactersBytes (h .found ++ c ∷ more) ++ close ≡ charactersBytes (h .found) ++ (utf8 c ++ (charactersBytes more ++ close)) =
-          rw (bytes-append (h .found) (c ∷ more), bytes-one c more, append-assoc (charactersBytes (h .found)) (utf8 c ++ charactersBytes more) close, append-assoc (utf8 c) (charactersBytes more) close) in
+          rw (
+            bytes-append (h .found) (c ∷ more),
+            bytes-one c more,
+            append-assoc (charactersBytes (h .found)) (utf8 c ++ charactersBytes more) close,
+            append-assoc (utf8 c) (charactersBytes more) close,
+          ) in
           let y2 : begins (charactersBytes (h .found) ++ (utf8 c ++ (charactersBytes more ++ close))) (charactersBytes (h .found) ++ drop i s) ≡ true = rw (h .bytes, ← joined) y in
-          let y3 : begins (utf8 c ++ (charactersBytes more ++ close)) (drop i s) ≡ true = sym (begins-append (charactersBytes (h .found)) (utf8 c ++ (charactersBytes more ++ close)) (drop i s)) ∙ y2 in
+          let y3 : begins (utf8 c ++ (charactersBytes more ++ close)) (drop i s) ≡ true =
+          sym (begins-append (charactersBytes (h .found)) (utf8 c ++ (charactersBytes more ++ close)) (drop i s)) ∙ y2 in
           true≢false (sym (both (ok c) (begins (utf8 c) (drop i s)) first (begins-front (utf8 c) (charactersBytes more ++ close) (drop i s) y3)) ∙ f)
 
       test : (more : List ℕ) (b : Bool) → (everyByte ok (h .found ++ c ∷ more) && begins (charactersBytes (h .found ++ c ∷ more) ++ close) (drop a s)) ≡ b → b ≡ false

@@ -12,7 +12,8 @@ use lib.Seq.{drop-cons, length-take-le}
 use lib.Dec.{eqb}
 use borrow.Author.Tests.{eqb-true, eq-eqb, ne-eqb}
 use Rattle.names.specs.Name.{digitByte, letterByte}
-use Rattle.tokens.specs.Token.{leftBrace, rightBrace, leftBracket, rightBracket, leftAngle, rightAngle, comma, colon, equals, semicolon, dollarEntry, dollarExtern, signBytes, sign, atom, space, tab, lineFeed, carriageReturn, token}
+use Rattle.tokens.specs.Token.{leftBrace, rightBrace, leftBracket, rightBracket, leftAngle, rightAngle, comma, colon, equals, semicolon}
+use Rattle.tokens.specs.Token.{dollarEntry, dollarExtern, signBytes, sign, atom, space, tab, lineFeed, carriageReturn, token}
 use Rattle.tokens.specs.Lex.{begins, signPiece, guess, checked, next}
 use Rattle.tokens.specs.Code.Found.{atomIn, EndsIn, lexemeFound, foundAt, oneOf, blanks, signs}
 use Rattle.tokens.proofs.Begins.{begins-found}

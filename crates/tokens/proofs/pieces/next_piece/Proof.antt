@@ -34,7 +34,8 @@ next-piece-spec =
     (λ c κs. search needs)
     (λ c.
     let begun = start (digit (c .before .before .before)) in
-    lexeme-found (begun .args .text .now) (begun .args .at) (c .before .identifier-or-variable .result) (c .before .identifier-or-variable .ensures .0) (c .before .identifier-or-variable .ensures .1) (c .lexeme-found2 .ensures))
+    lexeme-found (begun .args .text .now) (begun .args .at) (c .before .identifier-or-variable .result) (c .before .identifier-or-variable .ensures .0)
+    (c .before .identifier-or-variable .ensures .1) (c .lexeme-found2 .ensures))
     (λ c. search needs)
     (λ c κs. search needs)
     (λ c. search needs)
