@@ -10,7 +10,8 @@ use lib.ListN.{length, drop, getD, drop-of-length-le}
 use lib.Seq.{drop-cons}
 use borrow.Author.Tests.{ne-eqb}
 use Rattle.law.specs.Tree.{symbolKind, termKind, expressionKind}
-use Rattle.tokens.specs.Token.{leftBrace, rightBrace, leftBracket, rightBracket, leftAngle, rightAngle, comma, colon, equals, semicolon, dollarEntry, dollarExtern, identifier, number, variable, quoted, Token, sign, atom, Piece, Placed, placed}
+use Rattle.tokens.specs.Token.{leftBrace, rightBrace, leftBracket, rightBracket, leftAngle, rightAngle, comma, colon, equals, semicolon}
+use Rattle.tokens.specs.Token.{dollarEntry, dollarExtern, identifier, number, variable, quoted, Token, sign, atom, Piece, Placed, placed}
 use Rattle.tokens.specs.Lex.{lex}
 use Rattle.tokens.specs.Code.TokenKind.{tokenKind}
 use Rattle.tokens.specs.Code.Arrays.{kindsOf}
@@ -19,7 +20,8 @@ use Rattle.grammar.specs.Accept.{Opened, openOf, otherMove, move, perfor
 use Rattle.grammar.specs.Read.{phraseOf}
 use Rattle.grammar.specs.Code.Machine.{stackOf, stepped, StepDone, modeEnds, braceMove, separatorMove, kindMove, acceptsKinds}
 use Rattle.grammar.specs.declared.table.Mode.{Mode}
-use Rattle.grammar.specs.declared.table.Mode.the-variants.{AtText, AfterEntry, AfterName, AtExtern, InExtern, InPattern, InCondition, InResult, AfterSemicolon, ConditionCall, ResultCall}
+use Rattle.grammar.specs.declared.table.Mode.the-variants.{AtText, AfterEntry, AfterName, AtExtern, InExtern, InPattern}
+use Rattle.grammar.specs.declared.table.Mode.the-variants.{InCondition, InResult, AfterSemicolon, ConditionCall, ResultCall}
 use Rattle.grammar.specs.declared.table.Move.{Move}
 use Rattle.grammar.specs.declared.Step.{Step}
 use Rattle.grammar.specs.declared.Step.the-variants.{Refused, On}

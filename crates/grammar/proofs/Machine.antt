@@ -5,7 +5,9 @@ use mathlib.Core.Bool.{true, false, true≢false, false≢true}
 use mathlib.Core.Path.{_≡_, refl, _∙_}
 use Rattle.file.proofs.Below.{both-first, both-second}
 use Rattle.tokens.specs.Token.{rightBrace, rightBracket, rightAngle, colon, equals, semicolon, identifier, number, variable, quoted, Placed}
-use Rattle.grammar.specs.Grammar.{signAt, Terms, nothing, atomic, bracket, call, Conditions, noCondition, condition, Sentence, Sentences, last, lastClosed, more, Names, lastName, moreNames, Text, done, extern, function, entry, spellTerms, spellConditions, spellSentence, spellSentences, spellNames, spellText, callFree, conditionsAllowed, sentenceAllowed, sentencesAllowed, textAllowed}
+use Rattle.grammar.specs.Grammar.{signAt, Terms, nothing, atomic, bracket, call, Conditions, noCondition, condition, Sentence, Sentences, last, lastClosed}
+use Rattle.grammar.specs.Grammar.{more, Names, lastName, moreNames, Text, done, extern, function, entry, spellTerms, spellConditions, spellSentence}
+use Rattle.grammar.specs.Grammar.{spellSentences, spellNames, spellText, callFree, conditionsAllowed, sentenceAllowed, sentencesAllowed, textAllowed}
 use Rattle.grammar.specs.Accept.{Opened, bracketOpen, callOpen, accepts}
 use Rattle.grammar.specs.declared.table.Mode.the-variants.{AtText, AtExtern, InPattern, InCondition, InResult, AfterSemicolon}
 

@@ -5,13 +5,17 @@ use mathlib.Core.Bool.{Bool, true, _&&_}
 use mathlib.Core.Path.{_≡_, refl, ap, _∙_}
 use lib.Dec.{T}
 use Rattle.file.proofs.Below.{both, both-first, both-second}
-use Rattle.tokens.specs.Token.{leftBrace, rightBrace, leftBracket, rightBracket, leftAngle, rightAngle, comma, colon, equals, semicolon, dollarEntry, dollarExtern, identifier, number, variable, quoted, Token, sign, atom, Placed}
-use Rattle.grammar.specs.Grammar.{signAt, atomAt, Identifier, identifierAt, Terms, nothing, Sentence, Sentences, last, lastClosed, more, Function, Names, lastName, moreNames, Text, done, extern, function, entry, spellTerms, spellConditions, spellSentences, spellFunction, spellNames, spellText, callFree, conditionsAllowed, sentenceAllowed, sentencesAllowed, textAllowed}
+use Rattle.tokens.specs.Token.{leftBrace, rightBrace, leftBracket, rightBracket, leftAngle, rightAngle, comma, colon, equals, semicolon}
+use Rattle.tokens.specs.Token.{dollarEntry, dollarExtern, identifier, number, variable, quoted, Token, sign, atom, Placed}
+use Rattle.grammar.specs.Grammar.{signAt, atomAt, Identifier, identifierAt, Terms, nothing, Sentence, Sentences, last, lastClosed, more, Function, Names}
+use Rattle.grammar.specs.Grammar.{lastName, moreNames, Text, done, extern, function, entry, spellTerms, spellConditions, spellSentences, spellFunction}
+use Rattle.grammar.specs.Grammar.{spellNames, spellText, callFree, conditionsAllowed, sentenceAllowed, sentencesAllowed, textAllowed}
 use Rattle.grammar.specs.Parse.{_⊕_, withCondition, Body, plain}
 use Rattle.grammar.specs.Accept.{Opened, bracketOpen, callOpen, move, perform, accepts}
 use Rattle.grammar.proofs.Levels.{spell-plus, free-plus, Found, Laws, found-atom, found-bracket, found-call, found-close}
 use Rattle.grammar.specs.declared.table.Mode.{Mode}
-use Rattle.grammar.specs.declared.table.Mode.the-variants.{AtText, AfterEntry, AfterName, AtExtern, InExtern, InPattern, InCondition, InResult, AfterSemicolon, ConditionCall, ResultCall}
+use Rattle.grammar.specs.declared.table.Mode.the-variants.{AtText, AfterEntry, AfterName, AtExtern, InExtern, InPattern}
+use Rattle.grammar.specs.declared.table.Mode.the-variants.{InCondition, InResult, AfterSemicolon, ConditionCall, ResultCall}
 
 -- ---- what is left in each mode
 
@@ -105,7 +109,8 @@ ok-sentences : (t : Terms) (ss : Sentences) → callFree t ≡ true → sentence
 ok-sentences t (last x) h k = ok-sentence t x h k
 ok-sentences t (lastClosed x c) h k = ok-sentence t x h k
 ok-sentences t (more x c rest) h k =
-    both (sentenceAllowed (fronted t x)) (sentencesAllowed rest) (ok-sentence t x h (both-first (sentenceAllowed x) (sentencesAllowed rest) k)) (both-second (sentenceAllowed x) (sentencesAllowed rest) k)
+    both (sentenceAllowed (fronted t x)) (sentencesAllowed rest) (ok-sentence t x h (both-first (sentenceAllowed x) (sentencesAllowed rest) k))
+    (both-second (sentenceAllowed x) (sentencesAllowed rest) k)
 
 pattern-laws : Laws Body spellBody frontBody bodyAllowed callFree
 pattern-laws =
@@ -362,14 +367,19 @@ step-pattern at (sign comma) [] ps h ih = pattern-comma at ps (ih InCondition []
 step-pattern at (sign equals) [] ps h ih = pattern-equals at ps (ih InResult [] h)
 
 step-condition : (at : ℕ) (t : Token) (st : List Opened) (ps : List Placed) → Stepping InCondition st at t ps
-step-condition at (atom (identifier w)) st ps h ih = found-atom ConditionRest spellCondition frontCondition (λ x. bodyAllowed (x .2)) anyTerms condition-laws at (identifier w) st ps (ih InCondition st h)
+step-condition at (atom (identifier w)) st ps h ih =
+    found-atom ConditionRest spellCondition frontCondition (λ x. bodyAllowed (x .2)) anyTerms condition-laws at (identifier w) st ps (ih InCondition st h)
 step-condition at (atom (number w)) st ps h ih = found-atom ConditionRest spellCondition frontCondition (λ x. bodyAllowed (x .2)) anyTerms condition-laws at (number w) st ps (ih InCondition st h)
-step-condition at (atom (variable k w)) st ps h ih = found-atom ConditionRest spellCondition frontCondition (λ x. bodyAllowed (x .2)) anyTerms condition-laws at (variable k w) st ps (ih InCondition st h)
+step-condition at (atom (variable k w)) st ps h ih =
+    found-atom ConditionRest spellCondition frontCondition (λ x. bodyAllowed (x .2)) anyTerms condition-laws at (variable k w) st ps (ih InCondition st h)
 step-condition at (atom (quoted w)) st ps h ih = found-atom ConditionRest spellCondition frontCondition (λ x. bodyAllowed (x .2)) anyTerms condition-laws at (quoted w) st ps (ih InCondition st h)
-step-condition at (sign leftBracket) st ps h ih = found-bracket ConditionRest spellCondition frontCondition (λ x. bodyAllowed (x .2)) anyTerms condition-laws at st ps (ih InCondition (bracketOpen ∷ st) h)
-step-condition at (sign rightBracket) (bracketOpen ∷ st) ps h ih = found-close ConditionRest spellCondition frontCondition (λ x. bodyAllowed (x .2)) anyTerms condition-laws at bracketOpen st ps (ih InCondition st h)
+step-condition at (sign leftBracket) st ps h ih =
+    found-bracket ConditionRest spellCondition frontCondition (λ x. bodyAllowed (x .2)) anyTerms condition-laws at st ps (ih InCondition (bracketOpen ∷ st) h)
+step-condition at (sign rightBracket) (bracketOpen ∷ st) ps h ih =
+    found-close ConditionRest spellCondition frontCondition (λ x. bodyAllowed (x .2)) anyTerms condition-laws at bracketOpen st ps (ih InCondition st h)
 step-condition at (sign leftAngle) st ps h ih = condition-call at st ps (ih ConditionCall (callOpen ∷ st) h)
-step-condition at (sign rightAngle) (callOpen ∷ st) ps h ih = found-close ConditionRest spellCondition frontCondition (λ x. bodyAllowed (x .2)) anyTerms condition-laws at callOpen st ps (ih InCondition st h)
+step-condition at (sign rightAngle) (callOpen ∷ st) ps h ih =
+    found-close ConditionRest spellCondition frontCondition (λ x. bodyAllowed (x .2)) anyTerms condition-laws at callOpen st ps (ih InCondition st h)
 step-condition at (sign colon) [] ps h ih = condition-colon at ps (ih InPattern [] h)
 
 step-result : (at : ℕ) (t : Token) (st : List Opened) (ps : List Placed) → Stepping InResult st at t ps
@@ -378,7 +388,8 @@ step-result at (atom (number w)) st ps h ih = found-atom ResultRest spellResult 
 step-result at (atom (variable k w)) st ps h ih = found-atom ResultRest spellResult frontResult (λ x. sentenceRestAllowed (x .1)) anyTerms result-laws at (variable k w) st ps (ih InResult st h)
 step-result at (atom (quoted w)) st ps h ih = found-atom ResultRest spellResult frontResult (λ x. sentenceRestAllowed (x .1)) anyTerms result-laws at (quoted w) st ps (ih InResult st h)
 step-result at (sign leftBracket) st ps h ih = found-bracket ResultRest spellResult frontResult (λ x. sentenceRestAllowed (x .1)) anyTerms result-laws at st ps (ih InResult (bracketOpen ∷ st) h)
-step-result at (sign rightBracket) (bracketOpen ∷ st) ps h ih = found-close ResultRest spellResult frontResult (λ x. sentenceRestAllowed (x .1)) anyTerms result-laws at bracketOpen st ps (ih InResult st h)
+step-result at (sign rightBracket) (bracketOpen ∷ st) ps h ih =
+    found-close ResultRest spellResult frontResult (λ x. sentenceRestAllowed (x .1)) anyTerms result-laws at bracketOpen st ps (ih InResult st h)
 step-result at (sign leftAngle) st ps h ih = result-call at st ps (ih ResultCall (callOpen ∷ st) h)
 step-result at (sign rightAngle) (callOpen ∷ st) ps h ih = found-close ResultRest spellResult frontResult (λ x. sentenceRestAllowed (x .1)) anyTerms result-laws at callOpen st ps (ih InResult st h)
 step-result at (sign rightBrace) [] ps h ih = result-brace at ps (ih AtText [] h)
@@ -389,15 +400,21 @@ step-semicolon : (at : ℕ) (t : Token) (st : List Opened) (ps : List Placed) �
 step-semicolon at (sign rightBrace) [] ps h ih = closed-brace at ps (ih AtText [] h)
 step-semicolon at (sign comma) [] ps h ih = closed-body (signAt at comma ∷ ps) (pattern-comma at ps (ih InCondition [] h))
 step-semicolon at (sign equals) [] ps h ih = closed-body (signAt at equals ∷ ps) (pattern-equals at ps (ih InResult [] h))
-step-semicolon at (atom (identifier w)) [] ps h ih = closed-body (atomAt at (identifier w) ∷ ps) (found-atom Body spellBody frontBody bodyAllowed callFree pattern-laws at (identifier w) [] ps (ih InPattern [] h))
+step-semicolon at (atom (identifier w)) [] ps h ih =
+    closed-body (atomAt at (identifier w) ∷ ps)
+    (found-atom Body spellBody frontBody bodyAllowed callFree pattern-laws at (identifier w) [] ps (ih InPattern [] h))
 step-semicolon at (atom (identifier w)) (o ∷ st) ps h ih = tt
 step-semicolon at (atom (number w)) [] ps h ih = closed-body (atomAt at (number w) ∷ ps) (found-atom Body spellBody frontBody bodyAllowed callFree pattern-laws at (number w) [] ps (ih InPattern [] h))
 step-semicolon at (atom (number w)) (o ∷ st) ps h ih = tt
-step-semicolon at (atom (variable k w)) [] ps h ih = closed-body (atomAt at (variable k w) ∷ ps) (found-atom Body spellBody frontBody bodyAllowed callFree pattern-laws at (variable k w) [] ps (ih InPattern [] h))
+step-semicolon at (atom (variable k w)) [] ps h ih =
+    closed-body (atomAt at (variable k w) ∷ ps)
+    (found-atom Body spellBody frontBody bodyAllowed callFree pattern-laws at (variable k w) [] ps (ih InPattern [] h))
 step-semicolon at (atom (variable k w)) (o ∷ st) ps h ih = tt
 step-semicolon at (atom (quoted w)) [] ps h ih = closed-body (atomAt at (quoted w) ∷ ps) (found-atom Body spellBody frontBody bodyAllowed callFree pattern-laws at (quoted w) [] ps (ih InPattern [] h))
 step-semicolon at (atom (quoted w)) (o ∷ st) ps h ih = tt
-step-semicolon at (sign leftBracket) [] ps h ih = closed-body (signAt at leftBracket ∷ ps) (found-bracket Body spellBody frontBody bodyAllowed callFree pattern-laws at [] ps (ih InPattern (bracketOpen ∷ []) h))
+step-semicolon at (sign leftBracket) [] ps h ih =
+    closed-body (signAt at leftBracket ∷ ps)
+    (found-bracket Body spellBody frontBody bodyAllowed callFree pattern-laws at [] ps (ih InPattern (bracketOpen ∷ []) h))
 step-semicolon at (sign leftBracket) (o ∷ st) ps h ih = tt
 
 step-condition-call : (at : ℕ) (t : Token) (st : List Opened) (ps : List Placed) → Stepping ConditionCall st at t ps

@@ -4,8 +4,11 @@ use mathlib.Core.List.{List, _∷_}
 use mathlib.Core.Bool.{Bool, true, false}
 use mathlib.Core.Path.{_≡_, refl, sym, ap, _∙_}
 use Rattle.tokens.specs.Token.{Sign, rightBrace, rightBracket, rightAngle, comma, colon, equals, semicolon, Atom, identifier, Placed}
-use Rattle.grammar.specs.Grammar.{signAt, Identifier, Terms, nothing, atomic, bracket, call, Conditions, noCondition, condition, Sentence, Sentences, last, lastClosed, more, Names, lastName, moreNames, Text, done, extern, function, entry, spellTerms, spellConditions, spellSentence, spellSentences, spellNames, spellText}
-use Rattle.grammar.specs.Parse.{_⊕_, Rows, end, row, front, bracketBefore, callBefore, rowsFrom, other, role, conditioned, withCondition, Body, plain, closesBody, braceNext, braceAt, bodyAfter, readText, readTail, readNames, readBody, phrase}
+use Rattle.grammar.specs.Grammar.{signAt, Identifier, Terms, nothing, atomic, bracket, call, Conditions, noCondition, condition}
+use Rattle.grammar.specs.Grammar.{Sentence, Sentences, last, lastClosed, more, Names, lastName, moreNames, Text, done, extern, function}
+use Rattle.grammar.specs.Grammar.{entry, spellTerms, spellConditions, spellSentence, spellSentences, spellNames, spellText}
+use Rattle.grammar.specs.Parse.{_⊕_, Rows, end, row, front, bracketBefore, callBefore, rowsFrom, other, role, conditioned, withCondition, Body}
+use Rattle.grammar.specs.Parse.{plain, closesBody, braceNext, braceAt, bodyAfter, readText, readTail, readNames, readBody, phrase}
 
 -- nothing after terms
 pub plus-nothing : (t : Terms) → t ⊕ nothing ≡ t
