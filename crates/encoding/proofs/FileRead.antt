@@ -13,7 +13,8 @@ use Rattle.law.specs.Runs.{runsAllowed, blocksAllowed}
 use Rattle.law.specs.Reading.{treeOf}
 use Rattle.law.specs.Variables.{patternsAllowed}
 use Rattle.grammar.specs.Grammar.{Conditions, noCondition, condition, Sentence, Function, Text, Written}
-use Rattle.encoding.specs.Encode.{recordsBytes, termRecords, conditionTerms, sentenceRecord, sentenceTerms, sentencesIn, functionRecord, functionsOf, sentencesOf, functionSection, sentenceSection, conditionSection, termSection}
+use Rattle.encoding.specs.Encode.{recordsBytes, termRecords, conditionTerms, sentenceRecord, sentenceTerms, sentencesIn, functionRecord}
+use Rattle.encoding.specs.Encode.{functionsOf, sentencesOf, functionSection, sentenceSection, conditionSection, termSection}
 use Rattle.encoding.specs.TextTree.{treeOfText}
 use Rattle.encoding.specs.LawOfText.{allOf, spellingsShort, fewVariables}
 use Rattle.encoding.proofs.Lists.{All}

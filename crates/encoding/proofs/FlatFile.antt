@@ -8,7 +8,9 @@ use native.Mathlib.Nat.{zero-add}
 use lib.ListN.{length}
 use Rattle.law.specs.Tree.{symbolKind, termKind, expressionKind}
 use Rattle.tokens.specs.Token.{rightBrace, rightBracket, rightAngle, colon, equals, semicolon, Atom, identifier, number, variable, quoted, Placed}
-use Rattle.grammar.specs.Grammar.{signAt, atomAt, Terms, nothing, atomic, bracket, call, Conditions, noCondition, condition, Sentence, Sentences, last, lastClosed, more, Function, Names, lastName, moreNames, Text, done, extern, function, entry, spellTerms, spellConditions, spellSentence, spellSentences, spellFunction, spellNames, spellText}
+use Rattle.grammar.specs.Grammar.{signAt, atomAt, Terms, nothing, atomic, bracket, call, Conditions, noCondition, condition, Sentence}
+use Rattle.grammar.specs.Grammar.{Sentences, last, lastClosed, more, Function, Names, lastName, moreNames, Text, done, extern, function, entry}
+use Rattle.grammar.specs.Grammar.{spellTerms, spellConditions, spellSentence, spellSentences, spellFunction, spellNames, spellText}
 use Rattle.encoding.specs.Encode.{sentenceList, sentencesIn, functionRecord, functionSection, encode}
 use Rattle.encoding.specs.Code.FlatFile.{firstIs, endOfKind, countTo, flatFunctions, flatFile}
 use Rattle.encoding.proofs.FlatTerms.{flat-text}

@@ -8,8 +8,11 @@ use native.Mathlib.Nat.{add-zero}
 use lib.ListN.{length}
 use lib.Dec.{eqb}
 use Rattle.tokens.specs.Token.{rightBrace, colon, equals, semicolon, Placed}
-use Rattle.grammar.specs.Grammar.{signAt, Terms, Conditions, noCondition, condition, Sentence, Sentences, last, lastClosed, more, Function, Names, lastName, moreNames, Text, done, extern, function, entry, spellTerms, spellConditions, spellSentence, spellSentences, spellFunction, spellNames, spellText}
-use Rattle.encoding.specs.Encode.{termRecords, startOf, endOf, conditionRecords, conditionsStart, sentenceRecord, sentenceList, sentencesIn, sentencesOf, sentenceSection, conditionSection}
+use Rattle.grammar.specs.Grammar.{signAt, Terms, Conditions, noCondition, condition, Sentence, Sentences, last, lastClosed, more}
+use Rattle.grammar.specs.Grammar.{Function, Names, lastName, moreNames, Text, done, extern, function, entry, spellTerms}
+use Rattle.grammar.specs.Grammar.{spellConditions, spellSentence, spellSentences, spellFunction, spellNames, spellText}
+use Rattle.encoding.specs.Encode.{termRecords, startOf, endOf, conditionRecords, conditionsStart, sentenceRecord}
+use Rattle.encoding.specs.Encode.{sentenceList, sentencesIn, sentencesOf, sentenceSection, conditionSection}
 use Rattle.encoding.specs.Code.FlatTerms.{inside, kindAt, firstStart}
 use Rattle.encoding.specs.Code.FlatFile.{partRecords, partEnd, firstIs, afterKind, endOfKind, countTo, sentenceHere, conditionHere, sentencesAfter, flatSentences, flatConditions}
 use Rattle.encoding.proofs.Lists.{flatMap-append}

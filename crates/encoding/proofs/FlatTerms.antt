@@ -7,7 +7,9 @@ use native.Mathlib.Nat.{zero-add, add-zero}
 use lib.ListN.{length, length-append}
 use Rattle.law.specs.Tree.{symbolKind, termKind, expressionKind}
 use Rattle.tokens.specs.Token.{rightBrace, rightBracket, rightAngle, colon, equals, semicolon, Atom, identifier, number, variable, quoted, Placed}
-use Rattle.grammar.specs.Grammar.{signAt, atomAt, Terms, nothing, atomic, bracket, call, Conditions, noCondition, condition, Sentence, Sentences, last, lastClosed, more, Function, Names, lastName, moreNames, Text, done, extern, function, entry, spellTerms, spellConditions, spellSentence, spellSentences, spellFunction, spellNames, spellText}
+use Rattle.grammar.specs.Grammar.{signAt, atomAt, Terms, nothing, atomic, bracket, call, Conditions, noCondition, condition, Sentence}
+use Rattle.grammar.specs.Grammar.{Sentences, last, lastClosed, more, Function, Names, lastName, moreNames, Text, done, extern, function, entry}
+use Rattle.grammar.specs.Grammar.{spellTerms, spellConditions, spellSentence, spellSentences, spellFunction, spellNames, spellText}
 use Rattle.encoding.specs.Encode.{atomRecords, termRecords, conditionTerms, sentenceTerms, sentenceList, sentencesIn, sentencesOf, termSection}
 use Rattle.encoding.specs.Code.FlatTerms.{outside, inside, Contents, add, scan, flatTerms}
 use Rattle.encoding.proofs.Lists.{flatMap-append}

@@ -18,7 +18,8 @@ use Rattle.encoding.proofs.Lists.{All, all-at, sum-append, sum-one, fla
 use Rattle.encoding.proofs.RecordLaws.{word-12, word-16}
 use Rattle.encoding.proofs.TermsRead.{Within, terms-run}
 use Rattle.encoding.proofs.SentencePlaces.{Small, noSentence, Holds, conditions-of, sentence-word}
-use Rattle.encoding.proofs.TermParts.{before, pattern-place, pattern-part, result-place, result-part, From, conditionsBefore, conditions-count, conditions-from, asked-size, asked-place, asked-part, wanted-part, rest-from}
+use Rattle.encoding.proofs.TermParts.{before, pattern-place, pattern-part, result-place, result-part, From, conditionsBefore}
+use Rattle.encoding.proofs.TermParts.{conditions-count, conditions-from, asked-size, asked-place, asked-part, wanted-part, rest-from}
 
 -- ---- sentences whose tokens stand in a text
 

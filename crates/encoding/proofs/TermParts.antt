@@ -12,7 +12,9 @@ use Rattle.encoding.specs.Encode.{Record, recordsBytes, termRecords, con
 use Rattle.encoding.proofs.Lists.{All, all-append, all-at, sum, sum-append, sum-one, flatMap-append, flatMap-length}
 use Rattle.encoding.proofs.RecordLaws.{records-append}
 use Rattle.encoding.proofs.TermRecords.{TermRecord, terms-records, conditions-records, sentences-records, terms-length, runBytes}
-use Rattle.encoding.proofs.SentencePlaces.{SmallConditions, counted, Small, noSentence, conditionsIn, conditionsSize, counted-conditions, sentences-size, Holds, pattern-size, result-size, first-condition, sentence-records, condition-result-size, condition-pattern-size, condition-records, condition-place, pattern-at}
+use Rattle.encoding.proofs.SentencePlaces.{SmallConditions, counted, Small, noSentence, conditionsIn, conditionsSize, counted-conditions}
+use Rattle.encoding.proofs.SentencePlaces.{sentences-size, Holds, pattern-size, result-size, first-condition, sentence-records}
+use Rattle.encoding.proofs.SentencePlaces.{condition-result-size, condition-pattern-size, condition-records, condition-place, pattern-at}
 
 -- the records in the middle
 middle : (file : File) (all before part after : List Record) → file .terms .records ≡ recordsBytes all → all ≡ before ++ (part ++ after) → All TermRecord before → All TermRecord part

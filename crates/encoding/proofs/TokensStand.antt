@@ -12,8 +12,12 @@ use Rattle.names.specs.Name.{digitByte, letterByte, nameByte, everyByte, length
 use Rattle.file.specs.Fields.{scalarAllowed}
 use Rattle.file.proofs.Below.{both, both-first, both-second}
 use Rattle.law.specs.Tree.{Kind}
-use Rattle.tokens.specs.Token.{rightBrace, rightBracket, rightAngle, colon, equals, semicolon, Atom, identifier, number, variable, quoted, quotable, atomAllowed, atomBytes, kindByte, tokenAllowed, tokenBytes, Piece, blank, comment, token, pieceBytes, piecesBytes, Lexed, Placed, placed}
-use Rattle.grammar.specs.Grammar.{signAt, atomAt, Terms, nothing, atomic, bracket, call, Conditions, noCondition, condition, Sentence, Sentences, last, lastClosed, more, Function, Names, lastName, moreNames, Text, done, extern, function, entry, spellTerms, spellConditions, spellSentence, spellSentences, spellFunction, spellNames, spellText, Written}
+use Rattle.tokens.specs.Token.{rightBrace, rightBracket, rightAngle, colon, equals, semicolon, Atom, identifier, number}
+use Rattle.tokens.specs.Token.{variable, quoted, quotable, atomAllowed, atomBytes, kindByte, tokenAllowed, tokenBytes}
+use Rattle.tokens.specs.Token.{Piece, blank, comment, token, pieceBytes, piecesBytes, Lexed, Placed, placed}
+use Rattle.grammar.specs.Grammar.{signAt, atomAt, Terms, nothing, atomic, bracket, call, Conditions, noCondition, condition, Sentence, Sentences}
+use Rattle.grammar.specs.Grammar.{last, lastClosed, more, Function, Names, lastName, moreNames, Text, done, extern, function, entry, spellTerms}
+use Rattle.grammar.specs.Grammar.{spellConditions, spellSentence, spellSentences, spellFunction, spellNames, spellText, Written}
 use Rattle.encoding.specs.Encode.{startOf, endOf, conditionsStart, sentenceList, sentencesIn, functionsOf, sentencesOf}
 use Rattle.encoding.specs.LawOfText.{short}
 use Rattle.encoding.proofs.Lists.{All, all-append}
