@@ -9,7 +9,8 @@ use lib.Seq.{take-take, take-at, drop-drop}
 use lib.Dec.{ltb, eqb}
 use borrow.Author.Tests.{ne-eqb, lt-ltb, le-ltb}
 use Rattle.law.specs.Tree.{symbolKind, termKind, expressionKind}
-use Rattle.tokens.specs.Token.{charactersBytes, Sign, leftBrace, rightBrace, leftBracket, rightBracket, leftAngle, rightAngle, comma, colon, equals, semicolon, dollarEntry, dollarExtern, identifier, number, variable, quoted, Token, sign, atom, tokenBytes, Placed}
+use Rattle.tokens.specs.Token.{charactersBytes, Sign, leftBrace, rightBrace, leftBracket, rightBracket, leftAngle, rightAngle, comma, colon, equals}
+use Rattle.tokens.specs.Token.{semicolon, dollarEntry, dollarExtern, identifier, number, variable, quoted, Token, sign, atom, tokenBytes, Placed}
 use Rattle.tokens.specs.Code.TokenKind.{signKind, tokenKind}
 use Rattle.encoding.specs.Encode.{characterRecords}
 use Rattle.encoding.specs.Code.FlatTerms.{inside, calling, ownRecords, kindAt, endAt, weight}

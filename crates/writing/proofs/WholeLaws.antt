@@ -18,5 +18,9 @@ pub file-put : (bytes : List ℕ) (ts : List Placed) {n at₁ at₂ at₃ at₄ 
     → Put o₁ at₁ bytes at₂ o₂ → Put o₂ at₂ (sectionBytes (flatFunctions ts)) at₃ o₃ → Put o₃ at₃ (sectionBytes (flatSentences false ts)) at₄ o₄
     → Put o₄ at₄ (sectionBytes (flatConditions false ts)) at₅ o₅ → Put o₅ at₅ (sectionBytes (flatTerms outside ts)) at₆ o₆ → Put o₀ 0 (flatFile bytes ts) at₆ o₆
 file-put bytes ts e a b c d f g =
-    rw (← six-parts (wordBytes (length bytes)) bytes (sectionBytes (flatFunctions ts)) (sectionBytes (flatSentences false ts)) (sectionBytes (flatConditions false ts)) (sectionBytes (flatTerms outside ts)), ← e)
+    rw (
+      ← six-parts (wordBytes (length bytes)) bytes (sectionBytes (flatFunctions ts)) (sectionBytes (flatSentences false ts))
+          (sectionBytes (flatConditions false ts)) (sectionBytes (flatTerms outside ts)),
+      ← e,
+    )
     (a then b then c then d then f then g)

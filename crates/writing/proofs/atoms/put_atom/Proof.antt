@@ -25,8 +25,11 @@ put-atom-spec =
     (λ c κs.
     let the-index = c .before .before .before .index in
     let tested = c .before .before .before .before in
-    let start = tested .before .before .before .before in
-    (start .pre .0, omega (arith, the-index .ensures, start .pre .1), omega (arith, c .before .index2 .ensures, c .before .before .less .ensures, tested .if2 .left)))
+    let start = tested .before .before .before .before in (
+      start .pre .0,
+      omega (arith, the-index .ensures, start .pre .1),
+      omega (arith, c .before .index2 .ensures, c .before .before .less .ensures, tested .if2 .left),
+    ))
     (λ c. search needs)
     (λ c.
     let put = c .before .before .put-characters in
@@ -52,7 +55,8 @@ put-atom-spec =
       omega (arith, put .ensures .0),
       omega (arith, put .ensures .0),
       λ p e s t h. put-record _
-          (atom-word p e s t (size .before .before .if1 .left) (size .before .if3 .left) (size .less2 .ensures) (kind .wide .ensures .0) (kind .before .if4 .taken)) (put .ensures .1),
+          (atom-word p e s t (size .before .before .if1 .left) (size .before .if3 .left) (size .less2 .ensures) (kind .wide .ensures .0)
+          (kind .before .if4 .taken)) (put .ensures .1),
     ))
     (λ c κs. search needs)
     (λ c. let start = c .before .before .before .before .before .before .before in omega (arith, start .pre .1))
@@ -67,5 +71,6 @@ put-atom-spec =
       omega (arith, put .ensures .0),
       omega (arith, put .ensures .0),
       λ p e s t h. put-record _
-          (atom-variable p e s t (size .before .before .if1 .left) (size .before .if3 .left) (size .less2 .ensures) (kind .wide2 .ensures .0) (kind .before .if4 .left) (index .less3 .ensures)) (put .ensures .1),
+          (atom-variable p e s t (size .before .before .if1 .left) (size .before .if3 .left) (size .less2 .ensures) (kind .wide2 .ensures .0)
+          (kind .before .if4 .left) (index .less3 .ensures)) (put .ensures .1),
     )))

@@ -56,13 +56,23 @@ put-characters-spec =
     ))
     (λ c. search needs)
     (λ c κs. omega (arith, the-loop (taking c) .loop .inv .0))
-    (λ c. let known = c .before in omega (arith, the-loop (taking known) .loop .inv .0, (whole-width (text-left known) (taking known .character-at .ensures) (known .before .c .given .1)) .1))
-    (λ c κs. let known = c .before in omega (arith, the-loop (taking known) .loop .inv .0, (whole-width (text-left known) (taking known .character-at .ensures) (known .before .c .given .1)) .1))
+    (λ c. let known = c .before in omega (
+      arith,
+      the-loop (taking known) .loop .inv .0,
+      (whole-width (text-left known) (taking known .character-at .ensures) (known .before .c .given .1)) .1,
+    ))
+    (λ c κs. let known = c .before in omega (
+      arith,
+      the-loop (taking known) .loop .inv .0,
+      (whole-width (text-left known) (taking known .character-at .ensures) (known .before .c .given .1)) .1,
+    ))
     (λ c κs.
     let round = the-loop (taking (c .before .before .before)) in
     omega (arith, round .loop .inv .0, round .loop .inv .2, start round .pre .0))
-    (λ c. let known = c .before .before .before .before .before .before in omega (arith, the-loop (taking known) .loop .inv .0, (whole-width (text-left known) (taking known .character-at .ensures) (known .before .c .given .1)) .1))
-    (λ c. let known = c .before .before .before .before .before .before in omega (arith, (whole-width (text-left known) (taking known .character-at .ensures) (known .before .c .given .1)) .0))
+    (λ c. let known = c .before .before .before .before .before .before in
+    omega (arith, the-loop (taking known) .loop .inv .0, (whole-width (text-left known) (taking known .character-at .ensures) (known .before .c .given .1)) .1))
+    (λ c. let known = c .before .before .before .before .before .before in
+    omega (arith, (whole-width (text-left known) (taking known .character-at .ensures) (known .before .c .given .1)) .0))
     (λ c.
     let put = c .before .before .put-six in
     let out-kept = put .kept .1 .1 .1 .1 .1 .1 .0 in

@@ -15,5 +15,7 @@ closer-at-spec =
     (λ c κs. search needs)
     (λ c.
     let found = c .before .short-at in
-    let start = c .before .before .before .before in
-    (omega (arith, c .index .ensures, found .ensures .1), held-inside (start .args .closers .now) (start .args .end) (omega (arith, c .before .before .if1 .left)) (c .index .ensures ∙ found .ensures .0))))
+    let start = c .before .before .before .before in (
+      omega (arith, c .index .ensures, found .ensures .1),
+      held-inside (start .args .closers .now) (start .args .end) (omega (arith, c .before .before .if1 .left)) (c .index .ensures ∙ found .ensures .0),
+    )))

@@ -27,7 +27,8 @@ closer-before-spec =
     let tested = inner .before in
     let start = tested .before .before .before in (
       c .closer-at2 .ensures .0,
-      λ kinds size is h. closer-open kinds (omega (arith, start .pre .1, size)) is (start .args .closers .now) {inner = inner .closer-at .result} (sym (tested .before .closes-term .ensures) ∙ tested .if1 .left) h
+      λ kinds size is h. closer-open kinds (omega (arith, start .pre .1, size)) is (start .args .closers .now)
+          {inner = inner .closer-at .result} (sym (tested .before .closes-term .ensures) ∙ tested .if1 .left) h
           (rw size (inner .closer-at .ensures .1)) (sym (opened .opens-term .ensures) ∙ c .before .if2 .taken) (rw size (c .closer-at2 .ensures .1)),
     ))
     (λ c.
@@ -36,6 +37,7 @@ closer-before-spec =
     let tested = inner .before in
     let start = tested .before .before .before in (
       inner .closer-at .ensures .0,
-      λ kinds size is h. closer-plain kinds (omega (arith, start .pre .1, size)) is (start .args .closers .now) {inner = inner .closer-at .result} (sym (tested .before .closes-term .ensures) ∙ tested .if1 .left) h
+      λ kinds size is h. closer-plain kinds (omega (arith, start .pre .1, size)) is (start .args .closers .now)
+          {inner = inner .closer-at .result} (sym (tested .before .closes-term .ensures) ∙ tested .if1 .left) h
           (rw size (inner .closer-at .ensures .1)) (sym (opened .opens-term .ensures) ∙ c .if2 .left),
     )))

@@ -47,7 +47,8 @@ find-closers-spec =
     let found = c .before .closer-before .ensures .1 (begun .args .kinds .now) refl refl (λ j m l. inv .2 j (omega (arith, m)) l) in (
       omega (arith, inv .0),
       length-set (round .loop .closers) _ _ ∙ inv .1,
-      from-set (round .loop .closers) (closerOf (begun .args .kinds .now)) (omega arith) (omega (arith, inv .0, inv .1, begun .pre .0)) (c .short .ensures ∙ found) (inv .2),
+      from-set (round .loop .closers) (closerOf (begun .args .kinds .now)) (omega arith) (omega (arith, inv .0, inv .1, begun .pre .0))
+          (c .short .ensures ∙ found) (inv .2),
     ))
     (λ c. c .before .loop .inv .1)
     (λ c j m l. c .before .loop .inv .2 j (omega arith) l))

@@ -59,9 +59,13 @@ sum-records-spec =
       omega (arith, inv .0, inv .1, c .token-weight .ensures .0),
       length-set (round .loop .sums) _ _ ∙ inv .2,
       λ ts h st.
-          let sum = sum-next h {i = round .loop .i} (start .args .text .now) (omega arith) (omega (arith, inv .0)) st (the-short-at .ensures .0) (c .before .short-at2 .ensures .0) (called .called-at .ensures)
-          (c .token-weight .ensures .1) (inv .3 ts h st .0) in
-          (sum, from-set (round .loop .sums) (sumOf (start .args .kinds .now) ts) (omega arith) (omega (arith, inv .0, inv .2, start .pre .0)) sum (inv .3 ts h st .1)),
+          let sum = sum-next h {i = round .loop .i} (start .args .text .now) (omega arith) (omega (arith, inv .0)) st (the-short-at .ensures .0)
+          (c .before .short-at2 .ensures .0) (called .called-at .ensures)
+          (c .token-weight .ensures .1) (inv .3 ts h st .0) in (
+            sum,
+            from-set (round .loop .sums) (sumOf (start .args .kinds .now) ts) (omega arith) (omega (arith, inv .0, inv .2, start .pre .0))
+                sum (inv .3 ts h st .1),
+          ),
     ))
     (λ c. c .before .loop .inv .2)
     (λ c ts h st j m l. c .before .loop .inv .3 ts h st .1 j (omega arith) l))

@@ -19,17 +19,21 @@ put-condition-spec =
       omega arith,
       omega arith,
       λ ts h st. put-no-record _ _
-          (condition-none h (start .pre .1) (start .args .inside) (begins .before .kind-at .ensures) (begins .begins-condition .ensures) (not-true _ (c .if1 .taken))),
+          (condition-none h (start .pre .1) (start .args .inside) (begins .before .kind-at .ensures) (begins .begins-condition .ensures)
+          (not-true _ (c .if1 .taken))),
     ))
     (λ c. let start = c .before .before .before .before .before .before .before .before in omega (arith, start .pre .1, start .pre .2))
     (λ c κs. let start = c .before .before .before .before .before .before .before .before in (omega (arith, start .pre .1, start .pre .2), start .pre .2))
     (λ c κs. let start = c .before .before .before .before .before .before .before .before .before in omega (arith, start .pre .1))
-    (λ c. let start = c .before .before .before .before .before .before .before .before .before .before in omega (arith, c .place-of .ensures .1, start .pre .2))
-    (λ c κs. let start = c .before .before .before .before .before .before .before .before .before .before in (omega (arith, c .place-of .ensures .1, start .pre .2), start .pre .2))
+    (λ c. let start = c .before .before .before .before .before .before .before .before .before .before in
+    omega (arith, c .place-of .ensures .1, start .pre .2))
+    (λ c κs. let start = c .before .before .before .before .before .before .before .before .before .before in
+    (omega (arith, c .place-of .ensures .1, start .pre .2), start .pre .2))
     (λ c κs. search needs)
     (λ c κs. search needs)
     (λ c κs. search needs)
-    (λ c κs. let start = c .before .before .before .before .before .before .before .before .before .before .before .before .before .before .before in start .pre .0)
+    (λ c κs. let start = c .before .before .before .before .before .before .before .before .before .before .before .before .before .before .before in
+    start .pre .0)
     (λ c. search needs)
     (λ c.
     let put = c .before .before .put-four in

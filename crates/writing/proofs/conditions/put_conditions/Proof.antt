@@ -16,7 +16,8 @@ use Rattle.writing.proofs.conditions.put_conditions.Tie as tie
 
 abbrev Inv-loop : tie.InvT-loop
 Inv-loop text kinds starts ends out₀ at next₀ inside₀ i₀ out next inside i =
-    Rounds (λ ts. Held kinds starts ends ts × Stand text ts) (flatConditions false) (λ ts. flatConditions inside (drop i ts)) (length kinds) 16 out₀ at i next out
+    Rounds (λ ts. Held kinds starts ends ts × Stand text ts) (flatConditions false) (λ ts. flatConditions inside (drop i ts))
+    (length kinds) 16 out₀ at i next out
 
 abbrev μ-loop : tie.MeasureT-loop
 μ-loop text kinds starts ends out₀ at next₀ inside₀ i₀ out next inside i = length kinds - i

@@ -24,10 +24,12 @@ put-function-spec =
     (λ c κs. search needs)
     (λ c κs. search needs)
     (λ c κs. search needs)
-    (λ c κs. let start = c .before .before .before .before .before .before .before .before .before .before .before in (omega (arith, start .pre .1), start .pre .2))
+    (λ c κs. let start = c .before .before .before .before .before .before .before .before .before .before .before in
+    (omega (arith, start .pre .1), start .pre .2))
     (λ c κs. let start = c .before .before .before .before .before .before .before .before .before .before .before .before in omega (arith, start .pre .1))
     (λ c κs. search needs)
-    (λ c κs. let start = c .before .before .before .before .before .before .before .before .before .before .before .before .before .before .before in start .pre .0)
+    (λ c κs. let start = c .before .before .before .before .before .before .before .before .before .before .before .before .before .before .before in
+    start .pre .0)
     (λ c. search needs)
     (λ c.
     let put = c .before .before .put-five in
@@ -43,7 +45,8 @@ put-function-spec =
       omega (arith, put .ensures .0),
       omega (arith, put .ensures .0),
       λ ts h. put-record _
-          (function-found h (entry .pre .1) (named .kind-at .ensures) (opened .kind-at2 .ensures) (opened .before .if1 .left) (start .before .if2 .left) (start .short-at .ensures .0)
+          (function-found h (entry .pre .1) (named .kind-at .ensures) (opened .kind-at2 .ensures) (opened .before .if1 .left) (start .before .if2 .left)
+          (start .short-at .ensures .0)
           (end .short-at2 .ensures .0) (size .less .ensures) (count .count-kinds .ensures) (place .place-of .ensures .0) (last .short-at3 .ensures .0))
           (put .ensures .1),
     )))

@@ -18,7 +18,8 @@ token-weight-spec =
     (λ c κs. search needs)
     (λ c κs. search needs)
     (λ c κs. search needs)
-    (λ c κs. let start = c .before .before .before .before .before .before .before .before in (omega (arith, c .before .before .index .ensures, start .pre .0), omega (arith, c .index2 .ensures, c .before .less .ensures, start .pre .1)))
+    (λ c κs. let start = c .before .before .before .before .before .before .before .before in
+    (omega (arith, c .before .before .index .ensures, start .pre .0), omega (arith, c .index2 .ensures, c .before .less .ensures, start .pre .1)))
     (λ c.
     let the-index = c .before .before .before .index in
     let asked = c .before .before .before .before in
@@ -26,7 +27,8 @@ token-weight-spec =
     let start = asked .before .before .before .before .before in
     let count = c .character-count .ensures in (
       count .1,
-      λ p e s n st. weight-quoted p e (named .if1 .left) (asked .before .before .if2 .left) (start .args .text .now) _ (asked .before .if3 .left) (asked .if4 .taken) s n st
+      λ p e s n st. weight-quoted p e (named .if1 .left) (asked .before .before .if2 .left) (start .args .text .now) _ (asked .before .if3 .left)
+          (asked .if4 .taken) s n st
           (rw (← c .before .before .less .ensures, ← c .before .index2 .ensures, ← the-index .ensures) (count .0)),
     ))
     (λ c.

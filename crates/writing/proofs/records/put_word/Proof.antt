@@ -23,5 +23,10 @@ put-word-spec =
     let third = c .before .before .before .before .before .before .before in
     let second = third .before .before .before .before .before in
     let first = second .before .before .before .before .before in
-    rw (← first .before .before .low-byte .ensures, ← second .before .before .low-byte2 .ensures, ← third .before .before .low-byte3 .ensures, ← the-low-byte4 .ensures)
+    rw (
+      ← first .before .before .low-byte .ensures,
+      ← second .before .before .low-byte2 .ensures,
+      ← third .before .before .low-byte3 .ensures,
+      ← the-low-byte4 .ensures,
+    )
     (first .put-byte .ensures then second .put-byte2 .ensures then third .put-byte3 .ensures then d .ensures)))

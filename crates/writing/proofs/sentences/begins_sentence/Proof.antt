@@ -10,5 +10,7 @@ begins-sentence-spec =
     (tie.spec
     (λ c. let x = c .before .args in begins-closed (x .inside) (x .k) (x .after) (c .if1 .taken))
     (λ c. let x = c .before .before .args in begins-braced (x .inside) (x .k) (x .after) (c .before .if1 .left) (c .if2 .taken))
-    (λ c. let x = c .before .before .before .args in begins-outside (x .inside) (x .k) (x .after) (c .before .before .if1 .left) (c .before .if2 .left) (not-true _ (c .if3 .taken)))
-    (λ c. let x = c .before .before .before .args in begins-parted (x .inside) (x .k) (x .after) (c .before .before .if1 .left) (c .before .if2 .left) (not-false _ (c .if3 .left))))
+    (λ c. let x = c .before .before .before .args in
+    begins-outside (x .inside) (x .k) (x .after) (c .before .before .if1 .left) (c .before .if2 .left) (not-true _ (c .if3 .taken)))
+    (λ c. let x = c .before .before .before .args in
+    begins-parted (x .inside) (x .k) (x .after) (c .before .before .if1 .left) (c .before .if2 .left) (not-false _ (c .if3 .left))))

@@ -21,13 +21,17 @@ put-sentence-spec =
       omega arith,
       omega arith,
       λ ts h st. put-no-record _ _
-          (sentence-none h (start .pre .1) (start .args .inside) (begins .before .before .kind-at .ensures) (begins .before .kind-at2 .ensures) (begins .begins-sentence .ensures) (not-true _ (c .if1 .taken))),
+          (sentence-none h (start .pre .1) (start .args .inside) (begins .before .before .kind-at .ensures) (begins .before .kind-at2 .ensures)
+          (begins .begins-sentence .ensures) (not-true _ (c .if1 .taken))),
     ))
-    (λ c κs. let start = c .before .before .before .before .before .before .before .before .before in (omega (arith, start .pre .1, start .pre .2), start .pre .2))
+    (λ c κs. let start = c .before .before .before .before .before .before .before .before .before in
+    (omega (arith, start .pre .1, start .pre .2), start .pre .2))
     (λ c κs. let start = c .before .before .before .before .before .before .before .before .before .before in (omega (arith, start .pre .1), start .pre .2))
     (λ c κs. let start = c .before .before .before .before .before .before .before .before .before .before .before in omega (arith, start .pre .1))
-    (λ c. let start = c .before .before .before .before .before .before .before .before .before .before .before .before in omega (arith, c .place-of .ensures .1, start .pre .2))
-    (λ c κs. let start = c .before .before .before .before .before .before .before .before .before .before .before .before in (omega (arith, c .place-of .ensures .1, start .pre .2), start .pre .2))
+    (λ c. let start = c .before .before .before .before .before .before .before .before .before .before .before .before in
+    omega (arith, c .place-of .ensures .1, start .pre .2))
+    (λ c κs. let start = c .before .before .before .before .before .before .before .before .before .before .before .before in
+    (omega (arith, c .place-of .ensures .1, start .pre .2), start .pre .2))
     (λ c κs. search needs)
     (λ c κs. search needs)
     (λ c κs. search needs)
@@ -46,7 +50,8 @@ put-sentence-spec =
       omega (arith, put .ensures .0),
       omega (arith, put .ensures .0),
       λ ts h st. put-record _
-          (sentence-found h (entry .pre .1) (entry .args .inside) (begins .before .before .kind-at .ensures) (begins .before .kind-at2 .ensures) (begins .begins-sentence .ensures)
+          (sentence-found h (entry .pre .1) (entry .args .inside) (begins .before .before .kind-at .ensures) (begins .before .kind-at2 .ensures)
+          (begins .begins-sentence .ensures)
           (not-false _ (pattern .before .if1 .left)) (pattern .part-records .ensures ts h st) (conditions .count-kinds .ensures) (equals .place-of .ensures .0)
           (result .part-records2 .ensures ts h st) (start .short-at .ensures .0) (end .before .short-at2 .ensures .0) (end .part-end .ensures _ ts h))
           (put .ensures .1),

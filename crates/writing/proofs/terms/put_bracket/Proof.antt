@@ -30,6 +30,7 @@ put-bracket-spec =
       put .ensures .0,
       λ ts n.
           put-record _
-          (bracket-found (n .held) (entry .pre .1) (entry .pre .2) (records .inner-records .ensures _ _ _ ts refl n) (start .short-at .ensures .0) (end .inner-end .ensures _ _ _ ts refl n))
+          (bracket-found (n .held) (entry .pre .1) (entry .pre .2) (records .inner-records .ensures _ _ _ ts refl n) (start .short-at .ensures .0)
+          (end .inner-end .ensures _ _ _ ts refl n))
           (put .ensures .1),
     )))

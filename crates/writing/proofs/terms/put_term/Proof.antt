@@ -28,7 +28,8 @@ put-term-spec =
     let start = begun (tested .before) in (
       omega (arith, put .ensures .0),
       omega (arith, put .ensures .0),
-      λ ts n st. rw (term-bracket (n .held) (start .pre .1) (tested .before .kind-at .ensures) (whereOf (start .args .state)) (tested .if1 .taken)) (put .ensures .1 ts n),
+      λ ts n st. rw (term-bracket (n .held) (start .pre .1) (tested .before .kind-at .ensures) (whereOf (start .args .state))
+          (tested .if1 .taken)) (put .ensures .1 ts n),
     ))
     (λ c κs.
     let kind = c .before .before .before in
@@ -42,14 +43,16 @@ put-term-spec =
     let start = begun kind in (
       omega (arith, put .ensures .0),
       omega (arith, put .ensures .0),
-      λ ts n st. rw (term-call (n .held) (start .pre .1) (kind .kind-at .ensures) (whereOf (start .args .state)) (tested .before .if1 .left) (tested .if2 .taken)) (put .ensures .1 ts n),
+      λ ts n st. rw (term-call (n .held) (start .pre .1) (kind .kind-at .ensures) (whereOf (start .args .state)) (tested .before .if1 .left)
+          (tested .if2 .taken)) (put .ensures .1 ts n),
     ))
     (λ c.
     let kind = c .before .before .before in
     let start = begun kind in (
       omega arith,
       omega arith,
-      λ ts n st. put-no-record _ _ (term-none (n .held) (start .pre .1) (kind .kind-at .ensures) (start .args .state) (c .before .before .if1 .left) (c .before .if2 .left) (c .if3 .taken)),
+      λ ts n st. put-no-record _ _ (term-none (n .held) (start .pre .1) (kind .kind-at .ensures) (start .args .state) (c .before .before .if1 .left)
+          (c .before .if2 .left) (c .if3 .taken)),
     ))
     (λ c κs. search needs)
     (λ c κs. search needs)
@@ -67,6 +70,7 @@ put-term-spec =
       put .ensures .0,
       put .ensures .1,
       λ ts n st.
-          term-atom (n .held) (start .pre .1) (kind .kind-at .ensures) (start .args .state) (tested .before .before .if1 .left) (tested .before .if2 .left) (start .args .text .now)
+          term-atom (n .held) (start .pre .1) (kind .kind-at .ensures) (start .args .state) (tested .before .before .if1 .left)
+          (tested .before .if2 .left) (start .args .text .now)
           (tested .if3 .left) st (end .before .short-at .ensures .0) (end .short-at2 .ensures .0) (put .ensures .2),
     )))

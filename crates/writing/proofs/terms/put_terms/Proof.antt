@@ -16,7 +16,8 @@ use Rattle.writing.proofs.terms.put_terms.Tie as tie
 
 abbrev Inv-loop : tie.InvT-loop
 Inv-loop text kinds starts ends closers sums out₀ at next₀ state₀ i₀ out next state i =
-    Rounds (λ ts. Nested kinds starts ends closers sums ts × Stand text ts) (flatTerms outside) (λ ts. flatTerms (whereOf state) (drop i ts)) (length kinds) 1680000 out₀ at i next out
+    Rounds (λ ts. Nested kinds starts ends closers sums ts × Stand text ts) (flatTerms outside) (λ ts. flatTerms (whereOf state) (drop i ts)) (length kinds)
+    1680000 out₀ at i next out
 
 abbrev μ-loop : tie.MeasureT-loop
 μ-loop text kinds starts ends closers sums out₀ at next₀ state₀ i₀ out next state i = length kinds - i
@@ -46,12 +47,14 @@ put-terms-spec =
     let put = done .put-term in
     let out-kept = put .kept .1 .1 .1 .1 .1 .1 .1 .1 .0 in
     let round = done .before .before .before .loop in
-    rounds-next (round .inv) (λ ts. atFirst (termsAt (whereOf (round .state))) (drop (round .i) ts)) _ (omega arith) (put .ensures .0) (put .ensures .1) out-kept
+    rounds-next (round .inv) (λ ts. atFirst (termsAt (whereOf (round .state))) (drop (round .i) ts)) _ (omega arith) (put .ensures .0)
+    (put .ensures .1) out-kept
     (λ ts h. terms-step (h .0 .held) (whereOf (round .state)) (round .i) (omega arith) (c .where-after .ensures))
     (λ ts h. put .ensures .2 ts (h .0) (h .1)))
     (λ c. search needs)
     (λ c.
     let round = c .before .loop in
     let asked = begun (c .before) .pre in
-    let ended = rounds-end (round .inv) (asked .1 .0) (λ ts h. ap (flatTerms (whereOf (round .state))) (none-left (h .0 .held) (round .i) (c .loop-test .left))) in
+    let ended = rounds-end (round .inv) (asked .1 .0)
+    (λ ts h. ap (flatTerms (whereOf (round .state))) (none-left (h .0 .held) (round .i) (c .loop-test .left))) in
     (ended .0, ended .1, λ ts h st. ended .2 ts (h, st))))

@@ -41,5 +41,6 @@ term-section-spec =
     let closed = put .before .before .before .before .before .before .before .before .before .before .find-closers in (
       omega (arith, put .put-terms .ensures .1),
       λ ts h st.
-          section-24 (flatTerms outside ts) (put .put-terms .ensures .2 ts (nested h (closed .ensures) (summed .ensures ts h st)) st) (count .ensures) (terms-length ts) (number .word .ensures),
+          section-24 (flatTerms outside ts) (put .put-terms .ensures .2 ts (nested h (closed .ensures) (summed .ensures ts h st)) st) (count .ensures)
+          (terms-length ts) (number .word .ensures),
     )))

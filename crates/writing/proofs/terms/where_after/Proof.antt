@@ -12,7 +12,9 @@ where-after-spec =
     (λ c. let x = c .before .before .before .args in where-outside (x .state) (x .k) (c .before .before .if1 .left) (c .before .if2 .left) (c .if3 .taken))
     (λ c.
     let the-if1 = c .before .before .before .if1 in
-    let x = c .before .before .before .before .args in where-calling (x .state) (x .k) (the-if1 .left) (c .before .before .if2 .left) (c .before .if3 .left) (c .if4 .taken))
+    let x = c .before .before .before .before .args in
+    where-calling (x .state) (x .k) (the-if1 .left) (c .before .before .if2 .left) (c .before .if3 .left) (c .if4 .taken))
     (λ c.
     let the-if1 = c .before .before .before .if1 in
-    let x = c .before .before .before .before .args in where-inside (x .state) (x .k) (the-if1 .left) (c .before .before .if2 .left) (c .before .if3 .left) (c .if4 .left)))
+    let x = c .before .before .before .before .args in
+    where-inside (x .state) (x .k) (the-if1 .left) (c .before .before .if2 .left) (c .before .if3 .left) (c .if4 .left)))

@@ -27,7 +27,15 @@ put-file-spec =
     let first = second .before .before .before .before in
     let size = first .before .before .before .before in
     let start = begun size in (
-      omega (arith, fourth .condition-section .ensures .0, third .sentence-section .ensures .0, second .function-section .ensures .0, first .put .ensures .end, size .put-word .ensures .end, start .pre .0),
+      omega (
+        arith,
+        fourth .condition-section .ensures .0,
+        third .sentence-section .ensures .0,
+        second .function-section .ensures .0,
+        first .put .ensures .end,
+        size .put-word .ensures .end,
+        start .pre .0,
+      ),
       start .pre .1,
       start .pre .0,
     ))
