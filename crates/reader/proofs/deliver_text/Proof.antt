@@ -14,7 +14,8 @@ deliver-text-spec =
     tie.close
     (tie.spec
     (λ c. let begun = c .before .before .before .before .before .before .before .before .before in first-size _ _ (begun .pre .3 .small) (begun .pre .1 .0))
-    (λ c κs. let begun = c .before .before .before .before .before .before .before .before .before .before in (first-small (begun .args .n) (begun .args .kinds .now) (begun .pre .1 .0), begun .pre .2 .0))
+    (λ c κs. let begun = c .before .before .before .before .before .before .before .before .before .before in
+    (first-small (begun .args .n) (begun .args .kinds .now) (begun .pre .1 .0), begun .pre .2 .0))
     (λ c. tokens-outside _ _ _ _ _ _ _ (start (c .before) .pre .3) (c .before .accepts .ensures) (c .if1 .taken))
     (λ c. let begun = start (c .before .before) in first-size _ _ (begun .pre .3 .small) (begun .pre .1 .0))
     (λ c. let begun = start (c .before .before .before) in first-size _ _ (begun .pre .3 .small) (begun .pre .1 .1))
@@ -22,8 +23,12 @@ deliver-text-spec =
     (λ c κs.
     let asked = c .before .before .before .before .before .before .before .before in
     let begun = start asked in
-    let few = first-small (begun .args .n) (begun .args .kinds .now) (begun .pre .1 .0) in
-    (begun .pre .0, beside (take (begun .args .n) (begun .args .kinds .now)) (begun .args .closers .now) (begun .args .sums .now) few (begun .pre .2 .1) (begun .pre .2 .2), begun .pre .2 .3))
+    let few = first-small (begun .args .n) (begun .args .kinds .now) (begun .pre .1 .0) in (
+      begun .pre .0,
+      beside (take (begun .args .n) (begun .args .kinds .now)) (begun .args .closers .now) (begun .args .sums .now) few (begun .pre .2 .1)
+          (begun .pre .2 .2),
+      begun .pre .2 .3,
+    ))
     (λ c. search needs)
     (λ c. search needs)
     (λ c. search needs)

@@ -37,4 +37,5 @@ deliver-tokens-spec =
     (λ c ts held stand.
     let few = c .before .before .before .before .before in
     let put = few .before .before .before .before .before .before .before in
-    tokens-delivered _ _ _ _ _ _ (put .put-file .ensures ts held stand) (omega (arith, few .if1 .left, start put .pre .2)) (c .before .before .deliver-law .ensures)))
+    tokens-delivered _ _ _ _ _ _ (put .put-file .ensures ts held stand) (omega (arith, few .if1 .left, start put .pre .2))
+    (c .before .before .deliver-law .ensures)))
