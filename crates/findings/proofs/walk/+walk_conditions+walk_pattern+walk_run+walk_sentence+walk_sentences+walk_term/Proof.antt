@@ -236,29 +236,18 @@ pub +walk-conditions+walk-pattern+walk-run+walk-sentence+walk-sentences+walk-ter
     let the-first-condition = c .before .first-condition in
     let the-first-condition2 = c .first-condition2 in
     let count = the-first-condition2 .result - the-first-condition .result in
-    let first = the-first-condition .result in (
-      steps.conditions-first-reads (start .pre .1 .0) (start .args .s) (start .pre .1 .1) first (the-first-condition .ensures),
-      steps.conditions-count (start .pre .1 .0) (start .args .s) (start .pre .1 .1) first (the-first-condition2 .result) (the-first-condition .ensures)
-          (the-first-condition2 .ensures),
-      omega arith,
-      refl,
-      steps.conditions-start file formats (start .args .task) (start .args .s) count first before
-          (steps.conditions-first-reads (start .pre .1 .0) (start .args .s) (start .pre .1 .1) first (the-first-condition .ensures))
-          (steps.conditions-count (start .pre .1 .0) (start .args .s) (start .pre .1 .1) first (the-first-condition2 .result) (the-first-condition .ensures)
-          (the-first-condition2 .ensures)),
-    ))
+    let first = the-first-condition .result in
+    let read = steps.conditions-first-reads (start .pre .1 .0) _ (start .pre .1 .1) _ (the-first-condition .ensures) in
+    let counted = steps.conditions-count (start .pre .1 .0) _ (start .pre .1 .1) _ _ (the-first-condition .ensures) (the-first-condition2 .ensures) in
+    (read, counted, omega arith, refl, steps.conditions-start file formats (start .args .task) (start .args .s) count first before read counted))
     (λ c.
     let start = c .before .before .before .before .before .before .before in
-    let the-first-condition = c .before .before .before .first-condition in
-    let the-first-condition2 = c .before .before .first-condition2 in
     let the-loop = c .before .loop in
     let the-loop-test = c .loop-test in
     omega (arith, steps.condition-small (start .pre .1 .0) _ (start .pre .1 .1) _ _ _ (the-loop .inv .0) (the-loop .inv .1) (the-loop-test .taken)))
     (λ c κs.
     let start = c .before .before .before .before .before .before .before in
     let asked = start .pre .1 .0 .asked in
-    let the-first-condition = c .before .before .before .first-condition in
-    let the-first-condition2 = c .before .before .first-condition2 in
     let the-loop = c .before .loop in
     let the-loop-test = c .loop-test in (
       asked .indexed,
@@ -269,15 +258,11 @@ pub +walk-conditions+walk-pattern+walk-run+walk-sentence+walk-sentences+walk-ter
     (λ c κs.
     let start = c .before .before .before .before .before .before .before .before in
     let asked = start .pre .1 .0 .asked in
-    let the-first-condition = c .before .before .before .before .first-condition in
-    let the-first-condition2 = c .before .before .before .first-condition2 in
     let the-loop = c .before .before .loop in
     let the-loop-test = c .before .loop-test in
     (asked .indexed, steps.condition-owned (start .pre .1 .0) _ (start .pre .1 .1) _ _ _ (the-loop .inv .0) (the-loop .inv .1) (the-loop-test .taken)))
     (λ c κs.
     let start = c .before .before .before .before .before .before .before .before .before .before in
-    let the-first-condition = c .before .before .before .before .before .before .first-condition in
-    let the-first-condition2 = c .before .before .before .before .before .first-condition2 in
     let the-loop = c .before .before .before .before .loop in
     let the-loop-test = c .before .before .before .loop-test in
     let the-condition-result-at = c .before .before .condition-result-at in
@@ -293,15 +278,11 @@ pub +walk-conditions+walk-pattern+walk-run+walk-sentence+walk-sentences+walk-ter
     (λ c κs.
     let start = c .before .before .before .before .before .before .before .before .before .before .before .before .before in
     let asked = start .pre .1 .0 .asked in
-    let the-first-condition = c .before .before .before .before .before .before .before .before .before .first-condition in
-    let the-first-condition2 = c .before .before .before .before .before .before .before .before .first-condition2 in
     let the-loop = c .before .before .before .before .before .before .before .loop in
     let the-loop-test = c .before .before .before .before .before .before .loop-test in
     (asked .indexed, steps.condition-inside (start .pre .1 .0) _ (start .pre .1 .1) _ _ _ (the-loop .inv .0) (the-loop .inv .1) (the-loop-test .taken)))
     (λ c.
     let start = c .before .before .before .before .before .before .before .before .before .before .before .before .before .before in
-    let the-first-condition = c .before .before .before .before .before .before .before .before .before .before .first-condition in
-    let the-first-condition2 = c .before .before .before .before .before .before .before .before .before .first-condition2 in
     let the-loop = c .before .before .before .before .before .before .before .before .loop in
     let the-loop-test = c .before .before .before .before .before .before .before .loop-test in
     let the-condition-result-at = c .before .before .before .before .before .before .condition-result-at in
@@ -314,15 +295,11 @@ pub +walk-conditions+walk-pattern+walk-run+walk-sentence+walk-sentences+walk-ter
     (λ c κs.
     let start = c .before .before .before .before .before .before .before .before .before .before .before .before .before .before in
     let asked = start .pre .1 .0 .asked in
-    let the-first-condition = c .before .before .before .before .before .before .before .before .before .before .first-condition in
-    let the-first-condition2 = c .before .before .before .before .before .before .before .before .before .first-condition2 in
     let the-loop = c .before .before .before .before .before .before .before .before .loop in
     let the-loop-test = c .before .before .before .before .before .before .before .loop-test in
     (asked .indexed, steps.condition-owned (start .pre .1 .0) _ (start .pre .1 .1) _ _ _ (the-loop .inv .0) (the-loop .inv .1) (the-loop-test .taken)))
     (λ c κs.
     let start = c .before .before .before .before .before .before .before .before .before .before .before .before .before .before .before .before in
-    let the-first-condition = c .before .before .before .before .before .before .before .before .before .before .before .before .first-condition in
-    let the-first-condition2 = c .before .before .before .before .before .before .before .before .before .before .before .first-condition2 in
     let the-loop = c .before .before .before .before .before .before .before .before .before .before .loop in
     let the-loop-test = c .before .before .before .before .before .before .before .before .before .loop-test in
     let the-condition-result-at = c .before .before .before .before .before .before .before .before .condition-result-at in
