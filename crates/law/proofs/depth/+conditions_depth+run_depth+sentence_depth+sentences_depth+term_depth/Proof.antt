@@ -183,46 +183,46 @@ pub +conditions-depth+run-depth+sentence-depth+sentences-depth+term-depth-spec :
     conditions-depth-μ-loop
     (λ c κs.
     let start = c .before in
-    omega (arith, laws.sentences-limit (start .args .law .now) (start .args .index .now) (start .pre .1 .0), start .pre .1 .2))
+    omega (arith, laws.sentences-limit _ _ (start .pre .1 .0), start .pre .1 .2))
     (λ c.
     let start = c .before .before in
-    omega (arith, laws.sentences-limit (start .args .law .now) (start .args .index .now) (start .pre .1 .0), start .pre .1 .2))
+    omega (arith, laws.sentences-limit _ _ (start .pre .1 .0), start .pre .1 .2))
     (λ c κs.
     let start = c .before .before in
-    omega (arith, laws.sentences-limit (start .args .law .now) (start .args .index .now) (start .pre .1 .0), start .pre .1 .2))
+    omega (arith, laws.sentences-limit _ _ (start .pre .1 .0), start .pre .1 .2))
     (λ c.
     let start = c .before .before .before in
     let indexed = start .pre .1 .0 in
     let first = indexed .words .firstConditions (start .args .s) (le-of-lt (start .pre .1 .2)) in
-    let within = laws.conditions-before (start .args .law .now) (start .args .index .now) indexed (start .args .s) (start .pre .1 .2) in
+    let within = laws.conditions-before _ _ indexed (start .args .s) (start .pre .1 .2) in
     omega (arith, within, first, c .before .first-condition .ensures, c .first-condition2 .ensures))
     (λ c.
     let start = c .before .before .before in
     let indexed = start .pre .1 .0 in
     let first = indexed .words .firstConditions (start .args .s) (le-of-lt (start .pre .1 .2)) in
-    let within = laws.conditions-before (start .args .law .now) (start .args .index .now) indexed (start .args .s) (start .pre .1 .2) in
+    let within = laws.conditions-before _ _ indexed (start .args .s) (start .pre .1 .2) in
     (c .before .first-condition .ensures ∙ first, omega (arith, within, first, c .before .first-condition .ensures, c .first-condition2 .ensures), omega arith, steps.conditions-same (fileOf (start .args .law .now)) (start .args .s) _ _ _ _ (start .args .depth) (omega (arith, within, first, c .before .first-condition .ensures, c .first-condition2 .ensures)) (omega (arith, first, c .before .first-condition .ensures))))
     (λ c.
     let start = c .before .before .before .before .before in
     let loop = c .before .loop in
-    omega (arith, laws.owned (start .args .law .now) (start .args .index .now) (start .pre .1 .0) _ _ (laws.owns (start .args .law .now) (start .args .index .now) (start .pre .1 .0) (start .args .s) (loop .i) (start .pre .1 .2) (omega (arith, loop .inv .1))), laws.conditions-limit (start .args .law .now) (start .args .index .now) (start .pre .1 .0), loop .inv .0))
+    omega (arith, laws.owned _ _ (start .pre .1 .0) _ _ (laws.owns _ _ (start .pre .1 .0) (start .args .s) (loop .i) (start .pre .1 .2) (omega (arith, loop .inv .1))), laws.conditions-limit _ _ (start .pre .1 .0), loop .inv .0))
     (λ c κs.
     let start = c .before .before .before .before .before in
     let loop = c .before .loop in
-    (start .pre .1 .0, start .pre .1 .2, laws.owned (start .args .law .now) (start .args .index .now) (start .pre .1 .0) _ _ (rw (sym (loop .inv .0)) at (laws.owns (start .args .law .now) (start .args .index .now) (start .pre .1 .0) (start .args .s) (loop .i) (start .pre .1 .2) (omega (arith, loop .inv .1))))))
+    (start .pre .1 .0, start .pre .1 .2, laws.owned _ _ (start .pre .1 .0) _ _ (rw (sym (loop .inv .0)) at (laws.owns _ _ (start .pre .1 .0) (start .args .s) (loop .i) (start .pre .1 .2) (omega (arith, loop .inv .1))))))
     (λ c.
     let start = c .before .before .before .before .before .before in
     let loop = c .before .before .loop in
-    omega (arith, laws.owned (start .args .law .now) (start .args .index .now) (start .pre .1 .0) _ _ (laws.owns (start .args .law .now) (start .args .index .now) (start .pre .1 .0) (start .args .s) (loop .i) (start .pre .1 .2) (omega (arith, loop .inv .1))), laws.conditions-limit (start .args .law .now) (start .args .index .now) (start .pre .1 .0), loop .inv .0))
+    omega (arith, laws.owned _ _ (start .pre .1 .0) _ _ (laws.owns _ _ (start .pre .1 .0) (start .args .s) (loop .i) (start .pre .1 .2) (omega (arith, loop .inv .1))), laws.conditions-limit _ _ (start .pre .1 .0), loop .inv .0))
     (λ c κs.
     let start = c .before .before .before .before .before .before in
     let loop = c .before .before .loop in
-    (start .pre .1 .0, (rw (sym (loop .inv .0)) at (laws.owns (start .args .law .now) (start .args .index .now) (start .pre .1 .0) (start .args .s) (loop .i) (start .pre .1 .2) (omega (arith, loop .inv .1))))))
+    (start .pre .1 .0, (rw (sym (loop .inv .0)) at (laws.owns _ _ (start .pre .1 .0) (start .args .s) (loop .i) (start .pre .1 .2) (omega (arith, loop .inv .1))))))
     (λ c κs.
     let start = c .before .before .before .before .before .before .before in
     let loop = c .before .before .before .loop in
     let the-first-condition = c .before .before .before .before .before .first-condition in
-    (omega (arith, start .pre .0), (start .pre .1 .0, start .pre .1 .1, rw (c .before .condition-result-at .ensures, c .condition-result .ensures) (parts.condition-result-part (fileOf (start .args .law .now)) (start .pre .1 .1) (start .args .s) (the-first-condition .result + loop .i) (rw (sym (loop .inv .0)) at (laws.owns (start .args .law .now) (start .args .index .now) (start .pre .1 .0) (start .args .s) (loop .i) (start .pre .1 .2) (omega (arith, loop .inv .1))))), start .pre .1 .3)))
+    (omega (arith, start .pre .0), (start .pre .1 .0, start .pre .1 .1, rw (c .before .condition-result-at .ensures, c .condition-result .ensures) (parts.condition-result-part (fileOf (start .args .law .now)) (start .pre .1 .1) (start .args .s) (the-first-condition .result + loop .i) (rw (sym (loop .inv .0)) at (laws.owns _ _ (start .pre .1 .0) (start .args .s) (loop .i) (start .pre .1 .2) (omega (arith, loop .inv .1))))), start .pre .1 .3)))
     (λ c.
     let start = c .before .before .before .before .before .before .before .before .before in
     let loop = c .before .before .before .before .before .loop in
@@ -235,30 +235,30 @@ pub +conditions-depth+run-depth+sentence-depth+sentences-depth+term-depth-spec :
     (λ c.
     let start = c .before .before .before .before .before .before .before .before .before in
     let loop = c .before .before .before .before .before .loop in
-    omega (arith, laws.owned (start .args .law .now) (start .args .index .now) (start .pre .1 .0) _ _ (laws.owns (start .args .law .now) (start .args .index .now) (start .pre .1 .0) (start .args .s) (loop .i) (start .pre .1 .2) (omega (arith, loop .inv .1))), laws.conditions-limit (start .args .law .now) (start .args .index .now) (start .pre .1 .0), loop .inv .0))
+    omega (arith, laws.owned _ _ (start .pre .1 .0) _ _ (laws.owns _ _ (start .pre .1 .0) (start .args .s) (loop .i) (start .pre .1 .2) (omega (arith, loop .inv .1))), laws.conditions-limit _ _ (start .pre .1 .0), loop .inv .0))
     (λ c κs.
     let start = c .before .before .before .before .before .before .before .before .before in
     let loop = c .before .before .before .before .before .loop in
-    (start .pre .1 .0, laws.owned (start .args .law .now) (start .args .index .now) (start .pre .1 .0) _ _ (rw (sym (loop .inv .0)) at (laws.owns (start .args .law .now) (start .args .index .now) (start .pre .1 .0) (start .args .s) (loop .i) (start .pre .1 .2) (omega (arith, loop .inv .1))))))
+    (start .pre .1 .0, laws.owned _ _ (start .pre .1 .0) _ _ (rw (sym (loop .inv .0)) at (laws.owns _ _ (start .pre .1 .0) (start .args .s) (loop .i) (start .pre .1 .2) (omega (arith, loop .inv .1))))))
     (λ c.
     let start = c .before .before .before .before .before .before .before .before .before .before in
     let loop = c .before .before .before .before .before .before .loop in
     let the-condition-result-at = c .before .before .before .before .condition-result-at in
-    omega (arith, laws.condition-result-fits (start .args .law .now) (start .args .index .now) (start .pre .1 .0) _ _ (rw (sym (loop .inv .0)) at (laws.owns (start .args .law .now) (start .args .index .now) (start .pre .1 .0) (start .args .s) (loop .i) (start .pre .1 .2) (omega (arith, loop .inv .1)))), laws.terms-limit (start .args .law .now) (start .args .index .now) (start .pre .1 .0), the-condition-result-at .ensures, c .condition-result-size .ensures))
+    omega (arith, laws.condition-result-fits _ _ (start .pre .1 .0) _ _ (rw (sym (loop .inv .0)) at (laws.owns _ _ (start .pre .1 .0) (start .args .s) (loop .i) (start .pre .1 .2) (omega (arith, loop .inv .1)))), laws.terms-limit _ _ (start .pre .1 .0), the-condition-result-at .ensures, c .condition-result-size .ensures))
     (λ c.
     let start = c .before .before .before .before .before .before .before .before .before .before in
     let loop = c .before .before .before .before .before .before .loop in
-    omega (arith, laws.owned (start .args .law .now) (start .args .index .now) (start .pre .1 .0) _ _ (laws.owns (start .args .law .now) (start .args .index .now) (start .pre .1 .0) (start .args .s) (loop .i) (start .pre .1 .2) (omega (arith, loop .inv .1))), laws.conditions-limit (start .args .law .now) (start .args .index .now) (start .pre .1 .0), loop .inv .0))
+    omega (arith, laws.owned _ _ (start .pre .1 .0) _ _ (laws.owns _ _ (start .pre .1 .0) (start .args .s) (loop .i) (start .pre .1 .2) (omega (arith, loop .inv .1))), laws.conditions-limit _ _ (start .pre .1 .0), loop .inv .0))
     (λ c κs.
     let start = c .before .before .before .before .before .before .before .before .before .before in
     let loop = c .before .before .before .before .before .before .loop in
-    (start .pre .1 .0, (rw (sym (loop .inv .0)) at (laws.owns (start .args .law .now) (start .args .index .now) (start .pre .1 .0) (start .args .s) (loop .i) (start .pre .1 .2) (omega (arith, loop .inv .1))))))
+    (start .pre .1 .0, (rw (sym (loop .inv .0)) at (laws.owns _ _ (start .pre .1 .0) (start .args .s) (loop .i) (start .pre .1 .2) (omega (arith, loop .inv .1))))))
     (λ c κs.
     let start = c .before .before .before .before .before .before .before .before .before .before .before in
     let loop = c .before .before .before .before .before .before .before .loop in
     let the-condition-result-at = c .before .before .before .before .before .condition-result-at in
     let the-first-condition = c .before .before .before .before .before .before .before .before .before .first-condition in
-    (omega (arith, start .pre .0), (start .pre .1 .0, start .pre .1 .1, rw (the-condition-result-at .ensures, c .before .condition-result-size .ensures, c .condition-pattern .ensures) (parts.condition-pattern-part (fileOf (start .args .law .now)) (start .pre .1 .1) (start .args .s) (the-first-condition .result + loop .i) (rw (sym (loop .inv .0)) at (laws.owns (start .args .law .now) (start .args .index .now) (start .pre .1 .0) (start .args .s) (loop .i) (start .pre .1 .2) (omega (arith, loop .inv .1))))), start .pre .1 .3)))
+    (omega (arith, start .pre .0), (start .pre .1 .0, start .pre .1 .1, rw (the-condition-result-at .ensures, c .before .condition-result-size .ensures, c .condition-pattern .ensures) (parts.condition-pattern-part (fileOf (start .args .law .now)) (start .pre .1 .1) (start .args .s) (the-first-condition .result + loop .i) (rw (sym (loop .inv .0)) at (laws.owns _ _ (start .pre .1 .0) (start .args .s) (loop .i) (start .pre .1 .2) (omega (arith, loop .inv .1))))), start .pre .1 .3)))
     (λ c.
     let start = c .before .before .before .before .before .before .before .before .before .before .before .before .before in
     let loop = c .before .before .before .before .before .before .before .before .before .loop in
@@ -338,7 +338,7 @@ pub +conditions-depth+run-depth+sentence-depth+sentences-depth+term-depth-spec :
     (λ c.
     let the-loop = c .before .before .before .before .loop in
     let start = c .before .before .before .before .before .before .before .before .before in
-    omega (arith, the-loop .inv .part .inside, laws.terms-limit (start .args .law .now) (start .args .index .now) (start .pre .1 .0)))
+    omega (arith, the-loop .inv .part .inside, laws.terms-limit _ _ (start .pre .1 .0)))
     (λ c κs.
     let the-loop-test = c .before .before .before .loop-test in
     let the-if2 = c .before .before .before .before .before .if2 in
@@ -436,7 +436,7 @@ pub +conditions-depth+run-depth+sentence-depth+sentences-depth+term-depth-spec :
     (omega arith, steps.sentences-same (fileOf (start .args .law .now)) _ _ _ _ (start .args .depth) (omega arith) (omega arith)))
     (λ c.
     let start = c .before .before .before in
-    omega (arith, laws.sentences-limit (start .args .law .now) (start .args .index .now) (start .pre .1 .0), start .pre .1 .2, c .loop-test .taken))
+    omega (arith, laws.sentences-limit _ _ (start .pre .1 .0), start .pre .1 .2, c .loop-test .taken))
     (λ c κs.
     let start = c .before .before .before in
     (omega (arith, start .pre .0), (start .pre .1 .0, start .pre .1 .1, omega (arith, start .pre .1 .2, c .loop-test .taken), start .pre .1 .3)))
@@ -480,7 +480,7 @@ pub +conditions-depth+run-depth+sentence-depth+sentences-depth+term-depth-spec :
     (λ c. omega arith)
     (λ c.
     let start = c .before .before .before .before in
-    omega (arith, parts.part-at (fileOf (start .args .law .now)) (start .pre .1 .1) (start .args .at) (start .args .part .now) (start .pre .1 .2) (start .pre .1 .3), laws.terms-limit (start .args .law .now) (start .args .index .now) (start .pre .1 .0)))
+    omega (arith, parts.part-at (fileOf (start .args .law .now)) (start .pre .1 .1) (start .args .at) (start .args .part .now) (start .pre .1 .2) (start .pre .1 .3), laws.terms-limit _ _ (start .pre .1 .0)))
     (λ c.
     let start = c .before .before .before .before in
     omega (arith, start .pre .1 .4))
@@ -507,7 +507,7 @@ pub +conditions-depth+run-depth+sentence-depth+sentences-depth+term-depth-spec :
     steps.term-alone (fileOf (start .args .law .now)) (start .pre .1 .1) (start .pre .1 .2) (start .pre .1 .3) (start .pre .1 .4) (the-end-of .ensures .0) (the-run-depth .ensures) inside counted (c .if2 .taken))
     (λ c κs.
     let start = c .before .before .before .before .before .before .before .before .before in
-    omega (arith, parts.part-at (fileOf (start .args .law .now)) (start .pre .1 .1) (start .args .at) (start .args .part .now) (start .pre .1 .2) (start .pre .1 .3), laws.terms-limit (start .args .law .now) (start .args .index .now) (start .pre .1 .0)))
+    omega (arith, parts.part-at (fileOf (start .args .law .now)) (start .pre .1 .1) (start .args .at) (start .args .part .now) (start .pre .1 .2) (start .pre .1 .3), laws.terms-limit _ _ (start .pre .1 .0)))
     (λ c.
     let start = c .before .before .before .before .before .before .before .before .before .before in
     omega (arith, start .pre .1 .4))

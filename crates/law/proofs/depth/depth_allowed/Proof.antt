@@ -35,32 +35,32 @@ depth-allowed-spec =
     (λ c κs.
     let start = c .before .before .before .before in
     let loop = c .before .loop in
-    omega (arith, laws.functions-limit (start .args .law .now) (start .args .index .now) (start .pre .0), loop .inv .0, c .loop-test .taken))
+    omega (arith, laws.functions-limit _ _ (start .pre .0), loop .inv .0, c .loop-test .taken))
     (λ c.
     let start = c .before .before .before .before .before in
     let loop = c .before .before .loop in
-    omega (arith, laws.functions-limit (start .args .law .now) (start .args .index .now) (start .pre .0), loop .inv .0, c .before .loop-test .taken))
+    omega (arith, laws.functions-limit _ _ (start .pre .0), loop .inv .0, c .before .loop-test .taken))
     (λ c κs.
     let start = c .before .before .before .before .before in
     let loop = c .before .before .loop in
-    omega (arith, laws.functions-limit (start .args .law .now) (start .args .index .now) (start .pre .0), loop .inv .0, c .before .loop-test .taken))
+    omega (arith, laws.functions-limit _ _ (start .pre .0), loop .inv .0, c .before .loop-test .taken))
     (λ c.
     let start = c .before .before .before .before .before .before in
     let loop = c .before .before .before .loop in
     let the-loop-test = c .before .before .loop-test in
-    omega (arith, laws.sentences-before (start .args .law .now) (start .args .index .now) (start .pre .0) (loop .f) (omega (arith, loop .inv .0, the-loop-test .taken)), start .pre .0 .words .firstSentences (loop .f) (omega (arith, loop .inv .0, the-loop-test .taken)), c .before .first-sentence .ensures, c .first-sentence2 .ensures))
+    omega (arith, laws.sentences-before _ _ (start .pre .0) (loop .f) (omega (arith, loop .inv .0, the-loop-test .taken)), start .pre .0 .words .firstSentences (loop .f) (omega (arith, loop .inv .0, the-loop-test .taken)), c .before .first-sentence .ensures, c .first-sentence2 .ensures))
     (λ c κs.
     let start = c .before .before .before .before .before .before in
     let loop = c .before .before .before .loop in
     let the-loop-test = c .before .before .loop-test in
-    (start .pre .0, start .pre .1, omega (arith, function-inside (fileOf (start .args .law .now)) (start .pre .0 .used) (loop .f) (omega (arith, loop .inv .0, the-loop-test .taken)), laws.sentences-before (start .args .law .now) (start .args .index .now) (start .pre .0) (loop .f) (omega (arith, loop .inv .0, the-loop-test .taken)), start .pre .0 .words .firstSentences (loop .f) (omega (arith, loop .inv .0, the-loop-test .taken)), c .before .first-sentence .ensures, c .first-sentence2 .ensures), omega arith))
+    (start .pre .0, start .pre .1, omega (arith, function-inside (fileOf (start .args .law .now)) (start .pre .0 .used) (loop .f) (omega (arith, loop .inv .0, the-loop-test .taken)), laws.sentences-before _ _ (start .pre .0) (loop .f) (omega (arith, loop .inv .0, the-loop-test .taken)), start .pre .0 .words .firstSentences (loop .f) (omega (arith, loop .inv .0, the-loop-test .taken)), c .before .first-sentence .ensures, c .first-sentence2 .ensures), omega arith))
     (λ c.
     let start = c .before .before .before .before .before .before .before .before in
     let loop = c .before .before .before .before .before .loop in
     let the-first-sentence2 = c .before .before .first-sentence2 in
     let the-first-sentence = c .before .before .before .first-sentence in
     let the-loop-test = c .before .before .before .before .loop-test in
-    sym (rw (sym (c .before .sentences-depth .ensures ∙ steps.sentences-same (fileOf (start .args .law .now)) (the-first-sentence2 .result - the-first-sentence .result) (sentencesOf (fileOf (start .args .law .now)) (loop .f)) (the-first-sentence .result) (firstSentence (fileOf (start .args .law .now)) (loop .f)) 0 (omega (arith, laws.sentences-before (start .args .law .now) (start .args .index .now) (start .pre .0) (loop .f) (omega (arith, loop .inv .0, the-loop-test .taken)), start .pre .0 .words .firstSentences (loop .f) (omega (arith, loop .inv .0, the-loop-test .taken)), the-first-sentence .ensures, the-first-sentence2 .ensures)) (the-first-sentence .ensures ∙ start .pre .0 .words .firstSentences (loop .f) (omega (arith, loop .inv .0, the-loop-test .taken)))) ∙ not-true _ (c .if1 .taken)) at (loop .inv .2 ∙ steps.functions-next (fileOf (start .args .law .now)) (loop .f) (omega (arith, loop .inv .0, the-loop-test .taken)))))
+    sym (rw (sym (c .before .sentences-depth .ensures ∙ steps.sentences-same (fileOf (start .args .law .now)) (the-first-sentence2 .result - the-first-sentence .result) (sentencesOf (fileOf (start .args .law .now)) (loop .f)) (the-first-sentence .result) (firstSentence (fileOf (start .args .law .now)) (loop .f)) 0 (omega (arith, laws.sentences-before _ _ (start .pre .0) (loop .f) (omega (arith, loop .inv .0, the-loop-test .taken)), start .pre .0 .words .firstSentences (loop .f) (omega (arith, loop .inv .0, the-loop-test .taken)), the-first-sentence .ensures, the-first-sentence2 .ensures)) (the-first-sentence .ensures ∙ start .pre .0 .words .firstSentences (loop .f) (omega (arith, loop .inv .0, the-loop-test .taken)))) ∙ not-true _ (c .if1 .taken)) at (loop .inv .2 ∙ steps.functions-next (fileOf (start .args .law .now)) (loop .f) (omega (arith, loop .inv .0, the-loop-test .taken)))))
     (λ c. omega arith)
     (λ c. omega arith)
     (λ c.
@@ -69,7 +69,7 @@ depth-allowed-spec =
     let the-first-sentence2 = c .before .before .first-sentence2 in
     let the-first-sentence = c .before .before .before .first-sentence in
     let the-loop-test = c .before .before .before .before .loop-test in
-    (loop .inv .0, omega arith, rw (sym (c .before .sentences-depth .ensures ∙ steps.sentences-same (fileOf (start .args .law .now)) (the-first-sentence2 .result - the-first-sentence .result) (sentencesOf (fileOf (start .args .law .now)) (loop .f)) (the-first-sentence .result) (firstSentence (fileOf (start .args .law .now)) (loop .f)) 0 (omega (arith, laws.sentences-before (start .args .law .now) (start .args .index .now) (start .pre .0) (loop .f) (omega (arith, loop .inv .0, the-loop-test .taken)), start .pre .0 .words .firstSentences (loop .f) (omega (arith, loop .inv .0, the-loop-test .taken)), the-first-sentence .ensures, the-first-sentence2 .ensures)) (the-first-sentence .ensures ∙ start .pre .0 .words .firstSentences (loop .f) (omega (arith, loop .inv .0, the-loop-test .taken)))) ∙ not-false _ (c .if1 .left)) at (loop .inv .2 ∙ steps.functions-next (fileOf (start .args .law .now)) (loop .f) (omega (arith, loop .inv .0, the-loop-test .taken)))))
+    (loop .inv .0, omega arith, rw (sym (c .before .sentences-depth .ensures ∙ steps.sentences-same (fileOf (start .args .law .now)) (the-first-sentence2 .result - the-first-sentence .result) (sentencesOf (fileOf (start .args .law .now)) (loop .f)) (the-first-sentence .result) (firstSentence (fileOf (start .args .law .now)) (loop .f)) 0 (omega (arith, laws.sentences-before _ _ (start .pre .0) (loop .f) (omega (arith, loop .inv .0, the-loop-test .taken)), start .pre .0 .words .firstSentences (loop .f) (omega (arith, loop .inv .0, the-loop-test .taken)), the-first-sentence .ensures, the-first-sentence2 .ensures)) (the-first-sentence .ensures ∙ start .pre .0 .words .firstSentences (loop .f) (omega (arith, loop .inv .0, the-loop-test .taken)))) ∙ not-false _ (c .if1 .left)) at (loop .inv .2 ∙ steps.functions-next (fileOf (start .args .law .now)) (loop .f) (omega (arith, loop .inv .0, the-loop-test .taken)))))
     (λ c.
     let start = c .before .before .before .before in
     let loop = c .before .loop in

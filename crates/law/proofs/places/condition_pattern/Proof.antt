@@ -13,20 +13,20 @@ condition-pattern-spec =
     (tie.spec
     (λ c κs.
     let start = c .before in
-    (start .pre .0, start .pre .1 .sentence, laws.owned (start .args .law .now) (start .args .index .now) (start .pre .0) (start .args .s) (start .args .c) (start .pre .1)))
+    (start .pre .0, start .pre .1 .sentence, laws.owned _ _ (start .pre .0) (start .args .s) (start .args .c) (start .pre .1)))
     (λ c κs.
     let start = c .before .before in
-    (start .pre .0, laws.owned (start .args .law .now) (start .args .index .now) (start .pre .0) (start .args .s) (start .args .c) (start .pre .1)))
+    (start .pre .0, laws.owned _ _ (start .pre .0) (start .args .s) (start .args .c) (start .pre .1)))
     (λ c.
     let start = c .before .before .before in
-    omega (arith, laws.condition-result-fits (start .args .law .now) (start .args .index .now) (start .pre .0) (start .args .s) (start .args .c) (start .pre .1), laws.terms-limit (start .args .law .now) (start .args .index .now) (start .pre .0), c .before .condition-result-at .ensures, c .condition-result-size .ensures))
+    omega (arith, laws.condition-result-fits _ _ (start .pre .0) (start .args .s) (start .args .c) (start .pre .1), laws.terms-limit _ _ (start .pre .0), c .before .condition-result-at .ensures, c .condition-result-size .ensures))
     (λ c κs.
     let start = c .before .before .before in
-    (start .pre .0, laws.owned (start .args .law .now) (start .args .index .now) (start .pre .0) (start .args .s) (start .args .c) (start .pre .1), omega arith))
+    (start .pre .0, laws.owned _ _ (start .pre .0) (start .args .s) (start .args .c) (start .pre .1), omega arith))
     (λ c κs.
     let start = c .before .before .before .before in
     let the-condition-result-at = c .before .before .condition-result-at in
-    (start .pre .0, omega (arith, laws.condition-result-fits (start .args .law .now) (start .args .index .now) (start .pre .0) (start .args .s) (start .args .c) (start .pre .1), the-condition-result-at .ensures, c .before .condition-result-size .ensures, c .condition-word .ensures)))
+    (start .pre .0, omega (arith, laws.condition-result-fits _ _ (start .pre .0) (start .args .s) (start .args .c) (start .pre .1), the-condition-result-at .ensures, c .before .condition-result-size .ensures, c .condition-word .ensures)))
     (λ c.
     let the-condition-result-at = c .before .before .before .condition-result-at in
     let the-condition-result-size = c .before .before .condition-result-size in

@@ -11,11 +11,11 @@ unfolding conditionResultPart
 condition-result-spec = tie.close (tie.spec
     (λ c κs.
     let start = c .before in
-    (start .pre .0, start .pre .1 .sentence, laws.owned (start .args .law .now) (start .args .index .now) (start .pre .0) (start .args .s) (start .args .c) (start .pre .1)))
+    (start .pre .0, start .pre .1 .sentence, laws.owned _ _ (start .pre .0) (start .args .s) (start .args .c) (start .pre .1)))
     (λ c κs.
     let start = c .before .before in
-    (start .pre .0, laws.owned (start .args .law .now) (start .args .index .now) (start .pre .0) (start .args .s) (start .args .c) (start .pre .1)))
+    (start .pre .0, laws.owned _ _ (start .pre .0) (start .args .s) (start .args .c) (start .pre .1)))
     (λ c κs.
     let start = c .before .before .before in
-    (start .pre .0, omega (arith, laws.condition-result-fits (start .args .law .now) (start .args .index .now) (start .pre .0) (start .args .s) (start .args .c) (start .pre .1), c .before .condition-result-at .ensures, c .condition-result-size .ensures)))
+    (start .pre .0, omega (arith, laws.condition-result-fits _ _ (start .pre .0) (start .args .s) (start .args .c) (start .pre .1), c .before .condition-result-at .ensures, c .condition-result-size .ensures)))
     (λ c. c .records .ensures ∙ rw (c .before .before .condition-result-at .ensures, c .before .condition-result-size .ensures)))

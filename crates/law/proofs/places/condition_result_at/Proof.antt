@@ -11,25 +11,25 @@ condition-result-at-spec =
     (tie.spec
     (λ c.
     let start = c .before in
-    omega (arith, laws.sentences-limit (start .args .law .now) (start .args .index .now) (start .pre .0), start .pre .1))
+    omega (arith, laws.sentences-limit _ _ (start .pre .0), start .pre .1))
     (λ c κs.
     let start = c .before in
-    omega (arith, laws.sentences-limit (start .args .law .now) (start .args .index .now) (start .pre .0), start .pre .1))
+    omega (arith, laws.sentences-limit _ _ (start .pre .0), start .pre .1))
     (λ c κs. search needs)
     (λ c.
     let start = c .before .before .before in
-    omega (arith, laws.pattern-small (start .args .law .now) (start .args .index .now) (start .pre .0) (start .args .s) (start .pre .1), c .before .word .ensures .1, c .pattern-size .ensures))
+    omega (arith, laws.pattern-small _ _ (start .pre .0) (start .args .s) (start .pre .1), c .before .word .ensures .1, c .pattern-size .ensures))
     (λ c.
     let start = c .before .before .before in
-    omega (arith, laws.conditions-limit (start .args .law .now) (start .args .index .now) (start .pre .0), start .pre .2))
+    omega (arith, laws.conditions-limit _ _ (start .pre .0), start .pre .2))
     (λ c κs.
     let start = c .before .before .before in
-    omega (arith, laws.conditions-limit (start .args .law .now) (start .args .index .now) (start .pre .0), start .pre .2))
+    omega (arith, laws.conditions-limit _ _ (start .pre .0), start .pre .2))
     (λ c.
     let start = c .before .before .before .before in
     let the-word = c .before .before .word in
-    omega (arith, laws.pattern-small (start .args .law .now) (start .args .index .now) (start .pre .0) (start .args .s) (start .pre .1), the-word .ensures .1, c .word2 .ensures .1, c .before .pattern-size .ensures))
+    omega (arith, laws.pattern-small _ _ (start .pre .0) (start .args .s) (start .pre .1), the-word .ensures .1, c .word2 .ensures .1, c .before .pattern-size .ensures))
     (λ c.
     let start = c .before .before .before .before in
     let the-word = c .before .before .word in
-    rw (the-word .ensures .0, c .word2 .ensures .0, c .before .pattern-size .ensures) (laws.condition-result-is (start .args .law .now) (start .args .index .now) (start .pre .0) (start .args .s) (start .args .c) (start .pre .1) (omega arith))))
+    rw (the-word .ensures .0, c .word2 .ensures .0, c .before .pattern-size .ensures) (laws.condition-result-is _ _ (start .pre .0) (start .args .s) (start .args .c) (start .pre .1) (omega arith))))

@@ -13,17 +13,17 @@ function-word-spec =
     (λ c κs. search needs)
     (λ c.
     let start = c .before .before in
-    omega (arith, laws.function-word-inside (start .args .law .now) (start .args .index .now) (start .pre .0) (start .args .f) (start .args .at) (start .pre .1) (start .pre .2), c .word .ensures))
+    omega (arith, laws.function-word-inside _ _ (start .pre .0) (start .args .f) (start .args .at) (start .pre .1) (start .pre .2), c .word .ensures))
     (λ c.
     let start = c .before .before in
-    omega (arith, laws.function-word-inside (start .args .law .now) (start .args .index .now) (start .pre .0) (start .args .f) (start .args .at) (start .pre .1) (start .pre .2), c .word .ensures))
+    omega (arith, laws.function-word-inside _ _ (start .pre .0) (start .args .f) (start .args .at) (start .pre .1) (start .pre .2), c .word .ensures))
     (λ c.
     let start = c .before .before in
-    omega (arith, laws.function-word-inside (start .args .law .now) (start .args .index .now) (start .pre .0) (start .args .f) (start .args .at) (start .pre .1) (start .pre .2), c .word .ensures))
+    omega (arith, laws.function-word-inside _ _ (start .pre .0) (start .args .f) (start .args .at) (start .pre .1) (start .pre .2), c .word .ensures))
     (λ c κs.
     let start = c .before .before in
-    omega (arith, laws.function-word-inside (start .args .law .now) (start .args .index .now) (start .pre .0) (start .args .f) (start .args .at) (start .pre .1) (start .pre .2), c .word .ensures))
+    omega (arith, laws.function-word-inside _ _ (start .pre .0) (start .args .f) (start .args .at) (start .pre .1) (start .pre .2), c .word .ensures))
     (λ c. search needs)
     (λ c.
     let start = c .before .before .before in
-    c .word-at .ensures ∙ rw (c .before .word .ensures .0) (laws.function-word (start .args .law .now) (start .args .index .now) (start .pre .0) (start .args .f) (start .args .at) (start .pre .1) (start .pre .2))))
+    c .word-at .ensures ∙ rw (c .before .word .ensures .0) (laws.function-word _ _ (start .pre .0) (start .args .f) (start .args .at) (start .pre .1) (start .pre .2))))

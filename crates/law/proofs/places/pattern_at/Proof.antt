@@ -11,22 +11,22 @@ pattern-at-spec =
     (tie.spec
     (λ c.
     let start = c .before in
-    omega (arith, laws.sentences-limit (start .args .law .now) (start .args .index .now) (start .pre .0), start .pre .1))
+    omega (arith, laws.sentences-limit _ _ (start .pre .0), start .pre .1))
     (λ c κs.
     let start = c .before in
-    omega (arith, laws.sentences-limit (start .args .law .now) (start .args .index .now) (start .pre .0), start .pre .1))
+    omega (arith, laws.sentences-limit _ _ (start .pre .0), start .pre .1))
     (λ c.
     let start = c .before .before in
-    omega (arith, laws.sentences-limit (start .args .law .now) (start .args .index .now) (start .pre .0), start .pre .1))
+    omega (arith, laws.sentences-limit _ _ (start .pre .0), start .pre .1))
     (λ c κs.
     let start = c .before .before in
-    omega (arith, laws.sentences-limit (start .args .law .now) (start .args .index .now) (start .pre .0), start .pre .1))
+    omega (arith, laws.sentences-limit _ _ (start .pre .0), start .pre .1))
     (λ c. search needs)
     (λ c κs.
     let start = c .before .before .before in
-    omega (arith, laws.condition-place (start .args .law .now) (start .args .index .now) (start .pre .0) (start .args .s) (start .pre .1), c .before .word .ensures .0))
+    omega (arith, laws.condition-place _ _ (start .pre .0) (start .args .s) (start .pre .1), c .before .word .ensures .0))
     (λ c. search needs)
     (λ c.
     let start = c .before .before .before .before in
     let the-word = c .before .before .word in
-    rw (c .before .word2 .ensures .0, c .word3 .ensures .0, the-word .ensures .0) (laws.pattern-is (start .args .law .now) (start .args .index .now) (start .pre .0) (start .args .s) (start .pre .1))))
+    rw (c .before .word2 .ensures .0, c .word3 .ensures .0, the-word .ensures .0) (laws.pattern-is _ _ (start .pre .0) (start .args .s) (start .pre .1))))

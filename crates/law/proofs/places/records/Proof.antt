@@ -12,21 +12,21 @@ records-spec =
     (λ c κs. search needs)
     (λ c.
     let start = c .before .before in
-    omega (arith, laws.records-inside (start .args .law .now) (start .args .index .now) (start .pre .0) (start .args .at) (start .args .count) (start .pre .1), c .word .ensures))
+    omega (arith, laws.records-inside _ _ (start .pre .0) (start .args .at) (start .args .count) (start .pre .1), c .word .ensures))
     (λ c.
     let start = c .before .before in
-    omega (arith, laws.records-inside (start .args .law .now) (start .args .index .now) (start .pre .0) (start .args .at) (start .args .count) (start .pre .1), c .word .ensures))
+    omega (arith, laws.records-inside _ _ (start .pre .0) (start .args .at) (start .args .count) (start .pre .1), c .word .ensures))
     (λ c.
     let start = c .before .before in
-    omega (arith, laws.records-inside (start .args .law .now) (start .args .index .now) (start .pre .0) (start .args .at) (start .args .count) (start .pre .1), c .word .ensures))
+    omega (arith, laws.records-inside _ _ (start .pre .0) (start .args .at) (start .args .count) (start .pre .1), c .word .ensures))
     (λ c.
     let start = c .before .before in
-    omega (arith, laws.records-inside (start .args .law .now) (start .args .index .now) (start .pre .0) (start .args .at) (start .args .count) (start .pre .1), c .word .ensures))
+    omega (arith, laws.records-inside _ _ (start .pre .0) (start .args .at) (start .args .count) (start .pre .1), c .word .ensures))
     (λ c. search needs)
     (λ c. search needs)
     (λ c.
     let start = c .before .before in
-    omega (arith, laws.records-inside (start .args .law .now) (start .args .index .now) (start .pre .0) (start .args .at) (start .args .count) (start .pre .1), c .word .ensures))
+    omega (arith, laws.records-inside _ _ (start .pre .0) (start .args .at) (start .args .count) (start .pre .1), c .word .ensures))
     (λ c.
     let start = c .before .before .before in
-    rw (c .before .word .ensures .0) (laws.records-are (start .args .law .now) (start .args .index .now) (start .pre .0) (start .args .at) (start .args .count) (start .pre .1))))
+    rw (c .before .word .ensures .0) (laws.records-are _ _ (start .pre .0) (start .args .at) (start .args .count) (start .pre .1))))

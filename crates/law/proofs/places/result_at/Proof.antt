@@ -11,31 +11,31 @@ result-at-spec =
     (tie.spec
     (λ c.
     let start = c .before in
-    omega (arith, laws.sentences-limit (start .args .law .now) (start .args .index .now) (start .pre .0), start .pre .1))
+    omega (arith, laws.sentences-limit _ _ (start .pre .0), start .pre .1))
     (λ c κs.
     let start = c .before in
-    omega (arith, laws.sentences-limit (start .args .law .now) (start .args .index .now) (start .pre .0), start .pre .1))
+    omega (arith, laws.sentences-limit _ _ (start .pre .0), start .pre .1))
     (λ c.
     let start = c .before .before in
-    omega (arith, laws.sentences-limit (start .args .law .now) (start .args .index .now) (start .pre .0), start .pre .1))
+    omega (arith, laws.sentences-limit _ _ (start .pre .0), start .pre .1))
     (λ c κs.
     let start = c .before .before in
-    omega (arith, laws.sentences-limit (start .args .law .now) (start .args .index .now) (start .pre .0), start .pre .1))
+    omega (arith, laws.sentences-limit _ _ (start .pre .0), start .pre .1))
     (λ c κs. search needs)
     (λ c.
     let start = c .before .before .before .before in
-    omega (arith, laws.pattern-small (start .args .law .now) (start .args .index .now) (start .pre .0) (start .args .s) (start .pre .1), c .before .word2 .ensures .1, c .pattern-size .ensures))
+    omega (arith, laws.pattern-small _ _ (start .pre .0) (start .args .s) (start .pre .1), c .before .word2 .ensures .1, c .pattern-size .ensures))
     (λ c. search needs)
     (λ c κs.
     let start = c .before .before .before .before in
     let the-word = c .before .before .word in
-    omega (arith, laws.next-condition-place (start .args .law .now) (start .args .index .now) (start .pre .0) (start .args .s) (start .pre .1), the-word .ensures .0))
+    omega (arith, laws.next-condition-place _ _ (start .pre .0) (start .args .s) (start .pre .1), the-word .ensures .0))
     (λ c.
     let start = c .before .before .before .before .before in
     let the-word2 = c .before .before .word2 in
-    omega (arith, laws.pattern-small (start .args .law .now) (start .args .index .now) (start .pre .0) (start .args .s) (start .pre .1), the-word2 .ensures .1, c .word3 .ensures .1, c .before .pattern-size .ensures))
+    omega (arith, laws.pattern-small _ _ (start .pre .0) (start .args .s) (start .pre .1), the-word2 .ensures .1, c .word3 .ensures .1, c .before .pattern-size .ensures))
     (λ c.
     let start = c .before .before .before .before .before in
     let the-word2 = c .before .before .word2 in
     let the-word = c .before .before .before .word in
-    rw (the-word2 .ensures .0, c .word3 .ensures .0, the-word .ensures .0, c .before .pattern-size .ensures) (laws.result-is (start .args .law .now) (start .args .index .now) (start .pre .0) (start .args .s) (start .pre .1))))
+    rw (the-word2 .ensures .0, c .word3 .ensures .0, the-word .ensures .0, c .before .pattern-size .ensures) (laws.result-is _ _ (start .pre .0) (start .args .s) (start .pre .1))))

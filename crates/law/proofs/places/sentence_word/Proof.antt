@@ -13,17 +13,17 @@ sentence-word-spec =
     (λ c κs. search needs)
     (λ c.
     let start = c .before .before in
-    omega (arith, laws.sentence-word-inside (start .args .law .now) (start .args .index .now) (start .pre .0) (start .args .s) (start .args .at) (start .pre .1) (start .pre .2), c .word .ensures))
+    omega (arith, laws.sentence-word-inside _ _ (start .pre .0) (start .args .s) (start .args .at) (start .pre .1) (start .pre .2), c .word .ensures))
     (λ c.
     let start = c .before .before in
-    omega (arith, laws.sentence-word-inside (start .args .law .now) (start .args .index .now) (start .pre .0) (start .args .s) (start .args .at) (start .pre .1) (start .pre .2), c .word .ensures))
+    omega (arith, laws.sentence-word-inside _ _ (start .pre .0) (start .args .s) (start .args .at) (start .pre .1) (start .pre .2), c .word .ensures))
     (λ c.
     let start = c .before .before in
-    omega (arith, laws.sentence-word-inside (start .args .law .now) (start .args .index .now) (start .pre .0) (start .args .s) (start .args .at) (start .pre .1) (start .pre .2), c .word .ensures))
+    omega (arith, laws.sentence-word-inside _ _ (start .pre .0) (start .args .s) (start .args .at) (start .pre .1) (start .pre .2), c .word .ensures))
     (λ c κs.
     let start = c .before .before in
-    omega (arith, laws.sentence-word-inside (start .args .law .now) (start .args .index .now) (start .pre .0) (start .args .s) (start .args .at) (start .pre .1) (start .pre .2), c .word .ensures))
+    omega (arith, laws.sentence-word-inside _ _ (start .pre .0) (start .args .s) (start .args .at) (start .pre .1) (start .pre .2), c .word .ensures))
     (λ c. search needs)
     (λ c.
     let start = c .before .before .before in
-    c .word-at .ensures ∙ rw (c .before .word .ensures .0) (laws.sentence-word (start .args .law .now) (start .args .index .now) (start .pre .0) (start .args .s) (start .args .at) (start .pre .1) (start .pre .2))))
+    c .word-at .ensures ∙ rw (c .before .word .ensures .0) (laws.sentence-word _ _ (start .pre .0) (start .args .s) (start .args .at) (start .pre .1) (start .pre .2))))

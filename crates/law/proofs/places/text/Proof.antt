@@ -14,7 +14,7 @@ text-spec =
     (λ c. search needs)
     (λ c.
     let start = c .before .before in
-    omega (arith, laws.text-inside (start .args .law .now) (start .args .index .now) (start .pre), c .word .ensures .0))
+    omega (arith, laws.text-inside _ _ (start .pre), c .word .ensures .0))
     (λ c.
     let start = c .before .before .before in
-    rw (c .before .word .ensures .0) (laws.text-is (start .args .law .now) (start .args .index .now) (start .pre))))
+    rw (c .before .word .ensures .0) (laws.text-is _ _ (start .pre))))

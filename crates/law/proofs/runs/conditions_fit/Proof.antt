@@ -34,27 +34,27 @@ conditions-fit-spec =
     μ-loop
     (λ c κs.
     let start = c .before in
-    omega (arith, laws.sentences-limit (start .args .law .now) (start .args .index .now) (start .pre .0), start .pre .1))
+    omega (arith, laws.sentences-limit _ _ (start .pre .0), start .pre .1))
     (λ c.
     let start = c .before .before in
-    omega (arith, laws.sentences-limit (start .args .law .now) (start .args .index .now) (start .pre .0), start .pre .1))
+    omega (arith, laws.sentences-limit _ _ (start .pre .0), start .pre .1))
     (λ c κs.
     let start = c .before .before in
-    omega (arith, laws.sentences-limit (start .args .law .now) (start .args .index .now) (start .pre .0), start .pre .1))
+    omega (arith, laws.sentences-limit _ _ (start .pre .0), start .pre .1))
     (λ c.
     let start = c .before .before .before in
-    omega (arith, laws.conditions-before (start .args .law .now) (start .args .index .now) (start .pre .0) (start .args .s) (start .pre .1), start .pre .0 .words .firstConditions (start .args .s) (le-of-lt (start .pre .1)), c .before .first-condition .ensures, c .first-condition2 .ensures))
+    omega (arith, laws.conditions-before _ _ (start .pre .0) (start .args .s) (start .pre .1), start .pre .0 .words .firstConditions (start .args .s) (le-of-lt (start .pre .1)), c .before .first-condition .ensures, c .first-condition2 .ensures))
     (λ c.
     let start = c .before .before .before in
-    (c .before .first-condition .ensures ∙ start .pre .0 .words .firstConditions (start .args .s) (le-of-lt (start .pre .1)), omega (arith, laws.conditions-before (start .args .law .now) (start .args .index .now) (start .pre .0) (start .args .s) (start .pre .1), start .pre .0 .words .firstConditions (start .args .s) (le-of-lt (start .pre .1)), c .before .first-condition .ensures, c .first-condition2 .ensures), omega arith, every-none _))
+    (c .before .first-condition .ensures ∙ start .pre .0 .words .firstConditions (start .args .s) (le-of-lt (start .pre .1)), omega (arith, laws.conditions-before _ _ (start .pre .0) (start .args .s) (start .pre .1), start .pre .0 .words .firstConditions (start .args .s) (le-of-lt (start .pre .1)), c .before .first-condition .ensures, c .first-condition2 .ensures), omega arith, every-none _))
     (λ c.
     let start = c .before .before .before .before .before in
     let loop = c .before .loop in
-    omega (arith, laws.owned (start .args .law .now) (start .args .index .now) (start .pre .0) _ _ (laws.owns (start .args .law .now) (start .args .index .now) (start .pre .0) (start .args .s) (loop .i) (start .pre .1) (omega (arith, loop .inv .1))), laws.conditions-limit (start .args .law .now) (start .args .index .now) (start .pre .0), loop .inv .0))
+    omega (arith, laws.owned _ _ (start .pre .0) _ _ (laws.owns _ _ (start .pre .0) (start .args .s) (loop .i) (start .pre .1) (omega (arith, loop .inv .1))), laws.conditions-limit _ _ (start .pre .0), loop .inv .0))
     (λ c κs.
     let start = c .before .before .before .before .before in
     let loop = c .before .loop in
-    (start .pre .0, rw (loop .inv .0) (laws.owns (start .args .law .now) (start .args .index .now) (start .pre .0) (start .args .s) (loop .i) (start .pre .1) (omega (arith, loop .inv .1)))))
+    (start .pre .0, rw (loop .inv .0) (laws.owns _ _ (start .pre .0) (start .args .s) (loop .i) (start .pre .1) (omega (arith, loop .inv .1)))))
     (λ c κs. search needs)
     (λ c.
     let start = c .before .before .before .before .before .before .before .before in
@@ -64,11 +64,11 @@ conditions-fit-spec =
     (λ c.
     let start = c .before .before .before .before .before .before .before .before in
     let loop = c .before .before .before .before .loop in
-    omega (arith, laws.owned (start .args .law .now) (start .args .index .now) (start .pre .0) _ _ (laws.owns (start .args .law .now) (start .args .index .now) (start .pre .0) (start .args .s) (loop .i) (start .pre .1) (omega (arith, loop .inv .1))), laws.conditions-limit (start .args .law .now) (start .args .index .now) (start .pre .0), loop .inv .0))
+    omega (arith, laws.owned _ _ (start .pre .0) _ _ (laws.owns _ _ (start .pre .0) (start .args .s) (loop .i) (start .pre .1) (omega (arith, loop .inv .1))), laws.conditions-limit _ _ (start .pre .0), loop .inv .0))
     (λ c κs.
     let start = c .before .before .before .before .before .before .before .before in
     let loop = c .before .before .before .before .loop in
-    (start .pre .0, rw (loop .inv .0) (laws.owns (start .args .law .now) (start .args .index .now) (start .pre .0) (start .args .s) (loop .i) (start .pre .1) (omega (arith, loop .inv .1)))))
+    (start .pre .0, rw (loop .inv .0) (laws.owns _ _ (start .pre .0) (start .args .s) (loop .i) (start .pre .1) (omega (arith, loop .inv .1)))))
     (λ c κs. search needs)
     (λ c.
     let start = c .before .before .before .before .before .before .before .before .before .before .before in
