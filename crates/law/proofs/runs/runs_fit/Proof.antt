@@ -35,14 +35,17 @@ runs-fit-spec =
     (λ c.
     let start = c .before .before .before .before .before .before in
     let loop = c .before .before .before .loop in
-    sym (every-fails (fileOf (start .args .law .now) .sentences .count) (sentenceFits (fileOf (start .args .law .now))) (loop .s) (omega (arith, loop .inv .0)) (sym (c .before .sentence-fits .ensures) ∙ not-true _ (c .if1 .taken))))
+    let unfit = sym (c .before .sentence-fits .ensures) ∙ not-true _ (c .if1 .taken) in
+    sym (every-fails _ (sentenceFits (fileOf (start .args .law .now))) (loop .s) (omega (arith, loop .inv .0)) unfit))
     (λ c. omega arith)
     (λ c. omega arith)
     (λ c.
     let start = c .before .before .before .before .before .before in
     let loop = c .before .before .before .loop in
-    (loop .inv .0, omega arith, every-next (loop .s) (sentenceFits (fileOf (start .args .law .now))) (loop .inv .2) (sym (c .before .sentence-fits .ensures) ∙ not-false _ (c .if1 .left))))
+    let fit = sym (c .before .sentence-fits .ensures) ∙ not-false _ (c .if1 .left) in
+    (loop .inv .0, omega arith, every-next (loop .s) (sentenceFits (fileOf (start .args .law .now))) (loop .inv .2) fit))
     (λ c.
     let start = c .before .before .before .before in
     let loop = c .before .loop in
-    let e : loop .s ≡ fileOf (start .args .law .now) .sentences .count = omega (arith, loop .inv .0) in sym (rw e at (loop .inv .2))))
+    let e : loop .s ≡ fileOf (start .args .law .now) .sentences .count = omega (arith, loop .inv .0) in
+    sym (rw e at (loop .inv .2))))

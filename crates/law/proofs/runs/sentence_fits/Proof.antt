@@ -17,7 +17,8 @@ sentence-fits-spec =
     (λ c.
     let start = c .before .before .before .before in
     let the-pattern = c .before .before .pattern in
-    sym (pattern-unfit (fileOf (start .args .law .now)) (start .args .s) (sym (c .before .run-fits .ensures ∙ ap runFits (the-pattern .ensures)) ∙ not-true _ (c .if1 .taken))))
+    let unfit = sym (c .before .run-fits .ensures ∙ ap runFits (the-pattern .ensures)) ∙ not-true _ (c .if1 .taken) in
+    sym (pattern-unfit (fileOf (start .args .law .now)) (start .args .s) unfit))
     (λ c κs. search needs)
     (λ c.
     let start = c .before .before .before .before .before .before in
@@ -31,4 +32,8 @@ sentence-fits-spec =
     let the-if1 = c .before .before .before .before .if1 in
     let the-conditions-fit = c .before .before .before .conditions-fit in
     let the-if2 = c .before .before .if2 in
-    c .run-fits2 .ensures ∙ ap runFits (c .before .result .ensures) ∙ sym (result-decides (fileOf (start .args .law .now)) (start .args .s) (sym (the-run-fits .ensures ∙ ap runFits (the-pattern .ensures)) ∙ not-false _ (the-if1 .left)) (sym (the-conditions-fit .ensures) ∙ not-false _ (the-if2 .left)))))
+    let pattern = sym (the-run-fits .ensures ∙ ap runFits (the-pattern .ensures)) ∙ not-false _ (the-if1 .left) in
+    let conditions = sym (the-conditions-fit .ensures) ∙ not-false _ (the-if2 .left) in
+    c .run-fits2 .ensures
+    ∙ ap runFits (c .before .result .ensures)
+    ∙ sym (result-decides (fileOf (start .args .law .now)) (start .args .s) pattern conditions)))
