@@ -7,9 +7,16 @@ use mathlib.Core.Path.{_≡_, refl, sym, ap, _∙_}
 use borrow.Author.Needs.{needs}
 use borrow.Author.Tests.{not-true, not-false}
 use lib.ListN.{length}
-use Rattle.file.specs.Sections.{fileOf}
-use Rattle.law.specs.Places.{conditionsOf, firstCondition}
-use Rattle.law.specs.Code.Terms.{sentencesIn}
+use Rattle.file.specs.Sections.{File, fileOf}
+use Rattle.law.specs.Places.{
+  conditionsOf,
+  firstCondition,
+  conditionResultAt,
+  conditionResultSize,
+  conditionResultPart,
+  conditionPatternPart,
+}
+use Rattle.law.specs.Code.Terms.{Owns, sentencesIn}
 use Rattle.law.proofs.IndexLaws as laws
 use Rattle.law.proofs.PartLaws as parts
 use Rattle.law.proofs.DepthSteps as steps
@@ -154,6 +161,125 @@ sentences-depth-Inv-loop law index first count depth i₀ i =
 abbrev sentences-depth-μ-loop : sentences-depth-lts.MeasureT-loop
 sentences-depth-μ-loop law index first count depth i₀ i = count - i
 
+-- the functions that conditions_depth calls
+abbrev conditions-depth-claims : ℕ → conditions-depth-lts.Claims
+conditions-depth-claims t = (
+  first-condition-reads.Asked,
+  first-condition-reads.Learnt,
+  condition-result-at-reads.Asked,
+  condition-result-at-reads.Learnt,
+  condition-result-reads.Asked,
+  condition-result-reads.Learnt,
+  run-depth-below t,
+  run-depth.Post,
+  condition-result-size-reads.Asked,
+  condition-result-size-reads.Learnt,
+  condition-pattern-reads.Asked,
+  condition-pattern-reads.Learnt,
+)
+
+module _ (t : ℕ) where
+  -- the places of conditions_depth: its start, the conditions counted, a round of the loop, the depth of the condition's result and of its pattern known
+  abbrev Conditions-start : Type 0
+  Conditions-start =
+      conditions-depth-lts.Start (conditions-depth-claims t) (conditions-depth-at t) conditions-depth.Post
+      conditions-depth-Inv-loop conditions-depth-μ-loop
+
+  abbrev Conditions-counted : Type 0
+  Conditions-counted =
+      conditions-depth-lts.After-first-condition2 (conditions-depth-claims t) (conditions-depth-at t) conditions-depth.Post
+      conditions-depth-Inv-loop conditions-depth-μ-loop
+
+  abbrev Condition-round : Type 0
+  Condition-round =
+      conditions-depth-lts.In-loop (conditions-depth-claims t) (conditions-depth-at t) conditions-depth.Post
+      conditions-depth-Inv-loop conditions-depth-μ-loop
+
+  abbrev Result-known : Type 0
+  Result-known =
+      conditions-depth-lts.After-run-depth (conditions-depth-claims t) (conditions-depth-at t) conditions-depth.Post
+      conditions-depth-Inv-loop conditions-depth-μ-loop
+
+  abbrev Pattern-known : Type 0
+  Pattern-known =
+      conditions-depth-lts.After-run-depth2 (conditions-depth-claims t) (conditions-depth-at t) conditions-depth.Post
+      conditions-depth-Inv-loop conditions-depth-μ-loop
+
+  -- the way back
+  abbrev conditions-call : Conditions-counted → Conditions-start
+  conditions-call c = c .before .before .before
+
+  abbrev condition-call : Condition-round → Conditions-start
+  condition-call c = conditions-call (c .before .before)
+
+  abbrev result-round : Result-known → Condition-round
+  result-round c = c .before .before .before
+
+  abbrev pattern-result : Pattern-known → Result-known
+  pattern-result c = c .before .before .before .before
+
+  abbrev pattern-round : Pattern-known → Condition-round
+  pattern-round c = result-round (pattern-result c)
+
+  -- the file and the sentence, and the round's condition
+  abbrev condition-file : Condition-round → File
+  condition-file c = fileOf (condition-call c .args .law .now)
+
+  abbrev condition-sentence : Condition-round → ℕ
+  condition-sentence c = condition-call c .args .s
+
+  abbrev condition-at : Condition-round → ℕ
+  condition-at c = c .before .before .before .first-condition .result + c .before .loop .i
+
+  condition-owned : (c : Condition-round) → Owns (condition-file c) (condition-sentence c) (condition-at c)
+  condition-owned c =
+      let start = condition-call c in
+      let loop = c .before .loop in
+      rw (sym (loop .inv .0))
+      at (laws.owns _ _ (start .pre .1 .0) (start .args .s) (loop .i) (start .pre .1 .2) (omega (arith, loop .inv .1, c .loop-test .taken)))
+
+  condition-inside : (c : Condition-round) → condition-at c < condition-file c .conditions .count
+  condition-inside c = laws.owned _ _ (condition-call c .pre .1 .0) _ _ (condition-owned c)
+
+  condition-limit : (c : Condition-round) → condition-at c < 128
+  condition-limit c = omega (arith, condition-inside c, laws.conditions-limit _ _ (condition-call c .pre .1 .0))
+
+  -- the numbers of the sentence's conditions, as the index has them
+  first-is : (c : Conditions-counted) → c .before .first-condition .result
+      ≡ firstCondition (fileOf (conditions-call c .args .law .now)) (conditions-call c .args .s)
+  first-is c =
+      let start = conditions-call c in
+      let indexed = start .pre .1 .0 in
+      c .before .first-condition .ensures ∙ indexed .words .firstConditions (start .args .s) (le-of-lt (start .pre .1 .2))
+
+  next-is : (c : Conditions-counted) → c .first-condition2 .result
+      ≡ firstCondition (fileOf (conditions-call c .args .law .now)) (conditions-call c .args .s)
+      + conditionsOf (fileOf (conditions-call c .args .law .now)) (conditions-call c .args .s)
+  next-is c =
+      let start = conditions-call c in
+      c .first-condition2 .ensures ∙ laws.conditions-before _ _ (start .pre .1 .0) (start .args .s) (start .pre .1 .2)
+
+  -- what the code knows of the depth of a condition's result and of its pattern
+  result-is : (c : Result-known) → c .run-depth .result
+      ≡ steps.runWithin
+      (condition-file (result-round c))
+      (conditionResultAt (condition-file (result-round c)) (condition-sentence (result-round c)) (condition-at (result-round c)))
+      (conditionResultPart (condition-file (result-round c)) (condition-sentence (result-round c)) (condition-at (result-round c)))
+      (condition-call (result-round c) .args .depth)
+  result-is c = rw (c .before .before .condition-result-at .ensures, c .before .condition-result .ensures) at (c .run-depth .ensures)
+
+  pattern-is : (c : Pattern-known) → c .run-depth2 .result
+      ≡ steps.runWithin
+      (condition-file (pattern-round c))
+      (conditionResultAt (condition-file (pattern-round c)) (condition-sentence (pattern-round c)) (condition-at (pattern-round c))
+      + conditionResultSize (condition-file (pattern-round c)) (condition-at (pattern-round c)))
+      (conditionPatternPart (condition-file (pattern-round c)) (condition-sentence (pattern-round c)) (condition-at (pattern-round c)))
+      (condition-call (pattern-round c) .args .depth)
+  pattern-is c =
+      let the-condition-result-at = c .before .before .before .before .before .before .condition-result-at in
+      rw (the-condition-result-at .ensures, c .before .before .condition-result-size .ensures, c .before .condition-pattern .ensures)
+      at (c .run-depth2 .ensures)
+
 pub +conditions-depth+run-depth+sentence-depth+sentences-depth+term-depth-spec :
     {M : Type 1} → statement M
 +conditions-depth+run-depth+sentence-depth+sentences-depth+term-depth-spec =
@@ -163,20 +289,7 @@ pub +conditions-depth+run-depth+sentence-depth+sentences-depth+term-depth-spec :
     μ-sentence-depth
     μ-sentences-depth
     μ-term-depth
-    (λ t. conditions-depth-lts.spec (
-      first-condition-reads.Asked,
-      first-condition-reads.Learnt,
-      condition-result-at-reads.Asked,
-      condition-result-at-reads.Learnt,
-      condition-result-reads.Asked,
-      condition-result-reads.Learnt,
-      run-depth-below t,
-      run-depth.Post,
-      condition-result-size-reads.Asked,
-      condition-result-size-reads.Learnt,
-      condition-pattern-reads.Asked,
-      condition-pattern-reads.Learnt,
-    )
+    (λ t. conditions-depth-lts.spec (conditions-depth-claims t)
     (conditions-depth-at t)
     conditions-depth.Post
     conditions-depth-Inv-loop
@@ -190,108 +303,92 @@ pub +conditions-depth+run-depth+sentence-depth+sentences-depth+term-depth-spec :
     (λ c κs.
     let start = c .before .before in
     omega (arith, laws.sentences-limit _ _ (start .pre .1 .0), start .pre .1 .2))
+    (λ c. omega (arith, first-is t c, next-is t c))
     (λ c.
-    let start = c .before .before .before in
-    let indexed = start .pre .1 .0 in
-    let first = indexed .words .firstConditions (start .args .s) (le-of-lt (start .pre .1 .2)) in
-    let within = laws.conditions-before _ _ indexed (start .args .s) (start .pre .1 .2) in
-    omega (arith, within, first, c .before .first-condition .ensures, c .first-condition2 .ensures))
-    (λ c.
-    let start = c .before .before .before in
-    let indexed = start .pre .1 .0 in
-    let first = indexed .words .firstConditions (start .args .s) (le-of-lt (start .pre .1 .2)) in
-    let within = laws.conditions-before _ _ indexed (start .args .s) (start .pre .1 .2) in
-    (c .before .first-condition .ensures ∙ first, omega (arith, within, first, c .before .first-condition .ensures, c .first-condition2 .ensures), omega arith, steps.conditions-same (fileOf (start .args .law .now)) (start .args .s) _ _ _ _ (start .args .depth) (omega (arith, within, first, c .before .first-condition .ensures, c .first-condition2 .ensures)) (omega (arith, first, c .before .first-condition .ensures))))
-    (λ c.
-    let start = c .before .before .before .before .before in
-    let loop = c .before .loop in
-    omega (arith, laws.owned _ _ (start .pre .1 .0) _ _ (laws.owns _ _ (start .pre .1 .0) (start .args .s) (loop .i) (start .pre .1 .2) (omega (arith, loop .inv .1))), laws.conditions-limit _ _ (start .pre .1 .0), loop .inv .0))
+    let start = conditions-call t c in (
+      first-is t c,
+      omega (arith, first-is t c, next-is t c),
+      omega arith,
+      steps.conditions-same (fileOf (start .args .law .now)) (start .args .s) _ _ _ _ (start .args .depth)
+          (omega (arith, first-is t c, next-is t c))
+          (omega (arith, first-is t c)),
+    ))
+    (λ c. omega (arith, condition-limit t c))
     (λ c κs.
-    let start = c .before .before .before .before .before in
-    let loop = c .before .loop in
-    (start .pre .1 .0, start .pre .1 .2, laws.owned _ _ (start .pre .1 .0) _ _ (rw (sym (loop .inv .0)) at (laws.owns _ _ (start .pre .1 .0) (start .args .s) (loop .i) (start .pre .1 .2) (omega (arith, loop .inv .1))))))
-    (λ c.
-    let start = c .before .before .before .before .before .before in
-    let loop = c .before .before .loop in
-    omega (arith, laws.owned _ _ (start .pre .1 .0) _ _ (laws.owns _ _ (start .pre .1 .0) (start .args .s) (loop .i) (start .pre .1 .2) (omega (arith, loop .inv .1))), laws.conditions-limit _ _ (start .pre .1 .0), loop .inv .0))
+    let start = condition-call t c in
+    (start .pre .1 .0, start .pre .1 .2, condition-inside t c))
+    (λ c. omega (arith, condition-limit t (c .before)))
     (λ c κs.
-    let start = c .before .before .before .before .before .before in
-    let loop = c .before .before .loop in
-    (start .pre .1 .0, (rw (sym (loop .inv .0)) at (laws.owns _ _ (start .pre .1 .0) (start .args .s) (loop .i) (start .pre .1 .2) (omega (arith, loop .inv .1))))))
+    let start = condition-call t (c .before) in
+    (start .pre .1 .0, condition-owned t (c .before)))
     (λ c κs.
-    let start = c .before .before .before .before .before .before .before in
-    let loop = c .before .before .before .loop in
-    let the-first-condition = c .before .before .before .before .before .first-condition in
-    (omega (arith, start .pre .0), (start .pre .1 .0, start .pre .1 .1, rw (c .before .condition-result-at .ensures, c .condition-result .ensures) (parts.condition-result-part (fileOf (start .args .law .now)) (start .pre .1 .1) (start .args .s) (the-first-condition .result + loop .i) (rw (sym (loop .inv .0)) at (laws.owns _ _ (start .pre .1 .0) (start .args .s) (loop .i) (start .pre .1 .2) (omega (arith, loop .inv .1))))), start .pre .1 .3)))
+    let round = c .before .before in
+    let start = condition-call t round in
+    let part = parts.condition-result-part (condition-file t round) (start .pre .1 .1) (start .args .s) (condition-at t round) (condition-owned t round) in (
+      omega (arith, start .pre .0),
+      (start .pre .1 .0, start .pre .1 .1, rw (c .before .condition-result-at .ensures, c .condition-result .ensures) part, start .pre .1 .3),
+    ))
     (λ c.
-    let start = c .before .before .before .before .before .before .before .before .before in
-    let loop = c .before .before .before .before .before .loop in
-    let the-condition-result-at = c .before .before .before .condition-result-at in
-    let the-condition-result = c .before .before .condition-result in
-    let the-first-condition2 = c .before .before .before .before .before .before .first-condition2 in
-    let the-first-condition = c .before .before .before .before .before .before .before .first-condition in
-    let the-loop-test = c .before .before .before .before .loop-test in
-    sym (rw (sym (rw (the-condition-result-at .ensures, the-condition-result .ensures) at (c .before .run-depth .ensures)) ∙ not-true _ (c .if1 .taken)) at (loop .inv .3 ∙ steps.conditions-next (fileOf (start .args .law .now)) (start .args .s) (the-first-condition2 .result - the-first-condition .result) (the-first-condition .result) (loop .i) (start .args .depth) (the-loop-test .taken))))
-    (λ c.
-    let start = c .before .before .before .before .before .before .before .before .before in
-    let loop = c .before .before .before .before .before .loop in
-    omega (arith, laws.owned _ _ (start .pre .1 .0) _ _ (laws.owns _ _ (start .pre .1 .0) (start .args .s) (loop .i) (start .pre .1 .2) (omega (arith, loop .inv .1))), laws.conditions-limit _ _ (start .pre .1 .0), loop .inv .0))
+    let round = result-round t (c .before) in
+    let start = condition-call t round in
+    let loop = round .before .loop in
+    let left = loop .inv .3 ∙ steps.conditions-next (condition-file t round) (start .args .s) _ _ (loop .i) (start .args .depth) (round .loop-test .taken) in
+    sym (rw (sym (result-is t (c .before)) ∙ not-true _ (c .if1 .taken)) at left))
+    (λ c. omega (arith, condition-limit t (result-round t (c .before))))
     (λ c κs.
-    let start = c .before .before .before .before .before .before .before .before .before in
-    let loop = c .before .before .before .before .before .loop in
-    (start .pre .1 .0, laws.owned _ _ (start .pre .1 .0) _ _ (rw (sym (loop .inv .0)) at (laws.owns _ _ (start .pre .1 .0) (start .args .s) (loop .i) (start .pre .1 .2) (omega (arith, loop .inv .1))))))
+    let round = result-round t (c .before) in
+    let start = condition-call t round in
+    (start .pre .1 .0, condition-inside t round))
     (λ c.
-    let start = c .before .before .before .before .before .before .before .before .before .before in
-    let loop = c .before .before .before .before .before .before .loop in
-    let the-condition-result-at = c .before .before .before .before .condition-result-at in
-    omega (arith, laws.condition-result-fits _ _ (start .pre .1 .0) _ _ (rw (sym (loop .inv .0)) at (laws.owns _ _ (start .pre .1 .0) (start .args .s) (loop .i) (start .pre .1 .2) (omega (arith, loop .inv .1)))), laws.terms-limit _ _ (start .pre .1 .0), the-condition-result-at .ensures, c .condition-result-size .ensures))
-    (λ c.
-    let start = c .before .before .before .before .before .before .before .before .before .before in
-    let loop = c .before .before .before .before .before .before .loop in
-    omega (arith, laws.owned _ _ (start .pre .1 .0) _ _ (laws.owns _ _ (start .pre .1 .0) (start .args .s) (loop .i) (start .pre .1 .2) (omega (arith, loop .inv .1))), laws.conditions-limit _ _ (start .pre .1 .0), loop .inv .0))
+    let result = c .before .before in
+    let round = result-round t result in
+    let start = condition-call t round in
+    let fits = laws.condition-result-fits _ _ (start .pre .1 .0) _ _ (condition-owned t round) in
+    let limit = laws.terms-limit _ _ (start .pre .1 .0) in
+    omega (arith, fits, limit, result .before .before .condition-result-at .ensures, c .condition-result-size .ensures))
+    (λ c. omega (arith, condition-limit t (result-round t (c .before .before))))
     (λ c κs.
-    let start = c .before .before .before .before .before .before .before .before .before .before in
-    let loop = c .before .before .before .before .before .before .loop in
-    (start .pre .1 .0, (rw (sym (loop .inv .0)) at (laws.owns _ _ (start .pre .1 .0) (start .args .s) (loop .i) (start .pre .1 .2) (omega (arith, loop .inv .1))))))
+    let round = result-round t (c .before .before) in
+    let start = condition-call t round in
+    (start .pre .1 .0, condition-owned t round))
     (λ c κs.
-    let start = c .before .before .before .before .before .before .before .before .before .before .before in
-    let loop = c .before .before .before .before .before .before .before .loop in
-    let the-condition-result-at = c .before .before .before .before .before .condition-result-at in
-    let the-first-condition = c .before .before .before .before .before .before .before .before .before .first-condition in
-    (omega (arith, start .pre .0), (start .pre .1 .0, start .pre .1 .1, rw (the-condition-result-at .ensures, c .before .condition-result-size .ensures, c .condition-pattern .ensures) (parts.condition-pattern-part (fileOf (start .args .law .now)) (start .pre .1 .1) (start .args .s) (the-first-condition .result + loop .i) (rw (sym (loop .inv .0)) at (laws.owns _ _ (start .pre .1 .0) (start .args .s) (loop .i) (start .pre .1 .2) (omega (arith, loop .inv .1))))), start .pre .1 .3)))
+    let result = c .before .before .before in
+    let round = result-round t result in
+    let start = condition-call t round in
+    let part = parts.condition-pattern-part (condition-file t round) (start .pre .1 .1) (start .args .s) (condition-at t round) (condition-owned t round) in
+    let placed = result .before .before .condition-result-at .ensures in
+    let sized = c .before .condition-result-size .ensures in (
+      omega (arith, start .pre .0),
+      (start .pre .1 .0, start .pre .1 .1, rw (placed, sized, c .condition-pattern .ensures) part, start .pre .1 .3),
+    ))
     (λ c.
-    let start = c .before .before .before .before .before .before .before .before .before .before .before .before .before in
-    let loop = c .before .before .before .before .before .before .before .before .before .loop in
-    let the-condition-result-at = c .before .before .before .before .before .before .before .condition-result-at in
-    let the-condition-result = c .before .before .before .before .before .before .condition-result in
-    let the-run-depth = c .before .before .before .before .before .run-depth in
-    let the-if1 = c .before .before .before .before .if1 in
-    let the-condition-result-size = c .before .before .before .condition-result-size in
-    let the-condition-pattern = c .before .before .condition-pattern in
-    let the-first-condition2 = c .before .before .before .before .before .before .before .before .before .before .first-condition2 in
-    let the-first-condition = c .before .before .before .before .before .before .before .before .before .before .before .first-condition in
-    let the-loop-test = c .before .before .before .before .before .before .before .before .loop-test in
-    sym (rw (sym (rw (the-condition-result-at .ensures, the-condition-result .ensures) at (the-run-depth .ensures)) ∙ not-false _ (the-if1 .left), sym (rw (the-condition-result-at .ensures, the-condition-result-size .ensures, the-condition-pattern .ensures) at (c .before .run-depth2 .ensures)) ∙ not-true _ (c .if2 .taken)) at (loop .inv .3 ∙ steps.conditions-next (fileOf (start .args .law .now)) (start .args .s) (the-first-condition2 .result - the-first-condition .result) (the-first-condition .result) (loop .i) (start .args .depth) (the-loop-test .taken))))
+    let pattern = c .before in
+    let round = pattern-round t pattern in
+    let start = condition-call t round in
+    let loop = round .before .loop in
+    let the-if1 = pattern .before .before .before .if1 in
+    let left = loop .inv .3 ∙ steps.conditions-next (condition-file t round) (start .args .s) _ _ (loop .i) (start .args .depth) (round .loop-test .taken) in
+    let result = sym (result-is t (pattern-result t pattern)) ∙ not-false _ (the-if1 .left) in
+    sym (rw (result, sym (pattern-is t pattern) ∙ not-true _ (c .if2 .taken)) at left))
     (λ c. omega arith)
     (λ c. omega arith)
     (λ c.
-    let start = c .before .before .before .before .before .before .before .before .before .before .before .before .before in
-    let loop = c .before .before .before .before .before .before .before .before .before .loop in
-    let the-condition-result-at = c .before .before .before .before .before .before .before .condition-result-at in
-    let the-condition-result = c .before .before .before .before .before .before .condition-result in
-    let the-run-depth = c .before .before .before .before .before .run-depth in
-    let the-if1 = c .before .before .before .before .if1 in
-    let the-condition-result-size = c .before .before .before .condition-result-size in
-    let the-condition-pattern = c .before .before .condition-pattern in
-    let the-first-condition2 = c .before .before .before .before .before .before .before .before .before .before .first-condition2 in
-    let the-first-condition = c .before .before .before .before .before .before .before .before .before .before .before .first-condition in
-    let the-loop-test = c .before .before .before .before .before .before .before .before .loop-test in
-    (loop .inv .0, loop .inv .1, omega arith, rw (sym (rw (the-condition-result-at .ensures, the-condition-result .ensures) at (the-run-depth .ensures)) ∙ not-false _ (the-if1 .left), sym (rw (the-condition-result-at .ensures, the-condition-result-size .ensures, the-condition-pattern .ensures) at (c .before .run-depth2 .ensures)) ∙ not-false _ (c .if2 .left)) at (loop .inv .3 ∙ steps.conditions-next (fileOf (start .args .law .now)) (start .args .s) (the-first-condition2 .result - the-first-condition .result) (the-first-condition .result) (loop .i) (start .args .depth) (the-loop-test .taken))))
+    let pattern = c .before in
+    let round = pattern-round t pattern in
+    let start = condition-call t round in
+    let loop = round .before .loop in
+    let the-if1 = pattern .before .before .before .if1 in
+    let left = loop .inv .3 ∙ steps.conditions-next (condition-file t round) (start .args .s) _ _ (loop .i) (start .args .depth) (round .loop-test .taken) in
+    let result = sym (result-is t (pattern-result t pattern)) ∙ not-false _ (the-if1 .left) in
+    (loop .inv .0, loop .inv .1, omega arith, rw (result, sym (pattern-is t pattern) ∙ not-false _ (c .if2 .left)) at left))
     (λ c.
     let start = c .before .before .before .before .before in
     let loop = c .before .loop in
     let the-first-condition = c .before .before .before .first-condition in
-    sym (loop .inv .3 ∙ steps.conditions-same (fileOf (start .args .law .now)) (start .args .s) _ 0 _ (the-first-condition .result + loop .i) (start .args .depth) (omega (arith, c .loop-test .left)) refl ∙ steps.conditions-none (fileOf (start .args .law .now)) (start .args .s) _ (start .args .depth))))
+    let file = fileOf (start .args .law .now) in
+    sym (loop .inv .3
+    ∙ steps.conditions-same file (start .args .s) _ 0 _ (the-first-condition .result + loop .i) (start .args .depth) (omega (arith, c .loop-test .left)) refl
+    ∙ steps.conditions-none file (start .args .s) _ (start .args .depth))))
     (λ t. run-depth-lts.spec (
       word-at-reads.Asked,
       word-at-reads.Learnt,
