@@ -404,7 +404,9 @@ pub +conditions-depth+run-depth+sentence-depth+sentences-depth+term-depth-spec :
     sym (steps.run-none (fileOf (start .args .law .now)) (start .args .at) (start .args .depth) (start .args .part .now) (c .if1 .taken)))
     (λ c.
     let start = c .before .before .before .before in
-    sym (steps.run-over (fileOf (start .args .law .now)) (start .args .at) (start .args .depth) (start .args .part .now) (c .before .if1 .left) (omega (arith, c .if2 .taken))))
+    sym
+    (steps.run-over (fileOf (start .args .law .now)) (start .args .at) (start .args .depth) (start .args .part .now)
+    (c .before .if1 .left) (omega (arith, c .if2 .taken))))
     (λ c.
     let start = c .before .before .before .before in
     steps.left-whole (fileOf (start .args .law .now)) (start .args .at) (start .args .depth) (start .args .part .now) (start .pre .1 .2))
@@ -421,7 +423,8 @@ pub +conditions-depth+run-depth+sentence-depth+sentences-depth+term-depth-spec :
     let the-if2 = c .before .before .before .before .if2 in
     let the-loop = c .before .before .before .loop in
     let start = c .before .before .before .before .before .before .before .before in
-    steps.left-leaf (fileOf (start .args .law .now)) (start .pre .1 .1) (the-loop .inv) (c .before .before .loop-test .taken) (omega (arith, the-if2 .left)) (c .before .word-at .ensures) (c .if3 .taken))
+    steps.left-leaf _ (start .pre .1 .1) (the-loop .inv) (c .before .before .loop-test .taken)
+    (omega (arith, the-if2 .left)) (c .before .word-at .ensures) (c .if3 .taken))
     (λ c.
     let the-loop = c .before .before .before .loop in
     omega (arith, the-loop .inv .within))
@@ -441,11 +444,15 @@ pub +conditions-depth+run-depth+sentence-depth+sentences-depth+term-depth-spec :
     let the-if2 = c .before .before .before .before .before .if2 in
     let start = c .before .before .before .before .before .before .before .before .before in
     let the-loop = c .before .before .before .before .loop in
-    (omega (arith, start .pre .0), (start .pre .1 .0, start .pre .1 .1, the-loop .inv .part, steps.left-some (fileOf (start .args .law .now)) (start .pre .1 .1) (the-loop .inv) (the-loop-test .taken), omega (arith, the-if2 .left))))
+    let some = steps.left-some _ (start .pre .1 .1) (the-loop .inv) (the-loop-test .taken) in (
+      omega (arith, start .pre .0),
+      (start .pre .1 .0, start .pre .1 .1, the-loop .inv .part, some, omega (arith, the-if2 .left)),
+    ))
     (λ c. let the-loop = c .before .before .before .before .before .before .loop in
     let the-loop-test = c .before .before .before .before .before .loop-test in
     let start = c .before .before .before .before .before .before .before .before .before .before .before in
-    steps.left-over (fileOf (start .args .law .now)) (start .pre .1 .1) (the-loop .inv) (the-loop-test .taken) (sym (c .before .term-depth .ensures) ∙ not-true _ (c .if4 .taken)))
+    let over = sym (c .before .term-depth .ensures) ∙ not-true _ (c .if4 .taken) in
+    steps.left-over _ (start .pre .1 .1) (the-loop .inv) (the-loop-test .taken) over)
     (λ c κs. let the-loop = c .before .before .before .before .before .before .loop in
     let the-loop-test = c .before .before .before .before .before .loop-test in
     let start = c .before .before .before .before .before .before .before .before .before .before .before in
@@ -461,7 +468,8 @@ pub +conditions-depth+run-depth+sentence-depth+sentences-depth+term-depth-spec :
     (λ c. let the-loop = c .before .before .before .before .before .before .before .loop in
     let the-loop-test = c .before .before .before .before .before .before .loop-test in
     let start = c .before .before .before .before .before .before .before .before .before .before .before .before in
-    steps.left-after (fileOf (start .args .law .now)) (start .pre .1 .1) (the-loop .inv) (the-loop-test .taken) (c .word-at2 .ensures) (sym (c .before .before .term-depth .ensures) ∙ not-false _ (c .before .if4 .left)))
+    let within = sym (c .before .before .term-depth .ensures) ∙ not-false _ (c .before .if4 .left) in
+    steps.left-after _ (start .pre .1 .1) (the-loop .inv) (the-loop-test .taken) (c .word-at2 .ensures) within)
     (λ c.
     let start = c .before .before .before .before .before .before in
     steps.left-none (fileOf (start .args .law .now)) (start .pre .1 .1) (c .before .loop .inv) (c .loop-test .left)))
@@ -487,12 +495,17 @@ pub +conditions-depth+run-depth+sentence-depth+sentences-depth+term-depth-spec :
     (start .pre .1 .0, le-of-lt (start .pre .1 .2)))
     (λ c κs.
     let start = c .before .before .before in
-    (omega (arith, start .pre .0), (start .pre .1 .0, start .pre .1 .1, rw (c .pattern-at .ensures, c .before .pattern .ensures) (parts.pattern-part (fileOf (start .args .law .now)) (start .pre .1 .1) (start .args .s) (start .pre .1 .2)), start .pre .1 .3)))
+    let part = parts.pattern-part (fileOf (start .args .law .now)) (start .pre .1 .1) (start .args .s) (start .pre .1 .2) in (
+      omega (arith, start .pre .0),
+      (start .pre .1 .0, start .pre .1 .1, rw (c .pattern-at .ensures, c .before .pattern .ensures) part, start .pre .1 .3),
+    ))
     (λ c.
     let start = c .before .before .before .before .before in
     let the-pattern-at = c .before .before .pattern-at in
     let the-pattern = c .before .before .before .pattern in
-    sym (rw (sym (rw (the-pattern-at .ensures, the-pattern .ensures) at (c .before .run-depth .ensures)) ∙ not-true _ (c .if1 .taken)) at (steps.sentence-step (fileOf (start .args .law .now)) (start .pre .1 .1) (start .args .s) (start .args .depth) (start .pre .1 .2))))
+    let step = steps.sentence-step _ (start .pre .1 .1) (start .args .s) (start .args .depth) (start .pre .1 .2) in
+    let pattern = rw (the-pattern-at .ensures, the-pattern .ensures) at (c .before .run-depth .ensures) in
+    sym (rw (sym pattern ∙ not-true _ (c .if1 .taken)) at step))
     (λ c κs.
     let start = c .before .before .before .before .before in
     (omega (arith, start .pre .0), (start .pre .1 .0, start .pre .1 .1, start .pre .1 .2, start .pre .1 .3)))
@@ -502,7 +515,10 @@ pub +conditions-depth+run-depth+sentence-depth+sentences-depth+term-depth-spec :
     let the-pattern = c .before .before .before .before .before .pattern in
     let the-run-depth = c .before .before .before .run-depth in
     let the-if1 = c .before .before .if1 in
-    sym (rw (sym (rw (the-pattern-at .ensures, the-pattern .ensures) at (the-run-depth .ensures)) ∙ not-false _ (the-if1 .left), sym (c .before .conditions-depth .ensures) ∙ not-true _ (c .if2 .taken)) at (steps.sentence-step (fileOf (start .args .law .now)) (start .pre .1 .1) (start .args .s) (start .args .depth) (start .pre .1 .2))))
+    let step = steps.sentence-step _ (start .pre .1 .1) (start .args .s) (start .args .depth) (start .pre .1 .2) in
+    let pattern = rw (the-pattern-at .ensures, the-pattern .ensures) at (the-run-depth .ensures) in
+    let conditions = c .before .conditions-depth .ensures in
+    sym (rw (sym pattern ∙ not-false _ (the-if1 .left), sym conditions ∙ not-true _ (c .if2 .taken)) at step))
     (λ c κs.
     let start = c .before .before .before .before .before .before .before in
     (start .pre .1 .0, start .pre .1 .2))
@@ -511,7 +527,10 @@ pub +conditions-depth+run-depth+sentence-depth+sentences-depth+term-depth-spec :
     (start .pre .1 .0, start .pre .1 .2))
     (λ c κs.
     let start = c .before .before .before .before .before .before .before .before .before in
-    (omega (arith, start .pre .0), (start .pre .1 .0, start .pre .1 .1, rw (c .result-at .ensures, c .before .result .ensures) (parts.result-part (fileOf (start .args .law .now)) (start .pre .1 .1) (start .args .s) (start .pre .1 .2)), start .pre .1 .3)))
+    let part = parts.result-part (fileOf (start .args .law .now)) (start .pre .1 .1) (start .args .s) (start .pre .1 .2) in (
+      omega (arith, start .pre .0),
+      (start .pre .1 .0, start .pre .1 .1, rw (c .result-at .ensures, c .before .result .ensures) part, start .pre .1 .3),
+    ))
     (λ c.
     let start = c .before .before .before .before .before .before .before .before .before .before in
     let the-result = c .before .before .result in
@@ -521,7 +540,11 @@ pub +conditions-depth+run-depth+sentence-depth+sentences-depth+term-depth-spec :
     let the-if1 = c .before .before .before .before .before .if1 in
     let the-conditions-depth = c .before .before .before .before .conditions-depth in
     let the-if2 = c .before .before .before .if2 in
-    rw (c .before .result-at .ensures, the-result .ensures) at (c .run-depth2 .ensures) ∙ sym (rw (sym (rw (the-pattern-at .ensures, the-pattern .ensures) at (the-run-depth .ensures)) ∙ not-false _ (the-if1 .left), sym (the-conditions-depth .ensures) ∙ not-false _ (the-if2 .left)) at (steps.sentence-step (fileOf (start .args .law .now)) (start .pre .1 .1) (start .args .s) (start .args .depth) (start .pre .1 .2)))))
+    let step = steps.sentence-step _ (start .pre .1 .1) (start .args .s) (start .args .depth) (start .pre .1 .2) in
+    let pattern = rw (the-pattern-at .ensures, the-pattern .ensures) at (the-run-depth .ensures) in
+    let conditions = the-conditions-depth .ensures in
+    let result = rw (c .before .result-at .ensures, the-result .ensures) at (c .run-depth2 .ensures) in
+    result ∙ sym (rw (sym pattern ∙ not-false _ (the-if1 .left), sym conditions ∙ not-false _ (the-if2 .left)) at step)))
     (λ t. sentences-depth-lts.spec
     (sentence-depth-below t, sentence-depth.Post)
     (sentences-depth-at t)
@@ -535,24 +558,35 @@ pub +conditions-depth+run-depth+sentence-depth+sentences-depth+term-depth-spec :
     let start = c .before .before .before in
     omega (arith, laws.sentences-limit _ _ (start .pre .1 .0), start .pre .1 .2, c .loop-test .taken))
     (λ c κs.
-    let start = c .before .before .before in
-    (omega (arith, start .pre .0), (start .pre .1 .0, start .pre .1 .1, omega (arith, start .pre .1 .2, c .loop-test .taken), start .pre .1 .3)))
+    let start = c .before .before .before in (
+      omega (arith, start .pre .0),
+      (start .pre .1 .0, start .pre .1 .1, omega (arith, start .pre .1 .2, c .loop-test .taken), start .pre .1 .3),
+    ))
     (λ c.
     let start = c .before .before .before .before .before in
     let loop = c .before .before .before .loop in
     let the-loop-test = c .before .before .loop-test in
-    sym (rw (sym (c .before .sentence-depth .ensures) ∙ not-true _ (c .if1 .taken)) at (loop .inv .1 ∙ steps.sentences-next (fileOf (start .args .law .now)) (start .pre .1 .1) (start .args .count) (start .args .first) (loop .i) (start .args .depth) (the-loop-test .taken) (start .pre .1 .2))))
+    let next =
+    steps.sentences-next _ (start .pre .1 .1) (start .args .count) (start .args .first) (loop .i) (start .args .depth)
+    (the-loop-test .taken) (start .pre .1 .2) in
+    sym (rw (sym (c .before .sentence-depth .ensures) ∙ not-true _ (c .if1 .taken)) at (loop .inv .1 ∙ next)))
     (λ c. omega arith)
     (λ c. omega arith)
     (λ c.
     let start = c .before .before .before .before .before in
     let loop = c .before .before .before .loop in
     let the-loop-test = c .before .before .loop-test in
-    (omega arith, rw (sym (c .before .sentence-depth .ensures) ∙ not-false _ (c .if1 .left)) at (loop .inv .1 ∙ steps.sentences-next (fileOf (start .args .law .now)) (start .pre .1 .1) (start .args .count) (start .args .first) (loop .i) (start .args .depth) (the-loop-test .taken) (start .pre .1 .2))))
+    let next =
+    steps.sentences-next _ (start .pre .1 .1) (start .args .count) (start .args .first) (loop .i) (start .args .depth)
+    (the-loop-test .taken) (start .pre .1 .2) in
+    (omega arith, rw (sym (c .before .sentence-depth .ensures) ∙ not-false _ (c .if1 .left)) at (loop .inv .1 ∙ next)))
     (λ c.
     let start = c .before .before .before in
     let loop = c .before .loop in
-    sym (loop .inv .1 ∙ steps.sentences-same (fileOf (start .args .law .now)) _ 0 _ (start .args .first + loop .i) (start .args .depth) (omega (arith, c .loop-test .left)) refl ∙ steps.sentences-none (fileOf (start .args .law .now)) _ (start .args .depth))))
+    let file = fileOf (start .args .law .now) in
+    sym (loop .inv .1
+    ∙ steps.sentences-same file _ 0 _ (start .args .first + loop .i) (start .args .depth) (omega (arith, c .loop-test .left)) refl
+    ∙ steps.sentences-none file _ (start .args .depth))))
     λ t. term-depth-lts.spec (
       end-of-reads.Asked,
       end-of-reads.Learnt,
@@ -577,19 +611,23 @@ pub +conditions-depth+run-depth+sentence-depth+sentences-depth+term-depth-spec :
     (λ c. omega arith)
     (λ c.
     let start = c .before .before .before .before in
-    omega (arith, parts.part-at (fileOf (start .args .law .now)) (start .pre .1 .1) (start .args .at) (start .args .part .now) (start .pre .1 .2) (start .pre .1 .3), laws.terms-limit _ _ (start .pre .1 .0)))
+    let inside = parts.part-at _ (start .pre .1 .1) (start .args .at) (start .args .part .now) (start .pre .1 .2) (start .pre .1 .3) in
+    omega (arith, inside, laws.terms-limit _ _ (start .pre .1 .0)))
     (λ c.
     let start = c .before .before .before .before in
     omega (arith, start .pre .1 .4))
     (λ c κs.
     let start = c .before .before .before .before in
-    let contents = parts.contents-part (fileOf (start .args .law .now)) (start .pre .1 .1) (start .args .at) (start .args .part .now) (start .pre .1 .2) (start .pre .1 .3) in
-    (omega (arith, start .pre .0, start .pre .1 .4), (start .pre .1 .0, start .pre .1 .1, rw (c .before .end-of .ensures .0) contents, omega (arith, start .pre .1 .4))))
+    let contents = parts.contents-part _ (start .pre .1 .1) (start .args .at) (start .args .part .now) (start .pre .1 .2) (start .pre .1 .3) in (
+      omega (arith, start .pre .0, start .pre .1 .4),
+      (start .pre .1 .0, start .pre .1 .1, rw (c .before .end-of .ensures .0) contents, omega (arith, start .pre .1 .4)),
+    ))
     (λ c.
     let the-end-of = c .before .before .before .end-of in
     let start = c .before .before .before .before .before .before in
     let over = not-true _ (c .if1 .taken) in
-    steps.term-over (fileOf (start .args .law .now)) (start .pre .1 .1) (start .pre .1 .2) (start .pre .1 .3) (start .pre .1 .4) (the-end-of .ensures .0) (c .before .run-depth .ensures) over)
+    steps.term-over _ (start .pre .1 .1) (start .pre .1 .2) (start .pre .1 .3) (start .pre .1 .4) (the-end-of .ensures .0)
+    (c .before .run-depth .ensures) over)
     (λ c κs.
     let start = c .before .before .before .before .before .before in
     omega (arith, start .pre .1 .3))
@@ -601,10 +639,12 @@ pub +conditions-depth+run-depth+sentence-depth+sentences-depth+term-depth-spec :
     let start = c .before .before .before .before .before .before .before .before .before in
     let inside = not-false _ (the-if1 .left) in
     let counted = c .before .sentences-in .ensures ∙ ap sentencesIn (c .before .before .term-at .ensures) in
-    steps.term-alone (fileOf (start .args .law .now)) (start .pre .1 .1) (start .pre .1 .2) (start .pre .1 .3) (start .pre .1 .4) (the-end-of .ensures .0) (the-run-depth .ensures) inside counted (c .if2 .taken))
+    steps.term-alone _ (start .pre .1 .1) (start .pre .1 .2) (start .pre .1 .3) (start .pre .1 .4) (the-end-of .ensures .0)
+    (the-run-depth .ensures) inside counted (c .if2 .taken))
     (λ c κs.
     let start = c .before .before .before .before .before .before .before .before .before in
-    omega (arith, parts.part-at (fileOf (start .args .law .now)) (start .pre .1 .1) (start .args .at) (start .args .part .now) (start .pre .1 .2) (start .pre .1 .3), laws.terms-limit _ _ (start .pre .1 .0)))
+    let inside = parts.part-at _ (start .pre .1 .1) (start .args .at) (start .args .part .now) (start .pre .1 .2) (start .pre .1 .3) in
+    omega (arith, inside, laws.terms-limit _ _ (start .pre .1 .0)))
     (λ c.
     let start = c .before .before .before .before .before .before .before .before .before .before in
     omega (arith, start .pre .1 .4))
@@ -612,10 +652,13 @@ pub +conditions-depth+run-depth+sentence-depth+sentences-depth+term-depth-spec :
     let the-term-at = c .before .before .before .term-at in
     let start = c .before .before .before .before .before .before .before .before .before .before in
     let indexed = start .pre .1 .0 in
-    let first = c .block-first .ensures ∙ indexed .words .blocks (start .args .at) (parts.part-at (fileOf (start .args .law .now)) (start .pre .1 .1) (start .args .at) (start .args .part .now) (start .pre .1 .2) (start .pre .1 .3)) in
+    let stands = parts.part-at _ (start .pre .1 .1) (start .args .at) (start .args .part .now) (start .pre .1 .2) (start .pre .1 .3) in
+    let first = c .block-first .ensures ∙ indexed .words .blocks (start .args .at) stands in
     let counted = c .before .before .sentences-in .ensures ∙ ap sentencesIn (the-term-at .ensures) in
-    let inside = parts.part-sentences (fileOf (start .args .law .now)) (start .pre .1 .1) (start .args .at) (start .args .part .now) (start .pre .1 .2) (start .pre .1 .3) in
-    (omega (arith, start .pre .0, start .pre .1 .4), (start .pre .1 .0, start .pre .1 .1, rw (first, counted) inside, omega (arith, start .pre .1 .4))))
+    let inside = parts.part-sentences _ (start .pre .1 .1) (start .args .at) (start .args .part .now) (start .pre .1 .2) (start .pre .1 .3) in (
+      omega (arith, start .pre .0, start .pre .1 .4),
+      (start .pre .1 .0, start .pre .1 .1, rw (first, counted) inside, omega (arith, start .pre .1 .4)),
+    ))
     (λ c.
     let the-term-at = c .before .before .before .before .term-at in
     let the-sentences-in = c .before .before .before .sentences-in in
@@ -624,7 +667,9 @@ pub +conditions-depth+run-depth+sentence-depth+sentences-depth+term-depth-spec :
     let the-run-depth = c .before .before .before .before .before .before .run-depth in
     let start = c .before .before .before .before .before .before .before .before .before .before .before in
     let indexed = start .pre .1 .0 in
-    let first = c .before .block-first .ensures ∙ indexed .words .blocks (start .args .at) (parts.part-at (fileOf (start .args .law .now)) (start .pre .1 .1) (start .args .at) (start .args .part .now) (start .pre .1 .2) (start .pre .1 .3)) in
+    let stands = parts.part-at _ (start .pre .1 .1) (start .args .at) (start .args .part .now) (start .pre .1 .2) (start .pre .1 .3) in
+    let first = c .before .block-first .ensures ∙ indexed .words .blocks (start .args .at) stands in
     let inside = not-false _ (the-if1 .left) in
     let counted = the-sentences-in .ensures ∙ ap sentencesIn (the-term-at .ensures) in
-    steps.term-sentences (fileOf (start .args .law .now)) (start .pre .1 .1) (start .pre .1 .2) (start .pre .1 .3) (start .pre .1 .4) (the-end-of .ensures .0) (the-run-depth .ensures) inside counted first (c .sentences-depth .ensures))
+    steps.term-sentences _ (start .pre .1 .1) (start .pre .1 .2) (start .pre .1 .3) (start .pre .1 .4) (the-end-of .ensures .0)
+    (the-run-depth .ensures) inside counted first (c .sentences-depth .ensures))
