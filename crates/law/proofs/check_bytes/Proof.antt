@@ -21,5 +21,7 @@ check-bytes-spec =
     (λ c.
     let start = c .before .before .before .before .before in
     let the-sections-of = c .before .before .before .sections-of in
-    verdict.refused-filled (start .args .law .now) _ _ (verdict.sections-refused (start .args .law .now) _ (cut-refused (start .args .law .now) _ _ (the-sections-of .ensures) (c .before .why .given .1))))
+    let law = start .args .law .now in
+    let refused = cut-refused law _ _ (the-sections-of .ensures) (c .before .why .given .1) in
+    verdict.refused-filled law _ _ (verdict.sections-refused law _ refused))
     (λ c. search needs))

@@ -14,20 +14,26 @@ check-sections-spec =
     (λ c κs. search needs)
     (λ c.
     let start = c .before .before .before in
-    verdict.refused-filled (start .args .law .now) _ _ (verdict.fields-refused (start .args .law .now) (start .pre .0) (sym (c .before .fields-allowed .ensures) ∙ not-true _ (c .if1 .taken))))
+    let refused = sym (c .before .fields-allowed .ensures) ∙ not-true _ (c .if1 .taken) in
+    verdict.refused-filled (start .args .law .now) _ _ (verdict.fields-refused (start .args .law .now) (start .pre .0) refused))
     (λ c κs. search needs)
     (λ c κs.
     let start = c .before .before .before .before .before .before .before in
     let the-place-records = c .before .before .place-records in
     let the-fields-allowed = c .before .before .before .before .before .fields-allowed in
     let the-if1 = c .before .before .before .before .if1 in
-    (placed-indexed (start .args .law .now) _ (start .pre .0) (sym (the-place-records .ensures .0) ∙ c .before .if2 .taken) (the-place-records .ensures .1), sym (the-fields-allowed .ensures) ∙ not-false _ (the-if1 .left)))
+    let used = sym (the-place-records .ensures .0) ∙ c .before .if2 .taken in
+    let fields = sym (the-fields-allowed .ensures) ∙ not-false _ (the-if1 .left) in
+    (placed-indexed (start .args .law .now) _ (start .pre .0) used (the-place-records .ensures .1), fields))
     (λ c.
     let start = c .before .before .before .before .before .before .before .before in
     let the-place-records = c .before .before .before .place-records in
-    (c .check-placed .ensures, λ _. placed-indexed (start .args .law .now) _ (start .pre .0) (sym (the-place-records .ensures .0) ∙ c .before .before .if2 .taken) (the-place-records .ensures .1)))
+    let used = sym (the-place-records .ensures .0) ∙ c .before .before .if2 .taken in
+    (c .check-placed .ensures, λ _. placed-indexed (start .args .law .now) _ (start .pre .0) used (the-place-records .ensures .1)))
     (λ c.
     let start = c .before .before .before .before .before .before in
     let the-fields-allowed = c .before .before .before .before .fields-allowed in
     let the-if1 = c .before .before .before .if1 in
-    verdict.refused-filled (start .args .law .now) _ _ (verdict.used-refused (start .args .law .now) (start .pre .0) (sym (the-fields-allowed .ensures) ∙ not-false _ (the-if1 .left)) (sym (c .before .place-records .ensures .0) ∙ c .if2 .left))))
+    let fields = sym (the-fields-allowed .ensures) ∙ not-false _ (the-if1 .left) in
+    let unused = sym (c .before .place-records .ensures .0) ∙ c .if2 .left in
+    verdict.refused-filled (start .args .law .now) _ _ (verdict.used-refused (start .args .law .now) (start .pre .0) fields unused)))

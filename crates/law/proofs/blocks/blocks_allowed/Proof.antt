@@ -33,7 +33,8 @@ blocks-allowed-spec =
     (λ c.
     let the-sentences = c .before .before .before .sentences in
     let start = c .before .before .before .before .before in
-    functions-have-all _ _ (start .pre) _ _ _ (c .before .before .functions .ensures) (c .before .first-sentence .ensures) (the-sentences .ensures) (c .if1 .taken))
+    functions-have-all _ _ (start .pre) _ _ _ (c .before .before .functions .ensures) (c .before .first-sentence .ensures)
+    (the-sentences .ensures) (c .if1 .taken))
     (λ c. (omega arith, every-none _))
     (λ c κs.
     let called = c .before .before .before .before .before in
@@ -42,7 +43,8 @@ blocks-allowed-spec =
     (λ c.
     let called = c .before .before .before .before .before .before .before in
     let start = called .before .before in
-    sentences-fail _ _ (start .pre) (sentenceBlocks (fileOf (start .args .law .now))) _ _ _ (called .sentences .ensures) (c .before .before .loop-test .taken) (c .before .sentence-blocks .ensures) (not-true _ (c .if2 .taken)))
+    sentences-fail _ _ (start .pre) (sentenceBlocks (fileOf (start .args .law .now))) _ _ _ (called .sentences .ensures)
+    (c .before .before .loop-test .taken) (c .before .sentence-blocks .ensures) (not-true _ (c .if2 .taken)))
     (λ c. omega arith)
     (λ c. omega arith)
     (λ c.
@@ -50,4 +52,5 @@ blocks-allowed-spec =
     (omega arith, every-next (the-loop .s) _ (the-loop .inv .1) (sym (c .before .sentence-blocks .ensures) ∙ not-false _ (c .if2 .left))))
     (λ c.
     let called = c .before .before .before .before .before in
-    sentences-hold _ _ (called .before .before .pre) _ _ _ (called .sentences .ensures) (c .before .loop .inv .0) (c .loop-test .left) (c .before .loop .inv .1)))
+    let inv = c .before .loop .inv in
+    sentences-hold _ _ (called .before .before .pre) _ _ _ (called .sentences .ensures) (inv .0) (c .loop-test .left) (inv .1)))

@@ -41,15 +41,19 @@ sentence-blocks-spec =
     (λ c. (omega arith, every-none _))
     (λ c.
     let the-pattern-at = c .before .before .before .pattern-at in
-    let p = c .before .before .before .before .before .pre in omega (arith, terms-limit _ _ (p .0), the-pattern-at .ensures, c .before .before .pattern-at2 .ensures))
+    let p = c .before .before .before .before .before .pre in
+    omega (arith, terms-limit _ _ (p .0), the-pattern-at .ensures, c .before .before .pattern-at2 .ensures))
     (λ c κs.
     let the-pattern-at = c .before .before .before .pattern-at in
-    let p = c .before .before .before .before .before .pre in (p .0, sentence-term _ _ (p .0) _ _ _ _ (p .1) (the-pattern-at .ensures) (c .before .before .pattern-at2 .ensures) (c .loop-test .taken)))
+    let the-pattern-at2 = c .before .before .pattern-at2 in
+    let p = c .before .before .before .before .before .pre in
+    (p .0, sentence-term _ _ (p .0) _ _ _ _ (p .1) (the-pattern-at .ensures) (the-pattern-at2 .ensures) (c .loop-test .taken)))
     (λ c.
     let the-pattern-at2 = c .before .before .before .before .pattern-at2 in
     let the-pattern-at = c .before .before .before .before .before .pattern-at in
     let a = c .before .before .before .before .before .before .before .args in
-    sentence-fails (fileOf (a .law .now)) (a .s) _ _ (the-pattern-at .ensures) (the-pattern-at2 .ensures) _ _ (c .before .before .loop-test .taken) (c .before .block-later .ensures) (not-true _ (c .if1 .taken)))
+    sentence-fails (fileOf (a .law .now)) (a .s) _ _ (the-pattern-at .ensures) (the-pattern-at2 .ensures) _ _
+    (c .before .before .loop-test .taken) (c .before .block-later .ensures) (not-true _ (c .if1 .taken)))
     (λ c. omega arith)
     (λ c. omega arith)
     (λ c.
@@ -58,4 +62,5 @@ sentence-blocks-spec =
     (λ c.
     let the-pattern-at = c .before .before .before .pattern-at in
     let a = c .before .before .before .before .before .args in
-    sentence-holds (fileOf (a .law .now)) (a .s) _ _ (the-pattern-at .ensures) (c .before .before .pattern-at2 .ensures) (c .before .loop .i) (c .before .loop .inv .0) (c .loop-test .left) (c .before .loop .inv .1)))
+    sentence-holds (fileOf (a .law .now)) (a .s) _ _ (the-pattern-at .ensures) (c .before .before .pattern-at2 .ensures)
+    (c .before .loop .i) (c .before .loop .inv .0) (c .loop-test .left) (c .before .loop .inv .1)))

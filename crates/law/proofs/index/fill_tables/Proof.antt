@@ -81,5 +81,8 @@ fill-tables-spec =
     let conditions = c .before .before .before .before .before .fill-pair-sums .ensures in
     let sentences = c .before .before .before .fill-pair-sums2 .ensures in
     let blocks = c .before .fill-blocks .ensures in
-    let made = tables-made (start .args .law .now) (start .args .sections) (start .pre .0) _ _ _ _ _ _ _ _ _ _ _ _ (start .pre .1) (functions .0) (functions .3) (asked .0) (asked .3) (conditions .0) (conditions .3) (sentences .0) (sentences .3) (blocks .0) (blocks .3) (c .used-exactly .ensures) in
+    let made =
+    tables-made (start .args .law .now) (start .args .sections) (start .pre .0) _ _ _ _ _ _ _ _ _ _ _ _ (start .pre .1)
+    (functions .0) (functions .3) (asked .0) (asked .3) (conditions .0) (conditions .3) (sentences .0) (sentences .3) (blocks .0) (blocks .3)
+    (c .used-exactly .ensures) in
     (made .0, blocks .2, made .1)))

@@ -26,10 +26,16 @@ counted-spec =
     let the-if1 = c .before .before .before .if1 in
     let the-pre = c .before .before .before .before .before .before .before .pre in
     let a = c .before .before .before .before .before .before .before .args in
-    (distinct-repeated (a .text .now) (a .pattern .now) (a .count) (a .i) _ _ (the-pre .2) (the-word-at .ensures) (the-if1 .left) (c .before .before .if2 .left) (c .before .repeated .ensures) (c .if3 .taken), omega arith))
+    let told =
+    distinct-repeated (a .text .now) (a .pattern .now) (a .count) (a .i) _ _ (the-pre .2) (the-word-at .ensures) (the-if1 .left)
+    (c .before .before .if2 .left) (c .before .repeated .ensures) (c .if3 .taken) in
+    (told, omega arith))
     (λ c.
     let the-word-at = c .before .before .before .before .word-at in
     let the-if1 = c .before .before .before .if1 in
     let the-pre = c .before .before .before .before .before .before .before .pre in
     let a = c .before .before .before .before .before .before .before .args in
-    (distinct-new (a .text .now) (a .pattern .now) (a .count) (a .i) _ _ (the-pre .2) (the-word-at .ensures) (the-if1 .left) (c .before .before .if2 .left) (c .before .repeated .ensures) (c .if3 .left), omega arith)))
+    let told =
+    distinct-new (a .text .now) (a .pattern .now) (a .count) (a .i) _ _ (the-pre .2) (the-word-at .ensures) (the-if1 .left)
+    (c .before .before .if2 .left) (c .before .repeated .ensures) (c .if3 .left) in
+    (told, omega arith)))

@@ -11,7 +11,9 @@ use Rattle.law.proofs.patterns.pattern_allowed.Tie as tie
 
 abbrev Inv-loop : tie.InvT-loop
 Inv-loop text pattern count found₀ i₀ found i =
-    (i ≤ count) × (found ≤ 32) × (distinct (variablesFrom text pattern count 0) ≡ found + distinct (variablesFrom text pattern (count - i) i))
+    (i ≤ count)
+    × (found ≤ 32)
+    × (distinct (variablesFrom text pattern count 0) ≡ found + distinct (variablesFrom text pattern (count - i) i))
 
 abbrev μ-loop : tie.MeasureT-loop
 μ-loop text pattern count found₀ i₀ found i = count - i
@@ -35,4 +37,6 @@ pattern-allowed-spec =
     (λ c. omega arith)
     (λ c. (omega arith, omega arith, omega arith))
     (λ c. let a = c .before .before .before .before .before .args in
-    sym (rw (distinct-end (a .text .now) (a .pattern .now) (a .count) (c .before .loop .i) (c .before .loop .found) _ (c .loop-test .left) (c .before .loop .inv .2)) (le-leb _ _ (c .before .loop .inv .1)))))
+    let loop = c .before .loop in
+    let all = distinct-end (a .text .now) (a .pattern .now) (a .count) (loop .i) (loop .found) _ (c .loop-test .left) (loop .inv .2) in
+    sym (rw all (le-leb _ _ (loop .inv .1)))))

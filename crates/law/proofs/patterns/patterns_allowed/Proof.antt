@@ -32,7 +32,8 @@ patterns-allowed-spec =
     (λ c.
     let the-sentences = c .before .before .before .before .sentences in
     let start = c .before .before .before .before .before .before in
-    sentences-fail _ _ (start .pre .0) (λ s. leb (distinct (patternVariables (fileOf (start .args .law .now)) s)) 32) _ _ _ (the-sentences .ensures) (c .before .before .loop-test .taken) (c .before .sentence-pattern .ensures) (not-true _ (c .if1 .taken)))
+    sentences-fail _ _ (start .pre .0) (λ s. leb (distinct (patternVariables (fileOf (start .args .law .now)) s)) 32) _ _ _
+    (the-sentences .ensures) (c .before .before .loop-test .taken) (c .before .sentence-pattern .ensures) (not-true _ (c .if1 .taken)))
     (λ c. omega arith)
     (λ c. omega arith)
     (λ c.

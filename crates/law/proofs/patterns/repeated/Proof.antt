@@ -30,12 +30,18 @@ repeated-spec =
     (λ c.
     let the-loop = c .before .before .before .loop in
     let a = c .before .before .before .before .before .before .args in
-    λ v e. sym (the-loop .inv .1 v e ∙ occurs-here (a .text .now) (a .pattern .now) (a .count) v (the-loop .j) (c .before .before .loop-test .taken) (sym (c .before .same-variable .ensures v e) ∙ c .if1 .taken)))
+    λ v e.
+    let same = sym (c .before .same-variable .ensures v e) ∙ c .if1 .taken in
+    sym (the-loop .inv .1 v e ∙ occurs-here (a .text .now) (a .pattern .now) (a .count) v (the-loop .j) (c .before .before .loop-test .taken) same))
     (λ c. omega arith)
     (λ c. omega arith)
     (λ c.
     let the-loop = c .before .before .before .loop in
-    let a = c .before .before .before .before .before .before .args in
-    (omega arith, λ v e. the-loop .inv .1 v e ∙ occurs-next (a .text .now) (a .pattern .now) (a .count) v (the-loop .j) (c .before .before .loop-test .taken) (sym (c .before .same-variable .ensures v e) ∙ c .if1 .left)))
+    let a = c .before .before .before .before .before .before .args in (
+      omega arith,
+      λ v e.
+          let other = sym (c .before .same-variable .ensures v e) ∙ c .if1 .left in
+          the-loop .inv .1 v e ∙ occurs-next (a .text .now) (a .pattern .now) (a .count) v (the-loop .j) (c .before .before .loop-test .taken) other,
+    ))
     (λ c. let a = c .before .before .before .before .args in
     λ v e. sym (c .before .loop .inv .1 v e ∙ occurs-end (a .text .now) (a .pattern .now) (a .count) v (c .before .loop .j) (c .loop-test .left))))

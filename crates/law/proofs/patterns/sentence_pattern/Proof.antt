@@ -13,7 +13,10 @@ sentence-pattern-spec =
     (λ c κs. search needs)
     (λ c κs. search needs)
     (λ c κs. let p = c .before .before .before .before .pre in
-    (rw (c .before .before .pattern-size .ensures, c .pattern .ensures) (pattern-length _ _ (p .0) _ (p .2)), rw (c .before .text .ensures, c .pattern .ensures, c .before .before .pattern-size .ensures) (pattern-allowed _ _ (p .0) _ (p .2) (p .1))))
+    let size = c .before .before .pattern-size .ensures in (
+      rw (size, c .pattern .ensures) (pattern-length _ _ (p .0) _ (p .2)),
+      rw (c .before .text .ensures, c .pattern .ensures, size) (pattern-allowed _ _ (p .0) _ (p .2) (p .1)),
+    ))
     (λ c.
     let the-pattern-size = c .before .before .before .pattern-size in
     let p = c .before .before .before .before .before .pre in

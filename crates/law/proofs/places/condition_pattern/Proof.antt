@@ -19,14 +19,17 @@ condition-pattern-spec =
     (start .pre .0, laws.owned _ _ (start .pre .0) (start .args .s) (start .args .c) (start .pre .1)))
     (λ c.
     let start = c .before .before .before in
-    omega (arith, laws.condition-result-fits _ _ (start .pre .0) (start .args .s) (start .args .c) (start .pre .1), laws.terms-limit _ _ (start .pre .0), c .before .condition-result-at .ensures, c .condition-result-size .ensures))
+    let fits = laws.condition-result-fits _ _ (start .pre .0) (start .args .s) (start .args .c) (start .pre .1) in
+    omega (arith, fits, laws.terms-limit _ _ (start .pre .0), c .before .condition-result-at .ensures, c .condition-result-size .ensures))
     (λ c κs.
     let start = c .before .before .before in
     (start .pre .0, laws.owned _ _ (start .pre .0) (start .args .s) (start .args .c) (start .pre .1), omega arith))
     (λ c κs.
     let start = c .before .before .before .before in
     let the-condition-result-at = c .before .before .condition-result-at in
-    (start .pre .0, omega (arith, laws.condition-result-fits _ _ (start .pre .0) (start .args .s) (start .args .c) (start .pre .1), the-condition-result-at .ensures, c .before .condition-result-size .ensures, c .condition-word .ensures)))
+    let fits = laws.condition-result-fits _ _ (start .pre .0) (start .args .s) (start .args .c) (start .pre .1) in
+    let size = c .before .condition-result-size .ensures in
+    (start .pre .0, omega (arith, fits, size, the-condition-result-at .ensures, c .condition-word .ensures)))
     (λ c.
     let the-condition-result-at = c .before .before .before .condition-result-at in
     let the-condition-result-size = c .before .before .condition-result-size in

@@ -17,5 +17,6 @@ condition-result-spec = tie.close (tie.spec
     (start .pre .0, laws.owned _ _ (start .pre .0) (start .args .s) (start .args .c) (start .pre .1)))
     (λ c κs.
     let start = c .before .before .before in
-    (start .pre .0, omega (arith, laws.condition-result-fits _ _ (start .pre .0) (start .args .s) (start .args .c) (start .pre .1), c .before .condition-result-at .ensures, c .condition-result-size .ensures)))
+    let fits = laws.condition-result-fits _ _ (start .pre .0) (start .args .s) (start .args .c) (start .pre .1) in
+    (start .pre .0, omega (arith, fits, c .before .condition-result-at .ensures, c .condition-result-size .ensures)))
     (λ c. c .records .ensures ∙ rw (c .before .before .condition-result-at .ensures, c .before .condition-result-size .ensures)))

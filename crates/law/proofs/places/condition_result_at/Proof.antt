@@ -28,8 +28,10 @@ condition-result-at-spec =
     (λ c.
     let start = c .before .before .before .before in
     let the-word = c .before .before .word in
-    omega (arith, laws.pattern-small _ _ (start .pre .0) (start .args .s) (start .pre .1), the-word .ensures .1, c .word2 .ensures .1, c .before .pattern-size .ensures))
+    let small = laws.pattern-small _ _ (start .pre .0) (start .args .s) (start .pre .1) in
+    omega (arith, small, the-word .ensures .1, c .word2 .ensures .1, c .before .pattern-size .ensures))
     (λ c.
     let start = c .before .before .before .before in
     let the-word = c .before .before .word in
-    rw (the-word .ensures .0, c .word2 .ensures .0, c .before .pattern-size .ensures) (laws.condition-result-is _ _ (start .pre .0) (start .args .s) (start .args .c) (start .pre .1) (omega arith))))
+    rw (the-word .ensures .0, c .word2 .ensures .0, c .before .pattern-size .ensures)
+    (laws.condition-result-is _ _ (start .pre .0) (start .args .s) (start .args .c) (start .pre .1) (omega arith))))

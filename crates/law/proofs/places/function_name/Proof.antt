@@ -16,7 +16,10 @@ function-name-spec =
     (λ c κs.
     let start = c .before .before .before .before in
     let the-function-word = c .before .before .function-word in
-    rw (the-function-word .ensures ∙ laws.zero-offset _ _, c .before .function-word2 .ensures, c .text .ensures) (function-inside ((fileOf (start .args .law .now)) .text .records) ((fileOf (start .args .law .now)) .functions .records) ((fileOf (start .args .law .now)) .functions .count) (start .args .f) (fields-functions (fileOf (start .args .law .now)) (start .pre .2)) (start .pre .1)))
+    let file = fileOf (start .args .law .now) in
+    let fields = fields-functions file (start .pre .2) in
+    rw (the-function-word .ensures ∙ laws.zero-offset _ _, c .before .function-word2 .ensures, c .text .ensures)
+    (function-inside (file .text .records) (file .functions .records) (file .functions .count) (start .args .f) fields (start .pre .1)))
     (λ c.
     let the-function-word = c .before .before .before .function-word in
     let the-function-word2 = c .before .before .function-word2 in

@@ -26,4 +26,5 @@ function-word-spec =
     (λ c. search needs)
     (λ c.
     let start = c .before .before .before in
-    c .word-at .ensures ∙ rw (c .before .word .ensures .0) (laws.function-word _ _ (start .pre .0) (start .args .f) (start .args .at) (start .pre .1) (start .pre .2))))
+    c .word-at .ensures
+    ∙ rw (c .before .word .ensures .0) (laws.function-word _ _ (start .pre .0) (start .args .f) (start .args .at) (start .pre .1) (start .pre .2))))

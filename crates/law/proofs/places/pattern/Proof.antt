@@ -15,5 +15,6 @@ pattern-spec =
     (λ c κs. search needs)
     (λ c κs.
     let start = c .before .before .before in
-    (start .pre .0, omega (arith, laws.pattern-fits _ _ (start .pre .0) (start .args .s) (start .pre .1), c .before .pattern-at .ensures, c .pattern-size .ensures)))
+    let fits = laws.pattern-fits _ _ (start .pre .0) (start .args .s) (start .pre .1) in
+    (start .pre .0, omega (arith, fits, c .before .pattern-at .ensures, c .pattern-size .ensures)))
     (λ c. c .records .ensures ∙ rw (c .before .before .pattern-at .ensures, c .before .pattern-size .ensures)))

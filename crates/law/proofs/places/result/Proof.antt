@@ -15,5 +15,6 @@ result-spec =
     (λ c κs. search needs)
     (λ c κs.
     let start = c .before .before .before in
-    (start .pre .0, omega (arith, laws.result-fits _ _ (start .pre .0) (start .args .s) (start .pre .1), c .before .result-at .ensures, c .sentence-word .ensures)))
+    let fits = laws.result-fits _ _ (start .pre .0) (start .args .s) (start .pre .1) in
+    (start .pre .0, omega (arith, fits, c .before .result-at .ensures, c .sentence-word .ensures)))
     (λ c. c .records .ensures ∙ rw (c .before .before .result-at .ensures, c .before .sentence-word .ensures)))

@@ -33,9 +33,11 @@ result-at-spec =
     (λ c.
     let start = c .before .before .before .before .before in
     let the-word2 = c .before .before .word2 in
-    omega (arith, laws.pattern-small _ _ (start .pre .0) (start .args .s) (start .pre .1), the-word2 .ensures .1, c .word3 .ensures .1, c .before .pattern-size .ensures))
+    let small = laws.pattern-small _ _ (start .pre .0) (start .args .s) (start .pre .1) in
+    omega (arith, small, the-word2 .ensures .1, c .word3 .ensures .1, c .before .pattern-size .ensures))
     (λ c.
     let start = c .before .before .before .before .before in
     let the-word2 = c .before .before .word2 in
     let the-word = c .before .before .before .word in
-    rw (the-word2 .ensures .0, c .word3 .ensures .0, the-word .ensures .0, c .before .pattern-size .ensures) (laws.result-is _ _ (start .pre .0) (start .args .s) (start .pre .1))))
+    rw (the-word2 .ensures .0, c .word3 .ensures .0, the-word .ensures .0, c .before .pattern-size .ensures)
+    (laws.result-is _ _ (start .pre .0) (start .args .s) (start .pre .1))))
