@@ -18,12 +18,14 @@ use Rattle.law.specs.Law.{lawOf}
 use Rattle.law.specs.Code.Accepted.{Accepted}
 
 -- a step that refuses is passed only if its test fails
-pub passed : {A : Type 0} (n : ℕ) (test : Bool) (after : Answer A) (a : A) → refuseIf n test >> after ≡ given a → (test ≡ false) × (after ≡ given a)
+pub passed : {A : Type 0} (n : ℕ) (test : Bool) (after : Answer A) (a : A) → refuseIf n test >> after ≡ given a
+    → (test ≡ false) × (after ≡ given a)
 passed n true after a h = let z : true ≡ false = cc in (z, cc)
 passed n false after a h = (refl, h)
 
 -- a step that gives a value is passed only if it gives one
-pub taken : {A B : Type 0} (answer : Answer A) (after : A → Answer B) (b : B) → answer >>= after ≡ given b → (a : A) × (answer ≡ given a) × (after a ≡ given b)
+pub taken : {A B : Type 0} (answer : Answer A) (after : A → Answer B) (b : B) → answer >>= after ≡ given b
+    → (a : A) × (answer ≡ given a) × (after a ≡ given b)
 taken (refused n) after b h = let z : _≡_ {A = ℕ} 0 1 = cc in absurd (omega arith)
 taken (given a) after b h = (a, refl, h)
 

@@ -11,7 +11,17 @@ use Rattle.file.specs.Sections.{File, fileOf}
 use Rattle.file.proofs.SectionLaws.{sections-records}
 use Rattle.file.proofs.Below.{both-first, both-second, every-at}
 use Rattle.law.specs.Code.Index.{Readable}
-use Rattle.law.specs.Places.{conditionsOf, blockSize, blockFirst, firstCondition, patternAt, patternPart, resultPart, conditionResultPart, conditionPatternPart}
+use Rattle.law.specs.Places.{
+  conditionsOf,
+  blockSize,
+  blockFirst,
+  firstCondition,
+  patternAt,
+  patternPart,
+  resultPart,
+  conditionResultPart,
+  conditionPatternPart,
+}
 use Rattle.law.specs.Runs.{runFits, conditionFits, sentenceFits, usedUp, runsAllowed, blockLater, sentenceBlocks, blocksAllowed}
 use Rattle.law.specs.Variables.{distinct, patternVariables, patternsAllowed}
 use Rattle.law.specs.Code.Accepted.{Accepted}
@@ -65,10 +75,12 @@ module _ (file : File) (runs : runsAllowed file ≡ true) where
         (sentence-fits .1)
         (omega (arith, condition-next file s)))
 
-    pub condition-result-fits : (c : ℕ) → firstCondition file s ≤ c → c < firstCondition file (suc s) → runFits (conditionResultPart file s c) ≡ true
+    pub condition-result-fits : (c : ℕ) → firstCondition file s ≤ c → c < firstCondition file (suc s)
+        → runFits (conditionResultPart file s c) ≡ true
     condition-result-fits c low high = both-first (runFits (conditionResultPart file s c)) (runFits (conditionPatternPart file s c)) (condition-fits c low high)
 
-    pub condition-pattern-fits : (c : ℕ) → firstCondition file s ≤ c → c < firstCondition file (suc s) → runFits (conditionPatternPart file s c) ≡ true
+    pub condition-pattern-fits : (c : ℕ) → firstCondition file s ≤ c → c < firstCondition file (suc s)
+        → runFits (conditionPatternPart file s c) ≡ true
     condition-pattern-fits c low high = both-second (runFits (conditionResultPart file s c)) (runFits (conditionPatternPart file s c)) (condition-fits c low high)
 
 module _ (file : File) (blocks : blocksAllowed file ≡ true) (s : ℕ) (inside : s < file .sentences .count) (t : ℕ) (low : patternAt file s ≤ t) (high : t < patternAt file (suc s)) where

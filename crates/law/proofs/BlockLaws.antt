@@ -32,7 +32,8 @@ module _ (bytes index : List ℕ) (h : Indexed bytes index) where
   term-word-inside t at l k = omega (arith, laws.whole bytes index h, h .words .recordsAt)
 
   -- a record of a sentence is a term record
-  pub sentence-term : (s i first next : ℕ) → s < fileOf bytes .sentences .count → first ≡ patternAt (fileOf bytes) s → next ≡ patternAt (fileOf bytes) (s + 1)
+  pub sentence-term : (s i first next : ℕ) → s < fileOf bytes .sentences .count → first ≡ patternAt (fileOf bytes) s
+      → next ≡ patternAt (fileOf bytes) (s + 1)
       → i < next - first → first + i < fileOf bytes .terms .count
   sentence-term s i first next l start end k =
       let q : next ≡ patternAt (fileOf bytes) (suc s) = rw (add-one s) at end in
@@ -59,7 +60,8 @@ module _ (file : File) where
   no-block t kind e n = rw (← laws.zero-offset (file .terms .records) (24 * t), ← e, ne-eqb kind 8 n)
 
   -- a block has as many as its next word says
-  pub some-block : (t kind size : ℕ) → kind ≡ wordAt (file .terms .records) (24 * t + 0) → kind ≡ 8 → size ≡ wordAt (file .terms .records) (24 * t + 4)
+  pub some-block : (t kind size : ℕ) → kind ≡ wordAt (file .terms .records) (24 * t + 0) → kind ≡ 8
+      → size ≡ wordAt (file .terms .records) (24 * t + 4)
       → size ≡ blockSize file t
   some-block t kind size e n q = rw (← laws.zero-offset (file .terms .records) (24 * t), ← e, eq-eqb kind 8 n, q)
 
@@ -68,7 +70,8 @@ module _ (file : File) where
   later-empty s t size e z = rw (← e, z)
 
   -- a block's first sentence decides
-  pub later-first : (s t size first : ℕ) → size ≡ blockSize file t → (size ≡ 0 → ⊥) → first ≡ blockFirst file t → ltb s first ≡ blockLater file s t
+  pub later-first : (s t size first : ℕ) → size ≡ blockSize file t → (size ≡ 0 → ⊥) → first ≡ blockFirst file t
+      → ltb s first ≡ blockLater file s t
   later-first s t size first e z f = rw (← e, ne-eqb size 0 z, f)
 
   module _ (s first next : ℕ) (start : first ≡ patternAt file s) (end : next ≡ patternAt file (s + 1)) where
@@ -79,7 +82,8 @@ module _ (file : File) where
         rw (← q, ← start) (sym (every-fails (next - first) _ i l (sym e ∙ f)))
 
     -- all records hold
-    pub sentence-holds : (i : ℕ) → i ≤ next - first → next - first ≤ i → every i (λ k. blockLater file s (first + k)) ≡ true → true ≡ sentenceBlocks file s
+    pub sentence-holds : (i : ℕ) → i ≤ next - first → next - first ≤ i → every i (λ k. blockLater file s (first + k)) ≡ true
+        → true ≡ sentenceBlocks file s
     sentence-holds i l k h =
         let q : next ≡ patternAt file (suc s) = rw (add-one s) at end in
         let n : i ≡ next - first = omega arith in
@@ -94,7 +98,8 @@ module _ (file : File) where
       rw (places.blocks-empty file used all (patternAt file s + i) (omega (arith, places.terms-inside file used s l)))
 
 -- the same, from the words that the code has read
-pub functions-have-all : (bytes index : List ℕ) → Indexed bytes index → (functions first count : ℕ) → functions ≡ getD index 4 0 → first ≡ getD index (8 + functions) 0
+pub functions-have-all : (bytes index : List ℕ) → Indexed bytes index → (functions first count : ℕ) → functions ≡ getD index 4 0
+    → first ≡ getD index (8 + functions) 0
     → count ≡ getD index 5 0 → first ≡ count → true ≡ blocksAllowed (fileOf bytes)
 functions-have-all bytes index h functions first count f w n e =
     let words = h .words in

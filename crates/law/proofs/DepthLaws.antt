@@ -6,8 +6,43 @@ use native.Mathlib.Omega.{arith}
 use native.Mathlib.Nat.{add-zero}
 use lib.ListN.{length, getD}
 use Rattle.file.specs.Sections.{File}
-use Rattle.law.specs.Tree.{Name, Symbol, Kind, Mark, Run, empty, symbol, variable, bracket, call, block, Sentences, noSentence, sentence, Conditions, noCondition, condition, Function, Law, keep, skip}
-use Rattle.law.specs.Places.{sentencesOf, conditionsOf, conditionResultSize, firstSentence, firstCondition, patternAt, conditionResultAt, resultAt, patternPart, resultPart, conditionResultPart, conditionPatternPart}
+use Rattle.law.specs.Tree.{
+  Name,
+  Symbol,
+  Kind,
+  Mark,
+  Run,
+  empty,
+  symbol,
+  variable,
+  bracket,
+  call,
+  block,
+  Sentences,
+  noSentence,
+  sentence,
+  Conditions,
+  noCondition,
+  condition,
+  Function,
+  Law,
+  keep,
+  skip,
+}
+use Rattle.law.specs.Places.{
+  sentencesOf,
+  conditionsOf,
+  conditionResultSize,
+  firstSentence,
+  firstCondition,
+  patternAt,
+  conditionResultAt,
+  resultAt,
+  patternPart,
+  resultPart,
+  conditionResultPart,
+  conditionPatternPart,
+}
 use Rattle.law.specs.Reading.{runOf, conditionsFrom, sentenceAt, treeOf, sentencesAt, own}
 use Rattle.law.specs.Depth.{deepest, deepestSentences, deepestConditions, depthOf}
 use Rattle.law.proofs.PlaceLaws.{condition-next, function-inside}
@@ -127,7 +162,8 @@ module _ (file : File) (readable : Readable file) where
       (function-depth file depth f inside)
 
 -- the result and the pattern of one of so many conditions from c on
-pub conditions-parts-depth : (file : File) (own : ℕ → ℕ → Sentences) (s d bound left c i : ℕ) → i < left → deepestConditions (conditionsFrom file own s left c) d ≤ bound
+pub conditions-parts-depth : (file : File) (own : ℕ → ℕ → Sentences) (s d bound left c i : ℕ) → i < left
+    → deepestConditions (conditionsFrom file own s left c) d ≤ bound
     → (deepest (runOf file own (conditionResultAt file s (c + i)) (conditionResultPart file s (c + i))) d ≤ bound)
     × (deepest (runOf file own (conditionResultAt file s (c + i) + conditionResultSize file (c + i)) (conditionPatternPart file s (c + i))) d ≤ bound)
 unfolding conditionsFrom

@@ -18,7 +18,21 @@ use Rattle.file.specs.declared.Term.{Term}
 use Rattle.file.specs.declared.Term.the-variants.{Symbol, SVariable, TVariable, EVariable, Bracket, Call, Block}
 use Rattle.law.specs.Tree.{Mark, Run, empty, Sentences, noSentence, keep}
 use Rattle.law.specs.Code.Terms.{firstTerm, sentencesIn}
-use Rattle.law.specs.Places.{blockFirst, sentencesOf, firstSentence, conditionsOf, firstCondition, patternAt, resultAt, patternPart, resultPart, conditionResultAt, conditionResultSize, conditionResultPart, conditionPatternPart}
+use Rattle.law.specs.Places.{
+  blockFirst,
+  sentencesOf,
+  firstSentence,
+  conditionsOf,
+  firstCondition,
+  patternAt,
+  resultAt,
+  patternPart,
+  resultPart,
+  conditionResultAt,
+  conditionResultSize,
+  conditionResultPart,
+  conditionPatternPart,
+}
 use Rattle.law.specs.Runs.{endOf}
 use Rattle.law.specs.Reading.{markAt, termRun, runOf, own, sentencesAt, conditionsFrom, treeOf}
 use Rattle.law.specs.Depth.{deepest, deepestSentences, deepestConditions, depthOf}
@@ -95,7 +109,8 @@ term-block inside ss d bound h =
     rw (same, max-within d _ bound, max-within (deepest inside (suc d)) (deepestSentences ss (suc d)) bound, le-leb d bound h)
 
 -- a run's first term, of any kind: nothing is inside a symbol or a variable, and only a block has sentences
-term-within : (text : List ℕ) (give : ℕ → ℕ → Sentences) (at : ℕ) (mark : Mark) (x : Term) (n : ℕ) (inside after : Run) (d bound : ℕ) → d ≤ bound
+term-within : (text : List ℕ) (give : ℕ → ℕ → Sentences) (at : ℕ) (mark : Mark) (x : Term) (n : ℕ) (inside after : Run) (d bound : ℕ)
+    → d ≤ bound
     → InsideAllowed x n → (n ≡ 0 → inside ≡ empty) → give at 0 ≡ noSentence
     → leb (deepest (firstTerm (termRun text give at mark x inside after)) d) bound ≡ two inside (give at (sentencesIn x)) d bound
 unfolding deepest firstTerm
@@ -242,7 +257,8 @@ module _ (file : File) where
         term-alone z = sym (decides ∙ rw z (sentences-none (blockFirst file at) (d + 1)))
 
         -- else its sentences decide
-        pub term-sentences : {first : ℕ} {r : Bool} → first ≡ blockFirst file at → r ≡ sentencesWithin count first (d + 1) → r ≡ firstWithin at p d
+        pub term-sentences : {first : ℕ} {r : Bool} → first ≡ blockFirst file at → r ≡ sentencesWithin count first (d + 1)
+            → r ≡ firstWithin at p d
         term-sentences f q = q ∙ sym (decides ∙ rw f)
 
     module _ {at d k : ℕ} {p : List ℕ} (so-far : LeftWithin at d p k) where
@@ -267,7 +283,8 @@ module _ (file : File) where
         left-over h = sym (so-far .left ∙ run-step (at + k) d (from (24 * k) p) left-some ∙ rw h)
 
         -- it is not
-        pub left-after : {n : ℕ} → n ≡ wordAt (from (24 * k) p) 12 → firstWithin (at + k) (from (24 * k) p) d ≡ true → LeftWithin at d p (k + (1 + n))
+        pub left-after : {n : ℕ} → n ≡ wordAt (from (24 * k) p) 12 → firstWithin (at + k) (from (24 * k) p) d ≡ true
+            → LeftWithin at d p (k + (1 + n))
         left-after {n} told h =
             let q : List ℕ = from (24 * k) p in
             let end : endOf q ≡ 24 + 24 * n = part-end file readable (at + k) q (so-far .part) left-some ∙ ap (λ w. 24 + 24 * w) (sym told) in

@@ -10,7 +10,20 @@ use Rattle.file.specs.Word.{wordAt}
 use Rattle.file.specs.Sections.{fileOf}
 use Rattle.file.proofs.Words.{word-part}
 use Rattle.file.proofs.SectionLaws.{sections-length, sections-limits, lengthBy}
-use Rattle.law.specs.Places.{sentencesOf, patternSize, conditionsOf, resultSize, conditionResultSize, conditionPatternSize, firstSentence, firstCondition, patternAt, conditionResultAt, resultAt, termsAt}
+use Rattle.law.specs.Places.{
+  sentencesOf,
+  patternSize,
+  conditionsOf,
+  resultSize,
+  conditionResultSize,
+  conditionPatternSize,
+  firstSentence,
+  firstCondition,
+  patternAt,
+  conditionResultAt,
+  resultAt,
+  termsAt,
+}
 use Rattle.law.specs.Code.Terms.{Owns}
 use Rattle.law.specs.Code.Index.{Indexed, functionsStart, sentencesStart, conditionsStart, termsStart}
 use Rattle.law.proofs.PlaceLaws as places
@@ -72,7 +85,8 @@ module _ (bytes index : List ℕ) (h : Indexed bytes index) where
       rw (e, h .words .recordsAt, part-part (termsStart (fileOf bytes)) (24 * fileOf bytes .terms .count) (24 * at) (24 * count) bytes (omega arith))
 
   -- where a sentence's pattern, a condition's result and a sentence's result stand
-  pub pattern-is : (s : ℕ) → s ≤ fileOf bytes .sentences .count → getD index (331 + s) 0 + getD index (202 + getD index (73 + s) 0) 0 ≡ patternAt (fileOf bytes) s
+  pub pattern-is : (s : ℕ) → s ≤ fileOf bytes .sentences .count
+      → getD index (331 + s) 0 + getD index (202 + getD index (73 + s) 0) 0 ≡ patternAt (fileOf bytes) s
   unfolding patternAt
   pattern-is s l =
       let c : firstCondition (fileOf bytes) s ≤ fileOf bytes .conditions .count =
@@ -116,14 +130,17 @@ module _ (bytes index : List ℕ) (h : Indexed bytes index) where
   pattern-small s l = omega (arith, terms-limit, places.pattern-inside (fileOf bytes) (h .used) s l)
 
   -- a sentence's conditions, from the words that the code has read
-  pub conditions-before : (s : ℕ) → s < fileOf bytes .sentences .count → getD index (73 + (s + 1)) 0 ≡ firstCondition (fileOf bytes) s + conditionsOf (fileOf bytes) s
+  pub conditions-before : (s : ℕ) → s < fileOf bytes .sentences .count
+      → getD index (73 + (s + 1)) 0 ≡ firstCondition (fileOf bytes) s + conditionsOf (fileOf bytes) s
   conditions-before s l = rw (add-one s, h .words .firstConditions (suc s) l) (places.condition-next (fileOf bytes) s)
 
   -- a function's sentences
-  pub sentences-before : (f : ℕ) → f < fileOf bytes .functions .count → getD index (8 + (f + 1)) 0 ≡ firstSentence (fileOf bytes) f + sentencesOf (fileOf bytes) f
+  pub sentences-before : (f : ℕ) → f < fileOf bytes .functions .count
+      → getD index (8 + (f + 1)) 0 ≡ firstSentence (fileOf bytes) f + sentencesOf (fileOf bytes) f
   sentences-before f l = rw (add-one f, h .words .firstSentences (suc f) l) (places.sentence-next (fileOf bytes) f)
 
-  pub owns : (s i : ℕ) → s < fileOf bytes .sentences .count → i < conditionsOf (fileOf bytes) s → Owns (fileOf bytes) s (firstCondition (fileOf bytes) s + i)
+  pub owns : (s i : ℕ) → s < fileOf bytes .sentences .count → i < conditionsOf (fileOf bytes) s
+      → Owns (fileOf bytes) s (firstCondition (fileOf bytes) s + i)
   owns s i l k = record {
     sentence = l;
     from = omega arith;
@@ -135,10 +152,12 @@ module _ (bytes index : List ℕ) (h : Indexed bytes index) where
   owned s c o = omega (arith, places.conditions-inside (fileOf bytes) (h .used) s (o .sentence), places.condition-next (fileOf bytes) s, o .upTo)
 
   -- its runs are parts of the term records
-  pub condition-result-fits : (s c : ℕ) → Owns (fileOf bytes) s c → conditionResultAt (fileOf bytes) s c + conditionResultSize (fileOf bytes) c + conditionPatternSize (fileOf bytes) c ≤ fileOf bytes .terms .count
+  pub condition-result-fits : (s c : ℕ) → Owns (fileOf bytes) s c
+      → conditionResultAt (fileOf bytes) s c + conditionResultSize (fileOf bytes) c + conditionPatternSize (fileOf bytes) c ≤ fileOf bytes .terms .count
   condition-result-fits s c o = places.asked-inside (fileOf bytes) (h .used) s c (o .sentence) (o .upTo)
 
-  pub pattern-fits : (s : ℕ) → s < fileOf bytes .sentences .count → patternAt (fileOf bytes) s + patternSize (fileOf bytes) s ≤ fileOf bytes .terms .count
+  pub pattern-fits : (s : ℕ) → s < fileOf bytes .sentences .count
+      → patternAt (fileOf bytes) s + patternSize (fileOf bytes) s ≤ fileOf bytes .terms .count
   pattern-fits s l = places.pattern-inside (fileOf bytes) (h .used) s l
 
   pub result-fits : (s : ℕ) → s < fileOf bytes .sentences .count → resultAt (fileOf bytes) s + resultSize (fileOf bytes) s ≤ fileOf bytes .terms .count

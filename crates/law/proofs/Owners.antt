@@ -14,11 +14,47 @@ use Rattle.file.specs.Head.{termAt}
 use Rattle.file.specs.declared.Term.{Term}
 use Rattle.file.specs.declared.Term.the-variants.{Symbol, SVariable, TVariable, EVariable, Bracket, Call, Block}
 use Rattle.law.specs.Tree.{Mark, Run, Sentences, keep}
-use Rattle.law.specs.Places.{sentencesOf, patternSize, conditionsOf, resultSize, conditionResultSize, conditionPatternSize, blockSize, firstSentence, blockFirst, firstCondition, patternAt, conditionResultAt, resultAt, termsAt, patternPart, resultPart, conditionResultPart, conditionPatternPart}
+use Rattle.law.specs.Places.{
+  sentencesOf,
+  patternSize,
+  conditionsOf,
+  resultSize,
+  conditionResultSize,
+  conditionPatternSize,
+  blockSize,
+  firstSentence,
+  blockFirst,
+  firstCondition,
+  patternAt,
+  conditionResultAt,
+  resultAt,
+  termsAt,
+  patternPart,
+  resultPart,
+  conditionResultPart,
+  conditionPatternPart,
+}
 use Rattle.law.specs.Runs.{runFits, usedUp, runsAllowed}
 use Rattle.law.specs.Reading.{markAt, termRun, runOf, treeOf, sentencesAt, own}
 use Rattle.law.specs.Depth.{deepest, deepestSentences, depthOf}
-use Rattle.law.proofs.PlaceLaws.{sentence-start, sentence-next, block-next, block-start, condition-next, pattern-start, asked-first, asked-next, asked-last, pattern-next, sentences-used, terms-used, block-inside, pattern-inside, result-inside, asked-inside}
+use Rattle.law.proofs.PlaceLaws.{
+  sentence-start,
+  sentence-next,
+  block-next,
+  block-start,
+  condition-next,
+  pattern-start,
+  asked-first,
+  asked-next,
+  asked-last,
+  pattern-next,
+  sentences-used,
+  terms-used,
+  block-inside,
+  pattern-inside,
+  result-inside,
+  asked-inside,
+}
 use Rattle.law.proofs.RunLaws.{run-first, by-records}
 use Rattle.law.proofs.Terms.{InsideAllowed, block-size, inside-allowed}
 use Rattle.law.specs.Code.Terms.{sentencesIn}
@@ -58,7 +94,8 @@ module _ (file : File) where
         (t, omega arith, under, rw (← block-next file t) over)
 
     -- the sentence that a term stands in
-    pub sentence-of : (t : ℕ) → t < file .terms .count → (s : ℕ) × (s < file .sentences .count) × (patternAt file s ≤ t) × (t < patternAt file (suc s))
+    pub sentence-of : (t : ℕ) → t < file .terms .count
+        → (s : ℕ) × (s < file .sentences .count) × (patternAt file s ≤ t) × (t < patternAt file (suc s))
     sentence-of t l =
         let (s, from, below, under, over) =
         step-around (patternAt file) 0 (file .sentences .count) t (omega (arith, pattern-start file)) (rw (zero-add, terms-used file used) l) in
@@ -95,7 +132,8 @@ module _ (file : File) (whole : length (file .terms .records) ≡ 24 * file .ter
   inner text at d n mark (Block m) inside after allowed some = omega arith
 
   -- the run after a term is no deeper than the term with it
-  outer : (text : List ℕ) (at d : ℕ) (mark : Mark) (x : Term) (inside after : Run) → deepest after d ≤ deepest (termRun text own at mark x inside after) d
+  outer : (text : List ℕ) (at d : ℕ) (mark : Mark) (x : Term) (inside after : Run)
+      → deepest after d ≤ deepest (termRun text own at mark x inside after) d
   unfolding deepest
   outer text at d mark (Symbol x) inside after = omega arith
   outer text at d mark (SVariable a b) inside after = omega arith
@@ -153,7 +191,8 @@ module _ (file : File) (readable : Readable file) where
       omega (arith, run-holds file (readable .whole) (readable .fields) (own file) at count inside fit t d low high some)
 
   -- the sentences of a block are no deeper than the sentence that it stands in
-  pub sentence-block-depth : (d bound s t : ℕ) → s < file .sentences .count → patternAt file s ≤ t → t < patternAt file (suc s) → 0 < blockSize file t
+  pub sentence-block-depth : (d bound s t : ℕ) → s < file .sentences .count → patternAt file s ≤ t → t < patternAt file (suc s)
+      → 0 < blockSize file t
       → PartsDepth file s d bound → deepestSentences (own file t (blockSize file t)) (suc d) ≤ bound
   unfolding patternPart resultPart conditionResultPart conditionPatternPart
   sentence-block-depth d bound s t inside low high some parts =
@@ -162,7 +201,8 @@ module _ (file : File) (readable : Readable file) where
       runs : runsAllowed file ≡ true
       runs = readable .runs
 
-      in-condition : (c : ℕ) → firstCondition file s ≤ c → c < firstCondition file (suc s) → conditionResultAt file s c ≤ t → t < conditionResultAt file s (suc c)
+      in-condition : (c : ℕ) → firstCondition file s ≤ c → c < firstCondition file (suc s) → conditionResultAt file s c ≤ t
+          → t < conditionResultAt file s (suc c)
           → Dec (t < conditionResultAt file s c + conditionResultSize file c) → deepestSentences (own file t (blockSize file t)) (suc d) ≤ bound
       in-condition c from below under over (yes l) =
           run-block-depth d bound t (conditionResultAt file s c) (conditionResultSize file c) (omega (arith, asked-inside file used s c inside below))

@@ -9,7 +9,21 @@ use Rattle.file.specs.Word.{wordAt}
 use Rattle.file.specs.Forest.{contents, rest}
 use Rattle.file.specs.Head.{termFrom, termAt}
 use Rattle.file.specs.Sections.{File, fileOf}
-use Rattle.law.specs.Places.{blockFirst, termsAt, patternAt, patternSize, patternPart, resultAt, resultSize, resultPart, conditionResultAt, conditionResultSize, conditionResultPart, conditionPatternSize, conditionPatternPart}
+use Rattle.law.specs.Places.{
+  blockFirst,
+  termsAt,
+  patternAt,
+  patternSize,
+  patternPart,
+  resultAt,
+  resultSize,
+  resultPart,
+  conditionResultAt,
+  conditionResultSize,
+  conditionResultPart,
+  conditionPatternSize,
+  conditionPatternPart,
+}
 use Rattle.law.specs.Code.Terms.{Owns, sentencesIn}
 use Rattle.law.specs.Runs.{endOf, runFits}
 use Rattle.law.specs.Code.Index.{Indexed, Readable, PartAt}
@@ -137,7 +151,8 @@ module _ (file : File) (readable : Readable file) where
     fit = condition-result-fits file (readable .runs) s (o .sentence) c (o .from) (o .upTo);
   }
 
-  pub condition-pattern-part : (s c : ℕ) → Owns file s c → PartAt file (conditionResultAt file s c + conditionResultSize file c) (conditionPatternPart file s c)
+  pub condition-pattern-part : (s c : ℕ) → Owns file s c
+      → PartAt file (conditionResultAt file s c + conditionResultSize file c) (conditionPatternPart file s c)
   unfolding conditionPatternPart
   condition-pattern-part s c o = record {
     count = conditionPatternSize file c;
@@ -147,5 +162,6 @@ module _ (file : File) (readable : Readable file) where
   }
 
 -- a part is at most all term records
-pub part-small : (bytes index : List ℕ) → Indexed bytes index → Readable (fileOf bytes) → (at : ℕ) (p : List ℕ) → PartAt (fileOf bytes) at p → length p ≤ 12288
+pub part-small : (bytes index : List ℕ) → Indexed bytes index → Readable (fileOf bytes) → (at : ℕ) (p : List ℕ)
+    → PartAt (fileOf bytes) at p → length p ≤ 12288
 part-small bytes index indexed readable at p part = omega (arith, part-short (fileOf bytes) readable at p part, terms-limit bytes index indexed)

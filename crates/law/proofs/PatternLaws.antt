@@ -140,7 +140,8 @@ module _ (text records : List ℕ) where
   variable-above t kind e l = rw (← e) (upper-kind text kind _ _ l)
 
   -- a record of another kind than the variable v is not v; k and m are the kinds of the records i and j
-  pub other-kind : (i j k m : ℕ) → k ≡ wordAt records (24 * i) → m ≡ wordAt records (24 * j) → 3 ≤ wordAt records (24 * i) → wordAt records (24 * i) ≤ 5
+  pub other-kind : (i j k m : ℕ) → k ≡ wordAt records (24 * i) → m ≡ wordAt records (24 * j) → 3 ≤ wordAt records (24 * i)
+      → wordAt records (24 * i) ≤ 5
       → (k ≡ m → ⊥) → (v : Variable) → variablesAt i ≡ v ∷ [] → false ≡ occurs v (variablesAt j)
   unfolding occurs
   other-kind i j k m ek em lk hk d v e = below (decLt m 3)
@@ -157,8 +158,10 @@ module _ (text records : List ℕ) where
       below (no l) = above (omega arith) (decLt 5 m)
 
   -- a record of the same kind is v if the indices a and b of the two are the same
-  pub one-kind : (i j k m : ℕ) (a b : List ℕ) → k ≡ wordAt records (24 * i) → m ≡ wordAt records (24 * j) → 3 ≤ wordAt records (24 * i) → wordAt records (24 * i) ≤ 5
-      → k ≡ m → a ≡ indexAt i → b ≡ indexAt j → (v : Variable) → variablesAt i ≡ v ∷ [] → sameBytes (foldedIndex a) (foldedIndex b) ≡ occurs v (variablesAt j)
+  pub one-kind : (i j k m : ℕ) (a b : List ℕ) → k ≡ wordAt records (24 * i) → m ≡ wordAt records (24 * j)
+      → 3 ≤ wordAt records (24 * i) → wordAt records (24 * i) ≤ 5
+      → k ≡ m → a ≡ indexAt i → b ≡ indexAt j → (v : Variable) → variablesAt i ≡ v ∷ []
+      → sameBytes (foldedIndex a) (foldedIndex b) ≡ occurs v (variablesAt j)
   unfolding occurs
   one-kind i j k m a b ek em lk hk d ea eb v e =
       let is : v ≡ variable text k (wordAt records (24 * i + 4)) (wordAt records (24 * i + 8)) = cc (variable-is i k ek (omega arith) (omega arith)) in
@@ -204,14 +207,16 @@ module _ (text records : List ℕ) where
 
     -- a variable that a later record repeats adds none, and any other one
     pub distinct-repeated : (t kind : ℕ) (r : Bool) → t < count → kind ≡ wordAt records (24 * t) → 3 ≤ kind → kind ≤ 5
-        → ((v : Variable) → variablesAt t ≡ v ∷ [] → r ≡ occurs v (later (t + 1))) → r ≡ true → distinct (later t) ≡ 0 + distinct (later (t + 1))
+        → ((v : Variable) → variablesAt t ≡ v ∷ [] → r ≡ occurs v (later (t + 1))) → r ≡ true
+        → distinct (later t) ≡ 0 + distinct (later (t + 1))
     unfolding distinct
     distinct-repeated t kind r l e lk hk h q =
         let is = variable-is t kind e lk hk in
         rw (later-next t l, is, ← h _ is, q) (omega arith)
 
     pub distinct-new : (t kind : ℕ) (r : Bool) → t < count → kind ≡ wordAt records (24 * t) → 3 ≤ kind → kind ≤ 5
-        → ((v : Variable) → variablesAt t ≡ v ∷ [] → r ≡ occurs v (later (t + 1))) → r ≡ false → distinct (later t) ≡ 1 + distinct (later (t + 1))
+        → ((v : Variable) → variablesAt t ≡ v ∷ [] → r ≡ occurs v (later (t + 1))) → r ≡ false
+        → distinct (later t) ≡ 1 + distinct (later (t + 1))
     unfolding distinct
     distinct-new t kind r l e lk hk h q =
         let is = variable-is t kind e lk hk in
@@ -229,7 +234,8 @@ module _ (text records : List ℕ) where
         omega arith
 
     -- the spelling of an allowed variable's index lies inside the text
-    pub index-inside : (t kind : ℕ) → termsAllowed text records count ≡ true → t < count → kind ≡ wordAt records (24 * t) → 3 ≤ kind → kind ≤ 5
+    pub index-inside : (t kind : ℕ) → termsAllowed text records count ≡ true → t < count → kind ≡ wordAt records (24 * t) → 3 ≤ kind
+        → kind ≤ 5
         → wordAt records (24 * t + 4) + wordAt records (24 * t + 8) ≤ length text
     index-inside t kind h l e lk hk =
         leaf-inside text (wordAt records (24 * t)) _ _ _ (term-at-allowed text records count t h l) (omega arith) (omega arith)

@@ -8,7 +8,21 @@ use borrow.Author.Tests.{eqb-true}
 use Rattle.file.specs.Below.{total}
 use Rattle.file.specs.Sections.{File}
 use Rattle.file.proofs.Below.{total-mono}
-use Rattle.law.specs.Places.{sentencesOf, patternSize, conditionsOf, resultSize, conditionResultSize, conditionPatternSize, blockSize, firstSentence, blockFirst, firstCondition, patternAt, conditionResultAt, resultAt}
+use Rattle.law.specs.Places.{
+  sentencesOf,
+  patternSize,
+  conditionsOf,
+  resultSize,
+  conditionResultSize,
+  conditionPatternSize,
+  blockSize,
+  firstSentence,
+  blockFirst,
+  firstCondition,
+  patternAt,
+  conditionResultAt,
+  resultAt,
+}
 use Rattle.law.specs.Runs.{usedUp}
 use Rattle.law.proofs.Tests.{three-hold}
 
@@ -111,7 +125,8 @@ module _ (file : File) where
   pub asked-after : (s c : ℕ) → firstCondition file s ≤ c → patternAt file s ≤ conditionResultAt file s c
   asked-after s c h = omega (arith, asked-first s, asked-grows s (firstCondition file s) c h)
 
-  pub asked-within : (s c : ℕ) → c < firstCondition file (suc s) → conditionResultAt file s c + conditionResultSize file c + conditionPatternSize file c ≤ patternAt file (suc s)
+  pub asked-within : (s c : ℕ) → c < firstCondition file (suc s)
+      → conditionResultAt file s c + conditionResultSize file c + conditionPatternSize file c ≤ patternAt file (suc s)
   asked-within s c h = omega (arith, asked-next s c, asked-last s, pattern-next s, asked-grows s (suc c) (firstCondition file (suc s)) h)
 
   module _ (used : usedUp file ≡ true) where
@@ -155,7 +170,8 @@ module _ (file : File) where
     block-inside t h = omega (arith, sentences-used, block-next t, block-grows (suc t) (file .terms .count) h)
 
     -- where the functions have all sentences, no block has any
-    pub blocks-empty : firstSentence file (file .functions .count) ≡ file .sentences .count → (t : ℕ) → t < file .terms .count → blockSize file t ≡ 0
+    pub blocks-empty : firstSentence file (file .functions .count) ≡ file .sentences .count → (t : ℕ) → t < file .terms .count
+        → blockSize file t ≡ 0
     blocks-empty all t h = omega (arith, block-inside t h, block-start, block-grows 0 t (omega arith))
 
     -- the conditions of a sentence are records of section 4

@@ -13,7 +13,24 @@ use Rattle.file.specs.Head.{termAt}
 use Rattle.file.specs.declared.Term.{Term}
 use Rattle.file.specs.declared.Term.the-variants.{Symbol, SVariable, TVariable, EVariable, Bracket, Call, Block}
 use Rattle.law.specs.Tree.{Mark, Run, Sentences, noSentence, keep, skip}
-use Rattle.law.specs.Places.{patternSize, conditionsOf, resultSize, conditionResultSize, conditionPatternSize, blockSize, blockFirst, firstCondition, patternAt, conditionResultAt, resultAt, termsAt, patternPart, resultPart, conditionResultPart, conditionPatternPart}
+use Rattle.law.specs.Places.{
+  patternSize,
+  conditionsOf,
+  resultSize,
+  conditionResultSize,
+  conditionPatternSize,
+  blockSize,
+  blockFirst,
+  firstCondition,
+  patternAt,
+  conditionResultAt,
+  resultAt,
+  termsAt,
+  patternPart,
+  resultPart,
+  conditionResultPart,
+  conditionPatternPart,
+}
 use Rattle.law.specs.Runs.{runFits}
 use Rattle.law.specs.Reading.{termRun, runOf, conditionsFrom, ownIn, sentenceAt, sentencesFrom, sentencesAt, own}
 use Rattle.law.proofs.PlaceLaws.{condition-next, pattern-next, pattern-within, result-within, asked-after, asked-within, terms-inside}

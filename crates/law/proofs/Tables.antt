@@ -19,7 +19,21 @@ use Rattle.file.specs.Code.Counts.{countsOf, Limits}
 use Rattle.file.proofs.Below.{both-first, both-second, total-next, total-mono}
 use Rattle.file.proofs.SectionLaws.{part-slice, sections-limits}
 use Rattle.file.proofs.Parts.{cutOut, functionsPart, sentencesPart, conditionsPart, termsPart}
-use Rattle.law.specs.Places.{sentencesOf, patternSize, conditionsOf, resultSize, conditionResultSize, conditionPatternSize, blockSize, firstSentence, blockFirst, firstCondition, sentenceRecords, conditionRecords, patternAt}
+use Rattle.law.specs.Places.{
+  sentencesOf,
+  patternSize,
+  conditionsOf,
+  resultSize,
+  conditionResultSize,
+  conditionPatternSize,
+  blockSize,
+  firstSentence,
+  blockFirst,
+  firstCondition,
+  sentenceRecords,
+  conditionRecords,
+  patternAt,
+}
 use Rattle.law.specs.Runs.{usedUp}
 use Rattle.law.specs.Code.Index.{functionsStart, sentencesStart, conditionsStart, termsStart, IndexOf, Indexed}
 use Rattle.law.specs.Code.Filling.{Table, wordSum, pairSum, blockWord, blockSum, asWord, TablesOf, header, Placed}
@@ -33,7 +47,8 @@ pub sum-next : (f : ℕ → ℕ) (i sum w : ℕ) → sum ≡ total i f → w ≡
 sum-next f i sum w p q = rw (p, q, total-next i f)
 
 -- the same for two words of a record
-pub pair-next : (records : List ℕ) (size second i sum v w : ℕ) → sum ≡ pairSum records size second i → v ≡ wordAt records (size * i) → w ≡ wordAt records (size * i + second)
+pub pair-next : (records : List ℕ) (size second i sum v w : ℕ) → sum ≡ pairSum records size second i → v ≡ wordAt records (size * i)
+    → w ≡ wordAt records (size * i + second)
     → sum + (v + w) ≡ pairSum records size second (i + 1)
 pair-next records size second i sum v w p q r = sum-next _ i sum (v + w) p (rw (q, r))
 
@@ -42,7 +57,8 @@ pub table-none : (xs : List ℕ) (from : ℕ) (f : ℕ → ℕ) → Table xs xs 
 table-none xs from f = record { inside = λ i h. absurd (omega arith); below = λ j h. refl; above = λ j h. refl }
 
 -- one more word is written
-pub table-next : (xs ys : List ℕ) (from n : ℕ) (f : ℕ → ℕ) (v : ℕ) → Table xs ys from n f → from + n < length ys → v ≡ f n → Table xs (set ys (from + n) v) from (n + 1) f
+pub table-next : (xs ys : List ℕ) (from n : ℕ) (f : ℕ → ℕ) (v : ℕ) → Table xs ys from n f → from + n < length ys → v ≡ f n
+    → Table xs (set ys (from + n) v) from (n + 1) f
 table-next xs ys from n f v t h e = record {
   inside = λ i l. go i l (decLt i n);
   below = λ j l. getD-set-other ys (from + n) j v 0 (λ q. omega arith) ∙ t .below j l;
@@ -87,7 +103,8 @@ sentences-cut : (bytes : List ℕ) → cutOut (sentencesStart (fileOf bytes)) (2
 unfolding fileOf
 sentences-cut bytes = part-slice (sentencesStart (fileOf bytes)) (20 * fileOf bytes .sentences .count) bytes
 
-conditions-cut : (bytes : List ℕ) → cutOut (conditionsStart (fileOf bytes)) (16 * fileOf bytes .conditions .count) bytes ≡ fileOf bytes .conditions .records
+conditions-cut : (bytes : List ℕ)
+    → cutOut (conditionsStart (fileOf bytes)) (16 * fileOf bytes .conditions .count) bytes ≡ fileOf bytes .conditions .records
 unfolding fileOf
 conditions-cut bytes = part-slice (conditionsStart (fileOf bytes)) (16 * fileOf bytes .conditions .count) bytes
 
@@ -230,7 +247,8 @@ pub header-written : (s : Sections) (xs : List ℕ) → length xs ≡ 972 → se
 header-written s xs h = sets-eq (header s) xs 0 (omega arith)
 
 -- a header before tables
-pub placed-made : (file : File) (s : Sections) (tables index : List ℕ) → countsOf file ≡ s → TablesOf file tables → index ≡ header s ++ drop 8 tables → Placed file index
+pub placed-made : (file : File) (s : Sections) (tables index : List ℕ) → countsOf file ≡ s → TablesOf file tables
+    → index ≡ header s ++ drop 8 tables → Placed file index
 placed-made file s tables index e t q = record {
   begins = ap (take 8) q ∙ ap header (sym e);
   tables = rw q (record {
@@ -243,7 +261,8 @@ placed-made file s tables index e t q = record {
 }
 
 -- the file's index, where the sections are used up
-pub placed-indexed : (bytes index : List ℕ) → sectionsOf bytes ≡ given (fileOf bytes) → usedUp (fileOf bytes) ≡ true → Placed (fileOf bytes) index → Indexed bytes index
+pub placed-indexed : (bytes index : List ℕ) → sectionsOf bytes ≡ given (fileOf bytes) → usedUp (fileOf bytes) ≡ true
+    → Placed (fileOf bytes) index → Indexed bytes index
 placed-indexed bytes index h u p =
     let split : header (countsOf (fileOf bytes)) ++ drop 8 index ≡ index = ap (λ front. front ++ drop 8 index) (sym (p .begins)) ∙ take-append-drop 8 index in
     record {

@@ -37,11 +37,13 @@ module _ (bytes : List ℕ) (sections : sectionsOf bytes ≡ given (fileOf bytes
     unfolding lawOf runsAllowed
     used-refused u = rw (sections, fields, u)
 
-    pub runs-all : usedUp (fileOf bytes) ≡ true → every (fileOf bytes .sentences .count) (sentenceFits (fileOf bytes)) ≡ true → runsAllowed (fileOf bytes) ≡ true
+    pub runs-all : usedUp (fileOf bytes) ≡ true → every (fileOf bytes .sentences .count) (sentenceFits (fileOf bytes)) ≡ true
+        → runsAllowed (fileOf bytes) ≡ true
     unfolding runsAllowed
     runs-all u r = rw (u, r)
 
-    pub runs-refused : usedUp (fileOf bytes) ≡ true → every (fileOf bytes .sentences .count) (sentenceFits (fileOf bytes)) ≡ false → checkOf bytes ≡ refused 6
+    pub runs-refused : usedUp (fileOf bytes) ≡ true → every (fileOf bytes .sentences .count) (sentenceFits (fileOf bytes)) ≡ false
+        → checkOf bytes ≡ refused 6
     unfolding lawOf runsAllowed
     runs-refused u r = rw (sections, fields, u, r)
 
