@@ -81,9 +81,11 @@ module _ (file : File) (runs : runsAllowed file ≡ true) where
 
     pub condition-pattern-fits : (c : ℕ) → firstCondition file s ≤ c → c < firstCondition file (suc s)
         → runFits (conditionPatternPart file s c) ≡ true
-    condition-pattern-fits c low high = both-second (runFits (conditionResultPart file s c)) (runFits (conditionPatternPart file s c)) (condition-fits c low high)
+    condition-pattern-fits c low high =
+        both-second (runFits (conditionResultPart file s c)) (runFits (conditionPatternPart file s c)) (condition-fits c low high)
 
-module _ (file : File) (blocks : blocksAllowed file ≡ true) (s : ℕ) (inside : s < file .sentences .count) (t : ℕ) (low : patternAt file s ≤ t) (high : t < patternAt file (suc s)) where
+module _ (file : File) (blocks : blocksAllowed file ≡ true) (s : ℕ) (inside : s < file .sentences .count)
+    (t : ℕ) (low : patternAt file s ≤ t) (high : t < patternAt file (suc s)) where
   -- a term record of a sentence
   pub block-later : blockLater file s t ≡ true
   unfolding blocksAllowed

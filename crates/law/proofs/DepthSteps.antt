@@ -187,7 +187,8 @@ module _ (file : File) where
       let inside : Run = runOf file (own file) (at + 1) (contents 24 endOf p) in
       let after : Run = runOf file (own file) (at + 1 + wordAt p 12) (rest 24 endOf p) in
       let low = term-deep (file .text .records) (own file) at (markAt at p 16) (termAt p 0) inside after d in
-      rw (run-node file (own file) at p h) (lt-leb (deepest (termRun (file .text .records) (own file) at (markAt at p 16) (termAt p 0) inside after) d) 32 (omega arith))
+      let all : Run = termRun (file .text .records) (own file) at (markAt at p 16) (termAt p 0) inside after in
+      rw (run-node file (own file) at p h) (lt-leb (deepest all d) 32 (omega arith))
 
   pub sentences-none : (s d : ℕ) → sentencesWithin 0 s d ≡ true
   unfolding deepest keep
@@ -197,14 +198,20 @@ module _ (file : File) where
   run-step : (at d : ℕ) (p : List ℕ) → 24 ≤ length p
       → runWithin at p d ≡ (firstWithin at p d && runWithin (at + 1 + wordAt p 12) (rest 24 endOf p) d)
   run-step at d p h =
+      let inside : Run = runOf file (own file) (at + 1) (contents 24 endOf p) in
+      let after : Run = runOf file (own file) (at + 1 + wordAt p 12) (rest 24 endOf p) in
       rw (run-node file (own file) at p h) (
-      rw (term-and-rest (file .text .records) (own file) at (markAt at p 16) (termAt p 0) (runOf file (own file) (at + 1) (contents 24 endOf p)) (runOf file (own file) (at + 1 + wordAt p 12) (rest 24 endOf p)) d)
-      (max-within _ (deepest (runOf file (own file) (at + 1 + wordAt p 12) (rest 24 endOf p)) d) 32))
+      rw (term-and-rest (file .text .records) (own file) at (markAt at p 16) (termAt p 0) inside after d)
+      (max-within _ (deepest after d) 32))
 
   -- a first term that is a symbol or a variable
   leaf-within : (at d : ℕ) (p : List ℕ) → 24 ≤ length p → d ≤ 32 → wordAt p 0 < 6 → firstWithin at p d ≡ true
   unfolding termAt
-  leaf-within at d p h l kind = rw (run-node file (own file) at p h, leaf-deep (file .text .records) (own file) at (markAt at p 16) (wordAt p 0) (wordAt p 4) (wordAt p 8) _ _ d kind) (le-leb d 32 l)
+  leaf-within at d p h l kind =
+      rw (
+        run-node file (own file) at p h,
+        leaf-deep (file .text .records) (own file) at (markAt at p 16) (wordAt p 0) (wordAt p 4) (wordAt p 8) _ _ d kind,
+      ) (le-leb d 32 l)
 
   own-none : (t : ℕ) → own file t 0 ≡ noSentence
   unfolding own keep
@@ -311,8 +318,10 @@ module _ (file : File) where
     pub sentences-step : (n s d : ℕ) → s < file .sentences .count → sentencesWithin (suc n) s d ≡ (sentencesWithin 1 s d && sentencesWithin n (suc s) d)
     unfolding deepest keep
     sentences-step n s d h =
-        rw (kept-reads file readable n s h, kept-reads file readable 0 s h)
-        (last-within (deepest (runOf file (own file) (patternAt file s) (patternPart file s)) d) (deepestConditions (conditionsFrom file (own file) s (conditionsOf file s) (firstCondition file s)) d) (deepest (runOf file (own file) (resultAt file s) (resultPart file s)) d) _ 32)
+        let pattern : ℕ = deepest (runOf file (own file) (patternAt file s) (patternPart file s)) d in
+        let conditions : ℕ = deepestConditions (conditionsFrom file (own file) s (conditionsOf file s) (firstCondition file s)) d in
+        let result : ℕ = deepest (runOf file (own file) (resultAt file s) (resultPart file s)) d in
+        rw (kept-reads file readable n s h, kept-reads file readable 0 s h) (last-within pattern conditions result _ 32)
 
     -- its pattern, its conditions and its result
     pub sentence-step : (s d : ℕ) → s < file .sentences .count
@@ -335,7 +344,10 @@ module _ (file : File) where
       && runWithin (conditionResultAt file s c + conditionResultSize file c) (conditionPatternPart file s c) d
       && conditionsWithin s n (suc c) d)
   unfolding deepest conditionsFrom
-  conditions-step s n c d = three-within (deepest (runOf file (own file) (conditionResultAt file s c) (conditionResultPart file s c)) d) (deepest (runOf file (own file) (conditionResultAt file s c + conditionResultSize file c) (conditionPatternPart file s c)) d) _ 32
+  conditions-step s n c d =
+      let result : Run = runOf file (own file) (conditionResultAt file s c) (conditionResultPart file s c) in
+      let pattern : Run = runOf file (own file) (conditionResultAt file s c + conditionResultSize file c) (conditionPatternPart file s c) in
+      three-within (deepest result d) (deepest pattern d) _ 32
 
   pub conditions-none : (s c d : ℕ) → conditionsWithin s 0 c d ≡ true
   unfolding deepest conditionsFrom

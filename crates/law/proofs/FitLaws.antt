@@ -33,7 +33,8 @@ module _ (file : File) (s : ℕ) where
   pattern-unfit h = rw h
 
   pub conditions-unfit : every (conditionsOf file s) conditionFit ≡ false → sentenceFits file s ≡ false
-  conditions-unfit h = first-fails (runFits (patternPart file s) && every (conditionsOf file s) conditionFit) _ (second-fails (runFits (patternPart file s)) _ h)
+  conditions-unfit h =
+      first-fails (runFits (patternPart file s) && every (conditionsOf file s) conditionFit) _ (second-fails (runFits (patternPart file s)) _ h)
 
   pub result-decides : runFits (patternPart file s) ≡ true → every (conditionsOf file s) conditionFit ≡ true
       → sentenceFits file s ≡ runFits (resultPart file s)

@@ -32,7 +32,8 @@ use Rattle.law.proofs.Parts.{part-part}
 module _ (bytes index : List ℕ) (h : Indexed bytes index) where
   -- the length of the file, by its counts, and the limits of the counts
   pub whole : length bytes
-      ≡ lengthBy (fileOf bytes .text .count) (fileOf bytes .functions .count) (fileOf bytes .sentences .count) (fileOf bytes .conditions .count) (fileOf bytes .terms .count)
+      ≡ lengthBy (fileOf bytes .text .count) (fileOf bytes .functions .count) (fileOf bytes .sentences .count)
+      (fileOf bytes .conditions .count) (fileOf bytes .terms .count)
   whole = sections-length bytes (fileOf bytes) (h .sections)
 
   pub functions-limit : fileOf bytes .functions .count ≤ 64
@@ -51,17 +52,20 @@ module _ (bytes index : List ℕ) (h : Indexed bytes index) where
   pub function-word : (f at : ℕ) → f < fileOf bytes .functions .count → at + 4 ≤ 20
       → wordAt bytes (getD index 0 0 + (20 * f + at)) ≡ wordAt (fileOf bytes .functions .records) (20 * f + at)
   unfolding fileOf
-  function-word f at l k = rw (h .words .functionsAt, word-part bytes (functionsStart (fileOf bytes)) (20 * fileOf bytes .functions .count) (20 * f + at) (omega arith))
+  function-word f at l k =
+      rw (h .words .functionsAt, word-part bytes (functionsStart (fileOf bytes)) (20 * fileOf bytes .functions .count) (20 * f + at) (omega arith))
 
   pub sentence-word : (s at : ℕ) → s < fileOf bytes .sentences .count → at + 4 ≤ 20
       → wordAt bytes (getD index 1 0 + (20 * s + at)) ≡ wordAt (fileOf bytes .sentences .records) (20 * s + at)
   unfolding fileOf
-  sentence-word s at l k = rw (h .words .sentencesAt, word-part bytes (sentencesStart (fileOf bytes)) (20 * fileOf bytes .sentences .count) (20 * s + at) (omega arith))
+  sentence-word s at l k =
+      rw (h .words .sentencesAt, word-part bytes (sentencesStart (fileOf bytes)) (20 * fileOf bytes .sentences .count) (20 * s + at) (omega arith))
 
   pub condition-word : (c at : ℕ) → c < fileOf bytes .conditions .count → at + 4 ≤ 16
       → wordAt bytes (getD index 2 0 + (16 * c + at)) ≡ wordAt (fileOf bytes .conditions .records) (16 * c + at)
   unfolding fileOf
-  condition-word c at l k = rw (h .words .conditionsAt, word-part bytes (conditionsStart (fileOf bytes)) (16 * fileOf bytes .conditions .count) (16 * c + at) (omega arith))
+  condition-word c at l k =
+      rw (h .words .conditionsAt, word-part bytes (conditionsStart (fileOf bytes)) (16 * fileOf bytes .conditions .count) (16 * c + at) (omega arith))
 
   -- they lie inside the file
   pub function-word-inside : (f at : ℕ) → f < fileOf bytes .functions .count → at + 4 ≤ 20 → getD index 0 0 + (20 * f + at) + 4 ≤ length bytes

@@ -90,7 +90,8 @@ module _ (s : List ℕ) where
 
       fits-first : runFits (cut s a b) ≡ runFits (cut s (a + 24) (a + size a)) && runFits (cut s (a + size a) b)
       fits-first =
-          rw (fits-node (cut s a b) (omega (arith, cut-length a b inside)), cut-contents, cut-rest, cut-word, cut-length a b inside, le-leb (size a) (b - a) stays)
+          let node = fits-node (cut s a b) (omega (arith, cut-length a b inside)) in
+          rw (node, cut-contents, cut-rest, cut-word, cut-length a b inside, le-leb (size a) (b - a) stays)
 
   -- the records inside the record k, those after them up to a byte, and the number of the first of these
   abbrev inner : ℕ → List ℕ
@@ -169,7 +170,8 @@ module _ (s : List ℕ) where
   -- a run whose level fits, and the level inside each of its records: the run fits
   abbrev RunOfRecords : ℕ → ℕ → Type 0
   RunOfRecords k b =
-      b ≤ length s → ((q : ℕ) → k ≤ q → 24 * q + 24 ≤ b → RecordFits q) → levelFits (cut s (24 * k) b) ≡ true → runFits (cut s (24 * k) b) ≡ true
+      b ≤ length s → ((q : ℕ) → k ≤ q → 24 * q + 24 ≤ b → RecordFits q) → levelFits (cut s (24 * k) b) ≡ true
+      → runFits (cut s (24 * k) b) ≡ true
 
   run-of-records : (k b : ℕ) → RunOfRecords k b
   run-of-records =
@@ -179,7 +181,8 @@ module _ (s : List ℕ) where
       let stays = level-stays (24 * k) b inside long own in
       let start : 24 * k + 24 ≡ 24 * (k + 1) = omega arith in
       let after : 24 * k + size (24 * k) ≡ 24 * next k = omega arith in
-      let contents-fit = deeper stays .0 (omega arith) (λ q l h. each q (omega arith) (omega arith)) (rw start at (each k (le-refl k) (omega arith) .inside)) in
+      let own-level = rw start at (each k (le-refl k) (omega arith) .inside) in
+      let contents-fit = deeper stays .0 (omega arith) (λ q l h. each q (omega arith) (omega arith)) own-level in
       let rest-fits = deeper stays .1 inside (λ q l. each q (omega arith)) (rw after at (sym (level-first (24 * k) b inside long stays) ∙ own)) in
       fits-first (24 * k) b inside long stays ∙ both (runFits (inner k)) (runFits (outer k b)) (rw start contents-fit) (rw after rest-fits))
 
@@ -254,11 +257,16 @@ module _ (s : List ℕ) where
       module _ {n : ℕ} (told : n ≡ wordAt s (24 * k + 12)) where
         -- the next record has nothing inside it; its n passes the run; the level inside it fits or does not
         pub record-leaf : n ≡ 0 → RecordFits k
-        record-leaf none = record { stays = omega arith; inside = level-none _ (omega (arith, length-take (24 * k + size (24 * k) - (24 * k + 24)) (drop (24 * k + 24) s))) }
+        record-leaf none =
+            let nothing = length-take (24 * k + size (24 * k) - (24 * k + 24)) (drop (24 * k + 24) s) in
+            record { stays = omega arith; inside = level-none _ (omega (arith, nothing)) }
 
         pub record-over : length s - 24 * k < 24 + 24 * n → false ≡ runFits s
         record-over o =
-            sym (fails (runFits s) (leb (size (24 * k)) (length s - 24 * k)) (λ fit. le-leb _ _ (record-of fit .stays)) (lt-leb (size (24 * k)) (length s - 24 * k) (omega arith)))
+            sym
+            (fails (runFits s) (leb (size (24 * k)) (length s - 24 * k))
+            (λ fit. le-leb _ _ (record-of fit .stays))
+            (lt-leb (size (24 * k)) (length s - 24 * k) (omega arith)))
 
         pub record-unfit : levelFits (cut s (24 * k + 24) (24 * k + (24 + 24 * n))) ≡ false → false ≡ runFits s
         record-unfit h = sym (fails (runFits s) _ (λ fit. record-of fit .inside) (rw (← told) h))

@@ -101,7 +101,8 @@ module _ (file : File) where
         step-around (patternAt file) 0 (file .sentences .count) t (omega (arith, pattern-start file)) (rw (zero-add, terms-used file used) l) in
         (s, omega arith, under, over)
 
-module _ (file : File) (whole : length (file .terms .records) ≡ 24 * file .terms .count) (fields : fieldsAllowed file ≡ true) (own : ℕ → ℕ → Sentences) where
+module _ (file : File) (whole : length (file .terms .records) ≡ 24 * file .terms .count) (fields : fieldsAllowed file ≡ true)
+    (own : ℕ → ℕ → Sentences) where
   -- no sentences of a block among some records are deeper than the run of those records
   abbrev Holds : ℕ → ℕ → Type 0
   Holds at count = (t d : ℕ) → at ≤ t → t < at + count → 0 < blockSize file t
@@ -210,7 +211,8 @@ module _ (file : File) (readable : Readable file) where
           under l some
           (condition-parts-depth file s d bound c from below parts .0)
       in-condition c from below under over (no l) =
-          run-block-depth d bound t (conditionResultAt file s c + conditionResultSize file c) (conditionPatternSize file c) (omega (arith, asked-inside file used s c inside below))
+          run-block-depth d bound t (conditionResultAt file s c + conditionResultSize file c) (conditionPatternSize file c)
+          (omega (arith, asked-inside file used s c inside below))
           (condition-pattern-fits file runs s inside c from below)
           (omega arith) (omega (arith, asked-next file s c)) some
           (condition-parts-depth file s d bound c from below parts .1)
@@ -221,7 +223,8 @@ module _ (file : File) (readable : Readable file) where
           low l some
           (parts .pattern)
       go (no l) (yes m) =
-          let ends : conditionResultAt file s (firstCondition file s + conditionsOf file s) ≡ resultAt file s = rw (← condition-next file s) (asked-last file s) in
+          let ends : conditionResultAt file s (firstCondition file s + conditionsOf file s) ≡ resultAt file s =
+          rw (← condition-next file s) (asked-last file s) in
           let (c, from, below, under, over) =
           step-around (conditionResultAt file s) (firstCondition file s) (conditionsOf file s) t (omega (arith, asked-first file s)) (omega arith) in
           in-condition c from (omega (arith, condition-next file s)) under over (decLt t (conditionResultAt file s c + conditionResultSize file c))

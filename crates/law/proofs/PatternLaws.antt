@@ -325,7 +325,8 @@ module _ (bytes index : List ℕ) (h : Indexed bytes index) (s : ℕ) (l : s < f
   pattern-length =
       omega (
         arith,
-        terms-length (fileOf bytes) (sections-records bytes (fileOf bytes) (h .sections) .4) (patternAt (fileOf bytes) s) (patternSize (fileOf bytes) s) (pattern-fits bytes index h s l),
+        terms-length (fileOf bytes) (sections-records bytes (fileOf bytes) (h .sections) .4) (patternAt (fileOf bytes) s)
+            (patternSize (fileOf bytes) s) (pattern-fits bytes index h s l),
       )
 
   -- its records are allowed
@@ -333,12 +334,14 @@ module _ (bytes index : List ℕ) (h : Indexed bytes index) (s : ℕ) (l : s < f
       → termsAllowed (fileOf bytes .text .records) (patternPart (fileOf bytes) s) (patternSize (fileOf bytes) s) ≡ true
   unfolding patternPart
   pattern-allowed f =
-      part-allowed (fileOf bytes .text .records) (fileOf bytes .terms .records) (patternAt (fileOf bytes) s) (patternSize (fileOf bytes) s) (fileOf bytes .terms .count)
+      part-allowed (fileOf bytes .text .records) (fileOf bytes .terms .records) (patternAt (fileOf bytes) s) (patternSize (fileOf bytes) s)
+      (fileOf bytes .terms .count)
       (fields-terms (fileOf bytes) f)
       (pattern-fits bytes index h s l)
 
   -- its variables
-  pub pattern-variables : variablesFrom (fileOf bytes .text .records) (patternPart (fileOf bytes) s) (patternSize (fileOf bytes) s) 0 ≡ patternVariables (fileOf bytes) s
+  pub pattern-variables : variablesFrom (fileOf bytes .text .records) (patternPart (fileOf bytes) s) (patternSize (fileOf bytes) s) 0
+      ≡ patternVariables (fileOf bytes) s
   unfolding patternPart
   pattern-variables =
       part-variables (fileOf bytes .text .records) (fileOf bytes .terms .records) (patternAt (fileOf bytes) s) (patternSize (fileOf bytes) s)

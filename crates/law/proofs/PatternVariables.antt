@@ -63,7 +63,8 @@ term-variables text own at mark Bracket n inside after within allowed none same 
 term-variables text own at mark (Call a b) n inside after within allowed none same = rw same
 term-variables text own at mark (Block m) n inside after within allowed none same = rw same
 
-module _ (file : File) (whole : length (file .terms .records) ≡ 24 * file .terms .count) (fields : fieldsAllowed file ≡ true) (own : ℕ → ℕ → Sentences) where
+module _ (file : File) (whole : length (file .terms .records) ≡ 24 * file .terms .count) (fields : fieldsAllowed file ≡ true)
+    (own : ℕ → ℕ → Sentences) where
   -- the records of a run have its variables
   abbrev Have : ℕ → ℕ → Type 0
   Have at count = runVariables (runOf file own at (termsAt file at count)) ≡ variablesFrom (file .text .records) (file .terms .records) count at

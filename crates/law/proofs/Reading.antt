@@ -67,7 +67,8 @@ term-same text own₁ own₂ at mark Bracket inside after h = refl
 term-same text own₁ own₂ at mark (Call a b) inside after h = refl
 term-same text own₁ own₂ at mark (Block n) inside after h = rw h
 
-module _ (file : File) (whole : length (file .terms .records) ≡ 24 * file .terms .count) (fields : fieldsAllowed file ≡ true) (own₁ own₂ : ℕ → ℕ → Sentences) where
+module _ (file : File) (whole : length (file .terms .records) ≡ 24 * file .terms .count) (fields : fieldsAllowed file ≡ true)
+    (own₁ own₂ : ℕ → ℕ → Sentences) where
   -- they agree at the blocks of some records
   abbrev pub Agree : ℕ → ℕ → Type 0
   Agree at count = (t : ℕ) → at ≤ t → t < at + count → own₁ t (blockSize file t) ≡ own₂ t (blockSize file t)
@@ -119,7 +120,8 @@ module _ (file : File) (readable : Readable file) (s : ℕ) (inside : s < file .
   run-reads : (at count : ℕ) → patternAt file s ≤ at → at + count ≤ patternAt file (suc s) → runFits (termsAt file at count) ≡ true
       → runOf file picked at (termsAt file at count) ≡ runOf file (own file) at (termsAt file at count)
   run-reads at count low high fit =
-      run-same file (readable .whole) (readable .fields) picked (own file) at count (omega (arith, terms-inside file (all-used file (readable .runs)) s inside)) fit
+      run-same file (readable .whole) (readable .fields) picked (own file) at count
+      (omega (arith, terms-inside file (all-used file (readable .runs)) s inside)) fit
       (λ t l m. picked-own t (omega arith) (omega arith))
 
   -- the conditions of s
@@ -131,7 +133,8 @@ module _ (file : File) (readable : Readable file) (s : ℕ) (inside : s < file .
       rw (
         run-reads (conditionResultAt file s c) (conditionResultSize file c) (asked-after file s c low) (omega (arith, asked-within file s c (omega arith)))
             (condition-result-fits file (readable .runs) s inside c low (omega arith)),
-        run-reads (conditionResultAt file s c + conditionResultSize file c) (conditionPatternSize file c) (omega (arith, asked-after file s c low)) (asked-within file s c (omega arith))
+        run-reads (conditionResultAt file s c + conditionResultSize file c) (conditionPatternSize file c)
+            (omega (arith, asked-after file s c low)) (asked-within file s c (omega arith))
             (condition-pattern-fits file (readable .runs) s inside c low (omega arith)),
         conditions-read left (suc c) (omega arith) (omega arith),
       )
@@ -145,5 +148,6 @@ module _ (file : File) (readable : Readable file) (s : ℕ) (inside : s < file .
         left,
         run-reads (patternAt file s) (patternSize file s) (omega arith) (pattern-within file s) (pattern-fits file (readable .runs) s inside),
         conditions-read (conditionsOf file s) (firstCondition file s) (omega arith) (omega (arith, condition-next file s)),
-        run-reads (resultAt file s) (resultSize file s) (result-within file s) (omega (arith, pattern-next file s)) (result-fits file (readable .runs) s inside),
+        run-reads (resultAt file s) (resultSize file s) (result-within file s) (omega (arith, pattern-next file s))
+            (result-fits file (readable .runs) s inside),
       )

@@ -118,7 +118,8 @@ tables-of-parts : (file : File) (x₀ x₁ x₂ x₃ x₄ x₅ : List ℕ) → L
     → Table x₁ x₂ 73 (file .sentences .count + 1) (λ n. asWord (wordSum (file .sentences .records) 20 4 n))
     → Table x₂ x₃ 202 (file .conditions .count + 1) (λ n. asWord (pairSum (file .conditions .records) 16 4 n))
     → Table x₃ x₄ 331 (file .sentences .count + 1) (λ n. asWord (pairSum (file .sentences .records) 20 8 n))
-    → Table x₄ x₅ 460 (file .terms .count) (λ n. asWord (wordSum (file .functions .records) 20 8 (file .functions .count) + blockSum (file .terms .records) n))
+    → Table x₄ x₅ 460 (file .terms .count)
+    (λ n. asWord (wordSum (file .functions .records) 20 8 (file .functions .count) + blockSum (file .terms .records) n))
     → TablesOf file x₅
 unfolding firstSentence firstCondition blockFirst
 tables-of-parts file x₀ x₁ x₂ x₃ x₄ x₅ limits t₁ t₂ t₃ t₄ t₅ =
@@ -156,7 +157,10 @@ used-by-sums : (file : File) (functionSentences sentenceConditions conditionTerm
     → conditionTerms ≡ pairSum (file .conditions .records) 16 4 (file .conditions .count)
     → sentenceTerms ≡ pairSum (file .sentences .records) 20 8 (file .sentences .count)
     → blockSentences ≡ blockSum (file .terms .records) (file .terms .count)
-    → eqb (functionSentences + blockSentences) (file .sentences .count) && eqb sentenceConditions (file .conditions .count) && eqb (sentenceTerms + conditionTerms) (file .terms .count) ≡ usedUp file
+    → eqb (functionSentences + blockSentences) (file .sentences .count)
+    && eqb sentenceConditions (file .conditions .count)
+    && eqb (sentenceTerms + conditionTerms) (file .terms .count)
+    ≡ usedUp file
 unfolding usedUp firstSentence firstCondition blockFirst patternAt
 used-by-sums file functionSentences sentenceConditions conditionTerms sentenceTerms blockSentences p q r s t =
     rw (p, q, r, s, t)
@@ -168,7 +172,8 @@ used-by-sums file functionSentences sentenceConditions conditionTerms sentenceTe
 
 -- what the five fills leave behind, for a file with these counts
 pub tables-made : (bytes : List ℕ) (s : Sections) → countsOf (fileOf bytes) ≡ s
-    → (used : Bool) (functionSentences sentenceConditions conditionTerms sentenceTerms blockSentences : ℕ) (x₀ x₁ x₂ x₃ x₄ x₅ : List ℕ) → Limits s
+    → (used : Bool) (functionSentences sentenceConditions conditionTerms sentenceTerms blockSentences : ℕ) (x₀ x₁ x₂ x₃ x₄ x₅ : List ℕ)
+    → Limits s
     → functionSentences ≡ wordSum (functionsPart bytes s) 20 8 (s .functions)
     → Table x₀ x₁ 8 (s .functions + 1) (λ n. asWord (wordSum (functionsPart bytes s) 20 8 n))
     → sentenceConditions ≡ wordSum (sentencesPart bytes s) 20 4 (s .sentences)
@@ -179,13 +184,20 @@ pub tables-made : (bytes : List ℕ) (s : Sections) → countsOf (fileOf bytes) 
     → Table x₃ x₄ 331 (s .sentences + 1) (λ n. asWord (pairSum (sentencesPart bytes s) 20 8 n))
     → blockSentences ≡ blockSum (termsPart bytes s) (s .terms)
     → Table x₄ x₅ 460 (s .terms) (λ n. asWord (functionSentences + blockSum (termsPart bytes s) n))
-    → used ≡ eqb (functionSentences + blockSentences) (s .sentences) && eqb sentenceConditions (s .conditions) && eqb (sentenceTerms + conditionTerms) (s .terms)
+    → used
+    ≡ eqb (functionSentences + blockSentences) (s .sentences)
+    && eqb sentenceConditions (s .conditions)
+    && eqb (sentenceTerms + conditionTerms) (s .terms)
     → (used ≡ usedUp (fileOf bytes)) × TablesOf (fileOf bytes) x₅
 tables-made bytes s e =
-    rw (← e) (λ used functionSentences sentenceConditions conditionTerms sentenceTerms blockSentences x₀ x₁ x₂ x₃ x₄ x₅ limits p t₁ q t₂ r t₃ u t₄ v t₅ w.
+    rw (← e) (λ used functionSentences sentenceConditions conditionTerms sentenceTerms blockSentences x₀ x₁ x₂ x₃ x₄ x₅ limits.
+    λ p t₁ q t₂ r t₃ u t₄ v t₅ w.
     let p′ : functionSentences ≡ wordSum (fileOf bytes .functions .records) 20 8 (fileOf bytes .functions .count) = rw (functions-cut bytes) at p in (
-      w ∙ used-by-sums (fileOf bytes) functionSentences sentenceConditions conditionTerms sentenceTerms blockSentences p′ (rw (sentences-cut bytes) at q) (rw (conditions-cut bytes) at r) (rw (sentences-cut bytes) at u) (rw (terms-cut bytes) at v),
-      tables-of-parts (fileOf bytes) x₀ x₁ x₂ x₃ x₄ x₅ limits (rw (functions-cut bytes) at t₁) (rw (sentences-cut bytes) at t₂) (rw (conditions-cut bytes) at t₃) (rw (sentences-cut bytes) at t₄) (rw (terms-cut bytes, p′) at t₅),
+      w
+          ∙ used-by-sums (fileOf bytes) functionSentences sentenceConditions conditionTerms sentenceTerms blockSentences p′
+          (rw (sentences-cut bytes) at q) (rw (conditions-cut bytes) at r) (rw (sentences-cut bytes) at u) (rw (terms-cut bytes) at v),
+      tables-of-parts (fileOf bytes) x₀ x₁ x₂ x₃ x₄ x₅ limits (rw (functions-cut bytes) at t₁) (rw (sentences-cut bytes) at t₂)
+          (rw (conditions-cut bytes) at t₃) (rw (sentences-cut bytes) at t₄) (rw (terms-cut bytes, p′) at t₅),
     ))
 
 -- what a file has whose sections are used up
@@ -225,7 +237,8 @@ pub index-made : (file : File) (tables : List ℕ) → Limits (countsOf file) �
 unfolding firstSentence firstCondition blockFirst
 index-made file tables limits h t =
     let u = used-sums file h in
-    let word : (j n : ℕ) → 8 ≤ j → getD tables j 0 ≡ asWord n → n ≤ 512 → getD (header (countsOf file) ++ drop 8 tables) j 0 ≡ n = λ j n l e k. past-header (countsOf file) tables j l ∙ e ∙ word-small n k in
+    let word : (j n : ℕ) → 8 ≤ j → getD tables j 0 ≡ asWord n → n ≤ 512 → getD (header (countsOf file) ++ drop 8 tables) j 0 ≡ n =
+    λ j n l e k. past-header (countsOf file) tables j l ∙ e ∙ word-small n k in
     record {
       functionsAt = refl;
       sentencesAt = refl;
@@ -235,11 +248,18 @@ index-made file tables limits h t =
       sentences = refl;
       conditions = refl;
       terms = refl;
-      firstSentences = λ f l. word (8 + f) _ (omega arith) (t .firstSentences f l) (omega (arith, u .sentences, total-mono f (file .functions .count) (sentencesOf file) l));
-      firstConditions = λ s l. word (73 + s) _ (omega arith) (t .firstConditions s l) (omega (arith, u .conditions, total-mono s (file .sentences .count) (conditionsOf file) l));
-      conditionTerms = λ c l. word (202 + c) _ (omega arith) (t .conditionTerms c l) (omega (arith, u .terms, total-mono c (file .conditions .count) (λ i. conditionResultSize file i + conditionPatternSize file i) l));
-      sentenceTerms = λ s l. word (331 + s) _ (omega arith) (t .sentenceTerms s l) (omega (arith, u .terms, total-mono s (file .sentences .count) (λ i. patternSize file i + resultSize file i) l));
-      blocks = λ n l. word (460 + n) _ (omega arith) (t .blocks n l) (omega (arith, u .sentences, total-mono n (file .terms .count) (blockSize file) (omega arith)));
+      firstSentences = λ f l.
+          word (8 + f) _ (omega arith) (t .firstSentences f l) (omega (arith, u .sentences, total-mono f (file .functions .count) (sentencesOf file) l));
+      firstConditions = λ s l.
+          word (73 + s) _ (omega arith) (t .firstConditions s l) (omega (arith, u .conditions, total-mono s (file .sentences .count) (conditionsOf file) l));
+      conditionTerms = λ c l.
+          let up = total-mono c (file .conditions .count) (λ i. conditionResultSize file i + conditionPatternSize file i) l in
+          word (202 + c) _ (omega arith) (t .conditionTerms c l) (omega (arith, u .terms, up));
+      sentenceTerms = λ s l.
+          let up = total-mono s (file .sentences .count) (λ i. patternSize file i + resultSize file i) l in
+          word (331 + s) _ (omega arith) (t .sentenceTerms s l) (omega (arith, u .terms, up));
+      blocks = λ n l.
+          word (460 + n) _ (omega arith) (t .blocks n l) (omega (arith, u .sentences, total-mono n (file .terms .count) (blockSize file) (omega arith)));
     }
 
 -- the header, written word by word
@@ -264,7 +284,8 @@ placed-made file s tables index e t q = record {
 pub placed-indexed : (bytes index : List ℕ) → sectionsOf bytes ≡ given (fileOf bytes) → usedUp (fileOf bytes) ≡ true
     → Placed (fileOf bytes) index → Indexed bytes index
 placed-indexed bytes index h u p =
-    let split : header (countsOf (fileOf bytes)) ++ drop 8 index ≡ index = ap (λ front. front ++ drop 8 index) (sym (p .begins)) ∙ take-append-drop 8 index in
+    let split : header (countsOf (fileOf bytes)) ++ drop 8 index ≡ index =
+    ap (λ front. front ++ drop 8 index) (sym (p .begins)) ∙ take-append-drop 8 index in
     record {
       sections = h;
       used = u;

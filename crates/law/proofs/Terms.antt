@@ -64,7 +64,10 @@ module _ (file : File) (fields : fieldsAllowed file ≡ true) (t : ℕ) (inside 
   unfolding fieldsAllowed
   term-allowed =
       every-at (file .terms .count) (λ t. termFieldsAt (file .text .records) (file .terms .records) (24 * t)) t
-      (both-second (functionsAllowed (file .text .records) (file .functions .records) (file .functions .count)) (termsAllowed (file .text .records) (file .terms .records) (file .terms .count)) fields)
+      (both-second
+      (functionsAllowed (file .text .records) (file .functions .records) (file .functions .count))
+      (termsAllowed (file .text .records) (file .terms .records) (file .terms .count))
+      fields)
       inside
 
   -- a block's number of sentences is its word a, and no other record has sentences
