@@ -21,4 +21,5 @@ block-later-spec =
     (λ c.
     let the-args = c .before .before .before .before .args in
     let p = c .before .before .before .before .pre in
-    later-first (fileOf (the-args .law .now)) _ _ _ _ (c .before .before .block-size .ensures) (c .before .if1 .left) (block-place _ _ (p .0) _ _ (p .1) (c .block-first .ensures))))
+    let place = block-place _ _ (p .0) _ _ (p .1) (c .block-first .ensures) in
+    later-first (fileOf (the-args .law .now)) _ _ _ _ (c .before .before .block-size .ensures) (c .before .if1 .left) place))

@@ -15,7 +15,8 @@ add-block-spec =
     (λ c.
     let start = c .before .before .before in
     let a = start .args in
-    let next = sum-next (blockWord (a .terms .now)) (a .t) (a .sum) 0 (start .pre .2) (block-none (a .terms .now) (a .t) _ (c .before .word-at .ensures) (c .if1 .taken)) in
+    let none = block-none (a .terms .now) (a .t) _ (c .before .word-at .ensures) (c .if1 .taken) in
+    let next = sum-next (blockWord (a .terms .now)) (a .t) (a .sum) 0 (start .pre .2) none in
     (omega (arith, next), omega (arith, start .pre .3)))
     (λ c. search needs)
     (λ c. search needs)

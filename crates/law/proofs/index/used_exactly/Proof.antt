@@ -9,7 +9,8 @@ use Rattle.law.proofs.index.used_exactly.Statement.{statement}
 use Rattle.law.proofs.index.used_exactly.Tie as tie
 
 -- the first two tests, where their ways meet
-first-two : (c : tie.Joined1) → (let a = c .before .before .args in c .if1 .if2 ≡ eqb (a .sentences) (a .sections .sentences) && eqb (a .conditions) (a .sections .conditions))
+first-two : (c : tie.Joined1) → (let a = c .before .before .args in
+    c .if1 .if2 ≡ eqb (a .sentences) (a .sections .sentences) && eqb (a .conditions) (a .sections .conditions))
 first-two c = ⊎-elim (λ w. and-held _ _ _ (eq-eqb _ _ (w .0 .taken)) (w .2)) (λ w. and-failed _ _ _ (ne-eqb _ _ (w .0 .left)) (w .1)) (c .if1 .came)
 
 pub used-exactly-spec : {M : Type 1} → statement M

@@ -20,4 +20,5 @@ sentence-pattern-spec =
     (λ c.
     let the-pattern-size = c .before .before .before .pattern-size in
     let p = c .before .before .before .before .before .pre in
-    c .pattern-allowed .ensures ∙ rw (c .before .before .text .ensures, c .before .pattern .ensures, the-pattern-size .ensures, pattern-variables _ _ (p .0) _ (p .2))))
+    c .pattern-allowed .ensures
+    ∙ rw (c .before .before .text .ensures, c .before .pattern .ensures, the-pattern-size .ensures, pattern-variables _ _ (p .0) _ (p .2))))

@@ -27,12 +27,14 @@ level-fits-spec =
     (λ c. omega (arith, c .before .before .loop .inv .to))
     (λ c.
     let start = c .before .before .before .before .before in
-    level-breaks (start .args .part .now) (start .pre .1) (c .before .before .before .loop .inv) (c .before .before .loop-test .taken) (c .before .word-at .ensures) (c .if1 .taken))
+    let so-far = c .before .before .before .loop .inv in
+    level-breaks (start .args .part .now) (start .pre .1) so-far (c .before .before .loop-test .taken) (c .before .word-at .ensures) (c .if1 .taken))
     (λ c. omega arith)
     (λ c. omega arith)
     (λ c.
     let start = c .before .before .before .before .before in
-    level-goes (start .args .part .now) (start .pre .1) (c .before .before .before .loop .inv) (c .before .before .loop-test .taken) (c .before .word-at .ensures) (c .if1 .left))
+    let so-far = c .before .before .before .loop .inv in
+    level-goes (start .args .part .now) (start .pre .1) so-far (c .before .before .loop-test .taken) (c .before .word-at .ensures) (c .if1 .left))
     (λ c.
     let start = c .before .before .before in
     level-ends (start .args .part .now) (start .pre .1) (c .before .loop .inv) (c .loop-test .left)))

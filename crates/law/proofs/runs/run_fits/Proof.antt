@@ -50,7 +50,8 @@ run-fits-spec =
     let the-loop-test = c .before .before .loop-test in
     levels.records-next _ (the-loop .inv) (the-loop-test .taken)
     (⊎-elim
-    (λ w. levels.record-fits _ (the-loop .inv) (the-loop-test .taken) (c .before .word-at .ensures) (w .1 .left) (sym (w .2 .ensures) ∙ not-false _ (w .3 .left)))
+    (λ w. levels.record-fits _ (the-loop .inv) (the-loop-test .taken) (c .before .word-at .ensures) (w .1 .left)
+    (sym (w .2 .ensures) ∙ not-false _ (w .3 .left)))
     (λ w. levels.record-leaf _ (the-loop .inv) (the-loop-test .taken) (c .before .word-at .ensures) (omega (arith, w .left)))
     (c .if1 .came)))
     (λ c. levels.records-end _ (c .before .loop .inv) (c .loop-test .left)))
