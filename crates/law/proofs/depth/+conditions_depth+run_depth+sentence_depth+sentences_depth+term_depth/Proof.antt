@@ -229,7 +229,7 @@ module _ (t : ℕ) where
   condition-sentence c = condition-call c .args .s
 
   abbrev condition-at : Condition-round → ℕ
-  condition-at c = c .before .before .before .first-condition .result + c .before .loop .i
+  condition-at c = let first = c .before .before .before .first-condition in first .result + c .before .loop .i
 
   condition-owned : (c : Condition-round) → Owns (condition-file c) (condition-sentence c) (condition-at c)
   condition-owned c =

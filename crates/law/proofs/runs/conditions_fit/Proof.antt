@@ -63,7 +63,7 @@ number c = c .before .loop .i
 
 -- the round's condition, as the code and as the law count it
 abbrev condition : Round → ℕ
-condition c = c .before .before .before .first-condition .result + number c
+condition c = let first = c .before .before .before .first-condition in first .result + number c
 
 abbrev the-condition : Round → ℕ
 the-condition c = firstCondition (file c) (sentence c) + number c

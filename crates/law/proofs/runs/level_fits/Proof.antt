@@ -19,12 +19,12 @@ level-fits-spec =
     μ-loop
     (λ c. level-start (c .before .args .part .now) (c .before .args .start) (c .before .args .end) (c .before .pre .0))
     (λ c. omega (arith, c .loop .inv .to))
-    (λ c. omega (arith, c .before .before .before .pre .1))
-    (λ c κs. omega (arith, c .before .before .before .pre .1))
+    (λ c. let start = c .before .before .before in omega (arith, start .pre .1))
+    (λ c κs. let start = c .before .before .before in omega (arith, start .pre .1))
     (λ c. omega arith)
     (λ c. omega arith)
     (λ c. omega arith)
-    (λ c. omega (arith, c .before .before .loop .inv .to))
+    (λ c. let the-loop = c .before .before .loop in omega (arith, the-loop .inv .to))
     (λ c.
     let start = c .before .before .before .before .before in
     let so-far = c .before .before .before .loop .inv in

@@ -30,7 +30,7 @@ run-fits-spec =
     (λ c. omega arith)
     (λ c. omega arith)
     (λ c. omega arith)
-    (λ c. omega (arith, c .before .before .before .loop .inv .within))
+    (λ c. let the-loop = c .before .before .before .loop in omega (arith, the-loop .inv .within))
     (λ c.
     let the-loop = c .before .before .before .before .loop in
     let the-loop-test = c .before .before .before .loop-test in
