@@ -1,9 +1,9 @@
 #!/bin/sh
-# Builds the static library, the Rust crate over it and the examples, tests the crate and the header, runs the examples on texts
-# and on law files and compares what they write. The texts are those of samples/, whose law files are there too, an empty one, one
-# outside the grammar and one that is too long. Law files may be named; else they are those of samples/, an empty file and one
-# that is too long. Where BILZARKO_LIB_DIR is set the library is not built: the one in that folder is used.
-# It needs rt, cargo, gcc and g++, and no network. Its last line is 'N texts, N law files: the examples agree'.
+# Builds the static library, the Rust crate over it and the examples, tests the crate and the header, runs the examples on texts,
+# on law files and on numbers and compares what they write. The texts are those of samples/, whose law files are there too, an
+# empty one, one outside the grammar and one that is too long. Law files may be named; else they are those of samples/, an empty
+# file and one that is too long. Where BILZARKO_LIB_DIR is set the library is not built: the one in that folder is used.
+# It needs rt, cargo, gcc and g++, and no network. Its last line is 'N texts, N law files, N numbers: the examples agree'.
 set -eu
 here=$(cd "$(dirname "$0")" && pwd)
 root=$(dirname "$here")
@@ -34,11 +34,12 @@ gcc -std=c99 $warned -o "$made/header_c" bindings/tests/header.c "$library"
 g++ -std=c++11 $warned -o "$made/header_cpp" -x c++ bindings/tests/header.c -x none "$library"
 gcc -std=c99 $warned -o "$made/list" bindings/examples/list.c "$library"
 gcc -std=c99 $warned -o "$made/read" bindings/examples/read.c "$library"
+gcc -std=c99 $warned -o "$made/mark" bindings/examples/mark.c "$library"
 "$made/header_c"
 "$made/header_cpp"
 
-# Both examples on one file, by Rust and by C: same output, and the same exit status, 0 or 1. A line says what is written.
-both() { # EXAMPLE FILE [OUT_BY_RUST OUT_BY_C]
+# Both examples on one file or number, by Rust and by C: same output, and the same exit status, 0 or 1. What is written is shown.
+both() { # EXAMPLE FILE_OR_NUMBER [OUT_BY_RUST OUT_BY_C]
     by_rust=0
     by_c=0
     "$here/target/release/examples/$1" "$2" ${3+"$3"} >"$made/by_rust" || by_rust=$?
@@ -78,4 +79,10 @@ for law in "$@"; do
     both list "$law"
     compared=$((compared + 1))
 done
-echo "$texts texts, $compared law files: the examples agree"
+
+numbers=0
+for number in 4294967295 4294967296 0004294967295 42949672950 42949x67295 007 99999999999999999999 ''; do
+    both mark "$number"
+    numbers=$((numbers + 1))
+done
+echo "$texts texts, $compared law files, $numbers numbers: the examples agree"

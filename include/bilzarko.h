@@ -1,4 +1,5 @@
-/* Bilzarko for C: the findings of a law file, the text of each of them, and the law file of a law typed as text.
+/* Bilzarko for C: the findings of a law file, the text of each of them, the law file of a law typed as text, and the test of
+ * a number's digits as they are typed.
  *
  * Link with libbilzarko.a, which `rt staticlib bilzarko` writes to target/staticlib. It is for x86-64 Linux and needs
  * the C library only. The functions are proved to meet their contracts, which crates/bilzarko/src/lib.rt and
@@ -8,11 +9,11 @@
  * What a caller sees to, since nothing checks a caller in C:
  * - each pointer leads to as many elements as the number after it says, aligned for their type;
  * - the elements have values: memory that was never written may not be lent, not even as a buffer;
- * - what a call writes to (store, words, answer, the text call's text, the reading call's law) overlaps nothing else that
- *   is lent to it, and nothing else reads or writes it before the call returns; nothing writes what a call only reads
- *   before then;
+ * - what a call writes to (store, words, answer, the text call's text, the reading call's law, the digit call's state)
+ *   overlaps nothing else that is lent to it, and nothing else reads or writes it before the call returns; nothing writes
+ *   what a call only reads before then;
  * - where the number of elements is 0 the pointer is not used: it may be null or point anywhere;
- * - `answer` is never null;
+ * - `answer` and `state` are never null;
  * - a call has BILZARKO_STACK_BYTES of stack. With less, the system may end the process at the guard page.
  *
  * The findings call and the text call return, but they can take for ever: matching with repeated variables is
@@ -33,7 +34,7 @@ extern "C" {
 
 /* The version of this header and of the Rust crate over the same calls. */
 #define BILZARKO_VERSION_MAJOR 0
-#define BILZARKO_VERSION_MINOR 2
+#define BILZARKO_VERSION_MINOR 3
 #define BILZARKO_VERSION_PATCH 0
 
 /* Limits and sizes. */
@@ -120,7 +121,8 @@ extern "C" {
 #define BILZARKO_SHAPE_BRACKET UINT32_C(5)
 #define BILZARKO_SHAPE_BRACKET_OPEN UINT32_C(1024)
 
-/* Refusals: what a call returns where it does not return 0. Where several hold, the first in this order is returned.
+/* Refusals: what a call returns where it does not return 0. Where several hold, the first in this order is returned. The
+ * digit call refuses nothing.
  *
  *   findings and text   14, then 1;
  *                       then of the sections text, functions, sentences, conditions and terms, one after the other: 2 where
@@ -208,6 +210,24 @@ uint32_t bilzarko_text(uint32_t mode,
 uint32_t bilzarko_read(const uint8_t *text, size_t text_length,
                        uint8_t *law, size_t law_length,
                        uint64_t *answer);
+
+/* What the digit call returns. It is no refusal. */
+#define BILZARKO_DIGIT_PAST UINT32_C(0)    /* the value of the digits so far is past 4294967295, the greatest macrodigit */
+#define BILZARKO_DIGIT_AT_MOST UINT32_C(1) /* the value of the digits so far is at most 4294967295 */
+#define BILZARKO_DIGIT_NONE UINT32_C(2)    /* the byte is no digit */
+
+/* The state before the first digit of a number. */
+#define BILZARKO_DIGIT_START UINT32_C(0)
+
+/* Takes the digits of a number one by one from the left, however many, and says after each whether the number so far is a
+ * macrodigit: what the builtin lint asks of a number.
+ *
+ *   state           BILZARKO_DIGIT_START before the first digit; then what the call left
+ *   digit           a byte: an ASCII digit, or another, which leaves the state as it was
+ *
+ * After a digit the state is the value of the digits so far, or 4294967296 where that is less. Where it is another word
+ * before the call, it is read as that value. */
+uint32_t bilzarko_digit(uint64_t *state, uint8_t digit);
 
 #ifdef __cplusplus
 }

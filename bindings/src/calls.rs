@@ -39,6 +39,8 @@ mod library {
             law_length: usize,
             answer: *mut u64,
         ) -> u32;
+
+        pub fn bilzarko_digit(state: *mut u64, digit: u8) -> u32;
     }
 }
 
@@ -209,6 +211,16 @@ pub fn law_file(text: &[u8]) -> Result<Vec<u8>, Refusal> {
     let bytes = read(text, &mut law)?;
     law.truncate(bytes);
     Ok(law)
+}
+
+/// Takes one more digit, and answers 0 past the macrodigits, 1 at most, 2 no digit.
+pub(crate) fn digit(state: &mut u64, digit: u8) -> u32 {
+    // SAFETY: `state` is borrowed for writing until the call returns, so that no one else reads or writes it. The function is
+    // proved to touch nothing beyond it, for every state and every byte.
+    #[allow(unsafe_code)]
+    unsafe {
+        library::bilzarko_digit(state, digit)
+    }
 }
 
 #[cfg(test)]

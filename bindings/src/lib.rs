@@ -1,8 +1,10 @@
-//! The findings of a law file, the text of each of them, and the law file of a law typed as text, for Rust.
+//! The findings of a law file, the text of each of them, the law file of a law typed as text, and the test of a number's digits
+//! as they are typed, for Rust.
 //!
 //! The work is done by `libbilzarko.a`, whose functions are proved to meet their contracts; `include/bilzarko.h`
-//! says what they answer. This crate declares them again and gives each a safe function, [`findings`], [`text`] and [`read`]:
-//! any arguments that its types allow may be passed. [`list`] and [`law_file`] make the buffers themselves and give owned values.
+//! says what they answer. This crate declares them again and gives each a safe function, [`findings`], [`text`], [`read`] and
+//! [`Digits::push`]: any arguments that its types allow may be passed. [`list`] and [`law_file`] make the buffers themselves and
+//! give owned values.
 //!
 //! ```
 //! use bilzarko::{list, Lint, Mode, Settings};
@@ -42,6 +44,7 @@
 #![deny(unsafe_code)]
 
 mod calls;
+mod digits;
 mod finding;
 pub mod formats;
 mod kinds;
@@ -50,6 +53,7 @@ mod refusal;
 mod settings;
 
 pub use calls::{findings, law_file, read, text, Count};
+pub use digits::{Digits, Tested};
 pub use finding::{decode, Finding};
 pub use kinds::{Lint, Mode, Severity};
 pub use listing::{list, Listed, Listing};

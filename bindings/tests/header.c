@@ -1,6 +1,7 @@
 /* That the header compiles as C99 and as C++, and that its macros with parameters give what they should: an array of a
  * negative size does not compile. Run, it lists a law without functions, which has no findings and one round, lends settings
- * that are refused before all else, and reads texts: one is taken, one is outside the grammar, one is too long. */
+ * that are refused before all else, reads texts: one is taken, one is outside the grammar, one is too long; and takes digits up to
+ * the last macrodigit and past it. */
 #include "bilzarko.h"
 
 #define HOLDS(name, condition) typedef char name[(condition) ? 1 : -1]
@@ -26,6 +27,16 @@ static int settings_refused(uint32_t mode, const uint32_t *overrides, size_t ove
            && bilzarko_text(mode, overrides, overrides_length, over, sizeof over, NULL, 0, 0, NULL, 0, answer)
                   == BILZARKO_REFUSAL_SETTINGS
            && answer[0] == 7 && answer[1] == 7 && answer[2] == 7;
+}
+
+/* The answer to the last byte of a number. */
+static uint32_t take_digits(const char *number)
+{
+    uint64_t state = BILZARKO_DIGIT_START;
+    uint32_t answer = BILZARKO_DIGIT_NONE;
+    for (; *number != '\0'; number++)
+        answer = bilzarko_digit(&state, (uint8_t)*number);
+    return answer;
 }
 
 int main(void)
@@ -56,5 +67,9 @@ int main(void)
         || bilzarko_read(over, BILZARKO_LAW_TEXT_BYTES + 1, NULL, 0, &bytes) != BILZARKO_REFUSAL_COUNT_OVER
         || bilzarko_read(NULL, 0, NULL, 0, &bytes) != BILZARKO_REFUSAL_LAW || bytes != sizeof law)
         return 6;
+    if (take_digits("429496729") != BILZARKO_DIGIT_AT_MOST || take_digits("4294967295") != BILZARKO_DIGIT_AT_MOST
+        || take_digits("4294967296") != BILZARKO_DIGIT_PAST || take_digits("42949672950") != BILZARKO_DIGIT_PAST
+        || take_digits("4294967296x") != BILZARKO_DIGIT_NONE)
+        return 7;
     return 0;
 }

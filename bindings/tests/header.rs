@@ -1,7 +1,7 @@
 //! That `include/bilzarko.h` and this crate have the same version and the same numbers.
 use std::collections::BTreeMap;
 
-use bilzarko::{formats, Finding, Lint, Mode, Refusal, Severity};
+use bilzarko::{formats, Digits, Finding, Lint, Mode, Refusal, Severity, Tested};
 
 const HEADER: &str = include_str!("../../include/bilzarko.h");
 
@@ -118,5 +118,9 @@ fn numbers_are_the_same() {
     for (name, refusal) in refusals {
         same(name, refusal.number());
     }
+    same("DIGIT_PAST", Tested::Past.number());
+    same("DIGIT_AT_MOST", Tested::AtMost.number());
+    same("DIGIT_NONE", Tested::NoDigit.number());
+    same("DIGIT_START", Digits::new().value().expect("no digits yet"));
     assert!(header.is_empty(), "only in the header: {header:?}");
 }

@@ -1,9 +1,10 @@
--- What the exported calls return, from what the calls of `listing` and `reader` answer.
+-- What the exported calls return, from what the calls of `listing`, `reader` and `numbers` answer.
 use Prim.Native.Nat.{ℕ}
 use mathlib.Core.Bool.{Bool, true, false, cond}
 use mathlib.Core.List.{List, [], _∷_}
-use mathlib.Core.Path.{_≡_, refl}
+use mathlib.Core.Path.{_≡_, refl, ap}
 use native.Mathlib.Omega.{arith}
+use Rattle.numbers.specs.declared.Step.{Step}
 use Rattle.file.specs.declared.Refusal.{Refusal}
 use Rattle.file.specs.declared.Refusal.the-variants as file
 use Rattle.file.specs.Sections.{numberOf}
@@ -20,7 +21,7 @@ use Rattle.reader.specs.declared.Unread.{Unread}
 use Rattle.reader.specs.declared.Reading.{Reading}
 use Rattle.reader.specs.declared.Reading.the-variants as reading
 use Rattle.reader.specs.Outcome.{unreadNumber, ReadOutcome, readAfter}
-use Rattle.bilzarko.specs.Exported.{FindingsExported, TextExit, textExit, ReadExit, readExit}
+use Rattle.bilzarko.specs.Exported.{FindingsExported, TextExit, textExit, ReadExit, readExit, testedNumber, DigitExit, digitExit}
 
 -- no refusal's number is 0
 file-number-some : (why : Refusal) → numberOf why ≡ 0 → ⊥
@@ -87,3 +88,8 @@ module _ {after : List ℕ} (answer : ℕ) {o : ReadOutcome} {r : Reading} (outc
   -- its law file is written
   pub read-written : (bytes : ℕ) → r ≡ reading.Written bytes → _≡_ {A = ReadExit} (record { number = 0; law = after; answer = bytes }) (readExit answer o)
   read-written bytes is = rw (← outcome, is) refl
+
+-- a digit is taken
+pub digit-taken : {step taken : Step} {number : ℕ} → step ≡ taken → number ≡ testedNumber (step .answer)
+    → _≡_ {A = DigitExit} (record { number = number; state = step .state }) (digitExit taken)
+digit-taken is number-is = rw number-is (ap digitExit is)

@@ -1,11 +1,14 @@
 -- What the exported calls return, and every lent word after them. A call over C returns one number, and what it answers stands in lent words.
--- docs/SPECIFICATION.md, 13.1.
+-- docs/SPECIFICATION.md, 13.1, 20.5.
 use Prim.Native.Nat.{ℕ, _*_}
 use mathlib.Core.Bool.{true, cond}
 use mathlib.Core.List.{List, [], _∷_}
 use mathlib.Core.Path.{_≡_}
 use lib.ListN.{take, getD}
 use Rattle.file.specs.Answer.{Answer, refused, given}
+use Rattle.numbers.specs.declared.Step.{Step}
+use Rattle.numbers.specs.declared.Tested.{Tested}
+use Rattle.numbers.specs.declared.Tested.the-variants.{AtMost, Past, NoDigit}
 use Rattle.law.specs.Tree.{Law}
 use Rattle.law.specs.Law.{lawOf}
 use Rattle.lints.specs.Levels.{Settings}
@@ -84,3 +87,18 @@ readExit before o = record {
   law = o .law;
   answer = answerAfter (λ bytes. bytes) before (o .answer);
 }
+
+-- ---- the call that takes a digit
+
+-- the number that is returned
+abbrev pub testedNumber : Tested → ℕ
+testedNumber Past = 0
+testedNumber AtMost = 1
+testedNumber NoDigit = 2
+
+pub record DigitExit : Type 0 where
+  pub number : ℕ
+  pub state : ℕ
+
+abbrev pub digitExit : Step → DigitExit
+digitExit step = record { number = testedNumber (step .answer); state = step .state }

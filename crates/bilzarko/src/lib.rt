@@ -1,17 +1,20 @@
-// The three calls for programs in other languages, as functions of C. A slice crosses as a pointer and a number of elements. Each call returns 0 or a refusal's
-// number; what it answers stands in lent words, which keep their values where it is refused. include/bilzarko.h says what stack a call is given, and that the first
-// two can take for ever.
+// The four calls for programs in other languages, as functions of C. A slice crosses as a pointer and a number of elements. The first three return 0 or a
+// refusal's number; what they answer stands in lent words, which keep their values where a call is refused. The last refuses nothing and returns its answer.
+// include/bilzarko.h says what stack a call is given, and that the first two can take for ever.
 use listing::Found;
 use listing::Told;
 use listing::turned_number;
+use numbers::Tested;
+use numbers::digit_step;
 use reader::Reading;
 use reader::unread_number;
 ghost use mathlib.Core.Path.{_≡_};
 ghost use mathlib.Core.Bool.{cond};
+ghost use Rattle.numbers.specs.OnePass.{stepOf};
 ghost use Rattle.lints.specs.Levels.{settingsFrom};
 ghost use Rattle.listing.specs.Outcome.{textOutcome};
 ghost use Rattle.reader.specs.Outcome.{readOutcome};
-ghost use Rattle.bilzarko.specs.Exported.{FindingsExported, TextExit, textExit, ReadExit, readExit};
+ghost use Rattle.bilzarko.specs.Exported.{FindingsExported, TextExit, textExit, ReadExit, readExit, testedNumber, DigitExit, digitExit};
 
 // 1 for settled, 0 for not.
 fn settled_word(settled: bool) -> u64
@@ -78,4 +81,27 @@ pub extern "C" fn bilzarko_read(text: &[u8], law: &mut [u8], answer: &mut u64) -
             0
         }
     }
+}
+
+// The number of an answer to a digit.
+fn tested_number(answer: Tested) -> u32
+    ensures { λ r. ⌜ r ≡ testedNumber answer ⌝ }
+{
+    match answer {
+        Tested::Past => 0,
+        Tested::AtMost => 1,
+        Tested::NoDigit => 2,
+    }
+}
+
+// Takes one more digit of a number: 1 where the value of the digits so far is at most 4294967295, 0 where it is past that, 2 where the byte is no digit.
+// The state before the first digit is 0.
+#[no_mangle]
+pub extern "C" fn bilzarko_digit(state: &mut u64, digit: u8) -> u32
+    ensures { λ r. ⌜ _≡_ {A = DigitExit} (record { number = r; state = now (state .exit) }) (digitExit (stepOf (now (state .entry)) digit)) ⌝ }
+{
+    let step = digit_step(*state, digit);
+    let answer = step.answer;
+    *state = step.state;
+    tested_number(answer)
 }

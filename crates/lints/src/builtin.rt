@@ -6,6 +6,7 @@ use law::runs::end_of;
 use matching::atoms::spelled;
 use names::names_equal;
 use numbers::capped_value;
+use numbers::is_macrodigit;
 ghost use mathlib.Core.Path.{_≡_};
 ghost use mathlib.Core.List.{List};
 ghost use Prim.Native.Nat.{ℕ};
@@ -50,10 +51,11 @@ fn number_operand(digits: &[u8]) -> Operand
     ensures { λ r. ⌜ r ≡ numberOperand (now (digits .entry)) ⌝ }
 {
     let value = capped_value(digits);
-    if 4294967295 < value {
-        return Operand::Other;
+    if is_macrodigit(value) {
+        Operand::Macrodigit(value)
+    } else {
+        Operand::Other
     }
-    Operand::Macrodigit(value)
 }
 
 // A character as an operand: `-` and `+` are signs.

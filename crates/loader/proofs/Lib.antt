@@ -2,3 +2,4 @@ pub mod RowLaws
 pub mod LoadedLaws
 pub mod ShownLaws
 pub mod TypedLaws
+pub mod MarkedLaws

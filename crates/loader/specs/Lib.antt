@@ -2,3 +2,4 @@ pub mod Rows
 pub mod Loaded
 pub mod Shown
 pub mod Typed
+pub mod Marked

@@ -1,5 +1,6 @@
 // The exported calls as a loader and an editor use them. These contracts say in full what a caller relies on, in words of their own: where a contract of
-// `bilzarko`, `listing` or `reader` promises less, or asks for something, they are not proved.
+// `bilzarko`, `listing`, `reader` or `numbers` promises less, or asks for something, they are not proved.
+use bilzarko::bilzarko_digit;
 use bilzarko::bilzarko_findings;
 use bilzarko::bilzarko_read;
 use bilzarko::bilzarko_text;
@@ -9,6 +10,7 @@ ghost use Rattle.loader.specs.Rows.{returned};
 ghost use Rattle.loader.specs.Loaded.{Loaded};
 ghost use Rattle.loader.specs.Shown.{Shown};
 ghost use Rattle.loader.specs.Typed.{Typed};
+ghost use Rattle.loader.specs.Marked.{Marked};
 
 // Lists the findings of a law that is loaded. It returns 0 or a refusal's number.
 pub fn load(
@@ -46,4 +48,11 @@ pub fn read(text: &[u8], law: &mut [u8], answer: &mut u64) -> u32
     ensures { λ r. ⌜ Typed (now (text .entry)) (now (law .entry)) (now (answer .entry) ∷ []) (returned r [] (now (law .exit)) (now (answer .exit) ∷ [])) ⌝ }
 {
     bilzarko_read(text, law, answer)
+}
+
+// Marks a byte of a number that is typed: 1 where the number so far is at most 4294967295, 0 where it is past that, 2 where the byte is no digit.
+pub fn mark(state: &mut u64, byte: u8) -> u32
+    ensures { λ r. ⌜ Marked (now (state .entry)) byte r (now (state .exit)) ⌝ }
+{
+    bilzarko_digit(state, byte)
 }

@@ -1,2 +1,5 @@
 pub mod CapLaws
+pub mod StepLaws
+pub mod LoopLaws
+pub mod PassLaws
 pub mod DigitLaws

@@ -1,7 +1,23 @@
-// The value of decimal digits. What it is stands in specs/Value.antt.
+// The value of decimal digits, all at once and in one pass. What it is stands in specs/Value.antt, what is kept between digits in specs/OnePass.antt.
+use names::digit_byte;
 ghost use mathlib.Core.Path.{_≡_};
-ghost use Prim.Native.Nat.{_-_, _<_, min};
-ghost use Rattle.numbers.specs.Value.{valueOf};
+ghost use mathlib.Core.List.{[], _∷_};
+ghost use Prim.Native.Nat.{_-_, _<_};
+ghost use Rattle.numbers.specs.Value.{valueAfter, isMacrodigit};
+ghost use Rattle.numbers.specs.OnePass.{capped, stateOf, tested, stepOf};
+
+// What the test of digits answers after a byte: the value of the digits so far is at most 4294967295, or past it; or the byte is no digit.
+pub enum Tested {
+    AtMost,
+    Past,
+    NoDigit,
+}
+
+// What the test keeps after a byte, and what it answers.
+pub struct Step {
+    pub state: u64,
+    pub answer: Tested,
+}
 
 // A byte as a word.
 fn wide(b: u8) -> u64
@@ -20,18 +36,68 @@ fn digit_value(d: u8) -> u64
     wide(d - 48)
 }
 
-// The value of digits, however many zeros lead, or 4294967296 where it is more: the value of a macrodigit, or one over all of them.
-pub fn capped_value(digits: &[u8]) -> u64
-    ensures { λ r. ⌜ r ≡ min (valueOf (now (digits .entry))) 4294967296 ⌝ }
+// A value, or 4294967296 where it is more.
+fn cap(value: u64) -> u64
+    ensures { λ r. ⌜ r ≡ capped value ⌝ }
 {
-    let mut value = 0;
+    if value < 4294967296 {
+        value
+    } else {
+        4294967296
+    }
+}
+
+// The state after one digit more.
+fn with_digit(state: u64, digit: u8) -> u64
+    ensures { λ r. ⌜ r ≡ capped (valueAfter state (digit ∷ [])) ⌝ }
+{
+    cap(cap(state) * 10 + digit_value(digit))
+}
+
+// Is a value that of a macrodigit?
+pub fn is_macrodigit(value: u64) -> bool
+    ensures { λ r. ⌜ r ≡ isMacrodigit value ⌝ }
+{
+    value <= 4294967295
+}
+
+// The answer by a state.
+fn answer_of(state: u64) -> Tested
+    ensures { λ r. ⌜ r ≡ tested state ⌝ }
+{
+    if is_macrodigit(state) {
+        Tested::AtMost
+    } else {
+        Tested::Past
+    }
+}
+
+// The test of digits that are handed over one by one: the state and the answer after a byte. The state after no digits is 0; every state may be passed.
+pub fn digit_step(state: u64, byte: u8) -> Step
+    ensures { λ r. ⌜ r ≡ stepOf state byte ⌝ }
+{
+    if !digit_byte(byte) {
+        return Step {
+            state: state,
+            answer: Tested::NoDigit,
+        };
+    }
+    let after = with_digit(state, byte);
+    Step {
+        state: after,
+        answer: answer_of(after),
+    }
+}
+
+// The value of digits, however many zeros lead, or 4294967296 where it is more: the state after all of them.
+pub fn capped_value(digits: &[u8]) -> u64
+    ensures { λ r. ⌜ r ≡ stateOf (now (digits .entry)) ⌝ }
+{
+    let mut state = 0;
     let mut i = 0;
-    while i < digits.len() {
-        value = value * 10 + digit_value(digits[i]);
-        if 4294967295 < value {
-            return 4294967296;
-        }
+    while i < digits.len() && state < 4294967296 {
+        state = with_digit(state, digits[i]);
         i += 1;
     }
-    value
+    state
 }

@@ -1,7 +1,6 @@
--- The value of the digits, or 4294967296 where it is more, says whether they are a macrodigit: `number-over`, `number-macrodigit`.
-use native.Mathlib.Omega.{arith}
+-- The state after the digits says whether they are a macrodigit: `number-macrodigit`, `number-past`.
 use borrow.Author.Needs.{needs}
-use Rattle.lints.proofs.NumberLaws.{number-over, number-macrodigit}
+use Rattle.lints.proofs.NumberLaws.{number-macrodigit, number-past}
 use Rattle.lints.proofs.builtin.number_operand.Statement.{statement}
 use Rattle.lints.proofs.builtin.number_operand.Tie as tie
 
@@ -10,9 +9,10 @@ number-operand-spec =
     tie.close
     (tie.spec
     (λ c κs. search needs)
+    (λ c κs. search needs)
     (λ c.
-    let the-args = c .before .before .before .args in
-    number-over (the-args .digits .now) (c .before .capped-value .ensures) (c .if1 .taken))
+    let the-args = c .before .before .before .before .args in
+    number-macrodigit (the-args .digits .now) (c .before .before .capped-value .ensures) (c .before .is-macrodigit .ensures) (c .if1 .taken))
     (λ c.
-    let the-args = c .before .before .before .args in
-    number-macrodigit (the-args .digits .now) (c .before .capped-value .ensures) (omega arith)))
+    let the-args = c .before .before .before .before .args in
+    number-past (the-args .digits .now) (c .before .before .capped-value .ensures) (c .before .is-macrodigit .ensures) (c .if1 .left)))
