@@ -17,8 +17,8 @@ EXPORTED = "bilzarko/specs/Exported.antt"
 LAWS = "bilzarko/proofs/ExportLaws.antt"
 PUT_CODE = "buffers/src/lib.rt"
 PUT_PROOF = "buffers/proofs/put/Proof.antt"
-PINS = {PUT_PROOF} | {"loader/proofs/" + name for name in ("LoadedLaws.antt", "ShownLaws.antt", "TypedLaws.antt", "load/Proof.antt",
-                                                         "show/Proof.antt", "read/Proof.antt")}
+PINS = {PUT_PROOF} | {"loader/proofs/" + name for name in ("LoadedLaws.antt", "ShownLaws.antt", "TypedLaws.antt", "MarkedLaws.antt",
+                                                         "load/Proof.antt", "show/Proof.antt", "read/Proof.antt", "mark/Proof.antt")}
 
 # ---- demand 3
 
@@ -60,6 +60,14 @@ TEXT = Call("text", "TextExit", ("store", "text", "answer"),
             "textOutcome 64 (settingsFrom mode (now (overrides .entry))) (now (law .entry)) (now (store .entry)) position (now (text .entry))",
             "turned-number")
 READ = Call("read", "ReadExit", ("law", "answer"), "readOutcome (now (text .entry)) (now (law .entry))", "unread-number")
+
+# ---- the digit call
+
+DIGIT_TYPE = "_≡_ {A = DigitExit}"
+DIGIT_ENSURED = f"{DIGIT_TYPE} (record {{ number = r; state = now (state .exit) }}) (digitExit (stepOf (now (state .entry)) digit))"
+DIGIT_PROOF = "bilzarko/proofs/bilzarko_digit/Proof.antt"
+DIGIT_TAKEN = "digit-taken (c .before .digit-step .ensures) (c .tested-number .ensures)"
+DIGIT_BYTE = "Rattle.names.specs.Name.{digitByte}"
 
 # ---- what is put into a buffer
 
@@ -107,6 +115,21 @@ def unsaid(call, field, where):
 
 def asking(call, asked):
     return [(CODE, f"    ensures {{ λ r. ⌜ {call}", f"    requires {{ ⌜ {asked} ⌝ }}\n    ensures {{ λ r. ⌜ {call}")]
+
+
+def using(names):
+    """Names that the exported calls' contracts take from the libraries besides."""
+    first = "ghost use mathlib.Core.Bool.{cond};"
+    return [(CODE, first, first + "".join(f"\nghost use {name};" for name in names))]
+
+
+def digit_says(ensured, uses, proved):
+    """The digit call with another promise, the names that it takes from the libraries, and its proof from the whole promise."""
+    return [
+        (CODE, DIGIT_ENSURED, ensured),
+        (DIGIT_PROOF, "use borrow.Author.Needs.{needs}", "use borrow.Author.Needs.{needs}\nuse mathlib.Core.Path.{ap}"),
+        (DIGIT_PROOF, DIGIT_TAKEN, proved),
+    ] + using(uses)
 
 
 def nothing_said(call):
@@ -162,6 +185,31 @@ CONTRACTS = {
     "text-nothing": ("the text call promises nothing", nothing_said(TEXT)),
     "read-asks": ("the reading call asks for a word of 7", asking("_≡_ {A = ReadExit}", "now answer ≡ 7")),
     "read-nothing": ("the reading call promises nothing", nothing_said(READ)),
+    "digit-asks": (
+        "the digit call asks for a state that digits give",
+        asking(DIGIT_TYPE, "now state ≤ 4294967296") + using(["Prim.Native.Nat.{_≤_}"]),
+    ),
+    "digit-nothing": ("the digit call promises nothing", digit_says("Unit {0}", [], "tt")),
+    "digit-number": (
+        "the digit call leaves the state unsaid",
+        digit_says("r ≡ testedNumber (stepOf (now (state .entry)) digit .answer)", [], f"ap (λ e. e .number) ({DIGIT_TAKEN})"),
+    ),
+    "digit-state": (
+        "the digit call leaves the number unsaid",
+        digit_says("now (state .exit) ≡ stepOf (now (state .entry)) digit .state", [], f"ap (λ e. e .state) ({DIGIT_TAKEN})"),
+    ),
+    "digit-digits": (
+        "the digit call says nothing of a byte that is no digit",
+        digit_says(f"(digitByte digit ≡ true → {DIGIT_ENSURED})", ["mathlib.Core.Bool.{true}", DIGIT_BYTE], f"λ is. {DIGIT_TAKEN}"),
+    ),
+    "digit-others": (
+        "the digit call says nothing of a digit",
+        digit_says(f"(digitByte digit ≡ false → {DIGIT_ENSURED})", ["mathlib.Core.Bool.{false}", DIGIT_BYTE], f"λ is. {DIGIT_TAKEN}"),
+    ),
+    "digit-small": (
+        "the digit call says nothing of states past the macrodigits",
+        digit_says(f"(now (state .entry) ≤ 4294967295 → {DIGIT_ENSURED})", ["Prim.Native.Nat.{_≤_}"], f"λ is. {DIGIT_TAKEN}"),
+    ),
     "put-whole": (
         "what puts bytes into a buffer writes none where there is no room for all",
         [
