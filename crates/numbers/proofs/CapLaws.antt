@@ -1,6 +1,6 @@
 -- As much as is kept of a value decides as the value does, also for digits that are read after it.
 use Prim.Native.Nat.{ℕ, _+_, _*_, _-_, _≤_, _<_}
-use mathlib.Core.Bool.{Bool, true, false, cond}
+use mathlib.Core.Bool.{Bool, true, false}
 use mathlib.Core.List.{List, [], _∷_}
 use mathlib.Core.Path.{_≡_, refl, ap, sym, _∙_}
 use native.Mathlib.Omega.{arith}
@@ -34,3 +34,7 @@ macrodigit-capped n = go (isMacrodigit n) refl where
 -- so both are answered alike
 pub tested-capped : (n : ℕ) → tested (capped n) ≡ tested n
 tested-capped n = rw (macrodigit-capped n)
+
+-- also after digits that are read after them
+pub tested-after : (n : ℕ) (ds : List ℕ) → tested (valueAfter (capped n) ds) ≡ tested (valueAfter n ds)
+tested-after n ds = sym (tested-capped (valueAfter (capped n) ds)) ∙ (ap tested (capped-after n ds) ∙ tested-capped (valueAfter n ds))

@@ -2,7 +2,7 @@
 use Prim.Native.Nat.{ℕ}
 use mathlib.Core.Bool.{true, false}
 use mathlib.Core.List.{[], _∷_}
-use mathlib.Core.Path.{_≡_, refl, _∙_}
+use mathlib.Core.Path.{_≡_, refl}
 use Rattle.names.specs.Name.{digitByte}
 use Rattle.numbers.specs.Value.{valueAfter}
 use Rattle.numbers.specs.OnePass.{capped, tested, stepOf}
