@@ -225,8 +225,8 @@ uint32_t bilzarko_read(const uint8_t *text, size_t text_length,
  *   state           BILZARKO_DIGIT_START before the first digit; then what the call left
  *   digit           a byte: an ASCII digit, or another, which leaves the state as it was
  *
- * After a digit the state is the value of the digits so far, or 4294967296 where that is less. Where it is another word
- * before the call, it is read as that value. */
+ * After a digit the state is the value of the digits so far, or 4294967296 where that is less. Any other word may be lent as
+ * the state: it is read as the value that it is. */
 uint32_t bilzarko_digit(uint64_t *state, uint8_t digit);
 
 #ifdef __cplusplus
