@@ -2,7 +2,7 @@
 use names::digit_byte;
 ghost use mathlib.Core.Path.{_≡_};
 ghost use mathlib.Core.List.{[], _∷_};
-ghost use Prim.Native.Nat.{_-_, _<_};
+ghost use Prim.Native.Nat.{_-_, _≤_, _<_};
 ghost use Rattle.numbers.specs.Value.{valueAfter, isMacrodigit};
 ghost use Rattle.numbers.specs.OnePass.{capped, stateOf, tested, stepOf};
 
@@ -49,16 +49,20 @@ fn cap(value: u64) -> u64
 
 // The state after one digit more.
 fn with_digit(state: u64, digit: u8) -> u64
+    requires { ⌜ state ≤ 4294967296 ⌝ }
     ensures { λ r. ⌜ r ≡ capped (valueAfter state (digit ∷ [])) ⌝ }
 {
-    cap(cap(state) * 10 + digit_value(digit))
+    cap(state * 10 + digit_value(digit))
 }
 
 // Is a value that of a macrodigit?
 pub fn is_macrodigit(value: u64) -> bool
     ensures { λ r. ⌜ r ≡ isMacrodigit value ⌝ }
 {
-    value <= 4294967295
+    if value <= 4294967295 {
+        return true;
+    }
+    false
 }
 
 // The answer by a state.
@@ -82,7 +86,7 @@ pub fn digit_step(state: u64, byte: u8) -> Step
             answer: Tested::NoDigit,
         };
     }
-    let after = with_digit(state, byte);
+    let after = with_digit(cap(state), byte);
     Step {
         state: after,
         answer: answer_of(after),
