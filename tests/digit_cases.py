@@ -4,8 +4,8 @@ Run at the repository's root: python3 tests/digit_cases.py
 It writes crates/test_digits/stdin, which the program reads, and crates/test_digits/stdout, which the program has to write.
 
 The answers are computed by Python's whole numbers, which have no limit: 1 where the value of the digits so far is at most
-4294967295, 0 where it is past that, 2 where a byte is no digit. The last answer and the last state are also written by hand
-beside each case.
+4294967295, 0 where it is past that, 2 where a byte is no digit. What the last answer and the last state must be also stands
+beside each case: by hand, or for a row of like cases by a rule of its own.
 """
 import struct
 from pathlib import Path
