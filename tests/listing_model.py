@@ -2,8 +2,9 @@
 
 It was written from document 01 ("The listing", "Differences from the Rust") and lints.rs; for the order and the texts of
 findings document 01 names lints.rs alone. Formats are inferred by the model of store_laws.py and patterns matched by that
-of pair_laws.py. It works on the law as read by edge_laws.Reader, with its spans, and not on a law file's bytes. It has been
-compared with nothing but the lines that document 01 gives.
+of pair_laws.py, for which numbers are their values, as document 02, R-3, has it and lints.rs has not. It works on the law as
+read by edge_laws.Reader, with its spans, and not on a law file's bytes. It has been compared with nothing but the lines that
+document 01 gives.
 """
 from edge_laws import BLOCK, BRACKET, CALL, CHARACTER, E, NUMBER
 from pair_laws import literal, recognises, shadows

@@ -68,6 +68,8 @@ def main():
     case("each lint", FOUR, found="4 2 1")
     case("each lint, classic, lint 1 hidden, lint 2 at 0", FOUR, mode=CLASSIC, overrides=[(1, 3), (2, 0)], found="2 2 1")
     case("formats of each shape", "F { ('a' (1 e.X)) s.A t.B Name = <F (e.X) 'b' s.C 1 e.Y>; }", found="1 2 1")
+    # The second sentence is dead and `<F 70>` listed; `<F 07>` is recognised.
+    case("numbers by value", "F { 007 = ; 7 = ; } G { = <F 07> <F 70>; }", found="2 2 1")
     case("not settled", growing(5), found="0 5 0")
     case("no functions", "", found="0 1 1")
     case("seven findings, as many as fit", "F { = " + times(7, "<Numb> ") + "; }", found="7 2 1")

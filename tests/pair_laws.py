@@ -3,17 +3,18 @@
 Run at the repository's root: python3 tests/pair_laws.py
 It writes crates/test_pairs/stdin, which the program reads, and crates/test_pairs/stdout, which the program has to write.
 
-The expected answers are computed by the model in this file, written from document 01 and, for what a match is, from the
-Refal-5 manual: it yields all matches of a pattern in order. No comparison with the Rust has been run. The model works on
-the parsed Refal and not on the law's bytes. For document 01's small laws, and for the cases that name a slip, the answer
-is written by hand too (`known`), and the model has to give it.
+The expected answers are computed by the model in this file, written from document 01, for numbers from document 02, R-3,
+and, for what a match is, from the Refal-5 manual: it yields all matches of a pattern in order. No comparison with the Rust
+has been run. The model works on the parsed Refal and not on the law's bytes. For document 01's small laws, for numbers, and
+for the cases that name a slip, the answer is written by hand too (`known`), and the model has to give it.
 """
 import itertools
 import sys
 import threading
 from pathlib import Path
 
-from edge_laws import BLOCK, BRACKET, CALL, CHARACTER, E, IDENTIFIER, NUMBER, S, T, Reader, encoded, law, variables, word
+from edge_laws import (BLOCK, BRACKET, CALL, CHARACTER, E, IDENTIFIER, NUMBER, S, T, Reader, changed, encoded, law, variables,
+                       word)
 from store_laws import Numbers, folded, times
 
 SYMBOLS = (CHARACTER, IDENTIFIER, NUMBER)
@@ -31,7 +32,9 @@ def same(a, b):
         return folded(a[1]) == folded(b[1])
     if a[0] in (S, T, E):
         return a[1].upper() == b[1].upper()
-    return a[1] == b[1]  # numbers by text
+    if a[0] == NUMBER:
+        return int(a[1]) == int(b[1])  # numbers by value, of any size
+    return a[1] == b[1]
 
 
 def same_rows(a, b):
@@ -156,6 +159,18 @@ def one(label, pattern, *arguments, known=()):
     case(label, f"F {{ {pattern} = {' '.join(f'<F {one}>' for one in arguments)}; }}", *known)
 
 
+def spellings(label, *groups):
+    """Numbers, in groups of one value each, every two in both orders: one shadows and matches those of its group alone."""
+    numbers = [(text, group) for group, texts in enumerate(groups) for text in texts]
+    patterns = numbers + numbers[-2::-1]
+    known = [f"{i} {'shadows' if a == b else 'does not shadow'} {j}"
+             for (i, (_, a)), (j, (_, b)) in itertools.combinations(enumerate(patterns), 2)]
+    known += [f"{i} {'matches' if a == b else 'does not match'} call #{j}"
+              for i, (_, a) in enumerate(patterns) for j, (_, b) in enumerate(numbers)]
+    calls = " ".join(f"<F {text}>" for text, _ in numbers)
+    case(label, "F { " + " = ; ".join(text for text, _ in patterns) + f" = {calls}; }}", *known)
+
+
 def refused(label, source, number):
     """A case whose number is written by hand."""
     put(label, source if isinstance(source, bytes) else encoded(law(source)), f" refused {number}\n")
@@ -213,11 +228,50 @@ def name_cases():
     pair("name: Foo-Bar and foo_BAR", "Foo-Bar", "foo_BAR", YES, "0 matches call #0", calls=["FOO-BAR", "FooBar"])
     pair("name: Foo and 'F'", "Foo", "'F'", NO, calls=["Foo 1"])
     pair("name: a character by its value", "'a'", "'A'", NO, calls=["'a'", "'A'", "a"])
-    pair("number: 007 and 7", "007", "7", NO, "0 does not match call #0", "0 matches call #1", calls=["7", "007"])
-    pair("number: s.A s.A and 007 7", "s.A s.A", "007 7", NO, "0 does not match call #0", calls=["007 7", "7 7"])
+    # Zeros count in identifiers and indices.
+    pair("name: A7 and A07", "A7", "A07", NO, "0 does not match call #0", calls=["A07"])
+    pair("index: s.7 s.07 and two symbols", "s.7 s.07", "1 2", YES, "0 matches call #0", calls=["1 2"])
+
+
+def number_cases():
+    pair("number: 007 and 7", "007", "7", YES, "0 matches call #0", "1 matches call #1", calls=["7", "007"])
+    pair("number: s.A s.A and 007 7", "s.A s.A", "007 7", YES, "0 matches call #0", "1 matches call #1", calls=["007 7", "7 7"])
     pair("number: above a word", "4294967296", "4294967297", NO, calls=["4294967296", "0"])
     pair("number: '7' and 7", "'7'", "7", NO, calls=["'7'", "7"])
     pair("number: 64 digits", "1" * 64, "1" * 63 + "2", NO, calls=["1" * 64])
+    spellings("number: zeros in front", ["7", "07", "0" * 63 + "7"])
+    spellings("number: zeros alone", ["0", "00", "0" * 64], ["1"])
+    spellings("number: zeros after another digit", ["1", "001"], ["10", "010"], ["100"])
+    spellings("number: 63 digits, and a zero in front", ["9" * 63, "0" + "9" * 63], ["9" * 64])
+    # These differ in the last digit, by 2 to the power 32 and 64, and in the first digit: a machine word has one value for
+    # some of them, and so has floating point.
+    spellings("number: 64 digits, five values", *[[str(value)] for value in (
+        10**63, 10**63 + 1, 10**63 + 2**32, 10**63 + 2**64, 2 * 10**63)])
+    # Zeros alone are a term.
+    pair("number: e.A and 00", "e.A", "00", YES, "0 matches call #0", "1 matches call #0", "1 does not match call #1",
+         calls=["0", ""])
+    pair("number: 00 and e.A", "00", "e.A", NO, "0 matches call #0", "0 does not match call #1", "0 does not match call #2",
+         calls=["0", "", "0 0"])
+    pair("number: 07 and '7'", "07", "'7'", NO, "0 does not match call #0", "1 does not match call #1", calls=["'7'", "7"])
+    # No Refal spells the first two: identifiers of digits.
+    digits = changed(changed(law("F { 07 = ; 7 = ; 7 = <F 07>; }"), "terms", 0, 0, IDENTIFIER), "terms", 1, 0, IDENTIFIER)
+    put("number: 7 and the identifiers 07 and 7", encoded(digits), " accepted\n"
+        "  0 does not shadow 1\n  0 does not shadow 2\n  1 does not shadow 2\n"
+        "  0 does not match the call at 3\n  1 does not match the call at 3\n  2 matches the call at 3\n")
+
+
+def repeated_number_cases():
+    """A number in two spellings inside brackets and as a variable's values, the longer spelling first and second."""
+    pair("number: in brackets", "((007) 0)", "((7) 00)", YES, "0 matches call #0", "0 does not match call #1",
+         calls=["((07) 000)", "((70) 0)"])
+    pair("number: s.A (s.A) and 07 (7)", "s.A (s.A)", "07 (7)", YES, "0 matches call #0", "0 does not match call #1",
+         calls=["0 (00)", "1 (10)"])
+    pair("number: t.A t.A and (007) (7)", "t.A t.A", "(007) (7)", YES, "0 matches call #0", "0 matches call #1",
+         "0 does not match call #2", "0 does not match call #3", calls=["(7) (007)", "07 7", "(07) (70)", "(07) 7"])
+    pair("number: e.A 'x' e.A and 07 1 'x' 7 01", "e.A 'x' e.A", "07 1 'x' 7 01", YES, "0 matches call #0",
+         "0 does not match call #1", calls=["07 1 'x' 7 01", "07 1 'x' 7 10"])
+    pair("number: (e.A) e.A and (0 (01)) 00 (1)", "(e.A) e.A", "(0 (01)) 00 (1)", YES, "0 matches call #0",
+         "0 does not match call #1", calls=["(0 (01)) 00 (1)", "(0 (01)) 00 (0)"])
 
 
 def repeated_cases():
@@ -330,6 +384,8 @@ def main():
     document_cases()
     single_cases()
     name_cases()
+    number_cases()
+    repeated_number_cases()
     repeated_cases()
     back_cases()
     other_cases()

@@ -6,7 +6,8 @@ It writes crates/test_refusals/stdin, which the program reads, and crates/test_r
 A law is written as Refal and its spans are its places there; what is listed of it is computed by the model in
 tests/listing_model.py. The refusals 1 to 9 are written by hand beside the cases, as in tests/edge_laws.py; the other
 refusals, and which buffers keep their words, are computed here from document 01's table. Where document 01 gives an answer,
-it is written by hand too (`found`, `told`, `formats`), and the model has to give it.
+and where numbers have zeros in front (document 02, R-3), it is written by hand too (`found`, `told`, `formats`, `listed`), and
+the model has to give it.
 
 Not independent of the rest: the law files are made by the encoder of tests/edge_laws.py, which numbers records by the same
 rule as the model does; formats and matching are those of tests/store_laws.py and tests/pair_laws.py; and the texts of
@@ -112,12 +113,17 @@ class Asked:
 cases = []
 
 
+def subjects(listing, source):
+    """The lint of each finding, and its subject as the source spells it."""
+    return [f"{finding[0]}: {source.strip()[finding[2]:finding[3]]}" for finding, _ in listing.findings]
+
+
 def case(label, source, *, mode=STRICT, overrides=(), store=STORE_LEN, words=WORDS_LEN, text=TEXT_LEN, position=0,
-         refused=None, found=None, told=None, formats=None):
+         refused=None, found=None, told=None, formats=None, listed=None):
     """A case. The law is Refal, records or bytes; of the last two nothing is listed."""
     assert 0 < len(label) < 80 and label.isascii() and label.isprintable(), label
     assert label not in [other for other, _, _ in cases], label
-    functions = None
+    functions, refal = None, source
     if isinstance(source, str):
         functions = Reader(source).functions()
         source = records(functions, spans=True)
@@ -127,6 +133,7 @@ def case(label, source, *, mode=STRICT, overrides=(), store=STORE_LEN, words=WOR
     assert found is None or asked.found()[0] == found, (label, asked.found())
     assert told is None or told in asked.told(), (label, asked.told())
     assert formats is None or formats == [display(format) for format in infer(functions)[2]], label
+    assert listed is None or subjects(asked.listing, refal) == listed, (label, subjects(asked.listing, refal))
     assert len(data) <= 16400 and store <= 8400 and words <= 4200 and text <= 2048 and len(overrides) <= 16, label
     numbers = [mode, len(overrides), *[256 * lint + level for lint, level in overrides], store, words, text, position]
     cases.append((label, b"".join(map(word, numbers)) + word(len(data)) + data, asked.lines()))
@@ -184,7 +191,7 @@ def difference_cases():
     case("difference: shadowing does not go back", "F { (e.A e.B) e.A = ; ('x') 'x' = ; }", overrides=[(4, 3)], found="0 2 1")
     case("difference: brackets in a literal argument", "F { ('a') = ; } G { = <F ('b')>; }", found="1 2 1",
          told="`<F ...>` always fails: no sentence of `F` matches this argument")
-    case("difference: numbers by text", "F { 007 = ; } G { = <F 7>; }", found="1 2 1")
+    case("difference: numbers by value", "F { 007 = ; } G { = <F 7>; }", found="0 2 1")
     case("difference: a law's own Add", "Add { s.A = s.A; } F { = <Add 1>; }", found="1 2 1")
     case("difference: an outer variable is free in a block", "F { s.A e.X = [e.X : s.A = 1; s.B = 2;]; }", found="1 2 1",
          told="sentence 2 of `a block in `F`` is unreachable: sentence 1 has no conditions "
@@ -193,6 +200,68 @@ def difference_cases():
          told="`<F ...>` always fails: no sentence of `F` matches this argument")
     case("difference: twice, formats join both", "F { 'a' = ; } f { 1 = ; } G { = <F s.A> <F Name>; }", found="1 2 1",
          formats=["[S]", "[]", "[]", "[]"], told="`<F ...>` always fails: no sentence of `F` matches this argument")
+
+
+# Laws with zeros in front of numbers wherever numbers stand. A comment says what becomes of its line's last sentence or call;
+# the line's others live or are recognised.
+NINES, ZEROS = "9" * 63, "0" * 64
+WRAPPED = str(int(NINES) + 2**64)  # 64 digits; a machine word takes it for NINES
+# The second sentence of each of its blocks is dead: in its condition's result and pattern, and in its result.
+WITH_BLOCKS = "008, [006 : 6 = ; 06 = ;] : [07 : 11 = ; 011 = ;] = [009 : 9 = ; 09 = ; 90 = ;]"
+ZEROS_IN_SENTENCES = " ".join([
+    "F { 7 = 007; 0007 = ;",  # dead
+    "70 = ;",  # lives: a zero at the end counts
+    f"0 = ; {ZEROS} = ;",  # dead: zeros alone are one number
+    f"{NINES} = ; 0{NINES} = ;",  # dead: 64 digits
+    f"{WRAPPED} = ;",  # lives
+    "(02 (3)) = ; (2 (003)) = ;",  # dead: in brackets
+    "s.A s.A = ; 01 1 = ;",  # dead: a repeated s. variable
+    "1 10 = ;",  # lives: two values
+    "t.A 'x' t.A = ; (00) 'x' (000) = ;",  # dead: a repeated t. variable
+    "e.A 'y' e.A = ; 04 5 'y' 4 05 = ;",  # dead: a repeated e. variable
+    "8, 07 : 7 = ; 08 = ;",  # lives: a sentence with a condition shadows nothing
+    f"{WITH_BLOCKS}; }}",  # dead
+])
+ZEROS_IN_CALLS = " ".join([
+    f"F {{ 7 = ; 0700 = ; 00 = ; {NINES} = ; s.A s.A = ; (02 t.B) t.B = ; e.C 'x' e.C = ; }}",
+    "G { 07 <F 071>,",  # not asked about in a pattern
+    "<F 0007> <F 070>",  # listed, in a condition: neither 7 nor 700
+    ": 7 <F 072> =",  # not asked about in a pattern
+    "<F 700> <F 7000>",  # listed
+    f"<F 0> <F {ZEROS}>",  # recognised: zeros alone are one number
+    f"<F 0{NINES}> <F {WRAPPED}>",  # listed: 64 digits
+    "<F 05 5> <F 05 50>",  # listed: a repeated s. variable
+    "<F (2 003) 3> <F (20 03) 3>",  # listed: in brackets, with a repeated t. variable
+    "<F 01 (1) 'x' 1 (01)> <F 01 'x' 10>",  # listed: a repeated e. variable
+    "(<F 000> <F 010>)",  # listed, in brackets
+    # each second call listed, in a block's argument, result and condition; the second sentence dead
+    "[<F 00007> <F 0070> : 8 = <F 07> <F 00070>; 08, <F 0000> <F 0100> : 00 = ;]",
+    "<F <F 00071>>; }",  # listed; the call around it has no literal argument
+])
+ZEROS_IN_OPERANDS = " ".join([
+    f"F {{ = <Div 1 000> <Mod 1 '-' {ZEROS}>",  # listed, both: division by zero
+    "<Div 1 010>",  # not listed
+    "<Div 00004294967295 0>",  # listed: a macrodigit
+    "<Div 00004294967296 0>",  # not listed: above a macrodigit nothing is decided
+    "<Add 0004294967295 1>",  # not listed
+    f"<Add {'0' * 54}4294967295>",  # listed: 64 digits, one number alone
+    f"<Add {'0' * 54}4294967296>; }}",  # not listed
+])
+
+
+def zeros_cases():
+    case("zeros: sentences", ZEROS_IN_SENTENCES, overrides=[(4, 3)], position=9, found="11 2 1", listed=[
+        "1: 0007 =", f"1: {ZEROS} =", f"1: 0{NINES} =", "1: (2 (003)) =", "1: 01 1 =", "1: (00) 'x' (000) =",
+        "1: 04 5 'y' 4 05 =", f"1: {WITH_BLOCKS}", "1: 06 =", "1: 011 =", "1: 09 ="],
+        told="sentence 2 of `a block in `F`` is unreachable: sentence 1 has no conditions "
+             "and already matches every argument this one matches")
+    case("zeros: calls", ZEROS_IN_CALLS, overrides=[(4, 3)], position=1, found="12 2 1", listed=[
+        "1: 08, <F 0000> <F 0100> : 00 =", "2: <F 070>", "2: <F 7000>", f"2: <F {WRAPPED}>", "2: <F 05 50>", "2: <F (20 03) 3>",
+        "2: <F 01 'x' 10>", "2: <F 010>", "2: <F 0070>", "2: <F 00070>", "2: <F 0100>", "2: <F 00071>"],
+        told="`<F ...>` always fails: no sentence of `F` matches this argument")
+    case("zeros: operands", ZEROS_IN_OPERANDS, position=1, found="4 2 1", listed=[
+        "3: <Div 1 000>", f"3: <Mod 1 '-' {ZEROS}>", "3: <Div 00004294967295 0>", f"3: <Add {'0' * 54}4294967295>"],
+        told="`<Mod ...>` always fails: division by zero")
 
 
 def file_cases():
@@ -416,6 +485,7 @@ def random_cases(count):
 def main():
     document_cases()
     difference_cases()
+    zeros_cases()
     file_cases()
     settings_cases()
     store_cases()

@@ -77,8 +77,8 @@ CLAIMS = {
             (CLAIM, "noSentence, sentence, Function", "noSentence, sentence, noCondition, condition, Function"),
             (CLAIM, RECOGNISES,
              RECOGNISES.replace(" cs r", " noCondition r") + "\nRecognises (sentence m p (condition q w cs) r ss) v = Recognises ss v"),
-            (HOLDS, "use Rattle.law.specs.Tree.{Sentences, sentence, Function",
-             "use Rattle.law.specs.Tree.{Sentences, sentence, noCondition, condition, Function"),
+            (HOLDS, "use Rattle.law.specs.Tree.{Sentences, sentence, Law}",
+             "use Rattle.law.specs.Tree.{Sentences, sentence, noCondition, condition, Law}"),
             (HOLDS, NONE_RECOGNISED,
              NONE_RECOGNISED.replace(" cs r", " noCondition r")
              + "\nnone-recognised (sentence m p (condition q w cs) r ss) v h k = none-recognised ss v (h .1) k"),

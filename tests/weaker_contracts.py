@@ -22,12 +22,12 @@ PINS = {PUT_PROOF} | {"loader/proofs/" + name for name in ("LoadedLaws.antt", "S
 
 # ---- demand 3
 
-PREMISES = "→ getD (after .answer) 2 0 ≡ 1 → noNeedlessZeros law ≡ true"
+PREMISES = "→ getD (after .answer) 2 0 ≡ 1"
 WORDS = "(take (8 * getD (after .answer) 0 0) (after .findings))"
 CLAIM = f"→ NoFalseFinding law {WORDS}"
 USED = "use Rattle.runs.specs.Claim.{NoFalseFinding}"
-CLAIMED_FOR = "no-false-finding = λ law law-is none one zeros."
-CLAIMED = "(settled-by-word settled (rw (← word-is) one)) zeros;"
+CLAIMED_FOR = "no-false-finding = λ law law-is none one."
+CLAIMED = "(settled-by-word settled (rw (← word-is) one));"
 CLAIMED_WHOLE = f"""{CLAIMED_FOR}
         promise .no-false-finding law (record {{ findings = count; rounds = rounds; settled = settled }}) law-is (rw is refl) {CLAIMED}"""
 
@@ -145,7 +145,16 @@ CONTRACTS = {
         "demand 3 of empty listings alone",
         [
             (EXPORTED, PREMISES, PREMISES + " → getD (after .answer) 0 0 ≡ 0"),
-            (LAWS, CLAIMED_FOR, CLAIMED_FOR.replace("zeros.", "zeros empty.")),
+            (LAWS, CLAIMED_FOR, CLAIMED_FOR.replace("one.", "one empty.")),
+        ],
+    ),
+    "demand-3-zeros": (
+        "demand 3 of laws without a digit 0 alone",
+        [
+            (EXPORTED, "use mathlib.Core.Bool.{cond}", "use mathlib.Core.Bool.{true, false, cond}"),
+            (EXPORTED, USED, USED + "\nuse lib.Dec.{eqb}\nuse Rattle.names.specs.Name.{everyByte}"),
+            (EXPORTED, PREMISES, PREMISES + " → everyByte (λ b. cond (eqb b 48) false true) bytes ≡ true"),
+            (LAWS, CLAIMED_FOR, CLAIMED_FOR.replace("one.", "one plain.")),
         ],
     ),
     "demand-3-lint-1": (

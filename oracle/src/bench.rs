@@ -10,12 +10,10 @@ use std::time::Instant;
 use refal_ast::Program;
 use refal_semantics::check_program_with_levels;
 
-use crate::compare::compared;
-use crate::encode::encode;
-use crate::generate;
+use crate::compare::{compared, made};
 use crate::ours::Buffers;
-use crate::random::Random;
 use crate::settings::Settings;
+use crate::zeros::without_zeros;
 
 /// Each time is the least of those taken in turns: so many turns at least, and more until both together took so many seconds,
 /// since one interruption is longer than a small law takes.
@@ -112,15 +110,15 @@ fn clearing(buffers: &mut Buffers) -> String {
 
 /// Only laws that are compared are timed: refused ones have no time in the Rust.
 fn time(seed: u64, number: u64, buffers: &mut Buffers) -> Option<Time> {
-    let mut random = Random::of(seed, number);
-    let law = generate::law(&mut random);
-    let encoded = encode(&law.program, law.layout, &mut random);
+    let (law, encoded, _) = made(seed, number);
     let remarks = compared(&law.program, &encoded)?;
+    // The Rust gets the law of which it is known that it does not take too long.
+    let stripped = without_zeros(&law.program).unwrap_or(law.program);
     Some(Time {
         number,
         terms: encoded.terms.len(),
         bracketed: remarks.bracketed > 0,
-        ratios: vec![ratio(&law.program, &encoded.bytes, SECONDS, buffers)?],
+        ratios: vec![ratio(&stripped, &encoded.bytes, SECONDS, buffers)?],
     })
 }
 

@@ -1,4 +1,5 @@
-//! Random laws through both parties, and what may differ between them.
+//! Random laws through both parties, and what may differ between them. The Rust gets a law without needless zeros; the
+//! library gets the law's file as it is and, where it has such zeros, the file without them too.
 use std::panic::{AssertUnwindSafe, catch_unwind};
 use std::process::ExitCode;
 
@@ -14,10 +15,12 @@ use crate::generate::{self, Law};
 use crate::matching::{Steps, TooLong};
 use crate::ours::{Buffers, Words};
 use crate::random::Random;
+use crate::read_program::without_declarations;
 use crate::refal::notation;
 use crate::rounds::{self, Rounds};
 use crate::settings::{Settings, lint_number, severity_number};
 use crate::store::compare_store;
+use crate::zeros::{file_without_zeros, respell, without_zeros};
 
 /// The steps that all searches of a law may take.
 const STEPS: u64 = 30_000;
@@ -46,9 +49,7 @@ pub fn run(laws: u64, seed: u64) -> ExitCode {
 
 /// Makes one law of a seed again, shows it and compares it.
 pub fn show(seed: u64, number: u64) -> ExitCode {
-    let mut random = Random::of(seed, number);
-    let law = generate::law(&mut random);
-    let encoded = encode(&law.program, law.layout, &mut random);
+    let (law, encoded, _) = made(seed, number);
     println!("{}", described(&law, &encoded));
     let mut counts = Counts::default();
     match one(seed, number, &mut counts, &mut Buffers::new()) {
@@ -63,10 +64,17 @@ pub fn show(seed: u64, number: u64) -> ExitCode {
     }
 }
 
-fn one(seed: u64, number: u64, counts: &mut Counts, buffers: &mut Buffers) -> Result<(), String> {
+/// A law of a seed, with its file.
+pub fn made(seed: u64, number: u64) -> (Law, Encoded, Random) {
     let mut random = Random::of(seed, number);
-    let law = generate::law(&mut random);
+    let mut law = generate::law(&mut random);
+    respell(&mut law.program, &mut random);
     let encoded = encode(&law.program, law.layout, &mut random);
+    (law, encoded, random)
+}
+
+fn one(seed: u64, number: u64, counts: &mut Counts, buffers: &mut Buffers) -> Result<(), String> {
+    let (law, encoded, mut random) = made(seed, number);
     let settings = Settings::random(&mut random);
     guarded(|| {
         let expected = encoded.refusal.map_or(Ok(law.program.clone()), Err);
@@ -109,7 +117,7 @@ struct Listed {
     remarks: Remarks,
 }
 
-/// Findings are left to the comparison, since settings decide which are shown.
+/// The law comes without needless zeros. Findings are left to the comparison, since settings decide which are shown.
 fn answer(program: &Program, encoded: &Encoded) -> Answer {
     if let Some(number) = encoded.refusal {
         return Answer::Refused(number);
@@ -131,11 +139,18 @@ fn answer(program: &Program, encoded: &Encoded) -> Answer {
 
 /// A law's listings, worked out without a call of the library.
 pub struct Listings {
-    /// What the Rust lists.
+    /// The law without needless zeros.
+    pub law: Program,
+    /// What the Rust lists of the law as it is spelled.
+    pub spelled: Vec<Line>,
+    /// What it lists without the zeros.
     pub rust: Vec<Line>,
-    /// What it lists but for the named differences.
+    /// What it lists so, but for the named differences.
     pub named: Vec<Line>,
+    /// Without the zeros.
     pub remarks: Remarks,
+    /// What the Rust says at each remark of the law as it is spelled.
+    pub spelled_texts: Vec<Option<String>>,
     pub formats: Formats,
     pub settled: bool,
 }
@@ -146,15 +161,22 @@ pub fn listings(
     encoded: &Encoded,
     settings: &Settings,
 ) -> Result<Option<Listings>, String> {
-    let Answer::Listed(listed) = answer(program, encoded) else {
+    let law = without_zeros(program).unwrap_or_else(|| program.clone());
+    let Answer::Listed(listed) = answer(&law, encoded) else {
         return Ok(None);
     };
-    let rust = rust_lines(program, settings);
-    let named = with_differences(&rust, &listed.remarks.all, settings)?;
+    let Ok(as_spelled) = remarks(program, &listed.formats, &mut Steps(STEPS)) else {
+        return Ok(None);
+    };
+    let (spelled, rust) = (rust_lines(program, settings), rust_lines(&law, settings));
+    is_said(&spelled, &as_spelled.all, settings)?;
     Ok(Some(Listings {
+        named: with_differences(&rust, &listed.remarks.all, settings)?,
+        law,
+        spelled,
         rust,
-        named,
         remarks: listed.remarks,
+        spelled_texts: as_spelled.all.into_iter().map(|one| one.rust).collect(),
         formats: listed.formats,
         settled: listed.rounds.settled,
     }))
@@ -162,7 +184,8 @@ pub fn listings(
 
 /// What lints 1 and 2 say of a law, where it is within the limits and does not take too long.
 pub fn compared(program: &Program, encoded: &Encoded) -> Option<Remarks> {
-    match answer(program, encoded) {
+    let stripped = without_zeros(program);
+    match answer(stripped.as_ref().unwrap_or(program), encoded) {
         Answer::Listed(listed) => Some(listed.remarks),
         Answer::Refused(_) | Answer::LeftOut => None,
     }
@@ -180,61 +203,109 @@ pub fn compare(
     counts: &mut Counts,
     buffers: &mut Buffers,
 ) -> Result<(), String> {
-    match answer(program, encoded) {
+    let stripped = without_zeros(program);
+    let law = stripped.as_ref().unwrap_or(program);
+    let files = files(encoded, stripped.as_ref())?;
+    match answer(law, encoded) {
         Answer::LeftOut => counts.too_long += 1,
         Answer::Refused(number) => {
             counts.refused[number as usize] += 1;
-            refused(settings, encoded, number, buffers)?;
+            for file in &files {
+                refused(settings, file, number, buffers)?;
+            }
         }
         Answer::Listed(listed) => {
-            let lines = with_differences(
-                &rust_lines(program, settings),
-                &listed.remarks.all,
+            let rust = rust_lines(law, settings);
+            let expected = Expected {
+                lines: with_differences(&rust, &listed.remarks.all, settings)?,
+                listed,
+                encoded,
                 settings,
-            )?;
-            compare_listed(&listed, &lines, encoded, settings, buffers)?;
-            count(&listed, &lines, settings, counts);
+            };
+            expected.compare_files(&files, buffers)?;
+            expected.count(counts);
+            counts.with_zeros += usize::from(stripped.is_some());
         }
     }
     Ok(())
 }
 
-fn compare_listed(
-    listed: &Listed,
-    lines: &[Line],
-    encoded: &Encoded,
-    settings: &Settings,
-    buffers: &mut Buffers,
-) -> Result<(), String> {
-    let (count, found) = buffers
-        .findings(&settings.ours(), &encoded.bytes)
-        .map_err(|refusal| format!("the findings call answers {refusal}"))?;
-    compare_store(&listed.formats, buffers.store())?;
-    let rounds = Rounds {
-        ran: count.rounds,
-        settled: count.settled,
-    };
-    same("rounds", &rounds, &listed.rounds)?;
-    compare_words(lines, &found, encoded)?;
-    compare_texts(lines, settings, encoded, buffers)?;
-    compare_store(&listed.formats, buffers.store())
+/// The law's file, and the file without needless zeros where there are some: zeros change no word and no text. A file
+/// that is itself refused may be accepted without them, so that it stands alone.
+fn files(encoded: &Encoded, stripped: Option<&Program>) -> Result<Vec<Vec<u8>>, String> {
+    let mut files = vec![encoded.bytes.clone()];
+    if let Some(law) = stripped.filter(|_| encoded.refusal.is_none()) {
+        let file = file_without_zeros(&encoded.bytes);
+        same(
+            "the file without needless zeros read back",
+            &decode(&file),
+            &Ok(without_declarations(law)),
+        )?;
+        files.push(file);
+    }
+    Ok(files)
 }
 
-fn count(listed: &Listed, lines: &[Line], settings: &Settings, counts: &mut Counts) {
-    counts.laws += 1;
-    for line in lines {
-        counts.findings[line.lint as usize - 1] += 1;
+/// What the files of a law must be answered.
+struct Expected<'a> {
+    listed: Listed,
+    lines: Vec<Line>,
+    /// Its records are those of all files.
+    encoded: &'a Encoded,
+    settings: &'a Settings,
+}
+
+impl Expected<'_> {
+    fn compare_files(&self, files: &[Vec<u8>], buffers: &mut Buffers) -> Result<(), String> {
+        let mut found = Vec::new();
+        for (place, file) in files.iter().enumerate() {
+            let words = self.compare(file, buffers).map_err(|reason| match place {
+                0 => reason,
+                _ => format!("without needless zeros: {reason}"),
+            })?;
+            found.push(words);
+        }
+        same(
+            "words with needless zeros and without",
+            &found.first(),
+            &found.last(),
+        )
     }
-    match lines.len() <= bilzarko::TEXT_FINDINGS {
-        true => counts.texts += lines.len(),
-        false => counts.without_texts += 1,
+
+    /// Answers the words of the findings.
+    fn compare(&self, file: &[u8], buffers: &mut Buffers) -> Result<Vec<Words>, String> {
+        let (count, found) = buffers
+            .findings(&self.settings.ours(), file)
+            .map_err(|refusal| format!("the findings call answers {refusal}"))?;
+        compare_store(&self.listed.formats, buffers.store())?;
+        let rounds = Rounds {
+            ran: count.rounds,
+            settled: count.settled,
+        };
+        same("rounds", &rounds, &self.listed.rounds)?;
+        compare_words(&self.lines, &found, self.encoded)?;
+        compare_texts(&self.lines, self.settings, file, buffers)?;
+        compare_store(&self.listed.formats, buffers.store())?;
+        Ok(found)
     }
-    counts.formats += 2 * listed.formats.functions.len();
-    counts.unsettled += usize::from(!listed.rounds.settled);
-    counts.went_back += listed.remarks.went_back;
-    for remark in &listed.remarks.all {
-        if let (Some(_), Some(kind)) = (settings.severity(remark.lint), remark.difference()) {
-            counts.differences[kind] += 1;
+
+    fn count(&self, counts: &mut Counts) {
+        counts.laws += 1;
+        for line in &self.lines {
+            counts.findings[line.lint as usize - 1] += 1;
+        }
+        match self.lines.len() <= bilzarko::TEXT_FINDINGS {
+            true => counts.texts += self.lines.len(),
+            false => counts.without_texts += 1,
+        }
+        counts.formats += 2 * self.listed.formats.functions.len();
+        counts.unsettled += usize::from(!self.listed.rounds.settled);
+        counts.went_back += self.listed.remarks.went_back;
+        for remark in &self.listed.remarks.all {
+            let shown = self.settings.severity(remark.lint).is_some();
+            if let Some(kind) = remark.difference().filter(|_| shown) {
+                counts.differences[kind] += 1;
+            }
         }
     }
 }
@@ -242,11 +313,11 @@ fn count(listed: &Listed, lines: &[Line], settings: &Settings, counts: &mut Coun
 /// Refusals have no counterpart in the Rust: the number is document 01's.
 fn refused(
     settings: &Settings,
-    encoded: &Encoded,
+    file: &[u8],
     expected: u32,
     buffers: &mut Buffers,
 ) -> Result<(), String> {
-    let answer = buffers.findings(&settings.ours(), &encoded.bytes);
+    let answer = buffers.findings(&settings.ours(), file);
     let number = answer.err().map(Refusal::number);
     same("refusal", &number, &Some(expected))
 }
@@ -280,6 +351,25 @@ pub fn rust_lines(program: &Program, settings: &Settings) -> Vec<Line> {
         .collect()
 }
 
+/// Whether a line is of a lint that remarks are about.
+fn is_remarked(line: &&Line) -> bool {
+    line.lint <= 2
+}
+
+/// What is said for the Rust here must be what it lists.
+fn is_said(rust: &[Line], remarks: &[Remark], settings: &Settings) -> Result<(), String> {
+    let said: Vec<Line> = remarks
+        .iter()
+        .filter_map(|one| line(one, &one.rust, settings))
+        .collect();
+    let listed: Vec<Line> = rust.iter().filter(is_remarked).cloned().collect();
+    same(
+        "the Rust's lines and what is said for it here",
+        &said,
+        &listed,
+    )
+}
+
 /// The Rust's lines with those of lints 1 and 2 that the named differences change. Where they change none, these are the
 /// Rust's very lines.
 fn with_differences(
@@ -287,23 +377,12 @@ fn with_differences(
     remarks: &[Remark],
     settings: &Settings,
 ) -> Result<Vec<Line>, String> {
-    let changeable = |line: &&Line| line.lint <= 2;
-    let by_rust: Vec<Line> = remarks
-        .iter()
-        .filter_map(|one| line(one, &one.rust, settings))
-        .collect();
-    let listed: Vec<Line> = rust.iter().filter(changeable).cloned().collect();
-    same(
-        "the Rust's lines and what is said for it here",
-        &by_rust,
-        &listed,
-    )?;
-
+    is_said(rust, remarks, settings)?;
     let mut expected: Vec<Line> = remarks
         .iter()
         .filter_map(|one| line(one, &one.named, settings))
         .collect();
-    expected.extend(rust.iter().filter(|line| !changeable(line)).cloned());
+    expected.extend(rust.iter().filter(|line| !is_remarked(line)).cloned());
     Ok(expected)
 }
 
@@ -378,10 +457,10 @@ fn compare_subject(words: &Words, encoded: &Encoded) -> Result<(), String> {
 fn compare_texts(
     expected: &[Line],
     settings: &Settings,
-    encoded: &Encoded,
+    file: &[u8],
     buffers: &mut Buffers,
 ) -> Result<(), String> {
-    let mut text = |position: usize| buffers.text(&settings.ours(), &encoded.bytes, position);
+    let mut text = |position: usize| buffers.text(&settings.ours(), file, position);
     if expected.len() > bilzarko::TEXT_FINDINGS {
         return same(
             "text of too many findings",

@@ -5,6 +5,8 @@ use crate::differences::KINDS;
 pub struct Counts {
     /// Laws that were listed alike.
     pub laws: usize,
+    /// Of these, laws with needless zeros: they were listed with them and without them.
+    pub with_zeros: usize,
     /// By lint.
     pub findings: [usize; 4],
     pub texts: usize,
@@ -33,10 +35,11 @@ impl Counts {
             .map(|number| format!("{number}: {}", self.refused[number]))
             .collect();
         format!(
-            "seed {seed}: {} laws agree, {} findings {:?}, {} texts, {} formats; named differences: {}; \
-             {} unsettled, {} with over 256 findings, {} arguments matched by going back; \
+            "seed {seed}: {} laws agree, {} of them with needless zeros; {} findings {:?}, {} texts, {} formats; \
+             named differences: {}; {} unsettled, {} with over 256 findings, {} arguments matched by going back; \
              refused as expected {{{}}}; left out, matching too long: {}",
             self.laws,
+            self.with_zeros,
             self.findings.iter().sum::<usize>(),
             self.findings,
             self.texts,

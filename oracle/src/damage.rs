@@ -12,6 +12,7 @@ use crate::generate;
 use crate::ours::Buffers;
 use crate::random::Random;
 use crate::settings::Settings;
+use crate::zeros::respell;
 
 pub fn run(files: u64, seed: u64) -> ExitCode {
     let mut counts = Counts::default();
@@ -184,11 +185,12 @@ fn damaged(random: &mut Random) -> Vec<u8> {
         let length = random.below(most);
         return (0..length).map(|_| random.next() as u8).collect();
     }
-    let law = if random.chance(70) {
+    let mut law = if random.chance(70) {
         generate::small(random)
     } else {
         generate::law(random)
     };
+    respell(&mut law.program, random);
     let mut bytes = encode(&law.program, law.layout, random).bytes;
     for _ in 0..random.within(1, 3) {
         damage(&mut bytes, random);

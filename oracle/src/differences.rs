@@ -16,7 +16,7 @@ use crate::rounds::narrow;
 
 pub const KINDS: [&str; 2] = ["single term", "bracketed literal"];
 
-/// What is said of one subject, as texts.
+/// What is said of one subject: the text, where it is listed.
 pub struct Remark {
     pub lint: u32,
     pub span: Span,
@@ -32,6 +32,7 @@ impl Remark {
 }
 
 pub struct Remarks {
+    /// Of each sentence, and of each call of a function that the law defines.
     pub all: Vec<Remark>,
     /// Literal arguments that match only by going back into a bracket.
     pub went_back: usize,
@@ -80,14 +81,12 @@ struct Walk<'a> {
 
 impl Walk<'_> {
     fn note(&mut self, lint: u32, span: Span, rust: Option<String>, named: Option<String>) {
-        if rust.is_some() || named.is_some() {
-            self.remarks.all.push(Remark {
-                lint,
-                span,
-                rust,
-                named,
-            });
-        }
+        self.remarks.all.push(Remark {
+            lint,
+            span,
+            rust,
+            named,
+        });
     }
 
     fn dead(&mut self, owner: &str, sentences: &[Sentence]) -> Result<(), TooLong> {

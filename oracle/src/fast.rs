@@ -1,7 +1,7 @@
 //! Random small pairs of a pattern and a row, many to a law, through the findings call and through the plain search.
 use std::process::ExitCode;
 
-use refal_ast::{Function, Item, Program, Sentence, Span, Term, TermKind, Visibility};
+use refal_ast::{Function, Item, Program, Sentence, Span, Symbol, Term, TermKind, Visibility};
 
 use crate::encode::{Layout, encode};
 use crate::ours::{Buffers, Words};
@@ -10,6 +10,7 @@ use crate::plain::{self, has_repeat, literal_matches, loosely, pattern_of, shado
 use crate::random::Random;
 use crate::refal::notation;
 use crate::settings::Settings;
+use crate::zeros::significant;
 
 /// A law has so many term records and functions at most, one of which is kept for the calls.
 const TERMS: usize = 512;
@@ -25,6 +26,7 @@ struct Counts {
     matched: usize,
     repeats: usize,
     brackets: usize,
+    with_zeros: usize,
     /// A variable is repeated and the loose test is passed: these are searched.
     searched: usize,
     searched_in_vain: usize,
@@ -59,8 +61,9 @@ pub fn run(pairs: u64, seed: u64) -> ExitCode {
 impl Counts {
     fn summary(&self, seed: u64) -> String {
         format!(
-            "seed {seed}: {} pairs in {} laws, {} shadowing and {} literals; {} matched, {} with repeated variables, {} with \
-             brackets; {} searched, {} of them without a match; {} listed by formats; {} differ",
+            "seed {seed}: {} pairs in {} laws, {} shadowing and {} literals; {} matched, {} with repeated variables, {} \
+             with brackets, {} with needless zeros; {} searched, {} of them without a match; {} listed by formats; {} \
+             differ",
             self.pairs,
             self.laws,
             self.pairs - self.literals,
@@ -68,6 +71,7 @@ impl Counts {
             self.matched,
             self.repeats,
             self.brackets,
+            self.with_zeros,
             self.searched,
             self.searched_in_vain,
             self.by_formats,
@@ -83,6 +87,7 @@ impl Counts {
         self.matched += usize::from(matched);
         self.repeats += usize::from(repeats);
         self.brackets += usize::from(has_bracket(&pair.pattern) || has_bracket(&pair.row));
+        self.with_zeros += usize::from(has_zeros(&pair.pattern) || has_zeros(&pair.row));
         self.searched += usize::from(searched);
         self.searched_in_vain += usize::from(searched && !matched);
     }
@@ -92,6 +97,15 @@ fn has_bracket(terms: &[Term]) -> bool {
     terms
         .iter()
         .any(|one| matches!(one.kind, TermKind::Bracket(_)))
+}
+
+/// Whether a number that may be matched has needless zeros.
+fn has_zeros(terms: &[Term]) -> bool {
+    terms.iter().any(|one| match &one.kind {
+        TermKind::Symbol(Symbol::Number(digits)) => significant(digits) != digits,
+        TermKind::Bracket(inside) => has_zeros(inside),
+        _ => false,
+    })
 }
 
 fn records(terms: &[Term]) -> usize {

@@ -5,7 +5,6 @@ use refal_ast::{Program, Sentence, Span, Symbol, Term, TermKind, canonical_ident
 use refal_semantics::{Formats, Shape};
 
 use crate::compare::{Line, Listings, rust_lines, six_words};
-use crate::differences::Remark;
 use crate::pairs;
 use crate::places::{Places, Site};
 use crate::refal::functions;
@@ -25,7 +24,7 @@ const SEVERITIES: [&str; 4] = ["error", "deny", "warn", "allow"];
 /// Features name small numbers, and the larger ones together.
 const NAMED_NUMBERS: usize = 6;
 
-/// A law with its settings and what is listed of it.
+/// A law as it is spelled, with its settings and what is listed of it.
 pub struct Shown<'a> {
     pub program: &'a Program,
     pub settings: &'a Settings,
@@ -44,17 +43,22 @@ impl Shown<'_> {
     fn shows(&self, lint: u32) -> bool {
         self.settings.severity(lint).is_some()
     }
+
+    /// What is listed is told by this law: it is without needless zeros.
+    fn law(&self) -> &Program {
+        &self.listings.law
+    }
 }
 
 pub fn features(shown: &Shown) -> Features {
     let mut all = Features::new();
-    let places = Places::of(shown.program);
+    let places = Places::of(shown.law());
     settings(shown, &mut all);
     for line in &shown.listings.named {
         text(line, &mut all);
     }
     order(&shown.listings.named, &mut all);
-    differences(&shown.listings.remarks.all, shown.settings, &mut all);
+    differences(shown, &mut all);
     if places.spans_differ() {
         calls(shown, &places, &mut all);
         blocks(shown, &places, &mut all);
@@ -71,11 +75,10 @@ pub fn features(shown: &Shown) -> Features {
             all.insert("difference 2: matches by going back".into());
         }
     }
-    let by_value = rust_lines(&shape::by_value(shown.program), shown.settings);
-    if by_value != shown.listings.rust {
-        all.insert("difference 4: numbers compare by text".into());
+    if shown.listings.spelled != shown.listings.rust {
+        all.insert("difference 4: numbers compare by value".into());
     }
-    shape::features(shown.program, &places, &mut all);
+    shape::features(shown.program, &Places::of(shown.program), &mut all);
     if !shown.listings.settled {
         all.insert("law: its rounds do not settle".into());
     }
@@ -86,7 +89,7 @@ pub fn features(shown: &Shown) -> Features {
 fn settings(shown: &Shown, all: &mut Features) {
     let Settings { strict, overrides } = shown.settings;
     let mode = if *strict { "strict" } else { "classic" };
-    let present: BTreeSet<u32> = rust_lines(shown.program, &Settings::strict())
+    let present: BTreeSet<u32> = rust_lines(shown.law(), &Settings::strict())
         .iter()
         .map(|line| line.lint)
         .collect();
@@ -181,25 +184,36 @@ fn order(lines: &[Line], all: &mut Features) {
     }
 }
 
-fn differences(remarks: &[Remark], settings: &Settings, all: &mut Features) {
-    for remark in remarks {
-        let Some(kind) = remark.difference() else {
-            continue;
-        };
-        if settings.severity(remark.lint).is_none() {
+/// How each subject is listed otherwise: by the named differences, and by the values of numbers.
+fn differences(shown: &Shown, all: &mut Features) {
+    let texts = &shown.listings.spelled_texts;
+    for (remark, spelled) in shown.listings.remarks.all.iter().zip(texts) {
+        if !shown.shows(remark.lint) {
             continue;
         }
-        let who = match (&remark.rust, &remark.named) {
-            (Some(_), None) => "listed by the Rust alone",
-            (None, Some(_)) => "not listed by the Rust",
-            _ => "listed otherwise by the Rust",
-        };
-        all.insert(format!("difference {}: {who}", kind + 1));
+        if let Some(kind) = remark.difference() {
+            let who = who(&remark.rust, &remark.named);
+            all.insert(format!("difference {}: {who}", kind + 1));
+        }
+        if *spelled != remark.rust {
+            let lint = LINTS[remark.lint as usize - 1];
+            let who = who(spelled, &remark.rust);
+            all.insert(format!("difference 4: {lint}, {who}"));
+        }
+    }
+}
+
+/// Of two texts that differ, the first the Rust's.
+fn who(rust: &Option<String>, here: &Option<String>) -> &'static str {
+    match (rust, here) {
+        (Some(_), None) => "listed by the Rust alone",
+        (None, Some(_)) => "not listed by the Rust",
+        _ => "listed otherwise by the Rust",
     }
 }
 
 fn calls(shown: &Shown, places: &Places, all: &mut Features) {
-    let names = spellings(shown.program);
+    let names = spellings(shown.law());
     for site in &places.sites {
         call(shown, site, &names, all);
     }
@@ -360,7 +374,7 @@ fn defined_twice(shown: &Shown, places: &Places, all: &mut Features) {
     for site in places.sites.iter().filter(|site| site.is_looked_at()) {
         let folded = canonical_identifier(site.name);
         let symbols = |term: &Term| matches!(term.kind, TermKind::Symbol(_));
-        let matched: Vec<bool> = functions(shown.program)
+        let matched: Vec<bool> = functions(shown.law())
             .filter(|one| canonical_identifier(&one.name) == folded)
             .map(|one| pairs::some_matches(&one.sentences, site.args))
             .collect();

@@ -13,8 +13,7 @@ use crate::refal::functions;
 const DEAD: u32 = 1;
 const RECOGNITION: u32 = 2;
 
-/// By what a call is listed under the recognition lint. The first is promised of settled formats, the second where no
-/// number has a needless leading zero.
+/// By what a call is listed under the recognition lint. The first is promised of settled formats, the second always.
 #[derive(Clone, Copy, Debug, PartialEq)]
 pub enum By {
     Formats,
@@ -62,7 +61,7 @@ impl Listed {
         listed.of_functions(law)
     }
 
-    /// What the Rust lists. The law's spans start with records.
+    /// What the Rust lists. The law's spans start with records, its numbers have no needless zeros.
     pub fn by_rust(law: &Program) -> Listed {
         let mut listed = Listed::default();
         for one in check_program_with_levels(law, Mode::Strict, &LintLevels::new()) {
@@ -76,7 +75,8 @@ impl Listed {
         listed.of_functions(law)
     }
 
-    /// A slip that document 01 names: literal arguments are matched without going back into brackets.
+    /// A slip that document 01 names: literal arguments are matched without going back into brackets. The law is folded,
+    /// its numbers have no needless zeros.
     pub fn by_slip(law: &Program, steps: &mut Steps) -> Result<Listed, TooLong> {
         let all: Vec<&Function> = functions(law).collect();
         let mut calls = Vec::new();

@@ -62,6 +62,7 @@ mod texts;
 mod watch;
 mod worker;
 mod worst_texts;
+mod zeros;
 
 use std::env;
 use std::process::ExitCode;

@@ -2,7 +2,8 @@
 //!
 //! `shadows` is the Rust's `pattern_subsumes`, with the named rule on single terms or the Rust's own; `matches` is the
 //! manual's matching, which goes back into brackets. The steps say beforehand whether a law takes too long: all three
-//! parties search alike.
+//! parties search alike. Numbers compare by text, as in the Rust: laws come without needless zeros, or as they are
+//! spelled where it is asked what the Rust lists of that.
 use refal_ast::{Symbol, Term, TermKind, VariableKind, canonical_identifier};
 
 use crate::encode::key;
@@ -81,7 +82,7 @@ struct Around<'a, 'b> {
     outer: Option<&'b Around<'a, 'b>>,
 }
 
-/// Whether a pattern matches a row without variables, calls and blocks, numbers by text.
+/// Whether a pattern matches a row without variables, calls and blocks.
 pub fn matches(pattern: &[Term], row: &[Term], steps: &mut Steps) -> Result<bool, TooLong> {
     match_run(pattern, row, None, &mut Vec::new(), steps)
 }

@@ -1,13 +1,17 @@
 //! Random small patterns and rows: few symbols and few names, so that variables are often repeated and rows often match.
+//! Numbers are spelled with more or fewer zeros each time.
 use refal_ast::{Span, Symbol, Term, TermKind, Variable, VariableKind};
 
 use crate::encode::key;
 use crate::random::Random;
+use crate::zeros::{DIGITS, significant};
 
 const DEPTH: usize = 3;
 const LONGEST: usize = 8;
 /// The most variables of a kind in a pattern made of repeats.
 const GROUPS: usize = 4;
+/// The values of numbers: one is the beginning of another, and two are the same modulo 2^64.
+const VALUES: [&str; 5] = ["0", "1", "10", "2", "18446744073709551617"];
 /// No finding of a pair has this span.
 pub const NOWHERE: Span = Span {
     start: 1_000_000,
@@ -23,6 +27,8 @@ pub struct Maker<'r> {
     literal: bool,
     /// Whether nearly all symbols are the same, so that rows divide in many ways.
     alike: bool,
+    /// Whether the symbol that most are is a number.
+    numbers: bool,
 }
 
 impl Maker<'_> {
@@ -31,12 +37,14 @@ impl Maker<'_> {
             random,
             literal: false,
             alike: false,
+            numbers: false,
         }
     }
 
     pub fn pattern(&mut self) -> Vec<Term> {
         self.literal = false;
         self.alike = self.random.chance(40);
+        self.numbers = self.random.chance(30);
         match self.random.below(10) {
             0..=3 => self.terms(LONGEST, 0),
             4..=5 => self.crossed(),
@@ -88,14 +96,49 @@ impl Maker<'_> {
 
     fn symbol(&mut self) -> Term {
         let symbol = match self.random.below(20) {
-            0..=17 if self.alike => Symbol::Char('a'),
-            0..=11 => Symbol::Char('a'),
-            12..=16 => Symbol::Char('b'),
-            17 => Symbol::Number("1".into()),
+            0..=17 if self.alike => self.most(),
+            0..=10 => self.most(),
+            11..=14 => Symbol::Char('b'),
+            15..=17 => {
+                let value = *self.random.pick(&VALUES);
+                self.number(value)
+            }
             18 => Symbol::Identifier("x_y".into()),
             _ => Symbol::Identifier("X-Y".into()),
         };
         term(TermKind::Symbol(symbol))
+    }
+
+    /// The symbol that most are.
+    fn most(&mut self) -> Symbol {
+        match self.numbers {
+            true => self.number("1"),
+            false => Symbol::Char('a'),
+        }
+    }
+
+    /// A number in one of its spellings.
+    fn number(&mut self, value: &str) -> Symbol {
+        let zeros = match self.random.below(10) {
+            0..=4 => 0,
+            5..=8 => self.random.within(1, 3),
+            _ => DIGITS - value.len(),
+        };
+        Symbol::Number("0".repeat(zeros) + value)
+    }
+
+    /// A term once more, its numbers spelled anew.
+    fn again(&mut self, one: &Term) -> Term {
+        match &one.kind {
+            TermKind::Symbol(Symbol::Number(digits)) => {
+                term(TermKind::Symbol(self.number(significant(digits))))
+            }
+            TermKind::Bracket(inside) => {
+                let inside = inside.iter().map(|one| self.again(one)).collect();
+                term(TermKind::Bracket(inside))
+            }
+            _ => one.clone(),
+        }
     }
 
     fn call_or_block(&mut self) -> Term {
@@ -177,7 +220,7 @@ impl Maker<'_> {
         let mut row = Vec::new();
         for one in pattern {
             match &one.kind {
-                TermKind::Symbol(_) => row.push(one.clone()),
+                TermKind::Symbol(_) => row.push(self.again(one)),
                 TermKind::Bracket(inside) => {
                     let contents = self.filled(inside, kept, values);
                     row.push(term(TermKind::Bracket(contents)));
@@ -188,7 +231,7 @@ impl Maker<'_> {
                     let known = values.iter().find(|(name, _)| *name == key);
                     let known = known.map(|(_, value)| value.clone());
                     match known.filter(|_| self.random.chance(kept)) {
-                        Some(value) => row.extend(value),
+                        Some(value) => row.extend(value.iter().map(|one| self.again(one))),
                         None => {
                             let value = self.value(own.kind);
                             row.extend(value.iter().cloned());

@@ -7,7 +7,9 @@ use refal_ast::{
     Symbol, Term, TermKind, VariableKind, canonical_identifier, canonical_variable_index,
 };
 
-/// A term that is no bracket. Names are folded.
+use crate::zeros::significant;
+
+/// A term that is no bracket. Names are folded, numbers have no needless zeros.
 pub enum Atom {
     Literal(Symbol),
     Variable(VariableKind, String),
@@ -43,6 +45,9 @@ fn item_of(term: &Term) -> Item {
         TermKind::Symbol(Symbol::Identifier(name)) => Item::Symbol(Atom::Literal(
             Symbol::Identifier(canonical_identifier(name)),
         )),
+        TermKind::Symbol(Symbol::Number(digits)) => {
+            Item::Symbol(Atom::Literal(Symbol::Number(significant(digits).into())))
+        }
         TermKind::Symbol(symbol) => Item::Symbol(Atom::Literal(symbol.clone())),
         TermKind::Variable(variable) => Item::Symbol(Atom::Variable(
             variable.kind,

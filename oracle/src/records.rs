@@ -41,34 +41,8 @@ pub fn fold(program: &mut Program) {
     });
 }
 
-/// Takes needless leading zeros away.
-pub fn strip_zeros(program: &mut Program) {
-    each_term(program, &mut |term| {
-        if let TermKind::Symbol(Symbol::Number(digits)) = &mut term.kind {
-            let needless = needless_zeros(digits);
-            digits.drain(..needless);
-        }
-    });
-}
-
-/// `noNeedlessZeros` of `crates/runs/specs/Numbers.antt`.
-pub fn no_needless_zeros(program: &mut Program) -> bool {
-    let mut none = true;
-    each_term(program, &mut |term| {
-        if let TermKind::Symbol(Symbol::Number(digits)) = &term.kind {
-            none &= needless_zeros(digits) == 0;
-        }
-    });
-    none
-}
-
-fn needless_zeros(digits: &str) -> usize {
-    let zeros = digits.len() - digits.trim_start_matches('0').len();
-    zeros.min(digits.len() - 1)
-}
-
 /// All terms of a law, at all depths.
-fn each_term(program: &mut Program, change: &mut dyn FnMut(&mut Term)) {
+pub fn each_term(program: &mut Program, change: &mut dyn FnMut(&mut Term)) {
     for item in &mut program.items {
         if let Item::Function(function) = item {
             in_sentences(&mut function.sentences, change);

@@ -16,14 +16,13 @@ pub struct RunCounts {
     pub ends: Ends,
     pub rust: Caught,
     pub slip: Caught,
-    /// Laws outside a premise, and findings that are false there.
+    /// Laws outside the premise, and findings that are false there.
     pub unsettled: usize,
     pub unsettled_recognised: usize,
-    pub with_zeros: usize,
-    pub zeros_recognised: usize,
     /// Blocks' sentences that are listed and were chosen.
     pub block_chosen: usize,
-    /// That no name is defined twice is no premise of the theorem.
+    /// That no number has a needless zero and no name is defined twice is no premise of the theorem.
+    pub with_zeros: usize,
     pub defined_twice: usize,
     /// Laws without functions have no runs.
     pub empty: usize,
@@ -80,8 +79,8 @@ impl RunCounts {
             "seed {seed}: {} laws, {} runs, {} steps, {} sentences chosen; no finding false: {} listed calls reached \
              that found nothing, {} calls of functions with a listed sentence, of which {} with an argument that its \
              left side matches; runs ended: {}; caught of the Rust's listing: {}; of one that does not go back into \
-             brackets: {}; outside the premises: {}; {} laws with a name defined twice; left out: {} without \
-             functions, {} refused, {} matching too long",
+             brackets: {}; outside the premise: {}; {} laws with needless zeros, {} with a name defined twice; left \
+             out: {} without functions, {} refused, {} matching too long",
             self.laws,
             self.runs,
             self.steps,
@@ -93,6 +92,7 @@ impl RunCounts {
             self.rust.summary(),
             self.slip.summary(),
             self.outside(),
+            self.with_zeros,
             self.defined_twice,
             self.empty,
             self.refused,
@@ -111,13 +111,8 @@ impl RunCounts {
 
     fn outside(&self) -> String {
         format!(
-            "{} laws unsettled, {} calls listed by formats recognised, {} laws with needless zeros, {} calls listed by \
-             literals recognised, {} listed sentences of blocks chosen",
-            self.unsettled,
-            self.unsettled_recognised,
-            self.with_zeros,
-            self.zeros_recognised,
-            self.block_chosen
+            "{} laws unsettled, {} calls listed by formats recognised, {} listed sentences of blocks chosen",
+            self.unsettled, self.unsettled_recognised, self.block_chosen
         )
     }
 }

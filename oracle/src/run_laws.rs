@@ -10,24 +10,27 @@ use refal_ast::{
 use crate::encode::{Layout, key};
 use crate::generate::{self, Law};
 use crate::random::Random;
-use crate::records::{bind_results, strip_zeros};
+use crate::records::bind_results;
+use crate::zeros::respell;
 
 const NAMES: [&str; 3] = ["F", "G", "H"];
 const TERMS: usize = 150;
 
 pub fn law(random: &mut Random) -> Law {
     let mut law = match random.below(100) {
-        0..=14 => generate::law(random),
-        15..=39 => generate::small(random),
+        0..=14 => respelled(generate::law(random), random),
+        15..=39 => respelled(generate::small(random), random),
         40..=94 => plain(Few::of(random).functions()),
         _ => plain(growing(random)),
     };
-    if random.chance(75) {
-        strip_zeros(&mut law.program);
-    }
     if random.chance(80) {
         bind_results(&mut law.program, random);
     }
+    law
+}
+
+fn respelled(mut law: Law, random: &mut Random) -> Law {
+    respell(&mut law.program, random);
     law
 }
 
@@ -328,8 +331,8 @@ impl Few<'_> {
         })
     }
 
-    /// Two of these have one value.
+    /// Two of these have one value, and one begins as another.
     fn digits(&mut self) -> &'static str {
-        ["1", "1", "01", "2"][self.random.below(4)]
+        ["1", "1", "01", "10"][self.random.below(4)]
     }
 }

@@ -15,13 +15,14 @@ use crate::listed::{Broken, By, Listed};
 use crate::matching::Steps;
 use crate::ours::Buffers;
 use crate::random::Random;
-use crate::records::{fold, no_needless_zeros, numbered};
+use crate::records::{fold, numbered};
 use crate::refal::{functions, notation};
 use crate::rounds;
 use crate::run_counts::RunCounts;
 use crate::run_laws;
 use crate::settings::Settings;
 use crate::watch::Watch;
+use crate::zeros::without_zeros;
 
 /// Runs of one law.
 const RUNS: usize = 8;
@@ -153,7 +154,7 @@ pub struct Subject {
     pub rust: Listed,
     pub slip: Listed,
     settled: bool,
-    no_zeros: bool,
+    with_zeros: bool,
 }
 
 /// A function, its argument, and the answers of functions that are not defined.
@@ -208,17 +209,21 @@ impl Subject {
             .findings(&strict.ours(), &encoded.bytes)
             .map_err(|refusal| format!("the findings call answers {refusal}"))?;
         let mut law = numbered(&encoded.bytes);
-        let (ours, rust) = (Listed::by_words(&found, &law), Listed::by_rust(&law));
-        let no_zeros = no_needless_zeros(&mut law);
+        let ours = Listed::by_words(&found, &law);
+        let stripped = without_zeros(&law);
+        let with_zeros = stripped.is_some();
+        let mut stripped = stripped.unwrap_or_else(|| law.clone());
+        let rust = Listed::by_rust(&stripped);
         fold(&mut law);
-        let slip = Listed::by_slip(&law, &mut Steps(SLIP_STEPS)).unwrap_or_default();
+        fold(&mut stripped);
+        let slip = Listed::by_slip(&stripped, &mut Steps(SLIP_STEPS)).unwrap_or_default();
         Ok(Subject {
             law,
             ours,
             rust,
             slip,
             settled: count.settled,
-            no_zeros,
+            with_zeros,
         })
     }
 
@@ -226,7 +231,7 @@ impl Subject {
         let names: HashSet<&str> = functions(&self.law).map(|one| one.name.as_str()).collect();
         counts.laws += 1;
         counts.unsettled += usize::from(!self.settled);
-        counts.with_zeros += usize::from(!self.no_zeros);
+        counts.with_zeros += usize::from(self.with_zeros);
         counts.defined_twice += usize::from(names.len() < functions(&self.law).count());
     }
 
@@ -235,8 +240,7 @@ impl Subject {
     pub fn promised(&self, broken: Broken) -> bool {
         match broken {
             Broken::Recognised(_, By::Formats) => self.settled,
-            Broken::Recognised(_, By::Literals) => self.no_zeros,
-            Broken::Chosen(_) => true,
+            Broken::Recognised(_, By::Literals) | Broken::Chosen(_) => true,
         }
     }
 

@@ -1,11 +1,12 @@
 //! The stored sample of the Rust's answers, which the program crates/test_replay goes through.
 //!
 //! Laws are taken for what they show (`features.rs`): document 01's small laws and a few by hand first, then for each
-//! feature that too few of these have, rarest first, the smallest random laws that have it, with the parts taken away that
-//! are not needed for it.
+//! feature that too few of these have, rarest first, the smallest random laws that have it, with the parts taken away
+//! that are not needed for it, and at the end document 02's small laws.
 //!
-//! No call of the library is made: what is stored is what the Rust lists. Where a named difference shows, the stored
-//! findings are those with the one changed rule, and the label tells the Rust's.
+//! No call of the library is made: what is stored is what the Rust lists of the law without needless zeros. The file that
+//! is stored has them. Where a named difference shows, the stored findings are those with the one changed rule. The label
+//! tells what the Rust lists otherwise of the law as it is spelled.
 use std::collections::{BTreeMap, BTreeSet};
 use std::fs;
 use std::path::{Path, PathBuf};
@@ -14,6 +15,7 @@ use std::process::ExitCode;
 use refal_ast::Program;
 
 use crate::compare::{Line, Listings, line, listings, same, six_words};
+use crate::differences::Remark;
 use crate::encode::{Layout, encode};
 use crate::features::{Features, Shown, features};
 use crate::generate;
@@ -32,6 +34,8 @@ const ANY_LAWS: u64 = 40_000;
 const MOST_BYTES: usize = 2_500;
 /// The laws that shall show each form of a difference from the Rust; other features have one.
 const DIFFERENCE_LAWS: usize = 8;
+/// The number of the difference that numbers compare by value.
+const BY_VALUE: usize = 4;
 /// The longest label that the program reads.
 const LABEL_BYTES: usize = 1_023;
 const PLAIN: Layout = Layout {
@@ -124,20 +128,8 @@ fn ended(result: Result<String, String>) -> ExitCode {
 
 fn sample() -> Result<Vec<Case>, String> {
     let mut taken = Taken::default();
-    for (title, laws) in [
-        ("document 01", small::notations()),
-        ("by hand", BY_HAND.to_vec()),
-    ] {
-        for notation in laws {
-            let shown = match notation {
-                "" => "no functions",
-                _ => notation,
-            };
-            let title = format!("{title}: {shown}");
-            let found = case(title, parse(notation)?, PLAIN, Settings::strict())?;
-            taken.put(found.ok_or("a law is not compared")?);
-        }
-    }
+    taken.put_all("document 01", &small::notations(&small::LAWS))?;
+    taken.put_all("by hand", BY_HAND)?;
     for (feature, known) in known()? {
         for (_, number) in known.smallest {
             if taken.has(&feature) < laws_wanted(&feature) && taken.numbers.insert(number) {
@@ -148,6 +140,7 @@ fn sample() -> Result<Vec<Case>, String> {
             }
         }
     }
+    taken.put_all("document 02", &small::notations(&small::NUMBERS))?;
     Ok(taken.cases)
 }
 
@@ -189,6 +182,20 @@ impl Taken {
             }
         }
         Ok(case)
+    }
+
+    /// Laws in Refal notation.
+    fn put_all(&mut self, title: &str, laws: &[&str]) -> Result<(), String> {
+        for notation in laws {
+            let shown = match *notation {
+                "" => "no functions",
+                _ => notation,
+            };
+            let title = format!("{title}: {shown}");
+            let found = case(title, parse(notation)?, PLAIN, Settings::strict())?;
+            self.put(found.ok_or("a law is not compared")?);
+        }
+        Ok(())
     }
 
     fn put(&mut self, mut case: Case) {
@@ -298,13 +305,13 @@ impl Case {
         case(title, program, self.layout, settings)
     }
 
-    /// The title, and for each named difference what the Rust lists.
+    /// The title, and for each difference what the Rust lists of the law as it is spelled.
     fn label(&self) -> Result<String, String> {
         let notes = self.notes();
         same(
             "the Rust's findings told by the label",
             &restored(&self.listings.named, &notes),
-            &self.listings.rust,
+            &self.listings.spelled,
         )?;
         let told: String = notes.iter().map(Note::told).collect();
         let label = format!("{}{told}", self.title);
@@ -317,15 +324,15 @@ impl Case {
     fn notes(&self) -> Vec<Note> {
         let (mut here, mut there) = (0, 0);
         let mut notes = Vec::new();
-        for remark in &self.listings.remarks.all {
+        let texts = &self.listings.spelled_texts;
+        for (remark, spelled) in self.listings.remarks.all.iter().zip(texts) {
             let named = line(remark, &remark.named, &self.settings);
-            let rust = line(remark, &remark.rust, &self.settings);
+            let rust = line(remark, spelled, &self.settings);
             here += usize::from(named.is_some());
             there += usize::from(rust.is_some());
-            let shown = named.is_some() || rust.is_some();
-            if let Some(kind) = remark.difference().filter(|_| shown) {
+            if named != rust {
                 notes.push(Note {
-                    difference: kind + 1,
+                    differences: differences(remark, spelled),
                     here: named.map(|_| here),
                     there: rust.map(|line| (there, line)),
                 });
@@ -356,9 +363,17 @@ impl Case {
     }
 }
 
-/// A named difference: the finding that is stored and the Rust's, both with their numbers from 1.
+/// The numbers of the differences that show at a subject, where the Rust says this of the law as it is spelled.
+fn differences(remark: &Remark, spelled: &Option<String>) -> Vec<String> {
+    let named = remark.difference().map(|kind| kind + 1);
+    let numbers = (*spelled != remark.rust).then_some(BY_VALUE);
+    let both = named.into_iter().chain(numbers);
+    both.map(|number| number.to_string()).collect()
+}
+
+/// A difference: the finding that is stored and the Rust's, both with their numbers from 1.
 struct Note {
-    difference: usize,
+    differences: Vec<String>,
     here: Option<usize>,
     there: Option<(usize, Line)>,
 }
@@ -373,7 +388,8 @@ impl Note {
             .as_ref()
             .map(|(number, line)| format!("the Rust's finding {number} is {}", printed(line)));
         let both: Vec<String> = here.into_iter().chain(there).collect();
-        format!(" # difference {}: {}", self.difference, both.join(", "))
+        let differences = self.differences.join(" and ");
+        format!(" # difference {differences}: {}", both.join(", "))
     }
 }
 

@@ -1,7 +1,7 @@
 //! What a law is like, apart from what is listed of it.
 use std::collections::{BTreeMap, BTreeSet};
 
-use refal_ast::{Item, Program, Sentence, Symbol, Term, TermKind, canonical_identifier};
+use refal_ast::{Program, Sentence, Symbol, Term, TermKind, canonical_identifier};
 
 use crate::features::{Features, number};
 use crate::places::Places;
@@ -100,46 +100,6 @@ fn symbols(terms: &[Term], all: &mut Features) {
             }
             TermKind::Bracket(inside) | TermKind::Call { args: inside, .. } => symbols(inside, all),
             _ => {}
-        }
-    }
-}
-
-/// The law with numbers that have no needless leading zeros.
-pub fn by_value(program: &Program) -> Program {
-    let mut changed = program.clone();
-    for item in &mut changed.items {
-        if let Item::Function(function) = item {
-            function.sentences.iter_mut().for_each(shorten_sentence);
-        }
-    }
-    changed
-}
-
-fn shorten_sentence(sentence: &mut Sentence) {
-    shorten(&mut sentence.pattern);
-    for condition in &mut sentence.conditions {
-        shorten(&mut condition.result);
-        shorten(&mut condition.pattern);
-    }
-    shorten(&mut sentence.result);
-}
-
-fn shorten(terms: &mut [Term]) {
-    for term in terms {
-        match &mut term.kind {
-            TermKind::Symbol(Symbol::Number(text)) => {
-                let value = text.trim_start_matches('0');
-                *text = if value.is_empty() { "0" } else { value }.into();
-            }
-            TermKind::Bracket(inside) | TermKind::Call { args: inside, .. } => shorten(inside),
-            TermKind::Block {
-                argument,
-                sentences,
-            } => {
-                shorten(argument);
-                sentences.iter_mut().for_each(shorten_sentence);
-            }
-            TermKind::Symbol(_) | TermKind::Variable(_) => {}
         }
     }
 }

@@ -1,4 +1,4 @@
-//! Document 01's small laws, and those by which its readings were settled, through both parties.
+//! The documents' small laws, and those by which their readings were settled, through both parties.
 use std::process::ExitCode;
 
 use crate::compare::{compare, hex, same};
@@ -10,7 +10,10 @@ use crate::random::Random;
 use crate::settings::Settings;
 
 /// A law and its listing: findings, rounds and settled, then lint, a and b of each finding.
-const LAWS: [(&str, &str); 27] = [
+type Small = (&'static str, &'static str);
+
+/// Of document 01.
+pub const LAWS: [Small; 27] = [
     ("", "0 1 1"),
     ("F { = 'a' <F> 1 1 1; }", "0 5 1"),
     ("F { = 'a' <F> 1 1 1 1; }", "0 5 0"),
@@ -29,7 +32,8 @@ const LAWS: [(&str, &str); 27] = [
     ("F { e.X = ; (t.A) = ; }", "1 2 1, 1 2 1"),
     ("F { (t.X) = ; (e.A) = ; }", "0 2 1"),
     ("F { s.A s.A = ; 'x' 'x' = ; s.B s.C = ; }", "1 2 1, 1 2 1"),
-    ("F { s.A s.A = ; 7 007 = ; }", "0 2 1"),
+    // Document 02's R-3 changed this one: it had no finding.
+    ("F { s.A s.A = ; 7 007 = ; }", "1 2 1, 1 2 1"),
     (
         "F { s.a-b s.a_b = ; s.A s.B = ; s.A s.A = ; }",
         "2 2 1, 1 2 1, 1 3 1",
@@ -55,26 +59,66 @@ const LAWS: [(&str, &str); 27] = [
     ),
 ];
 
+/// Of document 02's R-3: numbers are the same where their values are. 2^64 + 1 and 1 are two.
+pub const NUMBERS: [Small; 14] = [
+    ("F { 007 = ; 7 = ; }", "1 2 1, 1 2 1"),
+    ("F { 000 = ; 0 = ; }", "1 2 1, 1 2 1"),
+    ("F { 10 = ; 1 = ; 100 = ; 0 = ; }", "0 2 1"),
+    ("F { 18446744073709551617 = ; 1 = ; }", "0 2 1"),
+    (
+        "F { 0000000000000000000000000000000000000000000000000000000000000000 = ; 00 = ; \
+         0000000000000000000000000000000000000000000000000000000000000001 = ; }",
+        "1 2 1, 1 2 1",
+    ),
+    (
+        "F { 9999999999999999999999999999999999999999999999999999999999999999 = ; \
+         9999999999999999999999999999999999999999999999999999999999999998 = ; }",
+        "0 2 1",
+    ),
+    ("F { '7' = ; 7 = ; 07 = ; }", "1 2 1, 1 3 2"),
+    (
+        "F { (e.A) e.A = ; (1 (02)) 01 (2) = ; }",
+        "2 2 1, 1 2 1, 4 2 0",
+    ),
+    ("F { e.X = [e.X : (07) = ; (7) = ;]; }", "1 2 1, 1 2 1"),
+    ("F { 7 = 'a'; } G { = <F 007>; }", "0 2 1"),
+    ("F { 007 = ; } G { = <F 7> <F 70>; }", "1 2 1, 2 2 0"),
+    (
+        "F { s.A s.A = ; } G { = <F 1 01> <F 1 10>; }",
+        "1 2 1, 2 2 0",
+    ),
+    (
+        "F { (e.A e.B) e.A = ; } G { = <F (01 2) 1> <F (01 2) 2>; }",
+        "2 2 1, 2 2 0, 4 3 0",
+    ),
+    (
+        "F { = <Div 1 0 00> <Div 01 '-' 000>; }",
+        "2 2 1, 3 2 0, 3 2 0",
+    ),
+];
+
 /// Document 01's example, with all words of its listing.
 const EXAMPLE: (&str, &str) = (
     "F { e.X = 'a'; s.A = <F 1>; } H { 'q' = <H 2>; }",
     "2 2 1\n1 1 15 26 2 1 0 1\n2 1 40 45 1 0 1 6\n",
 );
 
-/// The laws in Refal notation. The example is among them.
-pub fn notations() -> Vec<&'static str> {
-    LAWS.iter().map(|(law, _)| *law).collect()
+/// Laws in Refal notation. The example is among document 01's.
+pub fn notations(laws: &[Small]) -> Vec<&'static str> {
+    laws.iter().map(|(law, _)| *law).collect()
 }
 
 pub fn run() -> ExitCode {
     let short = LAWS
         .iter()
+        .chain(&NUMBERS)
         .try_for_each(|(law, expected)| agrees(law, expected, Listing::short));
     match short.and_then(|()| agrees(EXAMPLE.0, EXAMPLE.1, Listing::full)) {
         Ok(()) => {
             println!(
-                "{} small laws and the example are listed as document 01 says",
-                LAWS.len()
+                "{} small laws of document 01, its example and {} small laws of document 02 are listed as these say",
+                LAWS.len(),
+                NUMBERS.len()
             );
             ExitCode::SUCCESS
         }

@@ -8,8 +8,8 @@ use std::process::ExitCode;
 use std::ptr::{read_volatile, write_volatile};
 use std::thread;
 
+use crate::compare::made;
 use crate::encode::{Layout, encode};
-use crate::generate;
 use crate::ours::Buffers;
 use crate::parse::parse;
 use crate::random::Random;
@@ -225,12 +225,8 @@ fn at_random(laws: u64, seed: u64) -> Taken {
     let mut buffers = Buffers::new();
     let all: Vec<Taken> = (0..laws)
         .map(|number| {
-            let mut random = Random::of(seed, number);
-            let law = generate::law(&mut random);
-            taken(
-                &encode(&law.program, law.layout, &mut random).bytes,
-                &mut buffers,
-            )
+            let (_, encoded, _) = made(seed, number);
+            taken(&encoded.bytes, &mut buffers)
         })
         .collect();
     let mut most: Taken = [0; 2];

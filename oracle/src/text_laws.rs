@@ -6,6 +6,7 @@ use crate::generate;
 use crate::random::Random;
 use crate::refal::functions;
 use crate::text_pieces::{Piece, Sort, mark};
+use crate::zeros::respell;
 
 /// Characters that a byte's place, a comment or another token might be taken from.
 const CHARACTERS: [char; 16] = [
@@ -31,10 +32,11 @@ const NAME: usize = 70;
 
 /// The tokens of a random law.
 pub fn law(random: &mut Random) -> Vec<Piece> {
-    let law = match random.below(100) {
+    let mut law = match random.below(100) {
         0..=84 => generate::small(random),
         _ => generate::law(random),
     };
+    respell(&mut law.program, random);
     pieces(&law.program, random)
 }
 

@@ -2,7 +2,7 @@
 use refal_ast::{Function, Sentence};
 
 use crate::expression::{Item, none_bound, run_matches};
-use crate::listed::{Broken, By};
+use crate::listed::Broken;
 use crate::machine::{Machine, State, Trial, definition};
 use crate::matching::{Steps, TooLong};
 use crate::run_counts::RunCounts;
@@ -146,16 +146,12 @@ impl<'l, 'w> Watch<'l, 'w> {
         Ok(())
     }
 
-    /// A finding is false: outside its premise it is counted.
+    /// A finding is false: outside its premise, which is that formats settle, it is counted.
     fn judge(&mut self, broken: Broken) -> Result<(), End> {
-        match (self.subject.promised(broken), broken) {
-            (true, _) => Err(End::False(broken.told())),
-            (false, Broken::Recognised(_, By::Formats)) => {
+        match self.subject.promised(broken) {
+            true => Err(End::False(broken.told())),
+            false => {
                 self.counts.unsettled_recognised += 1;
-                Ok(())
-            }
-            (false, _) => {
-                self.counts.zeros_recognised += 1;
                 Ok(())
             }
         }

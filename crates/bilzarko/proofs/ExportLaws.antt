@@ -64,8 +64,8 @@ module _ {limit : ℕ} {settings : Settings} {bytes store words filled listed : 
       → FindingsExported limit settings bytes store words answer (record { number = 0; store = filled; findings = listed; answer = count ∷ rounds ∷ word ∷ [] })
   findings-listed count rounds settled is word-is = record {
     outcome = rw (← promise .outcome, is, word-is) refl;
-    no-false-finding = λ law law-is none one zeros.
-        promise .no-false-finding law (record { findings = count; rounds = rounds; settled = settled }) law-is (rw is refl) (settled-by-word settled (rw (← word-is) one)) zeros;
+    no-false-finding = λ law law-is none one.
+        promise .no-false-finding law (record { findings = count; rounds = rounds; settled = settled }) law-is (rw is refl) (settled-by-word settled (rw (← word-is) one));
   }
 
 module _ {filled after : List ℕ} (answer : ℕ) {o : TextOutcome} {r : Told} (outcome : textAfter r filled after ≡ o) where

@@ -1,7 +1,7 @@
 -- What the exported calls return, and every lent word after them. A call over C returns one number, and what it answers stands in lent words.
 -- docs/SPECIFICATION.md, 13.1, 20.5.
 use Prim.Native.Nat.{ℕ, _*_}
-use mathlib.Core.Bool.{true, cond}
+use mathlib.Core.Bool.{cond}
 use mathlib.Core.List.{List, [], _∷_}
 use mathlib.Core.Path.{_≡_}
 use lib.ListN.{take, getD}
@@ -12,7 +12,6 @@ use Rattle.numbers.specs.declared.Tested.the-variants.{AtMost, Past, NoDigit}
 use Rattle.law.specs.Tree.{Law}
 use Rattle.law.specs.Law.{lawOf}
 use Rattle.lints.specs.Levels.{Settings}
-use Rattle.runs.specs.Numbers.{noNeedlessZeros}
 use Rattle.runs.specs.Claim.{NoFalseFinding}
 use Rattle.listing.specs.Outcome.{Count, FindingsOutcome, findingsOutcome, TextOutcome}
 use Rattle.reader.specs.Outcome.{ReadOutcome}
@@ -51,9 +50,8 @@ findingsExit before o = record {
 -- `bytes` is the law; `store`, `words` and `answer` are lent
 pub record FindingsExported (limit : ℕ) (settings : Settings) (bytes store words answer : List ℕ) (after : FindingsExit) : Type 0 where
   pub outcome : after ≡ findingsExit answer (findingsOutcome limit settings bytes store words)
-  -- Demand 3, by what a caller sees: 0 was returned, the third word of the answer is 1, and no number of the law has a needless leading zero. Then no
-  -- finding among the words is false in any run.
-  pub no-false-finding : (law : Law) → lawOf bytes ≡ given law → after .number ≡ 0 → getD (after .answer) 2 0 ≡ 1 → noNeedlessZeros law ≡ true
+  -- Demand 3, by what a caller sees: 0 was returned, and the third word of the answer is 1. Then no finding among the words is false in any run.
+  pub no-false-finding : (law : Law) → lawOf bytes ≡ given law → after .number ≡ 0 → getD (after .answer) 2 0 ≡ 1
       → NoFalseFinding law (take (8 * getD (after .answer) 0 0) (after .findings))
 
 -- ---- the text call

@@ -9,7 +9,6 @@ use lib.ListN.{getD}
 use lib.Dec.{eqb}
 use borrow.Author.Tests.{eqb-true, eqb-false, eq-eqb, ne-eqb}
 use Rattle.file.specs.Forest.{Forest, end, node}
-use Rattle.names.specs.Name.{numberAllowed}
 use Rattle.file.specs.Head.{termFrom, termAt}
 use Rattle.file.specs.Word.{wordAt}
 use Rattle.file.specs.Sections.{File, fileOf}
@@ -26,7 +25,8 @@ use Rattle.law.proofs.PlaceLaws.{block-start, block-grows}
 use Rattle.law.proofs.Functions.{keep-none, kept-reads, function-reads}
 use Rattle.formats.specs.Infer.{Formats}
 use Rattle.matching.specs.Match.{when}
-use Rattle.lints.proofs.Everywhere.{EveryRun, EverySentence, EveryCondition, Passes}
+use Rattle.matching.specs.Literal.{InDigits}
+use Rattle.lints.proofs.Everywhere.{EveryRun, EverySentence, EveryCondition}
 use Rattle.lints.proofs.Records.{OfCalls, InBlock, functions-every}
 use Rattle.findings.specs.declared.Task.{Task}
 use Rattle.findings.specs.Code.Events.{Event, Sink, collect}
@@ -151,7 +151,7 @@ no-calls-inside file law formats task readable other none f h =
     let no-call : OfCalls file NoCall = λ t a b inside e part. none t inside (call-kind (markAt t (file .terms .records) (24 * t + 16)) _ _ _ a b e) in
     let every = rw (function-reads file f h) at (functions-every file readable NoCall no-call (file .functions .count - f) f (omega arith)) in
     rw (ne-eqb (task .lint) 1 other)
-    (none-called-sentences (callEvents law formats task) (blockEvents task) (λ ss. rw (ne-eqb (task .lint) 1 other)) (Passes numberAllowed) (InBlock file)
+    (none-called-sentences (callEvents law formats task) (blockEvents task) (λ ss. rw (ne-eqb (task .lint) 1 other)) InDigits (InBlock file)
     (keep (sentencesOf file f) (sentencesAt file (firstSentence file f))) (every .0))
 
 -- ---- a function

@@ -2,12 +2,12 @@
 use Prim.Native.Nat.{ℕ}
 use mathlib.Core.List.{List, _∷_, _++_, List·Memᴰ, List·Memᴰ·head, List·Memᴰ·tail, List·Memᴰ·append-cases}
 use mathlib.Core.Logic.{_⊎_, inl, inr}
-use Rattle.names.specs.Name.{numberAllowed}
 use Rattle.law.specs.Tree as tree
 use Rattle.law.specs.Tree.{Name, Symbol, Run, Sentences, sentence, Conditions, condition, Function, Law}
+use Rattle.matching.specs.Literal.{InDigits}
 use Rattle.lints.specs.Calls.{Call, calls, sentenceCalls, conditionCalls}
 use Rattle.lints.specs.Dead.{blocks, sentenceBlocks, conditionBlocks}
-use Rattle.lints.proofs.Everywhere.{each-function-in, Passes, Labelled, CallAt, AfterFunctions, RunIn, SentencesIn, EachRecord, EveryRun, EverySentence, EveryCondition}
+use Rattle.lints.proofs.Everywhere.{each-function-in, Labelled, CallAt, AfterFunctions, RunIn, SentencesIn, EachRecord, EveryRun, EverySentence, EveryCondition}
 
 -- in one list or the other
 pub either : {R X : Type 0} {x : X} (k l : List X) → List·Memᴰ x (k ++ l) → (List·Memᴰ x k → R) → (List·Memᴰ x l → R) → R
@@ -95,12 +95,12 @@ module _ (law : Law) (labels : Labelled law) where
   pub call-at : (f : Function) → List·Memᴰ f law → (c : Call) → List·Memᴰ c (sentenceCalls (f .sentences))
       → CallAt law labels (c .mark .at) (c .name) (c .argument) × RunIn law labels (c .argument)
   call-at f i c m =
-      sentence-call (Passes numberAllowed) (CallAt law labels) (AfterFunctions law labels) (f .sentences)
+      sentence-call InDigits (CallAt law labels) (AfterFunctions law labels) (f .sentences)
       (each-function-in (λ d. SentencesIn law labels (d .sentences)) law (labels .everywhere) f i) c m
 
   -- a block's sentences have no function's records
   pub block-after-functions : (f : Function) → List·Memᴰ f law → (ss : Sentences) → List·Memᴰ ss (sentenceBlocks (f .sentences))
       → EachRecord (AfterFunctions law labels) ss
   block-after-functions f i ss m =
-      sentence-block (Passes numberAllowed) (CallAt law labels) (AfterFunctions law labels) (f .sentences)
+      sentence-block InDigits (CallAt law labels) (AfterFunctions law labels) (f .sentences)
       (each-function-in (λ d. SentencesIn law labels (d .sentences)) law (labels .everywhere) f i) ss m

@@ -1,14 +1,11 @@
 -- What holds everywhere in a law: of every symbol, of every call with its record, of every sentence of a block by its record; patterns included.
 use Prim.Native.Nat.{ℕ, zero, suc, _+_, _≤_, _<_}
-use mathlib.Core.Bool.{Bool, true}
 use mathlib.Core.List.{List, [], _∷_, List·Memᴰ, List·Memᴰ·head, List·Memᴰ·tail}
 use mathlib.Core.Path.{_≡_}
 use native.Mathlib.Omega.{arith}
-use Rattle.names.specs.Name.{numberAllowed}
 use Rattle.law.specs.Tree as tree
 use Rattle.law.specs.Tree.{Name, Symbol, Run, Sentences, noSentence, sentence, Conditions, noCondition, condition, Function, Law, keep, skip}
-use Rattle.law.specs.Symbol.{symbolOf}
-use Rattle.matching.specs.Literal.{symbolPasses}
+use Rattle.matching.specs.Literal.{InDigits}
 use Rattle.formats.proofs.RoundLaws.{EachFunction}
 
 -- ---- functions
@@ -86,20 +83,16 @@ module _ (OfSymbol : Symbol → Type 0) (OfCall : ℕ → Name → Run → Type 
   every-skip (suc n) noSentence h = tt
   every-skip (suc n) (sentence m p cs r ss) h = every-skip n ss (h .3)
 
--- a number passes a test
-abbrev pub Passes : (List ℕ → Bool) → Symbol → Type 0
-Passes test a = symbolPasses test (symbolOf a) ≡ true
-
 -- ---- a law whose records are labels
 
 -- a call's record gives its name and its argument, the records of functions' sentences follow one another from 0 on, those of blocks' sentences come
--- after, and numbers are spelled as refusal 5 allows
+-- after, and numbers are spelled by digits, as refusal 5 says
 pub record Labelled (law : Law) : Type 0 where
   pub name : ℕ → Name
   pub argument : ℕ → Run
   pub bound : ℕ
   pub everywhere :
-      EachFunction (λ d. EverySentence (Passes numberAllowed) (λ t f q. (f ≡ name t) × (q ≡ argument t)) (λ i. bound ≤ i) (d .sentences)) law
+      EachFunction (λ d. EverySentence InDigits (λ t f q. (f ≡ name t) × (q ≡ argument t)) (λ i. bound ≤ i) (d .sentences)) law
   pub below : EachFunction (λ d. EachRecord (λ i. i < bound) (d .sentences)) law
   pub numbered : NumberedLaw 0 law
 
@@ -113,10 +106,10 @@ module _ (law : Law) (labels : Labelled law) where
 
   -- what holds everywhere in the law
   abbrev pub RunIn : Run → Type 0
-  RunIn = EveryRun (Passes numberAllowed) CallAt AfterFunctions
+  RunIn = EveryRun InDigits CallAt AfterFunctions
 
   abbrev pub SentencesIn : Sentences → Type 0
-  SentencesIn = EverySentence (Passes numberAllowed) CallAt AfterFunctions
+  SentencesIn = EverySentence InDigits CallAt AfterFunctions
 
   abbrev pub ConditionsIn : Conditions → Type 0
-  ConditionsIn = EveryCondition (Passes numberAllowed) CallAt AfterFunctions
+  ConditionsIn = EveryCondition InDigits CallAt AfterFunctions

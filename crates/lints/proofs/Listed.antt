@@ -146,27 +146,27 @@ judged-cases formats c r m = go (disjointFormats (of (passed formats c)) (accept
         literal j isIt
 
 -- no sentence's pattern matches a literal row
-abbrev pub NoneMatchesText : Sentences → Terms symbols.Symbol → Type 0
-NoneMatchesText noSentence x = Unit {0}
-NoneMatchesText (sentence m p cs r ss) x = (literalMatches (patternOf p) x ≡ false) × NoneMatchesText ss x
+abbrev pub NoLiteralMatch : Sentences → Terms symbols.Symbol → Type 0
+NoLiteralMatch noSentence x = Unit {0}
+NoLiteralMatch (sentence m p cs r ss) x = (literalMatches (patternOf p) x ≡ false) × NoLiteralMatch ss x
 
--- a call that is compared, of a literal argument: no sentence of the last definition matches it, by text
-none-matches-text : (ss : Sentences) (x : Terms symbols.Symbol) → someMatches ss x ≡ false → NoneMatchesText ss x
+-- a call that is compared, of a literal argument: no sentence of the last definition matches it
+no-literal-match : (ss : Sentences) (x : Terms symbols.Symbol) → someMatches ss x ≡ false → NoLiteralMatch ss x
 unfolding someMatches
-none-matches-text noSentence x h = tt
-none-matches-text (sentence m p cs r ss) x h =
+no-literal-match noSentence x h = tt
+no-literal-match (sentence m p cs r ss) x h =
     let (here, rest) = neither (literalMatches (patternOf p) x) (someMatches ss x) h in
-    (here, none-matches-text ss x rest)
+    (here, no-literal-match ss x rest)
   where
     neither : (a b : Bool) → (a || b) ≡ false → (a ≡ false) × (b ≡ false)
     neither true b h = absurd (false-not-true (sym h))
     neither false b h = (refl, h)
 
 pub compared-literal : (law : Law) (c : Call) → compared law c ≡ true → isLiteral (c .argument) ≡ true
-    → (ss : Sentences) → definition law (callee c) ≡ some ss → NoneMatchesText ss (literalTerms (c .argument))
+    → (ss : Sentences) → definition law (callee c) ≡ some ss → NoLiteralMatch ss (literalTerms (c .argument))
 unfolding compared
 compared-literal law c h isIt ss e =
-    none-matches-text ss (literalTerms (c .argument)) (not-both (isLiteral (c .argument)) (someMatches ss (literalTerms (c .argument))) isIt (rw e at h))
+    no-literal-match ss (literalTerms (c .argument)) (not-both (isLiteral (c .argument)) (someMatches ss (literalTerms (c .argument))) isIt (rw e at h))
   where
     not-both : (a b : Bool) → a ≡ true → not (a && b) ≡ true → b ≡ false
     not-both true true k h = absurd (false-not-true h)

@@ -1,5 +1,5 @@
 -- Record numbers in the tree of an accepted file: a call's record gives its name and its argument; functions' sentences have the records before those
--- of blocks' sentences, and follow one another; and the numbers of the law are spelled as refusal 5 allows.
+-- of blocks' sentences, and follow one another; and the numbers of the law are spelled by digits, as refusal 5 says.
 use Prim.Native.Nat.{ℕ, zero, suc, _+_, _*_, _-_, _≤_, _<_}
 use mathlib.Core.Bool.{true}
 use mathlib.Core.List.{List}
@@ -17,6 +17,8 @@ use Rattle.file.specs.Head.{termFrom, termAt}
 use Rattle.file.specs.declared.Term.{Term}
 use Rattle.file.specs.declared.Term.the-variants.{Symbol as Symbolic, SVariable, TVariable, EVariable, Bracket, Call, Block}
 use Rattle.file.proofs.Below.{both-first, both-second}
+use Rattle.numbers.proofs.DigitLaws.{allowed-digits}
+use Rattle.matching.specs.Literal.{InDigits}
 use Rattle.law.specs.Tree.{Name, Mark, Run, Sentences, Conditions, Law, keep}
 use Rattle.law.specs.Places.{sentencesOf, patternSize, conditionsOf, resultSize, conditionResultSize, conditionPatternSize}
 use Rattle.law.specs.Places.{blockSize, firstSentence, blockFirst, firstCondition, patternAt, conditionResultAt, resultAt}
@@ -36,26 +38,27 @@ use Rattle.law.proofs.Reading.{sentences-end, sentence-reads}
 use Rattle.law.proofs.Functions.{skip-at, functionsAt, tree-functions, functions-end, function-reads}
 use Rattle.formats.proofs.RoundLaws.{EachFunction}
 use Rattle.lints.proofs.Everywhere.{EachRecord, each-record-map, Numbered, NumberedLaw, Labelled, numbered-from}
-use Rattle.lints.proofs.Everywhere.{numbered-keep, EveryRun, EverySentence, EveryCondition, every-keep, every-skip, Passes}
+use Rattle.lints.proofs.Everywhere.{numbered-keep, EveryRun, EverySentence, EveryCondition, every-keep, every-skip}
 
 -- ---- a term record's symbol and name
 
--- the number that a symbol record is, if it is one, is spelled as a number
-abbrev NumberAllowed : List ℕ → Term → Type 0
-NumberAllowed text (Symbolic x) = Passes numberAllowed (symbolOf text x)
-NumberAllowed text (SVariable a b) = Unit {0}
-NumberAllowed text (TVariable a b) = Unit {0}
-NumberAllowed text (EVariable a b) = Unit {0}
-NumberAllowed text Bracket = Unit {0}
-NumberAllowed text (Call a b) = Unit {0}
-NumberAllowed text (Block n) = Unit {0}
+-- the number that a symbol record is, if it is one, is spelled by digits
+abbrev TermInDigits : List ℕ → Term → Type 0
+TermInDigits text (Symbolic x) = InDigits (symbolOf text x)
+TermInDigits text (SVariable a b) = Unit {0}
+TermInDigits text (TVariable a b) = Unit {0}
+TermInDigits text (EVariable a b) = Unit {0}
+TermInDigits text Bracket = Unit {0}
+TermInDigits text (Call a b) = Unit {0}
+TermInDigits text (Block n) = Unit {0}
 
-words-number : (text : List ℕ) (a b n kind : ℕ) → termAllowed text kind a b n ≡ true → NumberAllowed text (termFrom kind a b)
+words-number : (text : List ℕ) (a b n kind : ℕ) → termAllowed text kind a b n ≡ true → TermInDigits text (termFrom kind a b)
 unfolding termAllowed termFrom spelled
-words-number text a b n zero h = refl
-words-number text a b n (suc zero) h = refl
+words-number text a b n zero h = tt
+words-number text a b n (suc zero) h = tt
 words-number text a b n (suc (suc zero)) h =
-    both-second (leb (a + b) (length text)) (numberAllowed (take b (drop a text))) (both-first (spelled numberAllowed text a b) (unused n) h)
+    allowed-digits (take b (drop a text))
+    (both-second (leb (a + b) (length text)) (numberAllowed (take b (drop a text))) (both-first (spelled numberAllowed text a b) (unused n) h))
 words-number text a b n (suc (suc (suc zero))) h = tt
 words-number text a b n (suc (suc (suc (suc zero)))) h = tt
 words-number text a b n (suc (suc (suc (suc (suc zero))))) h = tt
@@ -98,15 +101,15 @@ module _ (file : File) where
   InBlock i = bound ≤ i
 
 module _ (file : File) (OfCall : ℕ → Name → Run → Type 0) where
-  -- what holds everywhere in the law: numbers are spelled as numbers, calls are as their records say, blocks' sentences come after functions'
+  -- what holds everywhere in the law: numbers are spelled by digits, calls are as their records say, blocks' sentences come after functions'
   abbrev pub EveryRunAt : Run → Type 0
-  EveryRunAt = EveryRun (Passes numberAllowed) OfCall (InBlock file)
+  EveryRunAt = EveryRun InDigits OfCall (InBlock file)
 
   abbrev pub EverySentenceAt : Sentences → Type 0
-  EverySentenceAt = EverySentence (Passes numberAllowed) OfCall (InBlock file)
+  EverySentenceAt = EverySentence InDigits OfCall (InBlock file)
 
   abbrev pub EveryConditionAt : Conditions → Type 0
-  EveryConditionAt = EveryCondition (Passes numberAllowed) OfCall (InBlock file)
+  EveryConditionAt = EveryCondition InDigits OfCall (InBlock file)
 
 -- ---- the records of sentences
 
@@ -167,7 +170,7 @@ module _ (file : File) (readable : Readable file) (OfCall : ℕ → Name → Run
   BlockAt t = EachRecord (InBlock file) (own file t (blockSize file t)) × EverySentenceAt file OfCall (own file t (blockSize file t))
 
   -- a term record with the run inside it and the run after it
-  term-every : (at : ℕ) (mark : Mark) (x : Term) (inside after : Run) → mark .at ≡ at → NumberAllowed (file .text .records) x
+  term-every : (at : ℕ) (mark : Mark) (x : Term) (inside after : Run) → mark .at ≡ at → TermInDigits (file .text .records) x
       → ((a b : ℕ) → x ≡ Call a b → OfCall at (nameAt (file .text .records) a b) inside)
       → EachRecord (InBlock file) (own file at (sentencesIn x)) × EverySentenceAt file OfCall (own file at (sentencesIn x))
       → EveryRunAt file OfCall inside → EveryRunAt file OfCall after
@@ -249,9 +252,9 @@ module _ (file : File) (readable : Readable file) (OfCall : ℕ → Name → Run
       go (yes some) =
           let after : s < blockFirst file t = block-after file (readable .blocks) s within t low high some in
           let place : suc s + (blockFirst file t - suc s) ≡ blockFirst file t = omega arith in
-          every-keep (Passes numberAllowed) OfCall (InBlock file) (blockSize file t) (sentencesAt file (blockFirst file t))
+          every-keep InDigits OfCall (InBlock file) (blockSize file t) (sentencesAt file (blockFirst file t))
           (rw (skip-at file (blockFirst file t - suc s) (suc s), place) at
-          (every-skip (Passes numberAllowed) OfCall (InBlock file) (blockFirst file t - suc s) (sentencesAt file (suc s)) later))
+          (every-skip InDigits OfCall (InBlock file) (blockFirst file t - suc s) (sentencesAt file (suc s)) later))
       go (no none) =
           let zero-size : blockSize file t ≡ 0 = omega arith in
           rw zero-size tt
@@ -277,7 +280,7 @@ module _ (file : File) (readable : Readable file) (OfCall : ℕ → Name → Run
   functions-every zero f e = rw (functions-end file f (omega arith)) tt
   functions-every (suc left) f e =
       rw (function-reads file f (omega arith)) (
-        every-keep (Passes numberAllowed) OfCall (InBlock file) (sentencesOf file f) (sentencesAt file (firstSentence file f))
+        every-keep InDigits OfCall (InBlock file) (sentencesOf file f) (sentencesAt file (firstSentence file f))
             (sentences-every (firstSentence file f)),
         functions-every left (suc f) (omega arith),
       )

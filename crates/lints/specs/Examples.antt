@@ -128,6 +128,15 @@ DeadLaws =
     (deadBlock 8 (deadBlock 10 empty empty) (deadBlock 12 empty empty))
     (plain 1 (eVariable "X" empty) empty (plain 14 empty empty noSentence))) ∷ [])
     ≡ given ((1, 3, 14) ∷ (1, 2, 3) ∷ (1, 2, 5) ∷ (1, 2, 7) ∷ (1, 2, 11) ∷ (1, 2, 9) ∷ (1, 2, 13) ∷ []))
+    -- numbers by value: `F { 7 = ; 007 = ; 70 = ; s.A s.A = ; 0 00 = ; }`
+    × (summaryOf
+    (function "F"
+    (plain 0 (digits "7" empty) empty
+    (plain 1 (digits "007" empty) empty
+    (plain 2 (digits "70" empty) empty
+    (plain 3 (sVariable "A" (sVariable "A" empty)) empty
+    (plain 4 (digits "0" (digits "00" empty)) empty noSentence))))) ∷ [])
+    ≡ given ((1, 2, 1) ∷ (1, 5, 4) ∷ []))
     -- an outer variable is free in a block: `F { s.A e.X = [e.X : s.A = 1; s.B = 2;]; }`, here with a condition
     × (summaryOf withBlockLaw ≡ given ((1, 2, 2) ∷ []))
 
@@ -145,8 +154,9 @@ RecognitionLaws =
     × (summaryOf (asking (bracket (text "a" empty) empty) (bracket (text "b" empty) empty)) ≡ given ((2, 2, 0) ∷ []))
     × (summaryOf (asking (bracket (eVariable "A" (eVariable "B" empty)) (eVariable "A" empty)) (bracket (text "x" empty) (text "x" empty)))
     ≡ given ((4, 3, 0) ∷ []))
-    -- numbers by text: `F { 007 = ; }` with `7`
-    × (summaryOf (asking (digits "007" empty) (digits "7" empty)) ≡ given ((2, 2, 0) ∷ []))
+    -- numbers by value: `F { 007 = ; }` with `7` and with `70`
+    × (summaryOf (asking (digits "007" empty) (digits "7" empty)) ≡ given [])
+    × (summaryOf (asking (digits "007" empty) (digits "70" empty)) ≡ given ((2, 2, 0) ∷ []))
     -- what is not literal: `s.X 'b'` is longer than `'a'`, `s.X` may match it
     × (summaryOf (asking (text "a" empty) (sVariable "X" (text "b" empty))) ≡ given ((2, 1, 0) ∷ []))
     × (summaryOf (asking (text "a" empty) (sVariable "X" empty)) ≡ given [])
@@ -329,8 +339,8 @@ unfolding
     digitsWithin claimText message
 examples = (
   (refl, refl, refl, refl, refl, refl),
-  (refl, refl, refl, refl, refl),
-  (refl, refl, refl, refl, refl, refl, refl, refl, refl, refl, refl, refl, refl, refl, refl, refl, refl, refl, refl),
+  (refl, refl, refl, refl, refl, refl),
+  (refl, refl, refl, refl, refl, refl, refl, refl, refl, refl, refl, refl, refl, refl, refl, refl, refl, refl, refl, refl),
   (refl, refl),
   (refl, refl),
   (refl, refl),

@@ -17,7 +17,6 @@ use Rattle.buffers.specs.Written.{written}
 use Rattle.lints.specs.Finding.{Finding, findingWords}
 use Rattle.lints.specs.Levels.{Settings, settingsAllowed, listingWords}
 use Rattle.lints.specs.Findings.{Listing, listing}
-use Rattle.runs.specs.Numbers.{noNeedlessZeros}
 use Rattle.runs.specs.Claim.{NoFalseFinding}
 use Rattle.runs.proofs.NoFalse as runs
 use Rattle.listing.specs.declared.Found.{Found}
@@ -41,7 +40,7 @@ given-same e = cc
 module _ (limit : ℕ) (settings : Settings) (bytes store words filled after : List ℕ) (r : Found)
     (outcome : findingsAfter r filled after ≡ findingsOutcome limit settings bytes store words) where
   abbrev Claims : Law → Count → Type 0
-  Claims law count = count .settled ≡ true → noNeedlessZeros law ≡ true → NoFalseFinding law (take (8 * count .findings) after)
+  Claims law count = count .settled ≡ true → NoFalseFinding law (take (8 * count .findings) after)
 
   -- the findings fit
   fit : (law : Law) (count : Count) (l : Listing) → lawOf bytes ≡ given law → listing limit settings law ≡ given l → (b : Bool)
@@ -52,15 +51,15 @@ module _ (limit : ℕ) (settings : Settings) (bytes store words filled after : L
       ) (refused 11, words))
       (given count, after)
       → Claims law count
-  fit law count l law-is listing-is true e is-settled zeros =
+  fit law count l law-is listing-is true e is-settled =
       let same : record { findings = length (l .findings); rounds = l .inferred .rounds; settled = l .inferred .settled } ≡ count =
       given-same (ap (λ p. p .0) e) in
       let number : length (l .findings) ≡ count .findings = ap (λ c. c .findings) same in
       let quiet : l .inferred .settled ≡ count .settled = ap (λ c. c .settled) same in
       let buffer : written words 0 (listingWords settings (l .findings)) ≡ after = ap (λ p. p .1) e in
       rw (← buffer, ← number, start-taken words (listingWords settings (l .findings)) (8 * length (l .findings)) (words-length settings (l .findings)))
-      (runs.no-false-finding bytes law law-is limit settings l listing-is (quiet ∙ is-settled) zeros)
-  fit law count l law-is listing-is false e is-settled zeros = absurd (never-both count 11 (ap (λ p. p .0) e))
+      (runs.no-false-finding bytes law law-is limit settings l listing-is (quiet ∙ is-settled))
+  fit law count l law-is listing-is false e is-settled = absurd (never-both count 11 (ap (λ p. p .0) e))
 
   -- the law is listed
   list : (law : Law) (count : Count) → lawOf bytes ≡ given law → (a : Answer Listing) → listing limit settings law ≡ a

@@ -9,7 +9,6 @@ use Rattle.file.specs.Answer.{given}
 use Rattle.law.specs.Tree.{Law}
 use Rattle.law.specs.Law.{lawOf}
 use Rattle.lints.specs.Levels.{Settings}
-use Rattle.runs.specs.Numbers.{noNeedlessZeros}
 use Rattle.runs.specs.Claim.{NoFalseFinding}
 use Rattle.listing.specs.declared.Found.{Found}
 use Rattle.listing.specs.declared.Told.{Told}
@@ -26,6 +25,6 @@ pub record FindingsPromise (limit : ℕ) (settings : Settings) (bytes store word
   pub outcome : findingsAfter r filled listed ≡ findingsOutcome limit settings bytes store words
   -- Demand 3: there is no run in which a call listed under the recognition lint finds a sentence of its function whose left side matches, conditions
   -- aside, or in which a function's sentence listed as dead is chosen; for every law that is not refused, whatever the settings and the room. It has
-  -- two premises: settled, and no needless leading zero.
+  -- one premise: settled.
   pub no-false-finding : (law : Law) (count : Count) → lawOf bytes ≡ given law → foundAnswer r ≡ given count → count .settled ≡ true
-      → noNeedlessZeros law ≡ true → NoFalseFinding law (take (8 * count .findings) listed)
+      → NoFalseFinding law (take (8 * count .findings) listed)

@@ -142,7 +142,7 @@ module _ (settings : Settings) (bytes store words answer : List ℕ) where
 
     -- demand 3, of the words before the last finding's end
     claims : (law : Law) → Claimed bytes (seen exit) law → NoFalseFinding law (take (endOf (seen exit)) (exit .findings))
-    claims law s = exported .no-false-finding law (s .read) (s .listed) (s .settled) (s .plain)
+    claims law s = exported .no-false-finding law (s .read) (s .listed) (s .settled)
 
     pub loaded : Loaded settings bytes store words answer (seen exit)
     loaded = record {
@@ -171,8 +171,8 @@ module _ (settings : Settings) (bytes store words answer : List ℕ) where
     exported = record {
       outcome = ap exitOf (by-rows settings bytes store words answer (seen exit) seenBy (λ n. refl) over (loaded .refuses)
           (λ law l h. listed-seen law l h (leb (8 * length (l .findings)) (length words)) refl));
-      no-false-finding = λ law read number one plain.
-          let s : Claimed bytes (seen exit) law = record { read = read; listed = number; settled = one; plain = plain } in
+      no-false-finding = λ law read number one.
+          let s : Claimed bytes (seen exit) law = record { read = read; listed = number; settled = one } in
           record {
             recognition = λ m f v k left r lists. loaded .never-recognised law s m (lists-finds (seen exit) 2 m lists) f v k left (comes law (called m f v k left) r);
             dead = λ i r env k left c lists. loaded .never-chosen law s i (lists-finds (seen exit) 1 i (lists .1)) (lists .0) r env k left (comes law (chosen i r env k left) c);

@@ -1,7 +1,7 @@
 -- What a loader relies on: the findings call's answer, every lent word after it, and demand 3 in terms of a run.
 -- docs/SPECIFICATION.md, 12.3 to 12.5, 13.1, 16.3, 16.4.
 use Prim.Native.Nat.{ℕ, _+_, _*_, _≤_, _<_}
-use mathlib.Core.Bool.{true, cond}
+use mathlib.Core.Bool.{cond}
 use mathlib.Core.List.{List, [], _∷_, _++_, List·Memᴰ}
 use mathlib.Core.Option.{some}
 use mathlib.Core.Path.{_≡_}
@@ -14,7 +14,6 @@ use Rattle.law.specs.Expression.{Expression}
 use Rattle.lints.specs.Levels.{Settings, listingWords}
 use Rattle.lints.specs.Findings.{Listing}
 use Rattle.runs.specs.Machine.{Env, Stack, State, called, chosen, run}
-use Rattle.runs.specs.Numbers.{noNeedlessZeros}
 use Rattle.runs.specs.Claim.{Recognises, OfFunction}
 use Rattle.loader.specs.Rows.{After, returned, filled, Listed, Refuses}
 
@@ -27,12 +26,11 @@ counted l = length (l .findings) ∷ l .inferred .rounds ∷ cond (l .inferred .
 
 -- ---- demand 3, by what a caller sees
 
--- its premises: 0 was returned, settled is 1, and no number of the law has a needless leading zero
+-- its premises: 0 was returned, and settled is 1
 pub record Claimed (bytes : List ℕ) (after : After) (law : Law) : Type 0 where
   pub read : lawOf bytes ≡ given law
   pub listed : after .number ≡ 0
   pub settled : getD (after .answer) 2 0 ≡ 1
-  pub plain : noNeedlessZeros law ≡ true
 
 -- a run of a function of the law comes to a state
 pub record Comes (law : Law) (state : State) : Type 0 where

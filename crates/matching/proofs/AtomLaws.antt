@@ -10,6 +10,7 @@ use lib.Seq.{take-all, take-nil}
 use lib.Dec.{eqb, ltb}
 use borrow.Author.Tests.{ne-eqb, le-ltb}
 use Rattle.names.specs.Name.{folded, foldedIndex, sameBytes}
+use Rattle.numbers.specs.Value.{stripped}
 use Rattle.file.specs.Word.{wordAt}
 use Rattle.file.specs.Head.{termFrom, termAt}
 use Rattle.law.specs.Tree.{Kind, symbolKind, termKind, expressionKind}
@@ -158,7 +159,7 @@ module _ (text x y : List ℕ) {kind : ℕ} (first : kind ≡ wordAt x 0) where
       unfolding termAt termFrom
       names-same e h = h ∙ rw (alike, ← first, e, p, q)
 
-      pub numbers-same : kind ≡ 2 → {r : Bool} → r ≡ sameBytes a b → r ≡ sameAtom (atomOf text (termAt x 0)) (atomOf text (termAt y 0))
+      pub numbers-same : kind ≡ 2 → {r : Bool} → r ≡ sameBytes (stripped a) (stripped b) → r ≡ sameAtom (atomOf text (termAt x 0)) (atomOf text (termAt y 0))
       unfolding termAt termFrom
       numbers-same e h = h ∙ rw (alike, ← first, e, p, q)
 

@@ -8,6 +8,7 @@ pub mod StepLaws
 pub mod FirstLaws
 pub mod KnownLaws
 pub mod SameLaws
+pub mod SymbolLaws
 pub mod RowLaws
 pub mod SearchLaws
 pub mod FillLaws

@@ -1,18 +1,18 @@
--- Literal matching, by text, against a run, by value: what it finds a run finds, and where no number has a needless zero it misses nothing.
-use mathlib.Core.Bool.{true}
+-- Literal matching against a run: what it finds a run finds, and of the symbols of a law it misses nothing that a run finds.
+use mathlib.Core.Bool.{Bool, true, false}
+use mathlib.Core.List.{List}
 use mathlib.Core.Path.{_≡_, refl, ap, ap₂, sym, _∙_}
-use Rattle.names.specs.Name.{numberAllowed}
-use Rattle.numbers.specs.Value.{noNeedlessZero}
-use Rattle.numbers.proofs.DigitLaws.{digitsOf, digits-of-value}
-use Rattle.names.proofs.Laws.{both-hold}
+use Rattle.names.specs.Name.{foldedIndex}
+use Rattle.numbers.proofs.DigitLaws.{digitsOf, digits-of-value, stripped-value}
+use Rattle.law.specs.Tree as tree
 use Rattle.law.specs.Tree.{Kind, symbolKind, termKind, expressionKind}
 use Rattle.law.specs.Expression.{Literal, Expression, Terms, nothing, symbol, brackets, _⊕_}
 use Rattle.law.specs.Variables.{Variable}
-use Rattle.law.specs.Symbol.{Symbol, character, identifier, number, literalOf}
-use Rattle.matching.specs.Pattern.{sameSymbol, literal, variable, other, Pattern}
-use Rattle.matching.specs.Match.{none-bound, some-in, anyLiteral, runMatches}
+use Rattle.law.specs.Symbol.{Symbol, character, identifier, number, symbolOf, literalOf}
+use Rattle.matching.specs.Pattern.{sameSymbol, literal, variable, other, Pattern, patternOf}
+use Rattle.matching.specs.Match.{Values, none-bound, some-in, anyLiteral, runMatches}
 use Rattle.matching.specs.Fill.{filled, OfKind}
-use Rattle.matching.specs.Literal.{anySymbol, literalMatches, changed, expressionOf, symbolPasses, rowPasses, patternPasses}
+use Rattle.matching.specs.Literal.{anySymbol, literalTerms, literalMatches, changed, expressionOf, InDigits, RunInDigits}
 use Rattle.matching.proofs.SameLaws.{symbol-sound, symbol-refl}
 use Rattle.matching.proofs.SearchLaws.{none-agrees, none-kinded}
 use Rattle.matching.proofs.FillLaws.{fills-of-match, match-of-fills, run-complete, matches-iff-from}
@@ -47,7 +47,7 @@ module _ {A B : Type 0} (f : A → B) where
 
 -- ---- what literal matching finds, a run finds
 
--- the same values, numbers by value
+-- the same values
 pub literal-in-run : (p : Pattern) (x : Terms Symbol) → literalMatches p x ≡ true → some-in (runMatches p (expressionOf x) none-bound) ≡ true
 literal-in-run p x h =
     let σ =
@@ -64,7 +64,7 @@ literal-in-run p x h =
 
 -- ---- the text of an expression
 
--- a symbol of a run as a law may spell it
+-- a symbol of a run as a law spells it, without needless zeros
 abbrev spelledOf : Literal → Symbol
 spelledOf (Literal.character c) = character c
 spelledOf (Literal.identifier i) = identifier i
@@ -74,57 +74,61 @@ spelledOf (Literal.number n) = number (digitsOf n)
 abbrev textOf : Expression → Terms Symbol
 textOf = changed spelledOf
 
--- a symbol is the text of its value
-symbol-text : (a : Symbol) → symbolPasses numberAllowed a ≡ true → symbolPasses noNeedlessZero a ≡ true → spelledOf (literalOf a) ≡ a
-symbol-text (character c) h z = refl
-symbol-text (identifier i) h z = refl
-symbol-text (number n) h z = ap number (digits-of-value n h z)
+-- a symbol of a law is the text of what it is in a run
+symbol-text : (a : tree.Symbol) → InDigits a → spelledOf (literalOf (symbolOf a)) ≡ symbolOf a
+symbol-text (tree.Symbol.character c) h = refl
+symbol-text (tree.Symbol.identifier i) h = refl
+symbol-text (tree.Symbol.number n) h = rw (stripped-value (n .spelled)) (ap number (digits-of-value (n .spelled) h))
 
--- a row is the text of its expression
-row-text : (x : Terms Symbol) → rowPasses numberAllowed x ≡ true → rowPasses noNeedlessZero x ≡ true → textOf (expressionOf x) ≡ x
-unfolding changed rowPasses
-row-text nothing h z = refl
-row-text (symbol a x) h z =
-    let (h′, k) = both-hold (symbolPasses numberAllowed a) (rowPasses numberAllowed x) h in
-    let (z′, y) = both-hold (symbolPasses noNeedlessZero a) (rowPasses noNeedlessZero x) z in
-    ap₂ symbol (symbol-text a h′ z′) (row-text x k y)
-row-text (brackets c x) h z =
-    let (h′, k) = both-hold (rowPasses numberAllowed c) (rowPasses numberAllowed x) h in
-    let (z′, y) = both-hold (rowPasses noNeedlessZero c) (rowPasses noNeedlessZero x) z in
-    ap₂ brackets (row-text c h′ z′) (row-text x k y)
+-- a literal row is the text of its expression
+row-text : (r : tree.Run) → RunInDigits r → textOf (expressionOf (literalTerms r)) ≡ literalTerms r
+unfolding changed literalTerms
+row-text tree.Run.empty h = refl
+row-text (tree.Run.symbol a r) h = ap₂ symbol (symbol-text a (h .0)) (row-text r (h .1))
+row-text (tree.Run.variable k i r) h = row-text r h
+row-text (tree.Run.bracket q r) h = ap₂ brackets (row-text q (h .0)) (row-text r (h .1))
+row-text (tree.Run.call m f q r) h = row-text r h
+row-text (tree.Run.block m q ss r) h = row-text r h
 
--- a pattern may be filled with its own symbols, or with the texts of their values
-pattern-text : (σ : Variable → Terms Symbol) (p : Pattern) → patternPasses numberAllowed p ≡ true → patternPasses noNeedlessZero p ≡ true
-    → filled (λ a. spelledOf (literalOf a)) σ p ≡ filled (λ a. a) σ p
-unfolding patternPasses
-pattern-text σ nothing h z = refl
-pattern-text σ (symbol (literal a) p) h z =
-    let (h′, k) = both-hold (symbolPasses numberAllowed a) (patternPasses numberAllowed p) h in
-    let (z′, y) = both-hold (symbolPasses noNeedlessZero a) (patternPasses noNeedlessZero p) z in
-    ap₂ symbol (symbol-text a h′ z′) (pattern-text σ p k y)
-pattern-text σ (symbol (variable v) p) h z = ap (λ y. σ v ⊕ y) (pattern-text σ p h z)
-pattern-text σ (symbol other p) h z = pattern-text σ p h z
-pattern-text σ (brackets c p) h z =
-    let (h′, k) = both-hold (patternPasses numberAllowed c) (patternPasses numberAllowed p) h in
-    let (z′, y) = both-hold (patternPasses noNeedlessZero c) (patternPasses noNeedlessZero p) z in
-    ap₂ brackets (pattern-text σ c h′ z′) (pattern-text σ p k y)
+-- a pattern may be filled with its own symbols, or with the texts of what they are in a run
+pattern-text : (σ : Variable → Terms Symbol) (r : tree.Run) → RunInDigits r
+    → filled (λ a. spelledOf (literalOf a)) σ (patternOf r) ≡ filled (λ a. a) σ (patternOf r)
+unfolding patternOf
+pattern-text σ tree.Run.empty h = refl
+pattern-text σ (tree.Run.symbol a r) h = ap₂ symbol (symbol-text a (h .0)) (pattern-text σ r (h .1))
+pattern-text σ (tree.Run.variable k i r) h = ap (λ y. σ (record { kind = k; index = foldedIndex (i .spelled) }) ⊕ y) (pattern-text σ r h)
+pattern-text σ (tree.Run.bracket q r) h = ap₂ brackets (pattern-text σ q (h .0)) (pattern-text σ r (h .1))
+pattern-text σ (tree.Run.call m f q r) h = pattern-text σ r h
+pattern-text σ (tree.Run.block m q ss r) h = pattern-text σ r h
 
--- ---- without needless zeros literal matching misses nothing that a run finds
+-- ---- literal matching misses nothing that a run finds
 
 -- the same values, spelled
-pub literal-misses-nothing : (p : Pattern) (x : Terms Symbol) → patternPasses numberAllowed p ≡ true → patternPasses noNeedlessZero p ≡ true
-    → rowPasses numberAllowed x ≡ true → rowPasses noNeedlessZero x ≡ true
-    → some-in (runMatches p (expressionOf x) none-bound) ≡ true → literalMatches p x ≡ true
-literal-misses-nothing p x hp zp hx zx m =
-    let σ = matches-iff-from p (expressionOf x) none-bound (none-kinded anyLiteral anyLiteral) .0 m in
+pub literal-misses-nothing : (p q : tree.Run) → RunInDigits p → RunInDigits q
+    → some-in (runMatches (patternOf p) (expressionOf (literalTerms q)) none-bound) ≡ true → literalMatches (patternOf p) (literalTerms q) ≡ true
+literal-misses-nothing p q hp hq m =
+    let σ = matches-iff-from (patternOf p) (expressionOf (literalTerms q)) none-bound (none-kinded anyLiteral anyLiteral) .0 m in
     let τ : Variable → Terms Symbol = λ v. textOf (σ .value v) in
-    match-of-fills sameSymbol (λ a. a) anySymbol anySymbol symbol-refl p x none-bound
+    match-of-fills sameSymbol (λ a. a) anySymbol anySymbol symbol-refl (patternOf p) (literalTerms q) none-bound
     (record {
       plain = σ .plain;
       value = τ;
       kinded = λ v. changed-kinded spelledOf (v .kind) (σ .value v) (σ .kinded v);
       agrees = none-agrees τ;
       fills =
-          sym (pattern-text τ p hp zp)
-          ∙ (filled-changed spelledOf literalOf (σ .value) p ∙ (ap textOf (σ .fills) ∙ row-text x hx zx));
+          sym (pattern-text τ p hp)
+          ∙ (filled-changed spelledOf literalOf (σ .value) (patternOf p) ∙ (ap textOf (σ .fills) ∙ row-text q hq));
     })
+
+-- so it finds a match exactly where a run does
+pub literal-as-in-run : (p q : tree.Run) → RunInDigits p → RunInDigits q
+    → literalMatches (patternOf p) (literalTerms q) ≡ some-in (runMatches (patternOf p) (expressionOf (literalTerms q)) none-bound)
+literal-as-in-run p q hp hq = go (literalMatches (patternOf p) (literalTerms q)) refl (some-in inRun) refl
+  where
+    inRun : List (Values Literal)
+    inRun = runMatches (patternOf p) (expressionOf (literalTerms q)) none-bound
+
+    go : (b : Bool) → literalMatches (patternOf p) (literalTerms q) ≡ b → (c : Bool) → some-in inRun ≡ c → b ≡ c
+    go true e c d = sym (literal-in-run (patternOf p) (literalTerms q) e) ∙ d
+    go false e true d = sym e ∙ literal-misses-nothing p q hp hq d
+    go false e false d = refl

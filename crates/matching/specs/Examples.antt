@@ -67,13 +67,28 @@ match-examples :
     ∷ (bracket (sVariable "Q" empty) (eVariable "A" empty), bracket (text "x" empty) (text "pq" empty))
     ∷ [])
     ≡ false ∷ true ∷ [])
-    -- `(e.A e.B) e.A` with `('x') 'x'` is found only by going back into the bracket; `007` and `7` are two by text, one by value
+    -- `(e.A e.B) e.A` with `('x') 'x'` is found only by going back into the bracket
+    × (map allThree ((bracket (eVariable "A" (eVariable "B" empty)) (eVariable "A" empty), bracket (text "x" empty) (text "x" empty)) ∷ [])
+    ≡ (false, true, true) ∷ [])
+    -- numbers by value: `007` is `7`, `00` is `0`, `70` is not `7`, and no number is a character; so too where a variable is repeated
     × (map allThree
-    ((bracket (eVariable "A" (eVariable "B" empty)) (eVariable "A" empty), bracket (text "x" empty) (text "x" empty))
-    ∷ (digits "007" empty, digits "7" empty)
+    ((digits "007" empty, digits "7" empty)
+    ∷ (digits "7" empty, digits "007" empty)
+    ∷ (digits "0" empty, digits "00" empty)
+    ∷ (digits "70" empty, digits "7" empty)
+    ∷ (digits "7" empty, text "7" empty)
+    ∷ (sVariable "A" (sVariable "A" empty), digits "7" (digits "007" empty))
+    ∷ (eVariable "A" (text "x" (eVariable "A" empty)), digits "7" (digits "0" (text "x" (digits "07" (digits "000" empty)))))
+    ∷ (tVariable "A" (tVariable "A" empty), bracket (digits "1" empty) (bracket (digits "10" empty) empty))
     ∷ [])
-    ≡ (false, true, true)
-    ∷ (false, false, true)
+    ≡ (true, true, true)
+    ∷ (true, true, true)
+    ∷ (true, true, true)
+    ∷ (false, false, false)
+    ∷ (false, false, false)
+    ∷ (true, true, true)
+    ∷ (true, true, true)
+    ∷ (false, false, false)
     ∷ [])
     -- the matches of `e.1 e.2` with `'a' 'b'`, in order
     × (matchesOf (eVariable "1" (eVariable "2" empty), text "ab" empty)
@@ -100,4 +115,4 @@ match-examples :
 unfolding
     bytesOf characters sameBytes patternOf isLiteral literalTerms changed
     valueIn splits sameTerms after choices matches ownValues shadowsWith
-match-examples = (refl, refl, refl, refl, refl, refl)
+match-examples = (refl, refl, refl, refl, refl, refl, refl)

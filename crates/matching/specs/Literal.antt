@@ -1,13 +1,12 @@
 -- Literal matching. Document 01: "Recognition by literals speaks only of arguments without variables, calls and blocks, and matches them wholly as the
--- manual does, going back into a bracket whose contents matched"; numbers compare by text.
+-- manual does, going back into a bracket whose contents matched".
 -- docs/SPECIFICATION.md, 7.6.
-use Prim.Native.Nat.{ℕ}
 use mathlib.Core.Bool.{Bool, true, false, _&&_}
-use mathlib.Core.List.{List}
+use Rattle.numbers.specs.Value.{Digits}
 use Rattle.law.specs.Tree as tree
 use Rattle.law.specs.Expression.{Expression, Terms, nothing, symbol, brackets}
-use Rattle.law.specs.Symbol.{Symbol, character, identifier, number, literalOf, symbolOf}
-use Rattle.matching.specs.Pattern.{sameSymbol, literal, variable, other, Pattern}
+use Rattle.law.specs.Symbol.{Symbol, literalOf, symbolOf}
+use Rattle.matching.specs.Pattern.{sameSymbol, Pattern}
 use Rattle.matching.specs.Match.{none-bound, some-in, matches}
 
 -- has a run no variable, call or block at any depth?
@@ -42,25 +41,21 @@ module _ {A B : Type 0} (f : A → B) where
   changed (symbol a x) = symbol (f a) (changed x)
   changed (brackets c x) = brackets (changed c) (changed x)
 
--- the expression that a literal row is in a run: numbers by value
+-- the expression that a literal row is in a run
 abbrev pub expressionOf : Terms Symbol → Expression
 expressionOf = changed literalOf
 
--- does every number pass a test: of a symbol, of a literal row, of a pattern?
-module _ (test : List ℕ → Bool) where
-  abbrev pub symbolPasses : Symbol → Bool
-  symbolPasses (character c) = true
-  symbolPasses (identifier i) = true
-  symbolPasses (number n) = test n
+-- is a symbol, if it is a number, spelled by digits? Refusal 5 sees to it
+abbrev pub InDigits : tree.Symbol → Type 0
+InDigits (tree.Symbol.character c) = Unit {0}
+InDigits (tree.Symbol.identifier i) = Unit {0}
+InDigits (tree.Symbol.number n) = Digits (n .spelled)
 
-  unfoldable pub rowPasses : Terms Symbol → Bool
-  rowPasses nothing = true
-  rowPasses (symbol a x) = symbolPasses a && rowPasses x
-  rowPasses (brackets c x) = rowPasses c && rowPasses x
-
-  unfoldable pub patternPasses : Pattern → Bool
-  patternPasses nothing = true
-  patternPasses (symbol (literal a) p) = symbolPasses a && patternPasses p
-  patternPasses (symbol (variable v) p) = patternPasses p
-  patternPasses (symbol other p) = patternPasses p
-  patternPasses (brackets c p) = patternPasses c && patternPasses p
+-- and each symbol of a run that stands in its pattern
+abbrev pub RunInDigits : tree.Run → Type 0
+RunInDigits tree.Run.empty = Unit {0}
+RunInDigits (tree.Run.symbol a after) = InDigits a × RunInDigits after
+RunInDigits (tree.Run.variable k i after) = RunInDigits after
+RunInDigits (tree.Run.bracket inside after) = RunInDigits inside × RunInDigits after
+RunInDigits (tree.Run.call m f inside after) = RunInDigits after
+RunInDigits (tree.Run.block m inside ss after) = RunInDigits after

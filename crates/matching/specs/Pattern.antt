@@ -8,7 +8,7 @@ use Rattle.law.specs.Expression.{Literal, Terms, nothing, symbol, brackets}
 use Rattle.law.specs.Symbol.{Symbol, character, identifier, number, symbolOf}
 use Rattle.law.specs.Variables.{Variable}
 
--- "numbers compare by text": the one place where two symbols of a law are said to be the same
+-- the one place where two symbols of a law are said to be the same; numbers have no needless zeros there (`symbolOf`), so they compare by value
 abbrev pub sameSymbol : Symbol → Symbol → Bool
 sameSymbol (character a) (character b) = eqb a b
 sameSymbol (character a) (identifier y) = false

@@ -1,8 +1,8 @@
-// Symbols and variables compared, as they are spelled; and brackets told from both.
+// Symbols and variables compared; and brackets told from both.
 use file::word_at;
 use names::indices_equal;
 use names::names_equal;
-use names::numbers_equal;
+use numbers::numbers_equal;
 ghost use mathlib.Core.Path.{_≡_};
 ghost use Prim.Native.Nat.{_≤_, min};
 ghost use lib.ListN.{length, take, drop};

@@ -9,7 +9,6 @@ use native.Mathlib.Omega.{arith}
 use lib.ListN.{length}
 use lib.Dec.{leb, ltb}
 use borrow.Author.Tests.{ltb-false, le-leb, lt-leb}
-use Rattle.names.specs.Name.{numberAllowed}
 use Rattle.file.specs.Word.{wordAt}
 use Rattle.file.specs.Sections.{File}
 use Rattle.file.specs.Head.{termFrom, termAt}
@@ -24,6 +23,7 @@ use Rattle.matching.specs.Pattern.{patternOf}
 use Rattle.matching.specs.Match.{when, each}
 use Rattle.sentences.specs.Entry.{argumentPart, argumentIn}
 use Rattle.matching.proofs.SameLaws.{false-not-true}
+use Rattle.matching.specs.Literal.{InDigits}
 use Rattle.matching.proofs.SearchLaws.{in-when, in-each, each-in, in-map}
 use Rattle.formats.specs.Infer.{Formats}
 use Rattle.formats.specs.Code.Slots.{fileNames, position}
@@ -38,7 +38,7 @@ use Rattle.lints.specs.Recognition.{compared, comparedWith, passed, someOver, a
 use Rattle.lints.specs.Builtin.{failure, domainIn, builtins, lookedAt, failed, builtinOn, builtinRemarks, builtinFindings}
 use Rattle.lints.specs.Open.{eOccurrences, openIn, openRemarks, openFindings}
 use Rattle.lints.specs.Code.Records.{formatsIn, callAt}
-use Rattle.lints.proofs.Everywhere.{each-function-in, EachRecord, Passes}
+use Rattle.lints.proofs.Everywhere.{each-function-in, EachRecord}
 use Rattle.lints.proofs.Records.{bound, InBlock, OfCalls, EverySentenceAt, functions-every, functions-below}
 use Rattle.lints.proofs.CallsIn.{either, sentence-call, sentence-block}
 use Rattle.lints.proofs.Defined.{definition-in}
@@ -201,7 +201,7 @@ module _ (file : File) (readable : Readable file) where
   -- a call of a function is the one at its record
   call-is : (d : Function) → List·Memᴰ d (treeOf file) → (c : Call) → List·Memᴰ c (sentenceCalls (d .sentences))
       → IsHere file (c .mark .at) (c .name) (c .argument)
-  call-is d i c m = sentence-call (Passes numberAllowed) (IsHere file) (InBlock file) (d .sentences) (every-in d i) c m .0
+  call-is d i c m = sentence-call InDigits (IsHere file) (InBlock file) (d .sentences) (every-in d i) c m .0
 
   module _ (limit : ℕ) (store : List ℕ) (x : Finding) where
     abbrev Saying : Type 0
@@ -225,7 +225,7 @@ module _ (file : File) (readable : Readable file) where
             of-dead later first (rw (about .subject, lt-leb (bound file) (about .said .subject .at) below) (about .claim ∙ form))
         go about (inr (ss, j, i)) =
             let (later, first, form) = dead-form true [] 1 ss (about .said) i in
-            let records = sentence-block (Passes numberAllowed) (IsHere file) (InBlock file) (about .function .sentences)
+            let records = sentence-block InDigits (IsHere file) (InBlock file) (about .function .sentences)
             (every-in (about .function) (about .in-law)) ss j in
             let above : bound file ≤ about .said .subject .at = subject-record (InBlock file) true [] 1 ss records (about .said) i in
             of-dead later first (rw (about .subject, le-leb (bound file) (about .said .subject .at) above) (about .claim ∙ form))

@@ -84,7 +84,7 @@ map-same : (x : List ℕ) → map (λ c. c) x ≡ x
 map-same [] = refl
 map-same (x ∷ xs) = rw (map-same xs)
 
--- bytes that are not folded, as a number's
+-- bytes that are not folded
 pub same-plain : (a b : List ℕ) → sameBytes (map (λ c. c) a) (map (λ c. c) b) ≡ sameBytes a b
 same-plain a b = rw (map-same a, map-same b)
 
@@ -227,6 +227,15 @@ pub same-refl : (x : List ℕ) → sameBytes x x ≡ true
 unfolding sameBytes
 same-refl [] = refl
 same-refl (x ∷ xs) = rw (eq-eqb x x refl, same-refl xs)
+
+-- either way round
+pub same-flip : (x y : List ℕ) → sameBytes x y ≡ sameBytes y x
+same-flip x y = go (sameBytes x y) refl (sameBytes y x) refl
+  where
+    go : (b : Bool) → sameBytes x y ≡ b → (c : Bool) → sameBytes y x ≡ c → b ≡ c
+    go true p c q = sym (rw (same-sound x y p) (same-refl y)) ∙ q
+    go false p true q = sym p ∙ rw (same-sound y x q) (same-refl x)
+    go false p false q = refl
 
 -- ---- the order of lists of bytes, for the layers above
 

@@ -107,9 +107,8 @@ pub fn indices_equal(a: &[u8], b: &[u8]) -> bool
     true
 }
 
-// Are these the same number? Numbers compare by text. This equality stands behind this one name, because a later request
-// changes it to equality of values.
-pub fn numbers_equal(a: &[u8], b: &[u8]) -> bool
+// Are these the same bytes?
+pub fn bytes_equal(a: &[u8], b: &[u8]) -> bool
     ensures { λ r. ⌜ r ≡ sameBytes (now (a .entry)) (now (b .entry)) ⌝ }
 {
     if a.len() != b.len() {

@@ -3,3 +3,4 @@ pub mod StepLaws
 pub mod LoopLaws
 pub mod PassLaws
 pub mod DigitLaws
+pub mod StrippedLaws

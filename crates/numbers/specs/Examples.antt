@@ -4,7 +4,7 @@ use mathlib.Core.List.{List, [], _∷_, _++_}
 use mathlib.Core.Bool.{true, false}
 use mathlib.Core.Path.{_≡_, refl}
 use lib.ListN.{replicate}
-use Rattle.numbers.specs.Value.{valueOf, isMacrodigit, noNeedlessZero}
+use Rattle.numbers.specs.Value.{valueOf, isMacrodigit, stripped}
 use Rattle.numbers.specs.OnePass.{stateOf, stepOf, stateAfter, digitsIn}
 use Rattle.numbers.specs.declared.Step.{Step}
 use Rattle.numbers.specs.declared.Tested.{Tested}
@@ -17,22 +17,41 @@ zero-value = refl
 empty-value : valueOf [] ≡ 0
 empty-value = refl
 
--- `7` and `007` have one value, and only the first has no needless zero
+-- `7` and `007` have one value
 seven-value : valueOf (55 ∷ []) ≡ 7
 seven-value = refl
 
 zeros-value : valueOf (48 ∷ 48 ∷ 55 ∷ []) ≡ 7
 zeros-value = refl
 
-seven-plain : noNeedlessZero (55 ∷ []) ≡ true
-seven-plain = refl
+-- ---- without needless zeros
 
-zeros-needless : noNeedlessZero (48 ∷ 48 ∷ 55 ∷ []) ≡ false
-zeros-needless = refl
+-- `007` is `7`, and `7` stays
+zeros-stripped : stripped (48 ∷ 48 ∷ 55 ∷ []) ≡ 55 ∷ []
+zeros-stripped = refl
 
--- `0` is one digit, and needed
-zero-plain : noNeedlessZero (48 ∷ []) ≡ true
-zero-plain = refl
+seven-stripped : stripped (55 ∷ []) ≡ 55 ∷ []
+seven-stripped = refl
+
+-- of 64 zeros one is left, and `0` stays
+many-stripped : stripped (replicate 64 48) ≡ 48 ∷ []
+many-stripped = refl
+
+zero-stripped : stripped (48 ∷ []) ≡ 48 ∷ []
+zero-stripped = refl
+
+-- zeros between digits and behind them stay: `0700` is `700`, `101` stays
+behind-stripped : stripped (48 ∷ 55 ∷ 48 ∷ 48 ∷ []) ≡ 55 ∷ 48 ∷ 48 ∷ []
+behind-stripped = refl
+
+between-stripped : stripped (49 ∷ 48 ∷ 49 ∷ []) ≡ 49 ∷ 48 ∷ 49 ∷ []
+between-stripped = refl
+
+-- 64 digits stay
+nines-stripped : stripped (replicate 64 57) ≡ replicate 64 57
+nines-stripped = refl
+
+-- ---- macrodigits
 
 -- `4294967295` is the last macrodigit
 last-value : valueOf (52 ∷ 50 ∷ 57 ∷ 52 ∷ 57 ∷ 54 ∷ 55 ∷ 50 ∷ 57 ∷ 53 ∷ []) ≡ 4294967295

@@ -1,9 +1,17 @@
--- The value of decimal digits, an unbounded number, and what is asked of digits by it. Digits are the bytes of `0` to `9`.
--- docs/SPECIFICATION.md, 8.7, 8.8, 15.1, 16.4.
-use Prim.Native.Nat.{ℕ, _+_, _*_, _-_}
-use mathlib.Core.Bool.{Bool, true, not}
+-- The value of decimal digits, an unbounded number, and digits by which a value is told. Digits are the bytes of `0` to `9`.
+-- Document 02, R-3: "Two number literals are now the same symbol when their values are equal."
+-- docs/SPECIFICATION.md, 7.5, 8.7, 8.8, 15.1.
+use Prim.Native.Nat.{ℕ, _+_, _*_, _-_, _≤_}
+use mathlib.Core.Bool.{Bool, true, cond}
 use mathlib.Core.List.{List, [], _∷_}
+use mathlib.Core.Path.{_≡_}
 use lib.Dec.{eqb, leb}
+use lib.ListN.{length}
+use Rattle.names.specs.Name.{digitByte, everyByte}
+
+-- a number is spelled by digits, one at least
+abbrev pub Digits : List ℕ → Type 0
+Digits ds = (1 ≤ length ds) × (everyByte digitByte ds ≡ true)
 
 -- the value of decimal digits, before which a value was read
 abbrev pub valueAfter : ℕ → List ℕ → ℕ
@@ -17,8 +25,12 @@ valueOf digits = valueAfter 0 digits
 abbrev pub isMacrodigit : ℕ → Bool
 isMacrodigit n = leb n 4294967295
 
--- a number is one digit, or does not begin with `0`: then its text says no more than its value
-abbrev pub noNeedlessZero : List ℕ → Bool
-noNeedlessZero [] = true
-noNeedlessZero (d ∷ []) = true
-noNeedlessZero (d ∷ e ∷ ds) = not (eqb d 48)
+-- the digit `0`
+abbrev pub zeroByte : ℕ → Bool
+zeroByte d = eqb d 48
+
+-- a number without its needless leading zeros: each `0` before another digit is taken off
+abbrev pub stripped : List ℕ → List ℕ
+stripped [] = []
+stripped (d ∷ []) = d ∷ []
+stripped (d ∷ e ∷ ds) = cond (zeroByte d) (stripped (e ∷ ds)) (d ∷ e ∷ ds)

@@ -1,9 +1,13 @@
-// The value of decimal digits, all at once and in one pass. What it is stands in specs/Value.antt, what is kept between digits in specs/OnePass.antt.
+// The value of decimal digits, all at once and in one pass, and equality of numbers by it. What a value is stands in specs/Value.antt, what is kept
+// between digits in specs/OnePass.antt.
+use names::bytes_equal;
 use names::digit_byte;
 ghost use mathlib.Core.Path.{_≡_};
 ghost use mathlib.Core.List.{[], _∷_};
 ghost use Prim.Native.Nat.{_-_, _≤_, _<_};
-ghost use Rattle.numbers.specs.Value.{valueAfter, isMacrodigit};
+ghost use lib.ListN.{length};
+ghost use Rattle.names.specs.Name.{sameBytes, everyByte};
+ghost use Rattle.numbers.specs.Value.{valueAfter, isMacrodigit, zeroByte, stripped};
 ghost use Rattle.numbers.specs.OnePass.{capped, stateOf, tested, stepOf};
 
 // What the test of digits answers after a byte: the value of the digits so far is at most 4294967295, or past it; or the byte is no digit.
@@ -104,4 +108,47 @@ pub fn capped_value(digits: &[u8]) -> u64
         i += 1;
     }
     state
+}
+
+// Are all these bytes the digit `0`?
+fn all_zeros(digits: &[u8]) -> bool
+    ensures { λ r. ⌜ r ≡ everyByte zeroByte (now (digits .entry)) ⌝ }
+{
+    let mut i = 0;
+    while i < digits.len() {
+        if digits[i] != b'0' {
+            return false;
+        }
+        i += 1;
+    }
+    true
+}
+
+// Is the longer number the shorter one after zeros?
+fn padded_equal(long: &[u8], short: &[u8]) -> bool
+    requires { ⌜ length (now short) < length (now long) ⌝ }
+    ensures { λ r. ⌜ r ≡ sameBytes (stripped (now (long .entry))) (stripped (now (short .entry))) ⌝ }
+{
+    let zeros = long.len() - short.len();
+    if short.len() == 0 {
+        return false;
+    }
+    if !all_zeros(&long[..zeros]) {
+        return false;
+    }
+    bytes_equal(&long[zeros..], short)
+}
+
+// Are these the same number? Numbers compare by value, and 64 digits pass any machine word. Without needless zeros a value has one spelling, so that
+// numbers of one length are the same where their bytes are, and others where the longer one has zeros before the shorter.
+pub fn numbers_equal(a: &[u8], b: &[u8]) -> bool
+    ensures { λ r. ⌜ r ≡ sameBytes (stripped (now (a .entry))) (stripped (now (b .entry))) ⌝ }
+{
+    if a.len() == b.len() {
+        return bytes_equal(a, b);
+    }
+    if a.len() < b.len() {
+        return padded_equal(b, a);
+    }
+    padded_equal(a, b)
 }

@@ -1,6 +1,6 @@
--- What the findings say holds over a whole run. Each premise is used where it is needed and nowhere else: a settled table by recognition by formats,
--- no needless leading zero by recognition by literals, neither of them by dead sentences. That no two functions have one folded name is needed by none:
--- formats join all functions of a name, a run calls the last of them, which literal matching takes too, and a sentence is told by its record.
+-- What the findings say holds over a whole run. The one premise is used where it is needed and nowhere else: a settled table by recognition by formats,
+-- neither by recognition by literals nor by dead sentences. That no two functions have one folded name is needed by none: formats join all functions of
+-- a name, a run calls the last of them, which literal matching takes too, and a sentence is told by its record.
 use Prim.Native.Nat.{ℕ, _≤_, _<_}
 use mathlib.Core.Bool.{true}
 use mathlib.Core.List.{List, [], _∷_, List·Memᴰ}
@@ -8,10 +8,8 @@ use mathlib.Core.Logic.{_⊎_, inl, inr}
 use mathlib.Core.Option.{some}
 use mathlib.Core.Path.{_≡_, sym, ap, _∙_}
 use native.Mathlib.Omega.{arith}
-use Rattle.names.proofs.Laws.{both-hold}
-use Rattle.numbers.specs.Value.{noNeedlessZero}
 use Rattle.file.specs.Answer.{given}
-use Rattle.law.specs.Tree.{Sentences, sentence, Function, Law}
+use Rattle.law.specs.Tree.{Sentences, sentence, Law}
 use Rattle.law.specs.Definition.{definition}
 use Rattle.law.specs.Expression.{Expression}
 use Rattle.matching.specs.Match.{some-in}
@@ -24,19 +22,17 @@ use Rattle.lints.specs.Finding.{Finding, lintOf, wordA}
 use Rattle.lints.specs.Calls.{callee}
 use Rattle.lints.specs.Dead.{sentenceBlocks, ownDead, blockDead, deadRemarks, deadFindings}
 use Rattle.lints.specs.Findings.{findingsOf}
-use Rattle.runs.specs.Numbers.{sentencesPass, lawPasses, noNeedlessZeros}
 use Rattle.runs.specs.Claim.{Recognises, NeverRecognised, NeverChosen, IsAmong, OfFunction}
 use Rattle.runs.proofs.Invariant.{NoneMatches}
 use Rattle.runs.proofs.ByFormats.{ComesTo, undefined-comes, result-comes, disjoint-none-matches}
-use Rattle.runs.proofs.ByLiterals.{literal-comes, text-none-matches}
-use Rattle.lints.proofs.Everywhere.{each-function-in, EachRecord, Passes, Labelled, CallAt, AfterFunctions, RunIn, SentencesIn}
-use Rattle.runs.proofs.Passed.{AnyCall, AnyRecord, SentencesPass, passed-sentences}
+use Rattle.runs.proofs.ByLiterals.{literal-comes, literal-none-matches}
+use Rattle.lints.proofs.Everywhere.{each-function-in, EachRecord, Labelled, CallAt, AfterFunctions, RunIn, SentencesIn}
 use Rattle.runs.proofs.Shadowed.{ShadowedIn, own-dead-shadowed}
 use Rattle.lints.proofs.Defined.{definition-in}
 use Rattle.runs.proofs.WholeRun.{Closed, anything-results, Unrecognised, ListedCall, listed-unrecognised, dead-unchosen}
 use Rattle.lints.proofs.Listed.{Found, dead-found, recognition-found, Remarked, finding-remarked, dead-remark, Judged, apart}
 use Rattle.lints.proofs.Listed.{literally, compared-literal, Recognition, recognition-finding, subject-record}
-use Rattle.lints.proofs.CallsIn.{sentence-call, call-at, block-after-functions}
+use Rattle.lints.proofs.CallsIn.{call-at, block-after-functions}
 
 -- ---- dead sentences
 
@@ -132,32 +128,17 @@ module _ (limit : ℕ) (law : Law) (labels : Labelled law) (i : Inferred) (infer
           let other : wordA (x .claim) ≡ 2 = rw (about .claim, claim) in
           absurd (omega (arith, a, other))
 
--- by literals: where no number has a needless leading zero
-module _ (law : Law) (labels : Labelled law) (formats : Formats) (zeros : noNeedlessZeros law ≡ true) where
-  passes-each : (fs : Law) → noNeedlessZeros fs ≡ true → EachFunction (λ d. SentencesPass noNeedlessZero (d .sentences)) fs
-  unfolding lawPasses
-  passes-each [] h = tt
-  passes-each (d ∷ ds) h =
-      let (here, rest) = both-hold (sentencesPass noNeedlessZero (d .sentences)) (lawPasses noNeedlessZero ds) h in
-      (passed-sentences noNeedlessZero (d .sentences) here, passes-each ds rest)
-
-  passes : EachFunction (λ d. SentencesPass noNeedlessZero (d .sentences)) law
-  passes = passes-each law zeros
-
+-- by literals
+module _ (law : Law) (labels : Labelled law) (formats : Formats) where
   literal-unrecognised : (x : Finding) (about : Recognition law formats x) → isLiteral (about .call .argument) ≡ true
       → Unrecognised law Anything (about .call .name) (about .call .argument)
   literal-unrecognised x about literal w fits ss found =
       let (d, in-law, name, same) = definition-in law (callee (about .call)) ss found in
       let spelled : SentencesIn law labels (d .sentences) =
       each-function-in (λ f. SentencesIn law labels (f .sentences)) law (labels .everywhere) d in-law in
-      let no-zero : (f : Function) → List·Memᴰ f law → SentencesPass noNeedlessZero (f .sentences) =
-      each-function-in (λ f. SentencesPass noNeedlessZero (f .sentences)) law passes in
       rw (literal-comes Anything fits literal)
-      (text-none-matches (CallAt law labels) (AfterFunctions law labels) (about .call .argument)
-      (listed-call law labels formats x about .1)
-      (sentence-call (Passes noNeedlessZero) AnyCall AnyRecord (about .function .sentences)
-      (no-zero (about .function) (about .in-law)) (about .call) (about .in-calls) .1)
-      ss (rw same at spelled) (rw same at (no-zero d in-law))
+      (literal-none-matches (CallAt law labels) (AfterFunctions law labels) (about .call .argument)
+      (listed-call law labels formats x about .1) ss (rw same at spelled)
       (compared-literal law (about .call) (about .is-compared) literal ss found))
 
   pub literals-hold : NeverRecognised law (FoundBy (findingsOf law formats) 2)
@@ -176,8 +157,8 @@ module _ (law : Law) (labels : Labelled law) (formats : Formats) (zeros : noNeed
 
 -- lint 2 is by formats or by literals
 pub recognition-holds : (limit : ℕ) (law : Law) (labels : Labelled law) (i : Inferred) → infer limit law ≡ given i
-    → i .settled ≡ true → noNeedlessZeros law ≡ true → NeverRecognised law (Found (findingsOf law (i .formats)) 2)
-recognition-holds limit law labels i inferred settled zeros m f v k left reached (x, among, lint, subject) =
+    → i .settled ≡ true → NeverRecognised law (Found (findingsOf law (i .formats)) 2)
+recognition-holds limit law labels i inferred settled m f v k left reached (x, among, lint, subject) =
     let about : Recognition law (i .formats) x = recognition-finding law (i .formats) x (recognition-found law (i .formats) x among lint) in
     go about (about .is-judged)
   where
@@ -186,4 +167,4 @@ recognition-holds limit law labels i inferred settled zeros m f v k left reached
     go about (apart claim disjoint) =
         formats-hold limit law labels i inferred settled m f v k left reached (x, among, lint, rw (about .claim, claim), subject)
     go about (literally claim literal) =
-        literals-hold law labels (i .formats) zeros m f v k left reached (x, among, lint, rw (about .claim, claim), subject)
+        literals-hold law labels (i .formats) m f v k left reached (x, among, lint, rw (about .claim, claim), subject)

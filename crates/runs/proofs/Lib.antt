@@ -1,6 +1,5 @@
 pub mod Fits
 pub mod Invariant
-pub mod Passed
 pub mod ByFormats
 pub mod ByLiterals
 pub mod Shadowed

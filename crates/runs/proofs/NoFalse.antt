@@ -13,7 +13,6 @@ use Rattle.lints.specs.Finding.{Finding, findingWords}
 use Rattle.lints.specs.Recognition.{argumentsOver}
 use Rattle.lints.specs.Levels.{Settings, shown, listingWords}
 use Rattle.lints.specs.Findings.{findingsOf, formatsOf, Listing, listing}
-use Rattle.runs.specs.Numbers.{noNeedlessZeros}
 use Rattle.runs.specs.Claim.{NeverChosen, OfFunction, Lists, NoFalseFinding}
 use Rattle.lints.proofs.Everywhere.{Labelled}
 use Rattle.lints.proofs.Records.{law-labelled}
@@ -69,10 +68,10 @@ module _ (bytes : List ℕ) (law : Law) (accepted : lawOf bytes ≡ given law)
 
   -- there is no run in which a call listed under the recognition lint finds a sentence of its function whose left side matches, conditions aside, or
   -- in which a function's sentence listed as dead is chosen: for every accepted file, every limit on shapes and all settings for which findings are given
-  pub no-false-finding : l .inferred .settled ≡ true → noNeedlessZeros law ≡ true → NoFalseFinding law (listingWords settings (l .findings))
-  no-false-finding settled zeros = record {
+  pub no-false-finding : l .inferred .settled ≡ true → NoFalseFinding law (listingWords settings (l .findings))
+  no-false-finding settled = record {
     recognition = λ m f v k left reached w.
-        recognition-holds limit law labels (l .inferred) (listing-parts limit settings law l is-listed .0) settled zeros
+        recognition-holds limit law labels (l .inferred) (listing-parts limit settings law l is-listed .0) settled
         m f v k left reached (found 2 m w);
     dead = no-false-dead;
   }

@@ -1,5 +1,4 @@
 -- A function's sentence that an earlier one without conditions shadows is never chosen: where the earlier one does not match, neither does it.
--- Shadowing compares numbers by text and a run by value; equal texts have equal values, so no premise on zeros is needed.
 use Prim.Native.Nat.{ℕ, suc, _≤_, _<_}
 use mathlib.Core.Bool.{Bool, true, false, cond}
 use mathlib.Core.List.{List, [], _∷_, _++_, List·Memᴰ, List·Memᴰ·head, List·Memᴰ·tail, List·Memᴰ·append-cases}

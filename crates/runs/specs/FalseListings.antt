@@ -156,6 +156,11 @@ falseListings =
     (function "F" (plain 0 (digits "4294967296" empty) (calling 1 "G" (digits "4294967296" empty) empty) noSentence)
     ∷ function "G" (plain 1 (digits "4294967296" empty) empty noSentence)
     ∷ [])
+    -- `F { = <G 007>; } G { 7 = ; }`: by literals, and the number that matches is spelled in another way
+    ∷ falseOf (2 ∷ 1 ∷ 0 ∷ 0 ∷ 2 ∷ 0 ∷ 0 ∷ 0 ∷ [])
+    (function "F" (plain 0 empty (calling 0 "G" (digits "007" empty) empty) noSentence)
+    ∷ function "G" (plain 1 (digits "7" empty) empty noSentence)
+    ∷ [])
     -- `F { = <G 'a'>; } G { s.X, s.X: 'b' = ; }`: the left side matches, though the condition fails
     ∷ falseOf (recognition 0 0 [])
     (function "F" (plain 0 empty (calling 0 "G" (text "a" empty) empty) noSentence)
@@ -279,6 +284,7 @@ all-refuted =
     and shown ofFirst (expressed (bracket (text "a" empty) empty)) [] 8 ((0, omega arith, refl, refl), inl refl)
     and shown ofFirst (expressed (identifier "Word" empty)) [] 6 ((0, omega arith, refl, refl), inl refl)
     and shown ofFirst (expressed (digits "4294967296" empty)) [] 6 ((0, omega arith, refl, refl), inl refl)
+    and shown ofFirst nothing [] 6 ((0, omega arith, refl, refl), inl refl)
     and shown ofFirst nothing [] 6 ((0, omega arith, refl, refl), inl refl)
     and shown ofFirst nothing [] 1055 ((0, omega arith, refl, refl), inl refl)
     and shown ofFirst nothing [] 2 (inl (inl refl), (0, omega arith, refl, refl))

@@ -1,5 +1,4 @@
 pub mod Machine
-pub mod Numbers
 pub mod Claim
 pub mod Examples
 pub mod TermRuns

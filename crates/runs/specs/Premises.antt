@@ -1,5 +1,6 @@
--- The claim (specs/Claim.antt) and its premises, by computation: a law whose listed call is reached in a run, and laws that break the claim where a
--- premise is dropped. Each law is read from its file. That no two functions have one folded name is no premise: nothing breaks without it.
+-- The claim (specs/Claim.antt) and its premise, by computation: a law whose listed call is reached in a run, a law that breaks the claim where the
+-- premise is dropped, and one that would break it of blocks' sentences. Each law is read from its file. Two things are no premises, and nothing breaks
+-- without them: that no two functions have one folded name, and that no number has a needless leading zero.
 -- docs/SPECIFICATION.md, 16.5.
 use Prim.Native.Nat.{ℕ, zero, suc, _+_}
 use mathlib.Core.Bool.{Bool, true, false}
@@ -47,27 +48,25 @@ use Rattle.lints.specs.Open.{eOccurrences, openIn, openRemarks, openFindings}
 use Rattle.lints.specs.Levels.{Settings, overrideOf, severityOf, isShown, shown, listingWords}
 use Rattle.lints.specs.Findings.{findingsOf, formatsOf, listing}
 use Rattle.runs.specs.Machine.{Env, Stack, over, inPlace, State, working, called, entered, trying, chosen, give, answered, step, steps, run, finished, stopped}
-use Rattle.runs.specs.Numbers.{runPasses, lawPasses, noNeedlessZeros}
 use Rattle.runs.specs.Claim.{NeverChosen, Lists, NoFalseFinding}
 use Rattle.runs.specs.Examples.{said, functionAt}
 
 abbrev strict : Settings
 strict = record { mode = 1; overrides = [] }
 
--- of a file: its law, whether its formats are settled, whether no number has a needless leading zero, and the words of its findings
+-- of a file: its law, whether its formats are settled, and the words of its findings
 pub record Read : Type 0 where
   pub law : Law
   pub settled : Bool
-  pub plain : Bool
   pub words : List ℕ
 
 abbrev pub readOf : List ℕ → Answer Read
 readOf bytes = do
   law ← lawOf bytes
   l ← listing 64 strict law
-  given (record { law = law; settled = l .inferred .settled; plain = noNeedlessZeros law; words = listingWords strict (l .findings) })
+  given (record { law = law; settled = l .inferred .settled; words = listingWords strict (l .findings) })
 
--- ---- a needless leading zero, in a block's sentence
+-- ---- needless leading zeros, in a block's sentence: `<F 007>` matches, and is not listed
 
 abbrev zeros : List ℕ
 zeros =
@@ -160,17 +159,14 @@ listedWords = 1 ∷ 1 ∷ 15 ∷ 26 ∷ 2 ∷ 1 ∷ 0 ∷ 1 ∷ 2 ∷ 1 ∷ 40 �
 abbrev blockWords : List ℕ
 blockWords = 1 ∷ 1 ∷ 45 ∷ 52 ∷ 2 ∷ 1 ∷ 0 ∷ 2 ∷ []
 
-abbrev zerosWords : List ℕ
-zerosWords = 2 ∷ 1 ∷ 24 ∷ 31 ∷ 2 ∷ 0 ∷ 1 ∷ 2 ∷ []
-
 abbrev unsettledWords : List ℕ
 unsettledWords = 2 ∷ 1 ∷ 98 ∷ 114 ∷ 1 ∷ 0 ∷ 1 ∷ 26 ∷ []
 
 pub files-read :
-    (readOf exampleFile ≡ given (record { law = exampleLaw; settled = true; plain = true; words = listedWords }))
-    × (readOf withBlock ≡ given (record { law = withBlockLaw; settled = true; plain = true; words = blockWords }))
-    × (readOf zeros ≡ given (record { law = zerosLaw; settled = true; plain = false; words = zerosWords }))
-    × (readOf unsettled ≡ given (record { law = unsettledLaw; settled = false; plain = true; words = unsettledWords }))
+    (readOf exampleFile ≡ given (record { law = exampleLaw; settled = true; words = listedWords }))
+    × (readOf withBlock ≡ given (record { law = withBlockLaw; settled = true; words = blockWords }))
+    × (readOf zeros ≡ given (record { law = zerosLaw; settled = true; words = [] }))
+    × (readOf unsettled ≡ given (record { law = unsettledLaw; settled = false; words = unsettledWords }))
 unfolding
     bytesOf flatMap apart inRow
     lawOf sectionsOf section wordAt every total fieldsAllowed termAllowed spelled everyByte
@@ -184,7 +180,6 @@ unfolding
     someMatches compared judged recognitionRemarks recognitionFindings someOver argumentsOver
     macrodigits unsigned allZero firstFails charactersOf domainIn builtinOn builtinRemarks builtinFindings
     eOccurrences openIn openRemarks openFindings overrideOf severityOf isShown shown listingWords findingsOf formatsOf listing
-    runPasses lawPasses
 files-read = (refl, refl, refl, refl)
 
 -- ---- runs
@@ -216,24 +211,6 @@ unfolding
     bytesOf characters sameBytes patternOf literalTerms changed valueIn splits sameTerms after choices matches
     definition give answered step steps run
 listed-reached = (refl, refl)
-
--- with a needless leading zero: `<F 007>`, record 2, which stands in a block's sentence, is listed by literals, and F matches 7
-pub zeros-break : NoFalseFinding zerosLaw zerosWords → ⊥
-unfolding
-    bytesOf characters sameBytes patternOf literalTerms changed valueIn splits sameTerms after choices matches
-    definition give answered step steps run
-zeros-break h =
-    h .recognition 2 (bytesOf "F") (valued 7) (inPlace nothing empty none-bound (inPlace nothing empty none-bound over)) []
-    (record {
-      function = functionAt zerosLaw 1;
-      of-law = List·Memᴰ·tail (List·Memᴰ·head refl);
-      argument = nothing;
-      answers = [];
-      steps = 12;
-      comes = refl;
-    })
-    (0, omega arith, refl, refl)
-    (foundIn (definition zerosLaw (bytesOf "F"))) refl (inl refl)
 
 -- with formats that are not settled: `<G <F 'xxxxxx'>>`, record 26, is listed by formats, and G matches what F gives
 abbrev callReached : State

@@ -4,8 +4,8 @@ use mathlib.Core.Path.{refl, _∙_}
 use Prim.Native.Nat.{_-_}
 use lib.ListN.{length}
 use Rattle.names.proofs.Laws.{SameFrom, same-longer, same-start, same-next, same-differ, same-end, same-plain}
-use Rattle.names.proofs.numbers_equal.Statement.{statement}
-use Rattle.names.proofs.numbers_equal.Tie as tie
+use Rattle.names.proofs.bytes_equal.Statement.{statement}
+use Rattle.names.proofs.bytes_equal.Tie as tie
 
 abbrev Inv-loop : tie.InvT-loop
 Inv-loop a b i₀ i = SameFrom (λ x. x) a b i
@@ -13,8 +13,8 @@ Inv-loop a b i₀ i = SameFrom (λ x. x) a b i
 abbrev μ-loop : tie.MeasureT-loop
 μ-loop a b i₀ i = length a - i
 
-pub numbers-equal-spec : {M : Type 1} → statement M
-numbers-equal-spec =
+pub bytes-equal-spec : {M : Type 1} → statement M
+bytes-equal-spec =
     tie.close
     (tie.spec
     Inv-loop
