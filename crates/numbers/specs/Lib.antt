@@ -1,3 +1,4 @@
 pub mod Value
 pub mod OnePass
 pub mod Examples
+pub mod Code

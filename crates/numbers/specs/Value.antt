@@ -25,12 +25,8 @@ valueOf digits = valueAfter 0 digits
 abbrev pub isMacrodigit : ℕ → Bool
 isMacrodigit n = leb n 4294967295
 
--- the digit `0`
-abbrev pub zeroByte : ℕ → Bool
-zeroByte d = eqb d 48
-
 -- a number without its needless leading zeros: each `0` before another digit is taken off
 abbrev pub stripped : List ℕ → List ℕ
 stripped [] = []
 stripped (d ∷ []) = d ∷ []
-stripped (d ∷ e ∷ ds) = cond (zeroByte d) (stripped (e ∷ ds)) (d ∷ e ∷ ds)
+stripped (d ∷ e ∷ ds) = cond (eqb d 48) (stripped (e ∷ ds)) (d ∷ e ∷ ds)
