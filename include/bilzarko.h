@@ -34,7 +34,7 @@ extern "C" {
 
 /* The version of this header and of the Rust crate over the same calls. */
 #define BILZARKO_VERSION_MAJOR 0
-#define BILZARKO_VERSION_MINOR 3
+#define BILZARKO_VERSION_MINOR 4
 #define BILZARKO_VERSION_PATCH 0
 
 /* Limits and sizes. */
@@ -173,9 +173,9 @@ extern "C" {
  *
  * Returns 0, or the number of a refusal. Words past the last finding keep their values.
  *
- * Where 0 is returned, answer[BILZARKO_ANSWER_SETTLED] is 1 and no number in the law has a needless leading zero, this is
- * proved of the listing: there is no run of the law in which a call listed under recognition impossible finds a sentence
- * of its function whose left side matches, or in which a function's sentence listed as dead is chosen. */
+ * Where 0 is returned and answer[BILZARKO_ANSWER_SETTLED] is 1, this is proved of the listing: there is no run of the law
+ * in which a call listed under recognition impossible finds a sentence of its function whose left side matches, or in
+ * which a function's sentence listed as dead is chosen. Numbers are the same where their values are: 007 is 7. */
 uint32_t bilzarko_findings(uint32_t mode,
                            const uint32_t *overrides, size_t overrides_length,
                            const uint8_t *law, size_t law_length,

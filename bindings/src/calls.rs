@@ -66,10 +66,10 @@ fn answered<T>(number: u32, answer: T) -> Result<T, Refusal> {
 /// Lists the findings of a law: eight words each in `words`, which [`decode`](crate::decode) reads, and the inferred formats in
 /// the first 8,320 words of the store. Words past the last finding keep their values.
 ///
-/// Where the count is settled and no number in the law has a needless leading zero, this is proved of the listing: there
-/// is no run of the law in which a call listed under
+/// Where the count is settled, this is proved of the listing: there is no run of the law in which a call listed under
 /// [`Lint::RecognitionImpossible`](crate::Lint::RecognitionImpossible) finds a sentence of its function whose left side
 /// matches, or in which a function's sentence listed as [`Lint::DeadSentence`](crate::Lint::DeadSentence) is chosen.
+/// Numbers are the same where their values are: `007` is `7`.
 ///
 /// ```
 /// use bilzarko::{decode, findings, Mode, Settings, FINDING_WORDS, STORE_WORDS};
