@@ -107,23 +107,6 @@ pub fn indices_equal(a: &[u8], b: &[u8]) -> bool
     true
 }
 
-// Are these the same bytes?
-pub fn bytes_equal(a: &[u8], b: &[u8]) -> bool
-    ensures { λ r. ⌜ r ≡ sameBytes (now (a .entry)) (now (b .entry)) ⌝ }
-{
-    if a.len() != b.len() {
-        return false;
-    }
-    let mut i = 0;
-    while i < a.len() {
-        if a[i] != b[i] {
-            return false;
-        }
-        i += 1;
-    }
-    true
-}
-
 // The order of two names: by the bytes of the folded names, and a name comes after each of its beginnings.
 pub fn names_order(a: &[u8], b: &[u8]) -> Order
     ensures { λ r. ⌜ r ≡ orderBytes (folded (now (a .entry))) (folded (now (b .entry))) ⌝ }

@@ -1,6 +1,5 @@
 // The value of decimal digits, all at once and in one pass, and equality of numbers by it. What a value is stands in specs/Value.antt, what is kept
 // between digits in specs/OnePass.antt.
-use names::bytes_equal;
 use names::digit_byte;
 ghost use mathlib.Core.Path.{_≡_};
 ghost use mathlib.Core.List.{[], _∷_};
