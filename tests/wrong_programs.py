@@ -5,7 +5,8 @@ Each folder there is a crate's, and its edits are as those of crates/NAME/must-f
 copy of the crates, with what is proved already in target, over the crate's incremental folder (`rt dev`): only what an edit
 changes is checked again. Such a check is not the verdict on a crate. It is good for a refusal, since the crate without edits
 is proved in the same way before the first edit and after the last. As for `rt must-fail`, an edit is refused where the prover
-was reached and a proof failed; besides, there must be no error in the edited file, which would then be no Rattle or no antt.
+was reached and a proof failed; besides, an error in an edited file must say that two types differ: else the edit would be no
+Rattle or no antt. Such an error is a fact that fails, where an edit keeps a proof in step.
 
   wrong_programs.py [--gate] [NAME..]
 
@@ -64,8 +65,9 @@ def attempt(copy, name, edit):
         path.write_text(text)
     if status == 0:
         return None
-    errors = re.findall(r"^(/\S+?):(\d+):\d+: error", said, re.M)
-    if status != 1 or not re.search(r"^logic=not-proved", said, re.M) or any(Path(file) in texts for file, _ in errors):
+    errors = re.findall(r"^(/\S+?):(\d+):\d+: error(.*)", said, re.M)
+    broken = any(Path(file) in texts and "the two types" not in what for file, _, what in errors)
+    if status != 1 or not re.search(r"^logic=not-proved", said, re.M) or broken:
         raise BadEdit("it did not come to a proof: " + "\n".join(said.split("\n")[:5]))
     places = errors or re.findall(r"^note: (/\S+?):(\d+):\d+:", said, re.M)
     return f"{Path(places[0][0]).relative_to(crate)}:{places[0][1]}" if places else "no place named"

@@ -14,6 +14,7 @@ use Rattle.numbers.specs.Value.{stripped}
 use Rattle.file.specs.Word.{wordAt}
 use Rattle.file.specs.Head.{termFrom, termAt}
 use Rattle.law.specs.Tree.{Kind, symbolKind, termKind, expressionKind}
+use Rattle.law.specs.Variables.{Variable}
 use Rattle.law.specs.Symbol.{character, identifier, number}
 use Rattle.matching.specs.Pattern.{Atom, literal, variable, other}
 use Rattle.matching.specs.Shadow.{sameAtom}
@@ -62,6 +63,11 @@ sortOf (literal (number n)) = 2
 sortOf (variable v) = kindNumber (v .kind)
 sortOf other = 6
 
+kind-variable : (k : Kind) → (2 < kindNumber k) × (kindNumber k < 6)
+kind-variable symbolKind = (omega arith, omega arith)
+kind-variable termKind = (omega arith, omega arith)
+kind-variable expressionKind = (omega arith, omega arith)
+
 sort-from : (text : List ℕ) (kind a b : ℕ) → sortOf (atomOf text (termFrom kind a b)) ≡ min kind 6
 unfolding termFrom
 sort-from text zero a b = refl
@@ -91,17 +97,20 @@ pub bracket-kind : (part : List ℕ) {kind : ℕ} → kind ≡ wordAt part 0 →
 unfolding termAt
 bracket-kind part {kind} e = rw e (bracket-from (wordAt part 0) (wordAt part 4) (wordAt part 8))
 
+-- a variable's record is of kind 3, 4 or 5
+pub variable-kind : (text part : List ℕ) {v : Variable} → atomOf text (termAt part 0) ≡ variable v → (2 < wordAt part 0) × (wordAt part 0 < 6)
+unfolding termAt
+variable-kind text part {v} e =
+    let sort : min (wordAt part 0) 6 ≡ kindNumber (v .kind) = sym (sort-from text (wordAt part 0) (wordAt part 4) (wordAt part 8)) ∙ ap sortOf e in
+    let (low, high) = kind-variable (v .kind) in
+    (omega (arith, sort, low), omega (arith, sort, high))
+
 -- no call, block or bracket is the same as another
 sort-same : (x y : Atom) → sameAtom x y ≡ true → sortOf x < 6
 sort-same (literal (character c)) y h = omega arith
 sort-same (literal (identifier i)) y h = omega arith
 sort-same (literal (number n)) y h = omega arith
-sort-same (variable v) y h = go (v .kind)
-  where
-    go : (k : Kind) → kindNumber k < 6
-    go symbolKind = omega arith
-    go termKind = omega arith
-    go expressionKind = omega arith
+sort-same (variable v) y h = kind-variable (v .kind) .1
 sort-same other y h = absurd (false-not-true h)
 
 -- records of different kinds are not the same
@@ -125,19 +134,19 @@ past text k a b y h = go (sameAtom (atomOf text (termFrom k a b)) y) refl
     go true e = absurd (omega (arith, sort-same (atomOf text (termFrom k a b)) y e, sort-from text k a b))
 
 -- variables are the same if their indices are
-same-variables : (text : List ℕ) (k a b c d : ℕ) → (k ≡ 0 → ⊥) → (k ≡ 1 → ⊥) → (k ≡ 2 → ⊥) → k < 6
+same-variables : (text : List ℕ) (k a b c d : ℕ) → 2 < k → k < 6
     → sameBytes (foldedIndex (take b (drop a text))) (foldedIndex (take d (drop c text)))
     ≡ sameAtom (atomOf text (termFrom k a b)) (atomOf text (termFrom k c d))
 unfolding termFrom
-same-variables text zero a b c d h0 h1 h2 h = absurd (h0 refl)
-same-variables text (suc zero) a b c d h0 h1 h2 h = absurd (h1 refl)
-same-variables text (suc (suc zero)) a b c d h0 h1 h2 h = absurd (h2 refl)
-same-variables text (suc (suc (suc zero))) a b c d h0 h1 h2 h = refl
-same-variables text (suc (suc (suc (suc zero)))) a b c d h0 h1 h2 h = refl
-same-variables text (suc (suc (suc (suc (suc zero))))) a b c d h0 h1 h2 h = refl
-same-variables text (suc (suc (suc (suc (suc (suc k)))))) a b c d h0 h1 h2 h = absurd (omega arith)
+same-variables text zero a b c d low high = absurd (omega arith)
+same-variables text (suc zero) a b c d low high = absurd (omega arith)
+same-variables text (suc (suc zero)) a b c d low high = absurd (omega arith)
+same-variables text (suc (suc (suc zero))) a b c d low high = refl
+same-variables text (suc (suc (suc (suc zero)))) a b c d low high = refl
+same-variables text (suc (suc (suc (suc (suc zero))))) a b c d low high = refl
+same-variables text (suc (suc (suc (suc (suc (suc k)))))) a b c d low high = absurd (omega arith)
 
--- ---- what `atoms_same` answers at each return: `kind` and `other-kind` are the first words of the parts
+-- ---- what is answered at each return: `kind` and `l` are the first words of the parts
 
 module _ (text x y : List ℕ) {kind : ℕ} (first : kind ≡ wordAt x 0) where
   pub kinds-differ : {l : ℕ} → l ≡ wordAt y 0 → (kind ≡ l → ⊥) → false ≡ sameAtom (atomOf text (termAt x 0)) (atomOf text (termAt y 0))
@@ -149,10 +158,10 @@ module _ (text x y : List ℕ) {kind : ℕ} (first : kind ≡ wordAt x 0) where
     alike : wordAt y 0 ≡ kind
     alike = sym (same ∙ second)
 
-    pub characters-same : {a b : ℕ} → kind ≡ 0 → a ≡ wordAt x 4 → b ≡ wordAt y 4
+    characters : {a b : ℕ} → kind ≡ 0 → a ≡ wordAt x 4 → b ≡ wordAt y 4
         → eqb a b ≡ sameAtom (atomOf text (termAt x 0)) (atomOf text (termAt y 0))
     unfolding termAt termFrom
-    characters-same e p q = rw (alike, ← first, e, p, q)
+    characters e p q = rw (alike, ← first, e, p, q)
 
     module _ {a b : List ℕ} (p : a ≡ take (wordAt x 8) (drop (wordAt x 4) text)) (q : b ≡ take (wordAt y 8) (drop (wordAt y 4) text)) where
       pub names-same : kind ≡ 1 → {r : Bool} → r ≡ sameBytes (folded a) (folded b) → r ≡ sameAtom (atomOf text (termAt x 0)) (atomOf text (termAt y 0))
@@ -163,12 +172,20 @@ module _ (text x y : List ℕ) {kind : ℕ} (first : kind ≡ wordAt x 0) where
       unfolding termAt termFrom
       numbers-same e h = h ∙ rw (alike, ← first, e, p, q)
 
-      pub variables-same : (kind ≡ 0 → ⊥) → (kind ≡ 1 → ⊥) → (kind ≡ 2 → ⊥) → kind < 6 → {r : Bool} → r ≡ sameBytes (foldedIndex a) (foldedIndex b)
+      pub variables-same : kind < 6 → {r : Bool} → r ≡ sameBytes (foldedIndex a) (foldedIndex b) → 2 < wordAt x 0
           → r ≡ sameAtom (atomOf text (termAt x 0)) (atomOf text (termAt y 0))
       unfolding termAt
-      variables-same h0 h1 h2 h e =
-          e ∙ rw (alike, ← first, p, q) (same-variables text kind (wordAt x 4) (wordAt x 8) (wordAt y 4) (wordAt y 8) h0 h1 h2 h)
+      variables-same h e k =
+          e ∙ rw (alike, ← first, p, q) (same-variables text kind (wordAt x 4) (wordAt x 8) (wordAt y 4) (wordAt y 8) (omega arith) h)
 
     pub others-differ : 6 ≤ kind → ltb kind 6 ≡ sameAtom (atomOf text (termAt x 0)) (atomOf text (termAt y 0))
     unfolding termAt
     others-differ h = rw (le-ltb kind 6 h, ← first) (sym (past text kind (wordAt x 4) (wordAt x 8) (atomOf text (termFrom (wordAt y 0) (wordAt y 4) (wordAt y 8))) h))
+
+-- a character, and a record that is one or not
+module _ (x y : List ℕ) {l : ℕ} (first : wordAt x 0 ≡ 0) (second : l ≡ wordAt y 0) (text : List ℕ) where
+  pub characters-same : {a b : ℕ} → l ≡ 0 → a ≡ wordAt x 4 → b ≡ wordAt y 4 → eqb a b ≡ sameAtom (atomOf text (termAt x 0)) (atomOf text (termAt y 0))
+  characters-same e p q = characters text x y (sym first) second (sym e) refl p q
+
+  pub character-differs : (l ≡ 0 → ⊥) → eqb l 0 ≡ sameAtom (atomOf text (termAt x 0)) (atomOf text (termAt y 0))
+  character-differs h = ne-eqb l 0 h ∙ kinds-differ text x y (sym first) second (λ e. h (sym e))

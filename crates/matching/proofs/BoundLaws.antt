@@ -9,6 +9,7 @@ use native.Mathlib.Decide.{decLt}
 use native.Mathlib.Nat.{add-zero}
 use lib.ListN.{length, getD, set, length-set, length-take, length-drop}
 use lib.Seq.{getD-set-same, getD-set-other}
+use Rattle.file.specs.Word.{wordAt}
 use Rattle.file.specs.Head.{termAt}
 use Rattle.file.proofs.Words.{word-part}
 use Rattle.law.specs.Variables.{Variable, sameVariable}
@@ -20,6 +21,7 @@ use Rattle.matching.specs.Code.Bound.{variableIn, variableAt, rowAt, val
 use Rattle.matching.specs.declared.Bindings.{Bindings}
 use Rattle.matching.specs.declared.Place.{Place}
 use Rattle.matching.specs.declared.Place.the-variants.{At, Free}
+use Rattle.matching.proofs.AtomLaws.{variable-kind}
 
 -- the first record of what is left from a position on is the record at that position
 pub term-from : (s : List ℕ) (at : ℕ) → at + 24 ≤ length s → termAt (from at s) 0 ≡ termAt s at
@@ -160,10 +162,13 @@ module _ {text terms pattern : List ℕ} {b : Bindings} where
       last-place : i - 1 < b .count
       last-place = omega (arith, so-far .within)
 
-      module _ {t : Bool} (told : t ≡ sameAtom (atomOf text (termAt (from key terms) 0)) (atomOf text (termAt pattern 0))) where
+      -- its key is a variable's record
+      last-named : atomOf text (termAt (from key terms) 0) ≡ variable (variableAt text terms (getD (b .keys) (i - 1) 0))
+      last-named = rw (is-key, term-from terms (getD (b .keys) (i - 1) 0) (kept .keyed (i - 1) last-place)) (kept .named (i - 1) last-place)
+
+      module _ {t : Bool} (told : 2 < wordAt (from key terms) 0 → t ≡ sameAtom (atomOf text (termAt (from key terms) 0)) (atomOf text (termAt pattern 0))) where
         last-told : (v : Variable) → atomOf text (termAt pattern 0) ≡ variable v → sameVariable (variableAt text terms (getD (b .keys) (i - 1) 0)) v ≡ t
-        last-told v a =
-            sym (told ∙ rw (is-key, term-from terms (getD (b .keys) (i - 1) 0) (kept .keyed (i - 1) last-place), kept .named (i - 1) last-place, a))
+        last-told v a = sym (told (variable-kind text (from key terms) last-named .0) ∙ rw (last-named, a))
 
         last-value : (v : Variable) → atomOf text (termAt pattern 0) ≡ variable v
             → valueIn (valuesOf text terms b) v

@@ -4,6 +4,7 @@ use crate::First;
 use crate::Place;
 use crate::atoms::atoms_same;
 use crate::atoms::is_bracket;
+use crate::atoms::variables_same;
 use crate::bound::wide;
 use crate::terms::may_stand;
 use crate::values::begins;
@@ -54,7 +55,7 @@ fn place_of(text: &[u8], terms: &[u8], pattern: &[u8], keys: &[u16; 32], count: 
         }
         i -= 1;
         let key = wide(keys[i]);
-        if atoms_same(text, &terms[key..], pattern) {
+        if variables_same(text, &terms[key..], pattern) {
             break Place::At(i);
         }
     }

@@ -3,11 +3,12 @@
 use names::digit_byte;
 ghost use mathlib.Core.Path.{_≡_};
 ghost use mathlib.Core.List.{[], _∷_};
-ghost use Prim.Native.Nat.{_-_, _≤_, _<_, max};
-ghost use Rattle.names.specs.Name.{sameBytes};
+ghost use Prim.Native.Nat.{_-_, _≤_, _<_};
+ghost use lib.ListN.{length};
+ghost use Rattle.names.specs.Name.{sameBytes, everyByte};
 ghost use Rattle.numbers.specs.Value.{valueAfter, isMacrodigit, stripped};
 ghost use Rattle.numbers.specs.OnePass.{capped, stateOf, tested, stepOf};
-ghost use Rattle.numbers.specs.Code.Back.{digitBack};
+ghost use Rattle.numbers.specs.Code.Zero.{zeroByte};
 
 // What the test of digits answers after a byte: the value of the digits so far is at most 4294967295, or past it; or the byte is no digit.
 pub enum Tested {
@@ -109,47 +110,60 @@ pub fn capped_value(digits: &[u8]) -> u64
     state
 }
 
-// The digit that stands so many places before a number's last one. Before its first there are zeros.
-fn digit_back(digits: &[u8], places: usize) -> u8
-    ensures { λ r. ⌜ r ≡ digitBack (now (digits .entry)) places ⌝ }
+// Are these the same digits, of numbers that have as many? The last ones come first: numbers of a table differ there.
+fn digits_equal(a: &[u8], b: &[u8]) -> bool
+    requires { ⌜ length (now a) ≡ length (now b) ⌝ }
+    ensures { λ r. ⌜ r ≡ sameBytes (now (a .entry)) (now (b .entry)) ⌝ }
 {
-    if places < digits.len() {
-        return digits[digits.len() - 1 - places];
+    let mut i = a.len();
+    while 0 < i {
+        i -= 1;
+        if a[i] != b[i] {
+            return false;
+        }
     }
-    b'0'
+    true
 }
 
-// The greater of two lengths.
-fn greater(a: usize, b: usize) -> usize
-    ensures { λ r. ⌜ r ≡ max a b ⌝ }
+// Are all these bytes the digit `0`?
+fn all_zeros(digits: &[u8]) -> bool
+    ensures { λ r. ⌜ r ≡ everyByte zeroByte (now (digits .entry)) ⌝ }
 {
-    if a < b {
-        return b;
+    let mut i = 0;
+    while i < digits.len() {
+        if digits[i] != b'0' {
+            return false;
+        }
+        i += 1;
     }
-    a
+    true
 }
 
-// Are these the same number? Numbers compare by value, and 64 digits pass any machine word: they are compared digit by digit, the last ones first, since
-// numbers of a table differ there. No digits are no number.
+// Is the longer number the shorter one after zeros? No digits are no number.
+fn padded_equal(long: &[u8], short: &[u8]) -> bool
+    requires { ⌜ length (now short) < length (now long) ⌝ }
+    ensures { λ r. ⌜ r ≡ sameBytes (stripped (now (long .entry))) (stripped (now (short .entry))) ⌝ }
+{
+    let zeros = long.len() - short.len();
+    if short.len() == 0 {
+        return false;
+    }
+    if !all_zeros(&long[..zeros]) {
+        return false;
+    }
+    digits_equal(&long[zeros..], short)
+}
+
+// Are these the same number? Numbers compare by value, and 64 digits pass any machine word. Without needless zeros a value has one spelling: numbers of one
+// length are the same where their digits are, and others where the longer one has zeros before the shorter.
 pub fn numbers_equal(a: &[u8], b: &[u8]) -> bool
     ensures { λ r. ⌜ r ≡ sameBytes (stripped (now (a .entry))) (stripped (now (b .entry))) ⌝ }
 {
-    let most = greater(a.len(), b.len());
-    let mut k = 0;
-    while k < most {
-        if digit_back(a, k) != digit_back(b, k) {
-            return false;
-        }
-        k += 1;
+    if a.len() == b.len() {
+        return digits_equal(a, b);
     }
-    if most == 0 {
-        return true;
+    if a.len() < b.len() {
+        return padded_equal(b, a);
     }
-    if a.len() == 0 {
-        return false;
-    }
-    if b.len() == 0 {
-        return false;
-    }
-    true
+    padded_equal(a, b)
 }

@@ -10,7 +10,7 @@ use lib.ListN.{length, drop, getD, length-take, length-drop}
 use lib.Seq.{take-all}
 use Rattle.file.specs.Word.{wordAt}
 use Rattle.file.specs.Forest.{contents, rest}
-use Rattle.file.specs.Head.{termFrom, termAt}
+use Rattle.file.specs.Head.{termAt}
 use Rattle.file.specs.declared.Term.{Term}
 use Rattle.file.specs.declared.Term.the-variants.{Symbol as Symbolic, SVariable, TVariable, EVariable, Bracket, Call, Block}
 use Rattle.law.specs.Runs.{endOf}
@@ -26,8 +26,8 @@ use Rattle.searches.specs.Code.Repeats.{atomAt, Alone, Disjoint, AgreeUp
 use Rattle.matching.proofs.SameLaws.{false-not-true, variable-refl}
 use Rattle.matching.proofs.PartLaws.{row-empty, row-node}
 use Rattle.matching.proofs.CutLaws.{from-length, stands-part, stands-from, stands-term}
+use Rattle.matching.proofs.AtomLaws.{variable-kind}
 use Rattle.matching.proofs.BoundLaws.{term-from}
-use Rattle.matching.proofs.StepLaws.{symbol-from}
 use Rattle.matching.proofs.VariableLaws.{occurs-cases, occurs-either}
 
 -- ---- a part of a part, by the numbers of records
@@ -164,36 +164,16 @@ module _ (text : List ℕ) where
           cases (inl e) = first e long
           cases (inr p) = inner (of-cases w (termAt part 0) _ _ p)
 
--- ---- a record that is no variable
-
-pub low-atom : (text : List ℕ) (kind a b : ℕ) (v : Variable) → kind ≤ 2 → atomOf text (termFrom kind a b) ≡ variable v → ⊥
-low-atom text kind a b v h e =
-    let (x, s) = symbol-from kind a b h in
-    let z : atomOf text (Symbolic x) ≡ variable v = ap (atomOf text) (sym s) ∙ e in
-    let y : _≡_ {A = ℕ} 0 1 = cc in omega arith
-
-pub high-atom : (text : List ℕ) (kind a b : ℕ) (v : Variable) → 6 ≤ kind → atomOf text (termFrom kind a b) ≡ variable v → ⊥
-unfolding termFrom
-high-atom text (suc (suc (suc (suc (suc (suc zero)))))) a b v h e = let y : _≡_ {A = ℕ} 0 1 = cc in omega arith
-high-atom text (suc (suc (suc (suc (suc (suc (suc zero))))))) a b v h e = let y : _≡_ {A = ℕ} 0 1 = cc in omega arith
-high-atom text (suc (suc (suc (suc (suc (suc (suc (suc k)))))))) a b v h e = let y : _≡_ {A = ℕ} 0 1 = cc in omega arith
-high-atom text zero a b v h e = omega arith
-high-atom text (suc zero) a b v h e = omega arith
-high-atom text (suc (suc zero)) a b v h e = omega arith
-high-atom text (suc (suc (suc zero))) a b v h e = omega arith
-high-atom text (suc (suc (suc (suc zero)))) a b v h e = omega arith
-high-atom text (suc (suc (suc (suc (suc zero))))) a b v h e = omega arith
-
 -- ---- what `again` has gone through: the first so many records
 
-pub record Past (text : List ℕ) (a : Atom) (part : List ℕ) (i : ℕ) : Type 0 where
+pub record Past (text first part : List ℕ) (i : ℕ) : Type 0 where
   pub within : i ≤ length part
   pub count : ℕ
   pub counted : i ≡ 24 * count
-  pub differ : (n : ℕ) → n < count → sameAtom a (atomAt text part n) ≡ false
+  pub differ : 2 < wordAt first 0 → (n : ℕ) → n < count → sameAtom (atomOf text (termAt first 0)) (atomAt text part n) ≡ false
 
-pub past-none : (text : List ℕ) (a : Atom) (part : List ℕ) → Past text a part 0
-past-none text a part = record { within = omega arith; count = 0; counted = refl; differ = λ n h. absurd (omega arith) }
+pub past-none : (text first part : List ℕ) → Past text first part 0
+past-none text first part = record { within = omega arith; count = 0; counted = refl; differ = λ k n h. absurd (omega arith) }
 
 -- the record at a position
 pub record-at : (part : List ℕ) (i k : ℕ) → i ≡ 24 * k → 24 ≤ length (from i part) → termAt (from i part) 0 ≡ termAt part (24 * k)
@@ -202,30 +182,38 @@ record-at part i k e long =
     let j : 0 + i ≡ 24 * k = omega arith in
     rw j at here
 
-module _ {text : List ℕ} {a : Atom} {part : List ℕ} {i : ℕ} (so-far : Past text a part i) where
-  pub past-all : length (from i part) < 24 → Alone text a part
-  past-all h n k = so-far .differ n (omega (arith, from-length i part, so-far .counted, so-far .within))
+module _ {text first part : List ℕ} {i : ℕ} (so-far : Past text first part i) where
+  -- what is compared with each record
+  abbrev a : Atom
+  a = atomOf text (termAt first 0)
 
-  pub past-next : 24 ≤ length (from i part) → {t : Bool} → t ≡ sameAtom a (atomOf text (termAt (from i part) 0)) → t ≡ false → Past text a part (i + 24)
-  past-next long {t} told e = record {
-    within = omega (arith, from-length i part, so-far .within);
-    count = suc (so-far .count);
-    counted = omega (arith, so-far .counted);
-    differ = λ n h. go n (decLt n (so-far .count)) h;
-  }
-    where
-      go : (n : ℕ) → Dec (n < so-far .count) → n < suc (so-far .count) → sameAtom a (atomAt text part n) ≡ false
-      go n (yes low) h = so-far .differ n low
-      go n (no high) h =
-          let here : n ≡ so-far .count = omega arith in
-          ap (λ m. sameAtom a (atomAt text part m)) here
-          ∙ ap (λ x. sameAtom a (atomOf text x)) (sym (record-at part i (so-far .count) (so-far .counted) long)) ∙ sym told ∙ e
+  pub past-all : length (from i part) < 24 → 2 < wordAt first 0 → Alone text a part
+  past-all h k n inside = so-far .differ k n (omega (arith, from-length i part, so-far .counted, so-far .within))
 
-  -- the record here is the same variable
-  pub past-found : 24 ≤ length (from i part) → {t : Bool} → t ≡ sameAtom a (atomOf text (termAt (from i part) 0)) → t ≡ true → Alone text a part → ⊥
-  past-found long {t} told e alone =
-      let here : sameAtom a (atomOf text (termAt part (24 * so-far .count))) ≡ false = alone (so-far .count) (omega (arith, from-length i part, so-far .counted)) in
-      false-not-true (sym here ∙ ap (λ x. sameAtom a (atomOf text x)) (sym (record-at part i (so-far .count) (so-far .counted) long)) ∙ sym told ∙ e)
+  module _ (long : 24 ≤ length (from i part)) {t : Bool} (told : 2 < wordAt first 0 → t ≡ sameAtom a (atomOf text (termAt (from i part) 0))) where
+    -- the record here
+    here-told : 2 < wordAt first 0 → sameAtom a (atomAt text part (so-far .count)) ≡ t
+    here-told k = ap (λ x. sameAtom a (atomOf text x)) (sym (record-at part i (so-far .count) (so-far .counted) long)) ∙ sym (told k)
+
+    pub past-next : t ≡ false → Past text first part (i + 24)
+    past-next e = record {
+      within = omega (arith, from-length i part, so-far .within);
+      count = suc (so-far .count);
+      counted = omega (arith, so-far .counted);
+      differ = λ k n h. go k n (decLt n (so-far .count)) h;
+    }
+      where
+        go : 2 < wordAt first 0 → (n : ℕ) → Dec (n < so-far .count) → n < suc (so-far .count) → sameAtom a (atomAt text part n) ≡ false
+        go k n (yes low) h = so-far .differ k n low
+        go k n (no high) h =
+            let here : n ≡ so-far .count = omega arith in
+            ap (λ m. sameAtom a (atomAt text part m)) here ∙ here-told k ∙ e
+
+    -- it is the same variable
+    pub past-found : t ≡ true → 2 < wordAt first 0 → Alone text a part → ⊥
+    past-found e k alone =
+        let no : sameAtom a (atomAt text part (so-far .count)) ≡ false = alone (so-far .count) (omega (arith, from-length i part, so-far .counted)) in
+        false-not-true (sym no ∙ here-told k ∙ e)
 
 -- ---- what `disjoint_variables` has gone through: none of the first so many records is a variable of the other
 
@@ -268,9 +256,7 @@ module _ {text part behind : List ℕ} {i : ℕ} (so-far : Across text part behi
             new v (ap (atomOf text) (record-at part i (so-far .count) (so-far .counted) long) ∙ ap (atomAt text part) (sym here) ∙ e)
 
     pub across-symbol : {kind : ℕ} → kind ≡ wordAt (from i part) 0 → kind ≤ 2 → Across text part behind (i + 24)
-    unfolding termAt
-    across-symbol told h =
-        across-next (λ v e. absurd (low-atom text (wordAt (from i part) 0) (wordAt (from i part) 4) (wordAt (from i part) 8) v (omega (arith, told)) e))
+    across-symbol told h = across-next (λ v e. absurd (omega (arith, told, variable-kind text (from i part) e .0)))
 
     pub across-alone : Alone text (atomOf text (termAt (from i part) 0)) behind → Across text part behind (i + 24)
     across-alone alone = across-next (λ v e. rw e at alone)
@@ -278,12 +264,17 @@ module _ {text part behind : List ℕ} {i : ℕ} (so-far : Across text part behi
 -- ---- what `closed` has gone through: none of a pattern's variables has a value in so many places more
 
 module _ {text terms keys starts sizes : List ℕ} {count : ℕ} (pattern : List ℕ) (kept : Kept text terms (places keys starts sizes count)) {i key : ℕ}
-    (low : i < count) (is-key : key ≡ getD keys i 0) (alone : Alone text (atomOf text (termAt (from key terms) 0)) pattern) where
-  -- the variable in the next place is none of the pattern's
+    (low : i < count) (is-key : key ≡ getD keys i 0)
+    (alone : 2 < wordAt (from key terms) 0 → Alone text (atomOf text (termAt (from key terms) 0)) pattern) where
+  -- the next place has a variable's record for its key
+  key-named : atomOf text (termAt (from key terms) 0) ≡ variable (variableAt text terms (getD keys i 0))
+  key-named = rw (is-key, term-from terms (getD keys i 0) (kept .keyed i low)) (kept .named i low)
+
+  -- it is none of the pattern's variables
   other-variable : (w : Variable) → occurs w (variablesIn (rowOf text pattern)) ≡ true → sameVariable (variableAt text terms (getD keys i 0)) w ≡ false
   other-variable w o =
       let (m, inside, e) = occurs-at text (length pattern) pattern (omega arith) w o in
-      rw (is-key, term-from terms (getD keys i 0) (kept .keyed i low), kept .named i low, e) at (alone m inside)
+      rw (key-named, e) at (alone (variable-kind text (from key terms) key-named .0) m inside)
 
   pub closed-next : (vs : Values Atom) → AgreeUpTo text terms pattern keys starts sizes i vs → AgreeUpTo text terms pattern keys starts sizes (i + 1) vs
   unfolding valuesUpTo valueIn

@@ -1,12 +1,13 @@
 // Variables that stand again elsewhere, or have a value already.
 use file::word_at;
-use matching::atoms::atoms_same;
+use matching::atoms::variables_same;
 use matching::bound::wide;
 ghost use mathlib.Core.Path.{_≡_};
 ghost use mathlib.Core.Bool.{true, false};
 ghost use mathlib.Core.List.{List};
 ghost use Prim.Native.Nat.{ℕ, _+_, _≤_, _<_};
 ghost use lib.ListN.{length, getD};
+ghost use Rattle.file.specs.Word.{wordAt};
 ghost use Rattle.file.specs.Head.{termAt};
 ghost use Rattle.matching.specs.Pattern.{Atom};
 ghost use Rattle.matching.specs.Match.{Values};
@@ -26,8 +27,8 @@ pub struct Sure {
 // Is the variable that stands first in one part a record of another, at any depth?
 pub fn again(text: &[u8], first: &[u8], part: &[u8]) -> bool
     requires { ⌜ 24 ≤ length (now first) ⌝ }
-    ensures { λ r. ⌜ (r ≡ false → Alone (now (text .entry)) (atomOf (now (text .entry)) (termAt (now (first .entry)) 0)) (now (part .entry)))
-        × (r ≡ true → Alone (now (text .entry)) (atomOf (now (text .entry)) (termAt (now (first .entry)) 0)) (now (part .entry)) → ⊥) ⌝ }
+    ensures { λ r. ⌜ (2 < wordAt (now (first .entry)) 0 → (r ≡ false → Alone (now (text .entry)) (atomOf (now (text .entry)) (termAt (now (first .entry)) 0)) (now (part .entry)))
+        × (r ≡ true → Alone (now (text .entry)) (atomOf (now (text .entry)) (termAt (now (first .entry)) 0)) (now (part .entry)) → ⊥)) ⌝ }
 {
     let mut i = 0;
     loop {
@@ -35,7 +36,7 @@ pub fn again(text: &[u8], first: &[u8], part: &[u8]) -> bool
         if left.len() < 24 {
             break false;
         }
-        if atoms_same(text, first, left) {
+        if variables_same(text, first, left) {
             break true;
         }
         i += 24;

@@ -24,6 +24,7 @@ use Rattle.matching.proofs.SameLaws.{false-not-true, variable-refl}
 use Rattle.matching.proofs.PartLaws.{row-empty, row-node}
 use Rattle.matching.proofs.CutLaws.{from-length, from-from, stands-from}
 use Rattle.matching.proofs.VariableLaws.{occurs-first, occurs-later, occurs-either}
+use Rattle.matching.proofs.AtomLaws.{variable-kind}
 use Rattle.searches.proofs.RecordLaws.{
   stands-whole,
   stands-at,
@@ -40,8 +41,6 @@ use Rattle.searches.proofs.RecordLaws.{
   term-variables,
   none-occurs,
   occurs-at,
-  low-atom,
-  high-atom,
   record-at,
 }
 use Rattle.sentences.specs.Code.Loose.{onceEach}
@@ -195,17 +194,13 @@ module _ {text part : List ℕ} {i : ℕ} (so-far : Apart text part i) where
     module _ {kind : ℕ} (told : kind ≡ wordAt (from i part) 0) where
       -- a symbol
       pub apart-symbol : kind ≤ 2 → Apart text part (i + 24)
-      unfolding termAt
       apart-symbol h =
-          one-more (λ n v later inside p q.
-          low-atom text (wordAt (from i part) 0) (wordAt (from i part) 4) (wordAt (from i part) 8) v (omega (arith, told)) (ap (atomOf text) the-record ∙ p))
+          one-more (λ n v later inside p q. absurd (omega (arith, told, variable-kind text (from i part) (ap (atomOf text) the-record ∙ p) .0)))
 
       -- a bracket, a call or a block
       pub apart-other : 6 ≤ kind → Apart text part (i + 24)
-      unfolding termAt
       apart-other h =
-          one-more (λ n v later inside p q.
-          high-atom text (wordAt (from i part) 0) (wordAt (from i part) 4) (wordAt (from i part) 8) v (omega (arith, told)) (ap (atomOf text) the-record ∙ p))
+          one-more (λ n v later inside p q. absurd (omega (arith, told, variable-kind text (from i part) (ap (atomOf text) the-record ∙ p) .1)))
 
     -- a variable
     pub apart-variable : Alone text (atomOf text (termAt (from i part) 0)) (from 24 (from i part)) → Apart text part (i + 24)

@@ -24,6 +24,7 @@ use Rattle.matching.specs.Shadow.{sameAtom, symbolLike, singleTerm}
 use Rattle.matching.specs.Code.Part.{rowOf, from, variableFrom, atomOf, termRow}
 use Rattle.matching.specs.Code.Step.{found, openTerm}
 use Rattle.matching.proofs.SameLaws.{false-not-true, variable-sound, variable-refl, atom-sound}
+use Rattle.matching.proofs.AtomLaws.{variable-kind}
 use Rattle.matching.proofs.SearchLaws.{none-kinded}
 use Rattle.matching.proofs.FillLaws.{fills-of-match}
 use Rattle.matching.proofs.VariableLaws.{occurs-cases}
@@ -241,13 +242,13 @@ module _ {text first pattern : List ℕ} {odd : Bool} {i : ℕ} (so-far : TimesS
   times-all h v e = sym (so-far .left v e ∙ rw (row-empty text (from i pattern) h) (differ-none odd))
 
   module _ (long : 24 ≤ length (from i pattern)) {e : ℕ} (ends : e ≡ endOf (from i pattern))
-      {same : Bool} (told : same ≡ sameAtom (atomOf text (termAt first 0)) (atomOf text (termAt (from i pattern) 0))) where
+      {same : Bool} (told : 2 < wordAt first 0 → same ≡ sameAtom (atomOf text (termAt first 0)) (atomOf text (termAt (from i pattern) 0))) where
     times-next : {later : Bool} → ((b : Bool) → differ odd (differ same b) ≡ differ later b) → TimesSoFar text first pattern later (i + e)
     times-next counts = record {
       within = omega (arith, from-length i pattern, so-far .within, end-high (from i pattern));
       left = λ v h.
           so-far .left v h
-          ∙ rw (next-row pattern i long ends text, term-times text v (termAt (from i pattern) 0) _ (rowOf text (from (i + e) pattern)), ← h, ← told) (counts _);
+          ∙ rw (next-row pattern i long ends text, term-times text v (termAt (from i pattern) 0) _ (rowOf text (from (i + e) pattern)), ← h, ← told (variable-kind text first h .0)) (counts _);
     }
 
     pub times-one : same ≡ true → {later : Bool} → later ≡ not odd → TimesSoFar text first pattern later (i + e)

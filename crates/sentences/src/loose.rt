@@ -4,6 +4,7 @@ use file::term_at;
 use file::word_at;
 use law::runs::end_of;
 use matching::atoms::atoms_same;
+use matching::atoms::characters_same;
 use matching::atoms::is_bracket;
 use matching::terms::may_stand;
 use searches::repeats::again;
@@ -213,7 +214,11 @@ pub fn parted(text: &[u8], pattern: &[u8], row: &[u8]) -> bool
     if row.len() < 24 {
         return false;
     }
-    if 2 < word_at(pattern, 0) {
+    let kind = word_at(pattern, 0);
+    if kind == 0 {
+        return !characters_same(pattern, row);
+    }
+    if 2 < kind {
         return false;
     }
     !atoms_same(text, pattern, row)

@@ -2,7 +2,7 @@
 // what it matches have both an odd number of terms or both an even one.
 use file::word_at;
 use law::runs::end_of;
-use matching::atoms::atoms_same;
+use matching::atoms::variables_same;
 ghost use mathlib.Core.Path.{_≡_};
 ghost use mathlib.Core.Bool.{Bool, true};
 ghost use mathlib.Core.List.{List, []};
@@ -44,7 +44,7 @@ fn odd_times(text: &[u8], first: &[u8], pattern: &[u8]) -> bool
         if left.len() < 24 {
             break odd;
         }
-        if atoms_same(text, first, left) {
+        if variables_same(text, first, left) {
             odd = !odd;
         }
         i += end_of(left);

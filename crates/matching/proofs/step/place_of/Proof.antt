@@ -69,7 +69,7 @@ place-of-spec =
     let so-far = c .before .before .before .before .before .before .loop .inv in (
       omega (arith, so-far .0),
       λ starts sizes kept. laws.place-next (so-far .1 starts sizes kept) kept (the-if1 .left) (the-wide .ensures .0)
-          (c .before .atoms-same .ensures) (c .if2 .left),
+          (c .before .variables-same .ensures) (c .if2 .left),
     ))
     (λ c. λ starts sizes kept. laws.place-free (c .before .loop .inv .1 starts sizes kept) (c .if1 .taken))
     (λ c.
@@ -77,4 +77,4 @@ place-of-spec =
     let the-loop = c .before .before .before .before .before .before .loop in
     let the-if1 = c .before .before .before .before .before .if1 in
     λ starts sizes kept. laws.place-here (the-loop .inv .1 starts sizes kept) kept (the-if1 .left) (the-wide .ensures .0)
-    (c .before .atoms-same .ensures) (c .if2 .taken)))
+    (c .before .variables-same .ensures) (c .if2 .taken)))

@@ -4,8 +4,6 @@ use mathlib.Core.Path.{sym}
 use native.Mathlib.Omega.{arith}
 use borrow.Author.Needs.{needs}
 use lib.ListN.{length}
-use Rattle.file.specs.Head.{termAt}
-use Rattle.matching.specs.Code.Part.{atomOf}
 use Rattle.matching.proofs.CutLaws.{from-length}
 use Rattle.matching.proofs.SameLaws.{false-not-true}
 use Rattle.searches.proofs.RecordLaws as laws
@@ -13,7 +11,7 @@ use Rattle.searches.proofs.repeats.again.Statement.{statement}
 use Rattle.searches.proofs.repeats.again.Tie as tie
 
 abbrev Inv-loop : tie.InvT-loop
-Inv-loop text first part i₀ i = laws.Past text (atomOf text (termAt first 0)) part i
+Inv-loop text first part i₀ i = laws.Past text first part i
 
 abbrev μ-loop : tie.MeasureT-loop
 μ-loop text first part i₀ i = length part - i
@@ -24,7 +22,7 @@ again-spec =
     (tie.spec
     Inv-loop
     μ-loop
-    (λ c. let a = c .before .before .before .args in laws.past-none (a .text .now) (atomOf (a .text .now) (termAt (a .first .now) 0)) (a .part .now))
+    (λ c. let a = c .before .before .before .args in laws.past-none (a .text .now) (a .first .now) (a .part .now))
     (λ c. c .loop .inv .within)
     (λ c. c .loop .inv .within)
     (λ c. search needs)
@@ -38,10 +36,11 @@ again-spec =
     omega (arith, from-length (at-loop .i) (the-args .part .now), c .before .before .if1 .left))
     (λ c.
     let the-loop = c .before .before .before .before .loop in
-    laws.past-next (the-loop .inv) (c .before .before .if1 .left) (c .before .atoms-same .ensures) (c .if2 .left))
-    (λ c. (λ e. laws.past-all (c .before .before .loop .inv) (c .if1 .taken), λ e. absurd (false-not-true e)))
+    laws.past-next (the-loop .inv) (c .before .before .if1 .left) (c .before .variables-same .ensures) (c .if2 .left))
+    (λ c. λ k. (λ e. laws.past-all (c .before .before .loop .inv) (c .if1 .taken) k, λ e. absurd (false-not-true e)))
     (λ c.
-    let so-far = c .before .before .before .before .loop in (
+    let so-far = c .before .before .before .before .loop in
+    λ k. (
       λ e. absurd (false-not-true (sym e)),
-      λ e. laws.past-found (so-far .inv) (c .before .before .if1 .left) (c .before .atoms-same .ensures) (c .if2 .taken),
+      λ e. laws.past-found (so-far .inv) (c .before .before .if1 .left) (c .before .variables-same .ensures) (c .if2 .taken) k,
     )))

@@ -83,7 +83,7 @@ closed-spec =
     let the-if1 = c .before .before .before .before .before .if1 in
     let low : the-loop .i < the-args .count = strict (the-loop .inv .0) (the-if1 .left) in (
       omega (arith, low),
-      λ starts sizes vs kept known. laws.closed-next (the-args .pattern .now) kept low (the-wide .ensures .0) (c .before .again .ensures .0 (c .if2 .left)) vs
+      λ starts sizes vs kept known. laws.closed-next (the-args .pattern .now) kept low (the-wide .ensures .0) (λ k. c .before .again .ensures k .0 (c .if2 .left)) vs
           (the-loop .inv .1 starts sizes vs kept known),
     ))
     (λ c. λ e starts sizes vs kept known. rw (c .if1 .taken) at (c .before .loop .inv .1 starts sizes vs kept known))

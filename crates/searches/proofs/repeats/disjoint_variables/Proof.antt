@@ -37,7 +37,7 @@ disjoint-variables-spec =
     (λ c. let so-far = c .before .before .before .before .loop .inv in
     let long = c .before .before .if1 .left in
     ⊎-elim
-    (λ w. laws.across-alone so-far long (w .1 .ensures .0 (w .2 .left)))
+    (λ w. laws.across-alone so-far long (w .1 .ensures (omega (arith, c .before .word-at .ensures, w .0 .taken)) .0 (w .2 .left)))
     (λ w. laws.across-symbol so-far long (c .before .word-at .ensures) (omega (arith, w .left)))
     (c .if2 .came))
     (λ c. λ e. laws.across-all (c .before .before .loop .inv) (c .if1 .taken))

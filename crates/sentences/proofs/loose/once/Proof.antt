@@ -47,7 +47,7 @@ once-spec =
     let long = c .before .before .if1 .left in
     let kind = c .before .word-at .ensures in
     ⊎-elim
-    (λ w. laws.apart-variable so-far long (w .3 .ensures .0 (w .4 .left)))
+    (λ w. laws.apart-variable so-far long (w .3 .ensures (omega (arith, kind, w .0 .taken)) .0 (w .4 .left)))
     (λ u. ⊎-elim
     (λ w. laws.apart-other so-far long kind (omega (arith, w .1 .left)))
     (λ w. laws.apart-symbol so-far long kind (omega (arith, w .left)))

@@ -12,13 +12,22 @@ parted-spec =
     (λ c. λ e. absurd (false-not-true e))
     (λ c. λ e. absurd (false-not-true e))
     (λ c κs. omega (arith, c .before .if1 .left))
+    (λ c κs.
+    let at-kind = c .before in
+    (at-kind .before .before .if1 .left, at-kind .before .if2 .left, omega (arith, at-kind .word-at .ensures, c .if3 .taken)))
+    (λ c.
+    let at-kind = c .before .before in
+    let at-lengths = at-kind .before .before in
+    let a = at-lengths .before .before .before .before .args in
+    λ e. laws.parted-not (a .text .now) (a .pattern .now) (a .row .now) (at-lengths .if1 .left) (at-kind .before .if2 .left) (at-kind .word-at .ensures)
+    (omega (arith, c .before .if3 .taken)) (c .characters-same .ensures (a .text .now)) e)
     (λ c. λ e. absurd (false-not-true e))
     (λ c κs.
-    let the-if1 = c .before .before .before .if1 in
-    (the-if1 .left, c .before .before .if2 .left))
+    let at-kind = c .before .before in
+    (at-kind .before .before .if1 .left, at-kind .before .if2 .left))
     (λ c.
-    let the-if1 = c .before .before .before .before .if1 in
-    let the-if2 = c .before .before .before .if2 in
-    let a = c .before .before .before .before .before .before .before .before .args in
-    λ e. laws.parted-not (a .text .now) (a .pattern .now) (a .row .now) (the-if1 .left) (the-if2 .left)
-    (c .before .before .word-at .ensures) (omega (arith, c .before .if3 .left)) (c .atoms-same .ensures) e))
+    let at-kind = c .before .before .before in
+    let at-lengths = at-kind .before .before in
+    let a = at-lengths .before .before .before .before .args in
+    λ e. laws.parted-not (a .text .now) (a .pattern .now) (a .row .now) (at-lengths .if1 .left) (at-kind .before .if2 .left) (at-kind .word-at .ensures)
+    (omega (arith, c .before .if4 .left)) (c .atoms-same .ensures) e))

@@ -36,7 +36,7 @@ odd-times-spec =
     omega (arith, from-length (the-loop .i) (the-args .pattern .now), c .end-of .ensures .1, c .end-of .ensures .2))
     (λ c. let so-far = c .before .before .before .before .before .loop .inv in
     let long = c .before .before .before .if1 .left in
-    let same = c .before .before .atoms-same .ensures in
+    let same = c .before .before .variables-same .ensures in
     ⊎-elim
     (λ w. laws.times-one so-far long (c .end-of .ensures .0) same (w .0 .taken) (w .1))
     (λ w. laws.times-none so-far long (c .end-of .ensures .0) same (w .0 .left) (w .1))
