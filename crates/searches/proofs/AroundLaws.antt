@@ -118,11 +118,13 @@ module _ {text terms pattern : List ℕ} {at : ℕ} {row : List ℕ} {start : �
 -- ---- levels
 
 -- the variables to come are those of the patterns, whatever the rows are
-pub coming-same : (text terms ends rowEnds : List ℕ) (at start start' n : ℕ)
-    → comingIn (levels text terms ends rowEnds at start n) ≡ comingIn (levels text terms ends rowEnds at start' n)
+pub coming-same : (text terms ends rowEnds rowEnds' : List ℕ) (at start start' n : ℕ)
+    → comingIn (levels text terms ends rowEnds at start n) ≡ comingIn (levels text terms ends rowEnds' at start' n)
 unfolding levels comingIn
-coming-same text terms ends rowEnds at start start' zero = refl
-coming-same text terms ends rowEnds at start start' (suc n) = refl
+coming-same text terms ends rowEnds rowEnds' at start start' zero = refl
+coming-same text terms ends rowEnds rowEnds' at start start' (suc n) =
+    ap (λ l. variablesIn (between text terms at (getD ends n 0)) ++ l)
+    (coming-same text terms ends rowEnds rowEnds' (getD ends n 0) (getD rowEnds n 0) (getD rowEnds' n 0) n)
 
 -- ---- variables that got no value since
 
@@ -148,7 +150,8 @@ pub record Looked (text terms : List ℕ) (p : Pending) (at : ℕ) (keys : List 
   pub inside : LevelsIn text terms (p .patterns) (p .rows) from row-from n
   pub whole : (starts sizes : List ℕ) → Kept text terms (places keys starts sizes count)
       → Closed (comingIn (levels text terms (p .patterns) (p .rows) from row-from n)) (valuesUpTo text terms keys starts sizes sure) (valuesUpTo text terms keys starts sizes count)
-      → (start : ℕ) → Closed (comingIn (levelsOf text terms p at start)) (valuesUpTo text terms keys starts sizes sure) (valuesUpTo text terms keys starts sizes count)
+      → (rows : List ℕ) (start : ℕ)
+      → Closed (comingIn (levels text terms (p .patterns) rows at start (p .count))) (valuesUpTo text terms keys starts sizes sure) (valuesUpTo text terms keys starts sizes count)
 
 module _ {text terms : List ℕ} {p : Pending} {at : ℕ} (keys : List ℕ) (sure count : ℕ) where
   pub looked-start : (start : ℕ) → Around text terms p at start → Looked text terms p at keys sure count at (p .count)
@@ -156,17 +159,17 @@ module _ {text terms : List ℕ} {p : Pending} {at : ℕ} (keys : List ℕ) (sur
     few = around .few;
     row-from = start;
     inside = around .levels-in;
-    whole = λ starts sizes kept h other. rw (coming-same text terms (p .patterns) (p .rows) at other start (p .count)) h;
+    whole = λ starts sizes kept h rows other. rw (coming-same text terms (p .patterns) rows (p .rows) at other start (p .count)) h;
   }
 
 module _ {text terms : List ℕ} {p : Pending} {at : ℕ} {keys : List ℕ} {sure count from n : ℕ} (so : Looked text terms p at keys sure count from n) where
   -- no level is left
-  pub looked-all : n ≡ 0 → (start : ℕ) (starts sizes : List ℕ) (vs : Values Atom) → Kept text terms (places keys starts sizes count)
-      → Agree (comingIn (levelsOf text terms p at start)) (valuesUpTo text terms keys starts sizes sure) vs
-      → Agree (comingIn (levelsOf text terms p at start)) (valuesUpTo text terms keys starts sizes count) vs
+  pub looked-all : n ≡ 0 → (rows : List ℕ) (start : ℕ) (starts sizes : List ℕ) (vs : Values Atom) → Kept text terms (places keys starts sizes count)
+      → Agree (comingIn (levels text terms (p .patterns) rows at start (p .count))) (valuesUpTo text terms keys starts sizes sure) vs
+      → Agree (comingIn (levels text terms (p .patterns) rows at start (p .count))) (valuesUpTo text terms keys starts sizes count) vs
   unfolding levels comingIn
-  looked-all none start starts sizes vs kept =
-      so .whole starts sizes kept (rw none (closed-none (valuesUpTo text terms keys starts sizes sure) (valuesUpTo text terms keys starts sizes count))) start vs
+  looked-all none rows start starts sizes vs kept =
+      so .whole starts sizes kept (rw none (closed-none (valuesUpTo text terms keys starts sizes sure) (valuesUpTo text terms keys starts sizes count))) rows start vs
 
   module _ (left : n ≡ 0 → ⊥) {end : ℕ} (ends : end ≡ getD (p .patterns) (n - 1) 0) where
     some : n ≡ suc (n - 1)

@@ -30,7 +30,7 @@ ghost use Rattle.matching.specs.Match.{Values};
 ghost use Rattle.matching.specs.Code.Bound.{valuesUpTo, valuesOf, Kept, places};
 ghost use Rattle.matching.specs.Code.Step.{found, eachLength, eachInside, Free, Facing, TriesAll, Stopped, firstVariable};
 ghost use Rattle.searches.specs.Code.Capacity.{variablesIn, Capacity};
-ghost use Rattle.searches.specs.Code.Asked.{someHolds, nesting, resume, comingIn, levelsOf, Around, LiteralAsked};
+ghost use Rattle.searches.specs.Code.Asked.{someHolds, nesting, resume, comingIn, pending, levelsOf, Around, LiteralAsked};
 ghost use Rattle.searches.specs.Code.Repeats.{Agree, Disjoint};
 ghost use Rattle.searches.specs.Code.Failed.{firstValues, Settled, RemembersAround, Remembering, Remembered};
 
@@ -79,29 +79,30 @@ fn unsure() -> Sure
     }
 }
 
-// Has no variable of the levels around a value in the places from `sure` on?
+// Has no variable of the levels around a value in the places from `sure` on? `patterns` has where the levels end: by reference, so that they are not copied.
 fn closed_around(
     text: &[u8],
     terms: &[u8],
-    outer: Pending,
+    patterns: &[u16; 33],
+    levels: usize,
     at: usize,
     keys: &[u16; 32],
     sure: usize,
     count: usize,
 ) -> bool
-    requires { ⌜ (sure ≤ count) × (count ≤ 32) × ((i : ℕ) → i < count → getD (now keys) i 0 + 24 ≤ length (now terms)) × ((start : ℕ) × Around (now text) (now terms) outer at start) ⌝ }
-    ensures { λ r. ⌜ (r ≡ true → (start : ℕ) (starts sizes : List ℕ) (vs : Values Atom) → Kept (now (text .entry)) (now (terms .entry)) (places (now (keys .entry)) starts sizes count)
-        → Agree (comingIn (levelsOf (now (text .entry)) (now (terms .entry)) outer at start)) (valuesUpTo (now (text .entry)) (now (terms .entry)) (now (keys .entry)) starts sizes sure) vs
-        → Agree (comingIn (levelsOf (now (text .entry)) (now (terms .entry)) outer at start)) (valuesUpTo (now (text .entry)) (now (terms .entry)) (now (keys .entry)) starts sizes count) vs) ⌝ }
+    requires { ⌜ (sure ≤ count) × (count ≤ 32) × ((i : ℕ) → i < count → getD (now keys) i 0 + 24 ≤ length (now terms)) × ((rows : List ℕ) × ((start : ℕ) × Around (now text) (now terms) (pending (now patterns) rows levels) at start)) ⌝ }
+    ensures { λ r. ⌜ (r ≡ true → (rows : List ℕ) (start : ℕ) (starts sizes : List ℕ) (vs : Values Atom) → Kept (now (text .entry)) (now (terms .entry)) (places (now (keys .entry)) starts sizes count)
+        → Agree (comingIn (levelsOf (now (text .entry)) (now (terms .entry)) (pending (now (patterns .entry)) rows levels) at start)) (valuesUpTo (now (text .entry)) (now (terms .entry)) (now (keys .entry)) starts sizes sure) vs
+        → Agree (comingIn (levelsOf (now (text .entry)) (now (terms .entry)) (pending (now (patterns .entry)) rows levels) at start)) (valuesUpTo (now (text .entry)) (now (terms .entry)) (now (keys .entry)) starts sizes count) vs) ⌝ }
 {
-    let mut n = outer.count;
+    let mut n = levels;
     let mut from = at;
     loop {
         if n == 0 {
             break true;
         }
         n -= 1;
-        let end = wide(outer.patterns[n]);
+        let end = wide(patterns[n]);
         if !closed(text, terms, &terms[from..end], keys, sure, count) {
             break false;
         }
@@ -113,22 +114,23 @@ fn closed_around(
 fn holds_around(
     text: &[u8],
     terms: &[u8],
-    outer: Pending,
+    patterns: &[u16; 33],
+    levels: usize,
     end: usize,
-    b: Bindings,
+    keys: &[u16; 32],
+    count: usize,
     sure: Sure,
 ) -> bool
-    requires { ⌜ Kept (now text) (now terms) b × (sure .places ≤ b .count) × ((start : ℕ) × Around (now text) (now terms) outer end start) ⌝ }
-    ensures { λ r. ⌜ (r ≡ true → (sure .here ≡ true) × ((start : ℕ) (vs : Values Atom)
-        → Agree (comingIn (levelsOf (now (text .entry)) (now (terms .entry)) outer end start)) (firstValues (now (text .entry)) (now (terms .entry)) b (sure .places)) vs
-        → Agree (comingIn (levelsOf (now (text .entry)) (now (terms .entry)) outer end start)) (valuesOf (now (text .entry)) (now (terms .entry)) b) vs)) ⌝ }
+    requires { ⌜ (sure .places ≤ count) × (count ≤ 32) × ((i : ℕ) → i < count → getD (now keys) i 0 + 24 ≤ length (now terms)) × ((rows : List ℕ) × ((start : ℕ) × Around (now text) (now terms) (pending (now patterns) rows levels) end start)) ⌝ }
+    ensures { λ r. ⌜ (r ≡ true → (sure .here ≡ true) × ((rows : List ℕ) (start : ℕ) (starts sizes : List ℕ) (vs : Values Atom) → Kept (now (text .entry)) (now (terms .entry)) (places (now (keys .entry)) starts sizes count)
+        → Agree (comingIn (levelsOf (now (text .entry)) (now (terms .entry)) (pending (now (patterns .entry)) rows levels) end start)) (valuesUpTo (now (text .entry)) (now (terms .entry)) (now (keys .entry)) starts sizes (sure .places)) vs
+        → Agree (comingIn (levelsOf (now (text .entry)) (now (terms .entry)) (pending (now (patterns .entry)) rows levels) end start)) (valuesUpTo (now (text .entry)) (now (terms .entry)) (now (keys .entry)) starts sizes count) vs)) ⌝ }
 {
     if !sure.here {
         return false;
     }
-    let len = b.count;
     let places = sure.places;
-    closed_around(text, terms, outer, end, &b.keys, places, len)
+    closed_around(text, terms, patterns, levels, end, keys, places, count)
 }
 
 // The same, and of the variables of the pattern as well.
@@ -147,10 +149,20 @@ fn holds_here(
         → Agree (variablesIn (rowOf (now (text .entry)) (now (pattern .entry))) ++ comingIn (levelsOf (now (text .entry)) (now (terms .entry)) outer end start)) (valuesOf (now (text .entry)) (now (terms .entry)) b)
         (firstValues (now (text .entry)) (now (terms .entry)) b (sure .fixed)))) ⌝ }
 {
-    if !holds_around(text, terms, outer, end, b, sure) {
+    let levels = outer.count;
+    let len = b.count;
+    if !holds_around(
+        text,
+        terms,
+        &outer.patterns,
+        levels,
+        end,
+        &b.keys,
+        len,
+        sure,
+    ) {
         return false;
     }
-    let len = b.count;
     let places = sure.places;
     closed(text, terms, pattern, &b.keys, places, len)
 }
@@ -202,7 +214,9 @@ fn literal_end(
     ensures { λ r. ⌜ (r ≡ resume (levelsOf (now (text .entry)) (now (terms .entry)) outer at start) (valuesOf (now (text .entry)) (now (terms .entry)) b))
         × Remembered (now (text .entry)) (now (terms .entry)) (levelsOf (now (text .entry)) (now (terms .entry)) outer at start) b sure (now (failed .entry)) (now (failed .exit)) ⌝ }
 {
-    if !holds_around(text, terms, outer, at, b, sure) {
+    let levels = outer.count;
+    let len = b.count;
+    if !holds_around(text, terms, &outer.patterns, levels, at, &b.keys, len, sure) {
         return literal_out(text, terms, at, start, outer, b, failed);
     }
     if failed_before(failed, 1, 0, at, at) {

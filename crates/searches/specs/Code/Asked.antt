@@ -77,6 +77,10 @@ module _ (text terms ends rowEnds : List ℕ) where
       × (n + nesting (between text terms at (getD ends n 0)) ≤ 33)
       × LevelsIn (getD ends n 0) (getD rowEnds n 0) n
 
+-- levels whose ends are these
+abbrev pub pending : List ℕ → List ℕ → ℕ → Pending
+pending patterns rows count = record { patterns = patterns; rows = rows; count = count }
+
 abbrev pub levelsOf : List ℕ → List ℕ → Pending → ℕ → ℕ → List (Pattern × Pattern)
 levelsOf text terms p at start = levels text terms (p .patterns) (p .rows) at start (p .count)
 

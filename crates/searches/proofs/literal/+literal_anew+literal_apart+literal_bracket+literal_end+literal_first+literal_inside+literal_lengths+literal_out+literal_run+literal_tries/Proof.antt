@@ -388,46 +388,55 @@ pub +literal-anew+literal-apart+literal-bracket+literal-end+literal-first+litera
     )
     (literal-end-at t)
     literal-end.Post
-    (λ c κs. let start = c .before .before .pre .1 in (start .0 .2, start .1 .1 .0 .few, (_, start .0 .1)))
-    (λ c κs. let start = c .before .before .before .before .before .pre in
+    (λ c κs. let start = c .before .before .before .before .before .before .pre .1 in (start .1 .1 .0 .few, start .0 .2 .few, start .0 .2 .keyed, (_, (_, start .0 .1))))
+    (λ c κs.
+    let at-around = c .before .before in
+    let start = at-around .before .before .before .before .before .before .before .pre in
     (omega (arith, start .0), ((start .1 .0 .0, start .1 .0 .1, start .1 .0 .2), start .1 .1 .0)))
-    (λ c. let start = c .before .before .before .before .before .before .pre .1 in
+    (λ c.
+    let at-around = c .before .before .before in
+    let start = at-around .before .before .before .before .before .before .before .pre .1 in
     (c .literal-out .ensures .0, around.remembered-unchanged (start .1 .1 .1) (c .literal-out .ensures .1)))
     (λ c κs. tt)
     (λ c.
-    let the-holds-around = c .before .before .before .before .holds-around in
-    let the-if1 = c .before .before .before .if1 in
-    let start = c .before .before .before .before .before .before .before .pre .1 in
-    let (known, closed) = the-holds-around .ensures (not-false _ (the-if1 .left)) in (
-      around.out-known _ _ _ _ _ (around.closed-levels (closed _) (start .1 .1 .0)) (start .1 .1 .1 known) _ _
+    let at-around = c .before .before .before .before in
+    let start = at-around .before .before .before .before .before .before .before .pre .1 in
+    let (known, closed) = at-around .holds-around .ensures (not-false _ (c .before .before .before .if1 .left)) in (
+      around.out-known _ _ _ _ _ (around.closed-levels (λ vs. closed _ _ _ _ vs (start .0 .2)) (start .1 .1 .0)) (start .1 .1 .1 known) _ _
           (c .before .failed-before .ensures (c .if2 .taken)),
       around.remembered-unchanged (start .1 .1 .1) refl,
     ))
-    (λ c κs. let start = c .before .before .before .before .before .before .before .before .pre in
+    (λ c κs.
+    let at-around = c .before .before .before .before .before in
+    let start = at-around .before .before .before .before .before .before .before .pre in
     (omega (arith, start .0), ((start .1 .0 .0, start .1 .0 .1, start .1 .0 .2), start .1 .1 .0)))
     (λ c κs.
     let the-literal-out2 = c .before .before .literal-out2 in
-    let start = c .before .before .before .before .before .before .before .before .before .before .before .pre .1 in
-    let the-holds-around = c .before .before .before .before .before .before .before .before .holds-around in
-    let the-if1 = c .before .before .before .before .before .before .before .if1 in
-    let (known, closed) = the-holds-around .ensures (not-false _ (the-if1 .left)) in (
+    let at-if1 = c .before .before .before .before .before .before .before in
+    let at-around = at-if1 .before in
+    let start = at-around .before .before .before .before .before .before .before .pre .1 in
+    let (known, closed) = at-around .holds-around .ensures (not-false _ (at-if1 .if1 .left)) in (
       omega arith,
       omega arith,
       omega (arith, start .0 .0, start .0 .3),
       omega (arith, start .0 .0, start .0 .3),
       remembers-same (start .1 .1 .1 known) (the-literal-out2 .ensures .1) .long,
     ))
-    (λ c. let start = c .before .before .before .before .before .before .before .before .before .before .before .before .pre .1 in
-    let the-holds-around = c .before .before .before .before .before .before .before .before .before .holds-around in
-    let the-if1 = c .before .before .before .before .before .before .before .before .if1 in
+    (λ c.
+    let at-if1 = c .before .before .before .before .before .before .before .before in
+    let at-around = at-if1 .before in
+    let start = at-around .before .before .before .before .before .before .before .pre .1 in
     let out = c .before .before .before .literal-out2 .ensures in
-    let (known, closed) = the-holds-around .ensures (not-false _ (the-if1 .left)) in (
+    let (known, closed) = at-around .holds-around .ensures (not-false _ (at-if1 .if1 .left)) in (
       out .0,
       around.remembered-here known
-          (around.out-noted _ _ _ _ _ (around.closed-levels (closed _) (start .1 .1 .0)) (out .0) (not-true _ (c .before .before .if3 .taken))
+          (around.out-noted _ _ _ _ _ (around.closed-levels (λ vs. closed _ _ _ _ vs (start .0 .2)) (start .1 .1 .0)) (out .0)
+          (not-true _ (c .before .before .if3 .taken))
           (remembers-same (start .1 .1 .1 known) (out .1)) _ _ (c .note-failed .ensures)),
     ))
-    (λ c. let start = c .before .before .before .before .before .before .before .before .before .before .pre .1 in
+    (λ c.
+    let at-around = c .before .before .before .before .before .before .before in
+    let start = at-around .before .before .before .before .before .before .before .pre .1 in
     let out = c .before .literal-out2 .ensures in
     (out .0, around.remembered-unchanged (start .1 .1 .1) (out .1))))
     (λ t. literal-first-lts.spec (

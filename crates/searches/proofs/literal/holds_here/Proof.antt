@@ -1,6 +1,5 @@
 -- `holds_here` meets its contract: it says yes only where what is remembered is of the levels around here, and no variable of the pattern or of these levels got its
 -- value since.
-use native.Mathlib.Omega.{arith}
 use borrow.Author.Tests.{not-false}
 use Rattle.matching.proofs.SameLaws.{false-not-true}
 use Rattle.searches.proofs.AroundLaws as around
@@ -11,12 +10,15 @@ pub holds-here-spec : {M : Type 1} → statement M
 holds-here-spec =
     tie.close
     (tie.spec
-    (λ c κs. c .before .before .before .pre)
+    (λ c κs. let the-pre = c .before .before .before .before .before .before .before .pre in
+    (the-pre .1, the-pre .0 .few, the-pre .0 .keyed, (_, the-pre .2)))
     (λ c. λ e. absurd (false-not-true e))
-    (λ c κs. let the-pre = c .before .before .before .before .before .before .before .pre in (omega (arith, the-pre .1), the-pre .0 .few, the-pre .0 .keyed))
+    (λ c κs.
+    let at-around = c .before .before .before .before in
+    let the-pre = at-around .before .before .before .before .before .before .before .pre in
+    (the-pre .1, the-pre .0 .few, the-pre .0 .keyed))
     (λ c.
-    let the-holds-around = c .before .before .before .before .holds-around in
-    let the-if1 = c .before .before .before .if1 in
-    λ e. let the-pre = c .before .before .before .before .before .before .before .before .pre in
-    let (known, closed) = the-holds-around .ensures (not-false _ (the-if1 .left)) in
-    (known, λ start settled. around.closed-all _ _ (λ vs. c .closed .ensures e _ _ vs (the-pre .0)) (closed start) settled)))
+    let at-around = c .before .before .before .before in
+    let the-pre = at-around .before .before .before .before .before .before .before .before .pre in
+    let (known, closed) = at-around .holds-around .ensures (not-false _ (c .before .before .before .if1 .left)) in
+    λ e. (known, λ start settled. around.closed-all _ _ (λ vs. c .closed .ensures e _ _ vs (the-pre .0)) (λ vs. closed _ start _ _ vs (the-pre .0)) settled)))
