@@ -6,7 +6,7 @@ use mathlib.Core.List.{List, [], _∷_, _++_}
 use mathlib.Core.Logic.{_⊎_, inl, inr}
 use mathlib.Core.Path.{_≡_, refl, sym, ap, ap₂, subst, _∙_}
 use native.Mathlib.Omega.{arith}
-use lib.ListN.{length, take, drop, getD, replicate}
+use lib.ListN.{length, take, drop, getD, replicate, length-take}
 use Rattle.law.specs.Variables.{Variable, occurs}
 use Rattle.matching.specs.Pattern.{Atom, literal, Pattern}
 use Rattle.matching.specs.Match.{Values, valueIn}
@@ -21,6 +21,7 @@ use Rattle.searches.specs.Code.Failed.{restOf, Within, Noted, firstValue
 use Rattle.matching.specs.declared.Bindings.{Bindings}
 use Rattle.searches.specs.declared.literal.Pending.{Pending}
 use Rattle.searches.specs.declared.repeats.Sure.{Sure}
+use Rattle.matching.proofs.PartLaws.{row-empty}
 use Rattle.matching.proofs.SameLaws.{false-not-true}
 use Rattle.matching.proofs.VariableLaws.{occurs-left, occurs-right, occurs-either}
 use Rattle.matching.proofs.CutLaws.{from-length}
@@ -202,17 +203,18 @@ module _ {text terms : List ℕ} {p : Pending} {at : ℕ} {keys : List ℕ} {sur
           (valuesUpTo text terms keys starts sizes sure) (valuesUpTo text terms keys starts sizes count) (λ vs. closed starts sizes vs kept) h));
     }
 
--- `holds_here`: the variables of a pattern and of what is around it have the values of the fixed places
-pub closed-all : {text terms : List ℕ} (l m : List Variable) {b : Bindings} {s : Sure} → Closed l (firstValues text terms b (s .places)) (valuesOf text terms b)
-    → Closed m (firstValues text terms b (s .places)) (valuesOf text terms b) → Settled text terms (l ++ m) b s
-    → Agree (l ++ m) (valuesOf text terms b) (firstValues text terms b (s .fixed))
-closed-all {text} {terms} l m {b} {s} one two known =
-    closed-both l m (firstValues text terms b (s .places)) (valuesOf text terms b) one two (firstValues text terms b (s .fixed)) (known .same)
-
--- the same of what is around alone
-pub closed-levels : {text terms : List ℕ} {m : List Variable} {b : Bindings} {s : Sure} → Closed m (firstValues text terms b (s .places)) (valuesOf text terms b)
+-- `holds_here`: these variables have the values of the fixed places
+pub closed-fixed : {text terms : List ℕ} {m : List Variable} {b : Bindings} {s : Sure} → Closed m (firstValues text terms b (s .places)) (valuesOf text terms b)
     → Settled text terms m b s → Agree m (valuesOf text terms b) (firstValues text terms b (s .fixed))
-closed-levels {text} {terms} {b = b} {s} two known = two (firstValues text terms b (s .fixed)) (known .same)
+closed-fixed {text} {terms} {b = b} {s} closed known = closed (firstValues text terms b (s .fixed)) (known .same)
+
+-- the same, asked with nothing for a pattern
+pub closed-levels : {text terms : List ℕ} {m : List Variable} {b : Bindings} {s : Sure} (at : ℕ)
+    → Closed (variablesIn (between text terms at at) ++ m) (firstValues text terms b (s .places)) (valuesOf text terms b) → Settled text terms m b s
+    → Agree m (valuesOf text terms b) (firstValues text terms b (s .fixed))
+unfolding variablesIn
+closed-levels {text} {terms} {b = b} {s} at closed known =
+    closed-fixed {b = b} {s = s} (rw (row-empty text (take (at - at) (drop at terms)) (omega (arith, length-take (at - at) (drop at terms)))) at closed) known
 
 -- ---- handed on to a search
 

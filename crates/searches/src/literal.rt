@@ -32,7 +32,7 @@ ghost use Rattle.matching.specs.Code.Step.{found, eachLength, eachInside, Free,
 ghost use Rattle.searches.specs.Code.Capacity.{variablesIn, Capacity};
 ghost use Rattle.searches.specs.Code.Asked.{someHolds, nesting, resume, comingIn, pending, levelsOf, Around, LiteralAsked};
 ghost use Rattle.searches.specs.Code.Repeats.{Agree, Disjoint};
-ghost use Rattle.searches.specs.Code.Failed.{firstValues, Settled, RemembersAround, Remembering, Remembered};
+ghost use Rattle.searches.specs.Code.Failed.{Settled, RemembersAround, Remembering, Remembered};
 
 // `failed` is what is remembered, where `sure.here`: of rests and then all that is around them, whose variables have the values of the fixed places of `sure`, or none.
 
@@ -110,10 +110,12 @@ fn closed_around(
     }
 }
 
-// Is what is remembered of the levels around here, and have their variables the values of the fixed places, or none? The levels begin at `end`.
-fn holds_around(
+// Is what is remembered of the levels around here, and have their variables and those of the pattern the values of the fixed places, or none? The levels begin at
+// `end`.
+fn holds_here(
     text: &[u8],
     terms: &[u8],
+    pattern: &[u8],
     patterns: &[u16; 33],
     levels: usize,
     end: usize,
@@ -122,49 +124,18 @@ fn holds_around(
     sure: Sure,
 ) -> bool
     requires { ⌜ (sure .places ≤ count) × (count ≤ 32) × ((i : ℕ) → i < count → getD (now keys) i 0 + 24 ≤ length (now terms)) × ((rows : List ℕ) × ((start : ℕ) × Around (now text) (now terms) (pending (now patterns) rows levels) end start)) ⌝ }
-    ensures { λ r. ⌜ (r ≡ true → (sure .here ≡ true) × ((rows : List ℕ) (start : ℕ) (starts sizes : List ℕ) (vs : Values Atom) → Kept (now (text .entry)) (now (terms .entry)) (places (now (keys .entry)) starts sizes count)
-        → Agree (comingIn (levelsOf (now (text .entry)) (now (terms .entry)) (pending (now (patterns .entry)) rows levels) end start)) (valuesUpTo (now (text .entry)) (now (terms .entry)) (now (keys .entry)) starts sizes (sure .places)) vs
-        → Agree (comingIn (levelsOf (now (text .entry)) (now (terms .entry)) (pending (now (patterns .entry)) rows levels) end start)) (valuesUpTo (now (text .entry)) (now (terms .entry)) (now (keys .entry)) starts sizes count) vs)) ⌝ }
+    ensures { λ r. ⌜ (r ≡ true → (sure .here ≡ true) × ((rows : List ℕ) (start : ℕ) (starts sizes : List ℕ) → Kept (now (text .entry)) (now (terms .entry)) (places (now (keys .entry)) starts sizes count) → (vs : Values Atom)
+        → Agree (variablesIn (rowOf (now (text .entry)) (now (pattern .entry))) ++ comingIn (levelsOf (now (text .entry)) (now (terms .entry)) (pending (now (patterns .entry)) rows levels) end start)) (valuesUpTo (now (text .entry)) (now (terms .entry)) (now (keys .entry)) starts sizes (sure .places)) vs
+        → Agree (variablesIn (rowOf (now (text .entry)) (now (pattern .entry))) ++ comingIn (levelsOf (now (text .entry)) (now (terms .entry)) (pending (now (patterns .entry)) rows levels) end start)) (valuesUpTo (now (text .entry)) (now (terms .entry)) (now (keys .entry)) starts sizes count) vs)) ⌝ }
 {
     if !sure.here {
         return false;
     }
     let places = sure.places;
-    closed_around(text, terms, patterns, levels, end, keys, places, count)
-}
-
-// The same, and of the variables of the pattern as well.
-fn holds_here(
-    text: &[u8],
-    terms: &[u8],
-    pattern: &[u8],
-    outer: Pending,
-    end: usize,
-    b: Bindings,
-    sure: Sure,
-) -> bool
-    requires { ⌜ Kept (now text) (now terms) b × (sure .places ≤ b .count) × ((start : ℕ) × Around (now text) (now terms) outer end start) ⌝ }
-    ensures { λ r. ⌜ (r ≡ true → (sure .here ≡ true) × ((start : ℕ)
-        → Settled (now (text .entry)) (now (terms .entry)) (variablesIn (rowOf (now (text .entry)) (now (pattern .entry))) ++ comingIn (levelsOf (now (text .entry)) (now (terms .entry)) outer end start)) b sure
-        → Agree (variablesIn (rowOf (now (text .entry)) (now (pattern .entry))) ++ comingIn (levelsOf (now (text .entry)) (now (terms .entry)) outer end start)) (valuesOf (now (text .entry)) (now (terms .entry)) b)
-        (firstValues (now (text .entry)) (now (terms .entry)) b (sure .fixed)))) ⌝ }
-{
-    let levels = outer.count;
-    let len = b.count;
-    if !holds_around(
-        text,
-        terms,
-        &outer.patterns,
-        levels,
-        end,
-        &b.keys,
-        len,
-        sure,
-    ) {
+    if !closed_around(text, terms, patterns, levels, end, keys, places, count) {
         return false;
     }
-    let places = sure.places;
-    closed(text, terms, pattern, &b.keys, places, len)
+    closed(text, terms, pattern, keys, places, count)
 }
 
 // Everything that is left at this level is matched: the next level out, or all. What is remembered is of other levels.
@@ -216,7 +187,18 @@ fn literal_end(
 {
     let levels = outer.count;
     let len = b.count;
-    if !holds_around(text, terms, &outer.patterns, levels, at, &b.keys, len, sure) {
+    let none = &terms[at..at];
+    if !holds_here(
+        text,
+        terms,
+        none,
+        &outer.patterns,
+        levels,
+        at,
+        &b.keys,
+        len,
+        sure,
+    ) {
         return literal_out(text, terms, at, start, outer, b, failed);
     }
     if failed_before(failed, 1, 0, at, at) {
@@ -326,7 +308,19 @@ fn literal_tries(
 {
     let end = at + pattern.len();
     let row_end = start + row.len();
-    if !holds_here(text, terms, pattern, outer, end, b, sure) {
+    let levels = outer.count;
+    let len = b.count;
+    if !holds_here(
+        text,
+        terms,
+        pattern,
+        &outer.patterns,
+        levels,
+        end,
+        &b.keys,
+        len,
+        sure,
+    ) {
         return literal_anew(text, terms, pattern, at, row, start, outer, b);
     }
     if failed_before(failed, at, end, start, row_end) {
@@ -334,7 +328,7 @@ fn literal_tries(
     }
     let all = Sure {
         fixed: sure.fixed,
-        places: b.count,
+        places: len,
         here: true,
     };
     let found = literal_lengths(text, terms, pattern, at, row, start, outer, b, all, failed);

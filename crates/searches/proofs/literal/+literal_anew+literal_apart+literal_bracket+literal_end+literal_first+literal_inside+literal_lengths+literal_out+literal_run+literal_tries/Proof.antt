@@ -67,7 +67,6 @@ use Rattle.searches.proofs.failed.note_failed.Reads as note-failed-read
 use Rattle.matching.proofs.front.known_front.Reads as known-front-reads
 use Rattle.searches.proofs.literal.push.Reads as push-reads
 use Rattle.searches.proofs.literal.unsure.Reads as unsure-reads
-use Rattle.searches.proofs.literal.holds_around.Reads as holds-around-reads
 use Rattle.searches.proofs.literal.holds_here.Reads as holds-here-reads
 use Rattle.searches.proofs.repeats.stands_apart.Reads as stands-apart-reads
 use Rattle.matching.proofs.bound.wide.Reads as wide-reads
@@ -377,8 +376,8 @@ pub +literal-anew+literal-apart+literal-bracket+literal-end+literal-first+litera
     (λ c. let start = c .before .before .before .before .before .before .before .before .before .before .before .pre in
     (c .literal-inside .ensures .0, around.remembered-same (start .1 .3) (c .literal-inside .ensures .1))))
     (λ t. literal-end-lts.spec (
-      holds-around-reads.Asked,
-      holds-around-reads.Learnt,
+      holds-here-reads.Asked,
+      holds-here-reads.Learnt,
       literal-out-below t,
       literal-out.Post,
       failed-before-reads.Asked,
@@ -388,34 +387,38 @@ pub +literal-anew+literal-apart+literal-bracket+literal-end+literal-first+litera
     )
     (literal-end-at t)
     literal-end.Post
-    (λ c κs. let start = c .before .before .before .before .before .before .pre .1 in (start .1 .1 .0 .few, start .0 .2 .few, start .0 .2 .keyed, (_, (_, start .0 .1))))
+    (λ c. omega arith)
+    (λ c. omega arith)
+    (λ c. let start = c .before .before .pre .1 in omega (arith, start .0 .3))
+    (λ c κs. let start = c .before .before .before .before .before .before .before .pre .1 in (start .1 .1 .0 .few, start .0 .2 .few, start .0 .2 .keyed, (_, (_, start .0 .1))))
     (λ c κs.
     let at-around = c .before .before in
-    let start = at-around .before .before .before .before .before .before .before .pre in
+    let start = at-around .before .before .before .before .before .before .before .before .pre in
     (omega (arith, start .0), ((start .1 .0 .0, start .1 .0 .1, start .1 .0 .2), start .1 .1 .0)))
     (λ c.
     let at-around = c .before .before .before in
-    let start = at-around .before .before .before .before .before .before .before .pre .1 in
+    let start = at-around .before .before .before .before .before .before .before .before .pre .1 in
     (c .literal-out .ensures .0, around.remembered-unchanged (start .1 .1 .1) (c .literal-out .ensures .1)))
     (λ c κs. tt)
     (λ c.
     let at-around = c .before .before .before .before in
-    let start = at-around .before .before .before .before .before .before .before .pre .1 in
-    let (known, closed) = at-around .holds-around .ensures (not-false _ (c .before .before .before .if1 .left)) in (
-      around.out-known _ _ _ _ _ (around.closed-levels (λ vs. closed _ _ _ _ vs (start .0 .2)) (start .1 .1 .0)) (start .1 .1 .1 known) _ _
+    let at-start = at-around .before .before .before .before .before .before .before .before in
+    let start = at-start .pre .1 in
+    let (known, closed) = at-around .holds-here .ensures (not-false _ (c .before .before .before .if1 .left)) in (
+      around.out-known _ _ _ _ _ (around.closed-levels (at-start .args .at) (closed _ _ _ _ (start .0 .2)) (start .1 .1 .0)) (start .1 .1 .1 known) _ _
           (c .before .failed-before .ensures (c .if2 .taken)),
       around.remembered-unchanged (start .1 .1 .1) refl,
     ))
     (λ c κs.
     let at-around = c .before .before .before .before .before in
-    let start = at-around .before .before .before .before .before .before .before .pre in
+    let start = at-around .before .before .before .before .before .before .before .before .pre in
     (omega (arith, start .0), ((start .1 .0 .0, start .1 .0 .1, start .1 .0 .2), start .1 .1 .0)))
     (λ c κs.
     let the-literal-out2 = c .before .before .literal-out2 in
     let at-if1 = c .before .before .before .before .before .before .before in
     let at-around = at-if1 .before in
-    let start = at-around .before .before .before .before .before .before .before .pre .1 in
-    let (known, closed) = at-around .holds-around .ensures (not-false _ (at-if1 .if1 .left)) in (
+    let start = at-around .before .before .before .before .before .before .before .before .pre .1 in
+    let (known, closed) = at-around .holds-here .ensures (not-false _ (at-if1 .if1 .left)) in (
       omega arith,
       omega arith,
       omega (arith, start .0 .0, start .0 .3),
@@ -425,18 +428,19 @@ pub +literal-anew+literal-apart+literal-bracket+literal-end+literal-first+litera
     (λ c.
     let at-if1 = c .before .before .before .before .before .before .before .before in
     let at-around = at-if1 .before in
-    let start = at-around .before .before .before .before .before .before .before .pre .1 in
+    let at-start = at-around .before .before .before .before .before .before .before .before in
+    let start = at-start .pre .1 in
     let out = c .before .before .before .literal-out2 .ensures in
-    let (known, closed) = at-around .holds-around .ensures (not-false _ (at-if1 .if1 .left)) in (
+    let (known, closed) = at-around .holds-here .ensures (not-false _ (at-if1 .if1 .left)) in (
       out .0,
       around.remembered-here known
-          (around.out-noted _ _ _ _ _ (around.closed-levels (λ vs. closed _ _ _ _ vs (start .0 .2)) (start .1 .1 .0)) (out .0)
+          (around.out-noted _ _ _ _ _ (around.closed-levels (at-start .args .at) (closed _ _ _ _ (start .0 .2)) (start .1 .1 .0)) (out .0)
           (not-true _ (c .before .before .if3 .taken))
           (remembers-same (start .1 .1 .1 known) (out .1)) _ _ (c .note-failed .ensures)),
     ))
     (λ c.
     let at-around = c .before .before .before .before .before .before .before in
-    let start = at-around .before .before .before .before .before .before .before .pre .1 in
+    let start = at-around .before .before .before .before .before .before .before .before .pre .1 in
     let out = c .before .literal-out2 .ensures in
     (out .0, around.remembered-unchanged (start .1 .1 .1) (out .1))))
     (λ t. literal-first-lts.spec (
@@ -936,35 +940,38 @@ pub +literal-anew+literal-apart+literal-bracket+literal-end+literal-first+litera
     literal-tries.Post
     (λ c. let asked = c .before .before .before .before .pre .1 .0 .0 .asked in omega (arith, asked .pattern-stands .inside, asked .small))
     (λ c. let asked = c .before .before .before .before .pre .1 .0 .0 .asked in omega (arith, asked .row-stands .inside, asked .small))
-    (λ c κs. let start = c .before .before .before .before .pre .1 .0 in (start .0 .asked .kept, start .2 .settled .few, (_, start .0 .around)))
-    (λ c κs. let start = c .before .before .before .before .before .before .pre in
+    (λ c κs. let start = c .before .before .before .before .before .before .before .before .pre .1 .0 in
+    (start .2 .settled .few, start .0 .asked .kept .few, start .0 .asked .kept .keyed, (_, (_, start .0 .around))))
+    (λ c κs.
+    let at-here = c .before .before in
+    let start = at-here .before .before .before .before .before .before .before .before .pre in
     (omega (arith, start .0), ((start .1 .0 .0, start .1 .0 .1), start .1 .1 .0)))
-    (λ c. let start = c .before .before .before .before .before .before .before .pre .1 in
+    (λ c.
+    let at-here = c .before .before .before in
+    let start = at-here .before .before .before .before .before .before .before .before .pre .1 in
     (c .literal-anew .ensures, around.remembered-same (start .0 .2) refl))
     (λ c κs. tt)
     (λ c.
-    let the-holds-here = c .before .before .before .before .holds-here in
-    let the-if1 = c .before .before .before .if1 in
-    let start = c .before .before .before .before .before .before .before .before .before .pre .1 in
-    let (known, closed) = the-holds-here .ensures (not-false _ (the-if1 .left)) in (
-      around.lengths-known (start .0 .0 .asked) _ _ (closed _ (start .0 .2 .settled)) (start .1 .1) (start .0 .1) (start .0 .2 .here known)
+    let at-here = c .before .before .before .before in
+    let start = at-here .before .before .before .before .before .before .before .before .before .pre .1 in
+    let (known, closed) = at-here .holds-here .ensures (not-false _ (c .before .before .before .if1 .left)) in
+    let settled = around.closed-fixed (closed _ _ _ _ (start .0 .0 .asked .kept)) (start .0 .2 .settled) in (
+      around.lengths-known (start .0 .0 .asked) _ _ settled (start .1 .1) (start .0 .1) (start .0 .2 .here known)
           (c .before .failed-before .ensures (c .if2 .taken)),
       around.remembered-same (start .0 .2) refl,
     ))
     (λ c κs.
-    let the-if1 = c .before .before .before .before .if1 in
-    let the-holds-here = c .before .before .before .before .before .holds-here in
-    let start = c .before .before .before .before .before .before .before .before .before .before .pre in
-    let (known, closed) = the-holds-here .ensures (not-false _ (the-if1 .left)) in (
+    let at-here = c .before .before .before .before .before in
+    let start = at-here .before .before .before .before .before .before .before .before .before .pre in
+    let (known, closed) = at-here .holds-here .ensures (not-false _ (c .before .before .before .before .if1 .left)) in
+    let settled = around.closed-fixed (closed _ _ _ _ (start .1 .0 .0 .asked .kept)) (start .1 .0 .2 .settled) in (
       omega (arith, start .0),
-      (
-        (start .1 .0 .0, start .1 .0 .1, around.remembering-all (start .1 .0 .2) known (closed _ (start .1 .0 .2 .settled))),
-        start .1 .1 .0,
-      ),
+      ((start .1 .0 .0, start .1 .0 .1, around.remembering-all (start .1 .0 .2) known settled), start .1 .1 .0),
     ))
     (λ c κs.
     let the-literal-lengths = c .before .before .literal-lengths in
-    let start = c .before .before .before .before .before .before .before .before .before .before .before .before .before .pre .1 .0 in
+    let at-here = c .before .before .before .before .before .before .before .before in
+    let start = at-here .before .before .before .before .before .before .before .before .before .pre .1 .0 in
     let asked = start .0 .asked in (
       omega (arith, asked .pattern-stands .inside, asked .small, start .1),
       omega (arith, asked .pattern-stands .inside, asked .small),
@@ -972,19 +979,20 @@ pub +literal-anew+literal-apart+literal-bracket+literal-end+literal-first+litera
       omega (arith, asked .row-stands .inside, asked .small),
       the-literal-lengths .ensures .1 .here refl .long,
     ))
-    (λ c. let the-if1 = c .before .before .before .before .before .before .before .before .if1 in
-    let the-holds-here = c .before .before .before .before .before .before .before .before .before .holds-here in
-    let start = c .before .before .before .before .before .before .before .before .before .before .before .before .before .before .pre .1 in
-    let (known, closed) = the-holds-here .ensures (not-false _ (the-if1 .left)) in
+    (λ c.
+    let at-if1 = c .before .before .before .before .before .before .before .before in
+    let at-here = at-if1 .before in
+    let start = at-here .before .before .before .before .before .before .before .before .before .pre .1 in
+    let (known, closed) = at-here .holds-here .ensures (not-false _ (at-if1 .if1 .left)) in
+    let settled = around.closed-fixed (closed _ _ _ _ (start .0 .0 .asked .kept)) (start .0 .2 .settled) in
     let lengths = c .before .before .before .literal-lengths in (
       lengths .ensures .0,
       around.remembered-here known
-          (around.lengths-noted (start .0 .0 .asked) _ _ (closed _ (start .0 .2 .settled)) (start .1 .1) (lengths .ensures .0)
+          (around.lengths-noted (start .0 .0 .asked) _ _ settled (start .1 .1) (lengths .ensures .0)
           (not-true _ (c .before .before .if3 .taken)) (lengths .ensures .1 .here refl) (c .note-failed .ensures)),
     ))
     (λ c.
     let the-literal-lengths = c .before .literal-lengths in
-    let the-if1 = c .before .before .before .before .before .before .if1 in
-    let the-holds-here = c .before .before .before .before .before .before .before .holds-here in
-    let (known, closed) = the-holds-here .ensures (not-false _ (the-if1 .left)) in
-    (c .before .literal-lengths .ensures .0, around.remembered-here known (the-literal-lengths .ensures .1 .here refl)))
+    let at-if1 = c .before .before .before .before .before .before in
+    let (known, closed) = at-if1 .before .holds-here .ensures (not-false _ (at-if1 .if1 .left)) in
+    (the-literal-lengths .ensures .0, around.remembered-here known (the-literal-lengths .ensures .1 .here refl)))

@@ -10,15 +10,14 @@ pub holds-here-spec : {M : Type 1} → statement M
 holds-here-spec =
     tie.close
     (tie.spec
-    (λ c κs. let the-pre = c .before .before .before .before .before .before .before .pre in
-    (the-pre .1, the-pre .0 .few, the-pre .0 .keyed, (_, the-pre .2)))
     (λ c. λ e. absurd (false-not-true e))
-    (λ c κs.
-    let at-around = c .before .before .before .before in
-    let the-pre = at-around .before .before .before .before .before .before .before .pre in
-    (the-pre .1, the-pre .0 .few, the-pre .0 .keyed))
+    (λ c κs. c .before .before .before .before .before .pre)
+    (λ c. λ e. absurd (false-not-true e))
+    (λ c κs. let start = c .before .before .before .before .before .before .before .pre in (start .0, start .1, start .2))
     (λ c.
-    let at-around = c .before .before .before .before in
-    let the-pre = at-around .before .before .before .before .before .before .before .before .pre in
-    let (known, closed) = at-around .holds-around .ensures (not-false _ (c .before .before .before .if1 .left)) in
-    λ e. (known, λ start settled. around.closed-all _ _ (λ vs. c .closed .ensures e _ _ vs (the-pre .0)) (λ vs. closed _ start _ _ vs (the-pre .0)) settled)))
+    let at-around = c .before .before in
+    λ e. (
+      not-false _ (at-around .before .if1 .left),
+      λ rows start starts sizes kept. around.closed-both _ _ _ _ (λ vs. c .closed .ensures e starts sizes vs kept)
+          (λ vs. at-around .closed-around .ensures (not-false _ (c .before .if2 .left)) rows start starts sizes vs kept),
+    )))
