@@ -112,7 +112,11 @@ fn front(text: &[u8], pattern: &[u8], row: &[u8]) -> Ahead
         if right.len() < 24 {
             break Ahead::Fails;
         }
-        if kind < 3 {
+        if kind == 0 {
+            if !characters_same(left, right) {
+                break Ahead::Fails;
+            }
+        } else if kind < 3 {
             if !atoms_same(text, left, right) {
                 break Ahead::Fails;
             }

@@ -36,6 +36,7 @@ use Rattle.file.proofs.term_at.Reads as term-at-reads
 use Rattle.file.proofs.word_at.Reads as word-at-reads
 use Rattle.law.proofs.runs.end_of.Reads as end-of-reads
 use Rattle.matching.proofs.atoms.atoms_same.Reads as atoms-same-reads
+use Rattle.matching.proofs.atoms.characters_same.Reads as characters-same-reads
 use Rattle.matching.proofs.atoms.is_bracket.Reads as is-bracket-reads
 use Rattle.matching.proofs.terms.may_stand.Reads as may-stand-reads
 use Rattle.sentences.proofs.loose.has_open.Reads as has-open-reads
@@ -185,6 +186,8 @@ pub +fits+front+last+leftmost+loose+loose-open-spec : {M : Type 1} → statement
     (λ t. front-lts.spec (
       word-at-reads.Asked,
       word-at-reads.Learnt,
+      characters-same-reads.Asked,
+      characters-same-reads.Learnt,
       atoms-same-reads.Asked,
       atoms-same-reads.Learnt,
       fits-below t,
@@ -206,15 +209,19 @@ pub +fits+front+last+leftmost+loose+loose-open-spec : {M : Type 1} → statement
     (λ c κs. omega (arith, c .if1 .left))
     (λ c κs.
     let the-if1 = c .before .before .before .before .if1 in
-    (the-if1 .left, c .before .if3 .left))
-    (λ c κs.
-    let the-if1 = c .before .before .before .before .if1 in
     let the-word-at = c .before .before .before .word-at in
-    let the-loop = c .before .before .before .before .before .before .before .loop in
-    let the-args = c .before .before .before .before .before .before .before .before .before .before .before .args in
-    let the-pre = c .before .before .before .before .before .before .before .before .before .before .before .pre in (
-      omega (arith, from-length (the-loop .i) (the-args .pattern .now), the-pre .0),
-      (the-if1 .left, c .before .if3 .left, omega (arith, c .if4 .left, the-word-at .ensures)),
+    (the-if1 .left, c .before .if3 .left, omega (arith, c .if4 .taken, the-word-at .ensures)))
+    (λ c κs.
+    let at-if3 = c .before .before in
+    (at-if3 .before .before .before .if1 .left, at-if3 .if3 .left))
+    (λ c κs.
+    let at-if3 = c .before .before in
+    let the-if1 = at-if3 .before .before .before .if1 in
+    let the-word-at = at-if3 .before .before .word-at in
+    let at-loop = at-if3 .before .before .before .before .before .before in
+    let start = at-loop .before .before .before .before in (
+      omega (arith, from-length (at-loop .loop .i) (start .args .pattern .now), start .pre .0),
+      (the-if1 .left, at-if3 .if3 .left, omega (arith, c .if6 .left, the-word-at .ensures)),
     ))
     (λ c κs.
     let the-if1 = c .before .before .before .before .if1 in
@@ -240,10 +247,16 @@ pub +fits+front+last+leftmost+loose+loose-open-spec : {M : Type 1} → statement
     ⊎-elim
     (λ w. laws.front-next (at-loop .inv) (the-if1 .left) (the-word-at .ensures) (the-if2 .left) (the-if3 .left)
     (laws.fits-symbol (a .text .now) (from (at-loop .i) (a .pattern .now)) (from (at-loop .j) (a .row .now)) (the-word-at .ensures)
-    (w .0 .taken) (w .1 .ensures))
+    (omega (arith, w .0 .taken)) (w .1 .ensures (a .text .now)))
     (not-false (w .1 .result) (w .2 .left)) (c .before .end-of .ensures .0) (c .end-of2 .ensures .0))
-    (λ w. laws.front-next (at-loop .inv) (the-if1 .left) (the-word-at .ensures) (the-if2 .left) (the-if3 .left) (w .1 .ensures)
-    (not-false (w .1 .result) (w .2 .left)) (c .before .end-of .ensures .0) (c .end-of2 .ensures .0))
+    (λ u. ⊎-elim
+    (λ w. laws.front-next (at-loop .inv) (the-if1 .left) (the-word-at .ensures) (the-if2 .left) (the-if3 .left)
+    (laws.fits-symbol (a .text .now) (from (at-loop .i) (a .pattern .now)) (from (at-loop .j) (a .row .now)) (the-word-at .ensures)
+    (w .1 .taken) (w .2 .ensures))
+    (not-false (w .2 .result) (w .3 .left)) (c .before .end-of .ensures .0) (c .end-of2 .ensures .0))
+    (λ w. laws.front-next (at-loop .inv) (the-if1 .left) (the-word-at .ensures) (the-if2 .left) (the-if3 .left) (w .2 .ensures)
+    (not-false (w .2 .result) (w .3 .left)) (c .before .end-of .ensures .0) (c .end-of2 .ensures .0))
+    u)
     (c .before .before .if4 .came))
     (λ c.
     let the-loop = c .before .before .before .loop in
@@ -255,24 +268,35 @@ pub +fits+front+last+leftmost+loose+loose-open-spec : {M : Type 1} → statement
     let the-loop = c .before .before .before .before .before .before .loop in
     laws.front-short (the-loop .inv) (the-if1 .left) (c .before .before .word-at .ensures) (c .before .if2 .left) (c .if3 .taken))
     (λ c.
-    let the-if2 = c .before .before .before .before .if2 in
-    let the-if3 = c .before .before .before .if3 in
-    let the-if1 = c .before .before .before .before .before .before .if1 in
-    let the-word-at = c .before .before .before .before .before .word-at in
-    let a = c .before .before .before .before .before .before .before .before .before .before .before .before .before .args in
-    let at-loop = c .before .before .before .before .before .before .before .before .before .loop in
-    laws.front-differs (at-loop .inv) (the-if1 .left) (the-word-at .ensures) (the-if2 .left) (the-if3 .left)
-    (laws.fits-symbol (a .text .now) (from (at-loop .i) (a .pattern .now)) (from (at-loop .j) (a .row .now)) (the-word-at .ensures)
-    (c .before .before .if4 .taken) (c .before .atoms-same .ensures))
-    (not-true (c .before .atoms-same .result) (c .if5 .taken)))
+    let at-if3 = c .before .before .before in
+    let the-if2 = at-if3 .before .if2 in
+    let the-word-at = at-if3 .before .before .word-at in
+    let the-if1 = at-if3 .before .before .before .if1 in
+    let at-loop = at-if3 .before .before .before .before .before .before in
+    let a = at-loop .before .before .before .before .args in
+    laws.front-differs (at-loop .loop .inv) (the-if1 .left) (the-word-at .ensures) (the-if2 .left) (at-if3 .if3 .left)
+    (laws.fits-symbol (a .text .now) (from (at-loop .loop .i) (a .pattern .now)) (from (at-loop .loop .j) (a .row .now)) (the-word-at .ensures)
+    (omega (arith, c .before .before .if4 .taken)) (c .before .characters-same .ensures (a .text .now)))
+    (not-true (c .before .characters-same .result) (c .if5 .taken)))
     (λ c.
-    let the-if2 = c .before .before .before .before .if2 in
-    let the-if3 = c .before .before .before .if3 in
-    let the-loop = c .before .before .before .before .before .before .before .before .before .loop in
-    let the-if1 = c .before .before .before .before .before .before .if1 in
-    let the-word-at = c .before .before .before .before .before .word-at in
-    laws.front-differs (the-loop .inv) (the-if1 .left) (the-word-at .ensures) (the-if2 .left) (the-if3 .left) (c .before .fits2 .ensures)
-    (not-true (c .before .fits2 .result) (c .if6 .taken))))
+    let at-if3 = c .before .before .before .before in
+    let the-if2 = at-if3 .before .if2 in
+    let the-word-at = at-if3 .before .before .word-at in
+    let the-if1 = at-if3 .before .before .before .if1 in
+    let at-loop = at-if3 .before .before .before .before .before .before in
+    let a = at-loop .before .before .before .before .args in
+    laws.front-differs (at-loop .loop .inv) (the-if1 .left) (the-word-at .ensures) (the-if2 .left) (at-if3 .if3 .left)
+    (laws.fits-symbol (a .text .now) (from (at-loop .loop .i) (a .pattern .now)) (from (at-loop .loop .j) (a .row .now)) (the-word-at .ensures)
+    (c .before .before .if6 .taken) (c .before .atoms-same .ensures))
+    (not-true (c .before .atoms-same .result) (c .if7 .taken)))
+    (λ c.
+    let at-if3 = c .before .before .before .before in
+    let the-if2 = at-if3 .before .if2 in
+    let the-word-at = at-if3 .before .before .word-at in
+    let the-if1 = at-if3 .before .before .before .if1 in
+    let at-loop = at-if3 .before .before .before .before .before .before in
+    laws.front-differs (at-loop .loop .inv) (the-if1 .left) (the-word-at .ensures) (the-if2 .left) (at-if3 .if3 .left) (c .before .fits2 .ensures)
+    (not-true (c .before .fits2 .result) (c .if8 .taken))))
     (λ t. last-lts.spec (
       terms-in-reads.Asked,
       terms-in-reads.Learnt,
