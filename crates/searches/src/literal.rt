@@ -185,20 +185,12 @@ fn literal_end(
     ensures { λ r. ⌜ (r ≡ resume (levelsOf (now (text .entry)) (now (terms .entry)) outer at start) (valuesOf (now (text .entry)) (now (terms .entry)) b))
         × Remembered (now (text .entry)) (now (terms .entry)) (levelsOf (now (text .entry)) (now (terms .entry)) outer at start) b sure (now (failed .entry)) (now (failed .exit)) ⌝ }
 {
+    let none = &terms[at..at];
     let levels = outer.count;
     let len = b.count;
-    let none = &terms[at..at];
-    if !holds_here(
-        text,
-        terms,
-        none,
-        &outer.patterns,
-        levels,
-        at,
-        &b.keys,
-        len,
-        sure,
-    ) {
+    let ends = &outer.patterns;
+    let keys = &b.keys;
+    if !holds_here(text, terms, none, ends, levels, at, keys, len, sure) {
         return literal_out(text, terms, at, start, outer, b, failed);
     }
     if failed_before(failed, 1, 0, at, at) {
@@ -310,17 +302,9 @@ fn literal_tries(
     let row_end = start + row.len();
     let levels = outer.count;
     let len = b.count;
-    if !holds_here(
-        text,
-        terms,
-        pattern,
-        &outer.patterns,
-        levels,
-        end,
-        &b.keys,
-        len,
-        sure,
-    ) {
+    let ends = &outer.patterns;
+    let keys = &b.keys;
+    if !holds_here(text, terms, pattern, ends, levels, end, keys, len, sure) {
         return literal_anew(text, terms, pattern, at, row, start, outer, b);
     }
     if failed_before(failed, at, end, start, row_end) {
