@@ -33,6 +33,7 @@ warned='-O2 -Wall -Wextra -pedantic -Werror -I include'
 gcc -std=c99 $warned -o "$made/header_c" bindings/tests/header.c "$library"
 g++ -std=c++11 $warned -o "$made/header_cpp" -x c++ bindings/tests/header.c -x none "$library"
 gcc -std=c99 $warned -o "$made/list" bindings/examples/list.c "$library"
+gcc -std=c99 $warned -o "$made/page" bindings/examples/page.c "$library"
 gcc -std=c99 $warned -o "$made/read" bindings/examples/read.c "$library"
 gcc -std=c99 $warned -o "$made/mark" bindings/examples/mark.c "$library"
 "$made/header_c"
@@ -77,6 +78,7 @@ fi
 compared=0
 for law in "$@"; do
     both list "$law"
+    both page "$law"
     compared=$((compared + 1))
 done
 

@@ -1,5 +1,5 @@
-/* Bilzarko for C: the findings of a law file, the text of each of them, the law file of a law typed as text, and the test of
- * a number's digits as they are typed.
+/* Bilzarko for C: the findings of a law file, the text of each of them, all of them on a printed page, the law file of a law
+ * typed as text, and the test of a number's digits as they are typed.
  *
  * Link with libbilzarko.a, which `rt staticlib bilzarko` writes to target/staticlib. It is for x86-64 Linux and needs
  * the C library only. The functions are proved to meet their contracts, which crates/bilzarko/src/lib.rt and
@@ -9,15 +9,15 @@
  * What a caller sees to, since nothing checks a caller in C:
  * - each pointer leads to as many elements as the number after it says, aligned for their type;
  * - the elements have values: memory that was never written may not be lent, not even as a buffer;
- * - what a call writes to (store, words, answer, the text call's text, the reading call's law, the digit call's state)
- *   overlaps nothing else that is lent to it, and nothing else reads or writes it before the call returns; nothing writes
- *   what a call only reads before then;
+ * - what a call writes to (store, words, answer, the text call's text, the page call's page, the reading call's law, the
+ *   digit call's state) overlaps nothing else that is lent to it, and nothing else reads or writes it before the call
+ *   returns; nothing writes what a call only reads before then;
  * - where the number of elements is 0 the pointer is not used: it may be null or point anywhere;
  * - `answer` and `state` are never null;
  * - a call has BILZARKO_STACK_BYTES of stack. With less, the system may end the process at the guard page.
  *
- * The findings call and the text call return, but they can take for ever: matching with repeated variables is
- * NP-complete. The smallest law known to do so has a sentence with the pattern e.1 .. e.k 'c' e.2 e.4 .., every second
+ * The findings call, the text call and the page call return, but they can take for ever: matching with repeated variables
+ * is NP-complete. The smallest law known to do so has a sentence with the pattern e.1 .. e.k 'c' e.2 e.4 .., every second
  * variable before e.k, and after it one with 'c' and 'a' k + 2 times; it takes some 2 seconds at k = 12, in 33 terms, and
  * about four times as long for each step of k. Where laws come from strangers, make the call in a process of its own and
  * end that process: a call keeps nothing, and holds nothing but what it is lent.
@@ -34,7 +34,7 @@ extern "C" {
 
 /* The version of this header and of the Rust crate over the same calls. */
 #define BILZARKO_VERSION_MAJOR 0
-#define BILZARKO_VERSION_MINOR 4
+#define BILZARKO_VERSION_MINOR 5
 #define BILZARKO_VERSION_PATCH 0
 
 /* Limits and sizes. */
@@ -43,8 +43,9 @@ extern "C" {
 #define BILZARKO_OVERRIDES 8         /* overrides, at most */
 #define BILZARKO_STORE_WORDS 8320    /* words of a store, at least: BILZARKO_FORMATS x BILZARKO_FORMAT_WORDS */
 #define BILZARKO_FINDING_WORDS 8     /* words of a finding */
-#define BILZARKO_TEXT_FINDINGS 256   /* findings that the text call has places for; more is refusal 11 there */
+#define BILZARKO_TEXT_FINDINGS 256   /* findings that the text and the page call have places for; more is refusal 11 there */
 #define BILZARKO_TEXT_BYTES 1087     /* bytes of the longest text; bindings/tests/longest_text.rs computes and reaches it */
+#define BILZARKO_PAGE_BYTES 19053    /* bytes of the longest page: 256 findings and 5 headings, 73 bytes each */
 #define BILZARKO_STACK_BYTES 1048576 /* stack to give to a call: the laws known to need most take 0.94 MiB */
 
 /* Modes. Classic hides findings of severity allow, strict does not. */
@@ -124,21 +125,23 @@ extern "C" {
 /* Refusals: what a call returns where it does not return 0. Where several hold, the first in this order is returned. The
  * digit call refuses nothing.
  *
- *   findings and text   14, then 1;
+ *   findings, text and page
+ *                       14, then 1;
  *                       then of the sections text, functions, sentences, conditions and terms, one after the other: 2 where
  *                       the count is cut off, 4 where it is over its limit, 2 where the records are cut off;
  *                       then 3, 5, 6, 7, 8, 9, 15, 10
  *   the findings call   then 11, where eight words for each finding are more than words_length
  *   the text call       then 11, where there are over BILZARKO_TEXT_FINDINGS findings; then 12, then 13
+ *   the page call       then 11, where there are over BILZARKO_TEXT_FINDINGS findings; then 18
  *   the reading call    4, where the text has over BILZARKO_LAW_TEXT_BYTES bytes; 16; of the law file that it spells 1, 4, 5,
  *                       8, 9; then 17
  *
  * Each of 5 to 10 is looked for in the whole law before what comes after it in this order. 10 does not depend on the
  * settings; 11 and 12 count the findings that the settings show.
  *
- * After a refusal `answer`, `words`, `text` and the reading call's `law` hold what they held before. So does the store
- * after 1 to 9, 14 and 15. After 10 its first 8,320 words are 0; after 11, 12 and 13 they hold the formats of the law, as
- * after a call that is not refused. Store words past 8,320 always keep their values. */
+ * After a refusal `answer`, `words`, `text`, `page` and the reading call's `law` hold what they held before. So does the
+ * store after 1 to 9, 14 and 15. After 10 its first 8,320 words are 0; after 11, 12, 13 and 18 they hold the formats of the
+ * law, as after a call that is not refused. Store words past 8,320 always keep their values. */
 #define BILZARKO_REFUSAL_FILE_OVER UINT32_C(1)   /* the law has over 16,384 bytes */
 #define BILZARKO_REFUSAL_CUT_OFF UINT32_C(2)     /* a section's count or records are cut off */
 #define BILZARKO_REFUSAL_LEFT_OVER UINT32_C(3)   /* bytes are left over after the sections */
@@ -161,6 +164,7 @@ extern "C" {
 #define BILZARKO_REFUSAL_STORE UINT32_C(15)      /* the store has under 8,320 words */
 #define BILZARKO_REFUSAL_GRAMMAR UINT32_C(16)    /* reading call: the text is outside the grammar, or not UTF-8 */
 #define BILZARKO_REFUSAL_LAW UINT32_C(17)        /* reading call: the law file does not fit */
+#define BILZARKO_REFUSAL_PAGE UINT32_C(18)       /* page call: the page does not fit */
 
 /* Lists the findings of a law.
  *
@@ -197,6 +201,27 @@ uint32_t bilzarko_text(uint32_t mode,
                        uint32_t *store, size_t store_length,
                        size_t position,
                        uint8_t *text, size_t text_length,
+                       uint64_t *answer);
+
+/* Writes the findings of a law as printed pages. Mode, overrides, law and store are as for the findings call, and the lines
+ * are in the order of its findings. As the text call, this one lists them into 256 places of its own.
+ *
+ *   page            gets the pages one after the other, which are ASCII, with no zero byte after them; BILZARKO_PAGE_BYTES
+ *                   hold those of any law
+ *   answer          gets the number of bytes written
+ *
+ * A line has 72 columns, filled up with spaces, and a line feed. A page has 60 lines at most. The first is a heading: the
+ * number of the law's functions at the left, the page's number ending in column 72. Each further line is a finding, with a
+ * space between its fields: the function's name in 24 columns, or its first 23 bytes and `+` where it is longer; `dead`,
+ * `no match`, `builtin` or `open` in 8; `error`, `deny`, `warn` or `allow` in 5; span start, span end and A in 10 each, at
+ * the right. A law without findings has one heading.
+ *
+ * Returns 0, or the number of a refusal. Bytes past the last page keep their values. */
+uint32_t bilzarko_page(uint32_t mode,
+                       const uint32_t *overrides, size_t overrides_length,
+                       const uint8_t *law, size_t law_length,
+                       uint32_t *store, size_t store_length,
+                       uint8_t *page, size_t page_length,
                        uint64_t *answer);
 
 /* Writes the law file of a law typed as Refal-5 text. docs/GRAMMAR.md has the grammar.

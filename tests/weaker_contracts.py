@@ -17,8 +17,8 @@ EXPORTED = "bilzarko/specs/Exported.antt"
 LAWS = "bilzarko/proofs/ExportLaws.antt"
 PUT_CODE = "buffers/src/lib.rt"
 PUT_PROOF = "buffers/proofs/put/Proof.antt"
-PINS = {PUT_PROOF} | {"loader/proofs/" + name for name in ("LoadedLaws.antt", "ShownLaws.antt", "TypedLaws.antt", "MarkedLaws.antt",
-                                                         "load/Proof.antt", "show/Proof.antt", "read/Proof.antt", "mark/Proof.antt")}
+PINS = {PUT_PROOF} | {"loader/proofs/" + name for name in ("LoadedLaws.antt", "BytesLaws.antt", "ShownLaws.antt", "PrintedLaws.antt", "TypedLaws.antt",
+                                                         "MarkedLaws.antt", "load/Proof.antt", "show/Proof.antt", "print/Proof.antt", "read/Proof.antt", "mark/Proof.antt")}
 
 # ---- demand 3
 
@@ -39,27 +39,30 @@ LISTED = "outcome = rw (← promise .outcome, is, word-is) refl;"
 NUMBER_SOME = "absurd (turned-number-some why (rw (← number-is) none))"
 
 
-
 class Call:
-    """A call whose contract is one equation: its name, the fields of its exit, its outcome, and the refusal's number in its proof."""
+    """A call whose contract is one equation: its name, the word that its exit and its laws are named by, the fields of the exit and
+    the parameter that each is of, its outcome, and the refusal's number in its proof."""
 
-    def __init__(self, name, exit_type, fields, outcome, number):
-        self.exit_type, self.fields = exit_type, fields
+    def __init__(self, name, word, fields, outcome, number):
+        self.exit_type, self.fields = f"{word.capitalize()}Exit", tuple(fields)
         self.proof = f"bilzarko/proofs/bilzarko_{name}/Proof.antt"
-        self.definition = f"abbrev pub {name}Exit :"
-        after = "; ".join(f"{field} = now ({field} .exit)" for field in fields)
+        self.definition = f"abbrev pub {word}Exit :"
+        after = "; ".join(f"{field} = now ({parameter} .exit)" for field, parameter in fields.items())
         self.record = f"(record {{ number = r; {after} }})"
-        self.outcome = f"({name}Exit (now (answer .entry)) ({outcome}))"
-        self.ensured = f"_≡_ {{A = {exit_type}}} {self.record}\n        {self.outcome}"
+        self.outcome = f"({word}Exit (now (answer .entry)) ({outcome}))"
+        self.ensured = f"_≡_ {{A = {self.exit_type}}} {self.record}\n        {self.outcome}"
         start = f"(at-start .args .answer .now) (at-call .{name} .ensures)"
-        self.refused = f"{name}-refused {start} (at-why .why .given .0 .0) (at-why .why .given .1) (c .{number} .ensures)"
-        self.written = f"{name}-written {start} (at-bytes .bytes .given .0 .0) (at-bytes .bytes .given .1)"
+        self.refused = f"{word}-refused {start} (at-why .why .given .0 .0) (at-why .why .given .1) (c .{number} .ensures)"
+        self.written = f"{word}-written {start} (at-bytes .bytes .given .0 .0) (at-bytes .bytes .given .1)"
 
 
-TEXT = Call("text", "TextExit", ("store", "text", "answer"),
+TEXT = Call("text", "bytes", {"store": "store", "bytes": "text", "answer": "answer"},
             "textOutcome 64 (settingsFrom mode (now (overrides .entry))) (now (law .entry)) (now (store .entry)) position (now (text .entry))",
             "turned-number")
-READ = Call("read", "ReadExit", ("law", "answer"), "readOutcome (now (text .entry)) (now (law .entry))", "unread-number")
+PAGE = Call("page", "bytes", {"store": "store", "bytes": "page", "answer": "answer"},
+            "pageOutcome 64 (settingsFrom mode (now (overrides .entry))) (now (law .entry)) (now (store .entry)) (now (page .entry))",
+            "turned-number")
+READ = Call("read", "read", {"law": "law", "answer": "answer"}, "readOutcome (now (text .entry)) (now (law .entry))", "unread-number")
 
 # ---- the digit call
 
@@ -190,9 +193,11 @@ CONTRACTS = {
         ],
     ),
     "findings-asks": ("the findings call asks for strict mode", asking("FindingsExported", "mode ≡ 1")),
-    "text-asks": ("the text call asks for strict mode", asking("_≡_ {A = TextExit}", "mode ≡ 1")),
+    "text-asks": ("the text call asks for strict mode", asking(TEXT.ensured, "mode ≡ 1")),
     "text-nothing": ("the text call promises nothing", nothing_said(TEXT)),
-    "read-asks": ("the reading call asks for a word of 7", asking("_≡_ {A = ReadExit}", "now answer ≡ 7")),
+    "page-asks": ("the page call asks for strict mode", asking(PAGE.ensured, "mode ≡ 1")),
+    "page-nothing": ("the page call promises nothing", nothing_said(PAGE)),
+    "read-asks": ("the reading call asks for a word of 7", asking(READ.ensured, "now answer ≡ 7")),
     "read-nothing": ("the reading call promises nothing", nothing_said(READ)),
     "digit-asks": (
         "the digit call asks for a state that digits give",
@@ -233,7 +238,7 @@ CONTRACTS = {
 for where, when in (("refused", "after a refusal"), ("listed", "where it is not refused")):
     for field in ("store", "findings", "answer"):
         CONTRACTS[f"findings-{field}-{where}"] = (f"the findings call leaves its {field} unsaid {when}", findings_unsaid(field, where))
-    for name, call in (("text", TEXT), ("read", READ)):
+    for name, call in (("text", TEXT), ("page", PAGE), ("read", READ)):
         for field in call.fields:
             CONTRACTS[f"{name}-{field}-{where}"] = (f"the {name} call leaves its {field} unsaid {when}", unsaid(call, field, where))
 

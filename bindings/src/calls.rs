@@ -32,6 +32,19 @@ mod library {
             answer: *mut u64,
         ) -> u32;
 
+        pub fn bilzarko_page(
+            mode: u32,
+            overrides: *const u32,
+            overrides_length: usize,
+            law: *const u8,
+            law_length: usize,
+            store: *mut u32,
+            store_length: usize,
+            page: *mut u8,
+            page_length: usize,
+            answer: *mut u64,
+        ) -> u32;
+
         pub fn bilzarko_read(
             text: *const u8,
             text_length: usize,
@@ -167,6 +180,55 @@ pub fn text(
     answered(number, answer as usize)
 }
 
+/// Writes the findings that [`findings`] lists under the same settings as printed pages, and answers the number of bytes
+/// written. They are ASCII, and [`PAGE_BYTES`](crate::PAGE_BYTES) hold those of any law. Bytes past them keep their values. The
+/// store is filled as by [`findings`].
+///
+/// A line has 72 columns, filled up with spaces, and a line feed. A page has 60 lines at most. The first is a heading: the
+/// number of the law's functions at the left, the page's number ending in column 72. Each further line is a finding, with a
+/// space between its fields: the function's name in 24 columns, or its first 23 bytes and `+` where it is longer; `dead`,
+/// `no match`, `builtin` or `open` in 8; `error`, `deny`, `warn` or `allow` in 5; span start, span end and a in 10 each, at the
+/// right. A law without findings has one heading.
+///
+/// ```
+/// use bilzarko::{page, Mode, Settings, PAGE_BYTES, STORE_WORDS};
+///
+/// let law = std::fs::read("../samples/bearing.law")?;
+/// let mut store = vec![0; STORE_WORDS];
+/// let mut lines = vec![0; PAGE_BYTES];
+/// let bytes = page(&Settings::new(Mode::Strict), &law, &mut store, &mut lines)?;
+/// assert_eq!(bytes, 7 * 73);
+/// let first = "Limit                    dead     deny         661        677          3\n";
+/// assert_eq!(&lines[73..146], first.as_bytes());
+/// # Ok::<(), Box<dyn std::error::Error>>(())
+/// ```
+pub fn page(
+    settings: &Settings,
+    law: &[u8],
+    store: &mut [u32],
+    page: &mut [u8],
+) -> Result<usize, Refusal> {
+    let overrides = settings.overrides();
+    let mut answer = 0;
+    // SAFETY: as in `text`, with `page` borrowed for writing in place of `text`.
+    #[allow(unsafe_code)]
+    let number = unsafe {
+        library::bilzarko_page(
+            settings.mode().number(),
+            overrides.as_ptr(),
+            overrides.len(),
+            law.as_ptr(),
+            law.len(),
+            store.as_mut_ptr(),
+            store.len(),
+            page.as_mut_ptr(),
+            page.len(),
+            &mut answer,
+        )
+    };
+    answered(number, answer as usize)
+}
+
 /// Writes the law file of a law typed as Refal-5 text, and answers the number of bytes written. [`LAW_BYTES`] hold any law file.
 /// Bytes past it keep their values. `docs/GRAMMAR.md` has the grammar.
 ///
@@ -232,7 +294,7 @@ mod tests {
     fn unknown_numbers_are_refusals() {
         assert_eq!(answered(0, 7), Ok(7));
         assert_eq!(answered(13, 7), Err(Refusal::Text));
-        for number in [18, 255, u32::MAX] {
+        for number in [19, 255, u32::MAX] {
             assert_eq!(answered(number, 7), Err(Refusal::Other(number)));
         }
     }

@@ -1,10 +1,10 @@
-//! The findings of a law file, the text of each of them, the law file of a law typed as text, and the test of a number's digits
-//! as they are typed, for Rust.
+//! The findings of a law file, the text of each of them, all of them on a printed page, the law file of a law typed as text, and
+//! the test of a number's digits as they are typed, for Rust.
 //!
 //! The work is done by `libbilzarko.a`, whose functions are proved to meet their contracts; `include/bilzarko.h`
-//! says what they answer. This crate declares them again and gives each a safe function, [`findings`], [`text`], [`read`] and
-//! [`Digits::push`]: any arguments that its types allow may be passed. [`list`] and [`law_file`] make the buffers themselves and
-//! give owned values.
+//! says what they answer. This crate declares them again and gives each a safe function, [`findings`], [`text`], [`page`],
+//! [`read`] and [`Digits::push`]: any arguments that its types allow may be passed. [`list`] and [`law_file`] make the buffers
+//! themselves and give owned values.
 //!
 //! ```
 //! use bilzarko::{list, Lint, Mode, Settings};
@@ -35,8 +35,8 @@
 //!
 //! # Time
 //!
-//! [`findings`] and [`text`] return, but they can take for ever: matching with repeated variables is NP-complete. The
-//! smallest law known to do so has a sentence with the pattern `e.1 .. e.k 'c' e.2 e.4 ..`, every second variable before
+//! [`findings`], [`text`] and [`page`] return, but they can take for ever: matching with repeated variables is NP-complete.
+//! The smallest law known to do so has a sentence with the pattern `e.1 .. e.k 'c' e.2 e.4 ..`, every second variable before
 //! `e.k`, and after it one with `'c'` and `'a'` k + 2 times; it takes some 2 seconds at k = 12, in 33 terms, and about four
 //! times as long for each step of k. Where laws come from strangers, make the call in a process of its own and end that
 //! process: a call keeps nothing, and holds nothing but what it is lent.
@@ -52,7 +52,7 @@ mod listing;
 mod refusal;
 mod settings;
 
-pub use calls::{findings, law_file, read, text, Count};
+pub use calls::{findings, law_file, page, read, text, Count};
 pub use digits::{Digits, Tested};
 pub use finding::{decode, Finding};
 pub use kinds::{Lint, Mode, Severity};
@@ -68,10 +68,12 @@ pub const LAW_TEXT_BYTES: usize = 4_096;
 pub const STORE_WORDS: usize = formats::FORMATS * formats::FORMAT_WORDS;
 /// The words of a finding.
 pub const FINDING_WORDS: usize = 8;
-/// The findings that [`text`] has places for. More is [`Refusal::Findings`] there.
+/// The findings that [`text`] and [`page`] have places for. More is [`Refusal::Findings`] there.
 pub const TEXT_FINDINGS: usize = 256;
 /// The bytes of the longest text. `tests/longest_text.rs` computes it, and has the library write a text of this length.
 pub const TEXT_BYTES: usize = 1_087;
+/// The bytes of the longest page: 256 findings and 5 headings, 73 bytes each.
+pub const PAGE_BYTES: usize = 19_053;
 /// The overrides of [`Settings`], at most.
 pub const OVERRIDES: usize = 8;
 /// The stack to give to a call: 1 MiB. The laws known to need most take 0.94 MiB.

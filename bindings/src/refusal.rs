@@ -8,13 +8,13 @@ use std::fmt;
 /// [`CutOff`](Refusal::CutOff) for the count, [`CountOver`](Refusal::CountOver), [`CutOff`](Refusal::CutOff) for the
 /// records; [`LeftOver`](Refusal::LeftOver); [`Fields`](Refusal::Fields) to [`Patterns`](Refusal::Patterns) by their
 /// numbers; [`Store`](Refusal::Store); [`Shapes`](Refusal::Shapes); [`Findings`](Refusal::Findings); and of a text
-/// [`NoFinding`](Refusal::NoFinding), then [`Text`](Refusal::Text). Of a law typed as text it is [`CountOver`](Refusal::CountOver) over
-/// 4,096 bytes; [`Grammar`](Refusal::Grammar); of its law file [`FileOver`](Refusal::FileOver),
-/// [`CountOver`](Refusal::CountOver), [`Fields`](Refusal::Fields), [`Depth`](Refusal::Depth) and [`Patterns`](Refusal::Patterns); and
-/// [`Law`](Refusal::Law).
+/// [`NoFinding`](Refusal::NoFinding), then [`Text`](Refusal::Text), of a page [`Page`](Refusal::Page). Of a law typed as text it is
+/// [`CountOver`](Refusal::CountOver) over 4,096 bytes; [`Grammar`](Refusal::Grammar); of its law file
+/// [`FileOver`](Refusal::FileOver), [`CountOver`](Refusal::CountOver), [`Fields`](Refusal::Fields), [`Depth`](Refusal::Depth) and
+/// [`Patterns`](Refusal::Patterns); and [`Law`](Refusal::Law).
 ///
 /// The buffers keep their values, but for the store: after [`Refusal::Shapes`] its first 8,320 words are 0, and after
-/// [`Refusal::Findings`], [`Refusal::NoFinding`] and [`Refusal::Text`] they hold the formats of the law.
+/// [`Refusal::Findings`], [`Refusal::NoFinding`], [`Refusal::Text`] and [`Refusal::Page`] they hold the formats of the law.
 ///
 /// ```
 /// use bilzarko::{list, Mode, Refusal, Settings};
@@ -63,6 +63,8 @@ pub enum Refusal {
     Grammar,
     /// 17: the law file does not fit.
     Law,
+    /// 18: the page does not fit.
+    Page,
     /// A number that this crate has no name for. The library of this version returns none such.
     Other(u32),
 }
@@ -88,6 +90,7 @@ impl Refusal {
             Refusal::Store => 15,
             Refusal::Grammar => 16,
             Refusal::Law => 17,
+            Refusal::Page => 18,
             Refusal::Other(number) => number,
         }
     }
@@ -99,7 +102,7 @@ impl Refusal {
     ///
     /// assert_eq!(Refusal::of_number(0), None);
     /// assert_eq!(Refusal::of_number(15), Some(Refusal::Store));
-    /// assert_eq!(Refusal::of_number(18), Some(Refusal::Other(18)));
+    /// assert_eq!(Refusal::of_number(19), Some(Refusal::Other(19)));
     /// ```
     pub const fn of_number(number: u32) -> Option<Refusal> {
         Some(match number {
@@ -121,6 +124,7 @@ impl Refusal {
             15 => Refusal::Store,
             16 => Refusal::Grammar,
             17 => Refusal::Law,
+            18 => Refusal::Page,
             _ => Refusal::Other(number),
         })
     }
@@ -151,6 +155,7 @@ impl Refusal {
             Refusal::Store => "the store has under 8,320 words",
             Refusal::Grammar => "the text is outside the grammar",
             Refusal::Law => "the law file does not fit",
+            Refusal::Page => "the page does not fit",
             Refusal::Other(_) => "its meaning is not known",
         }
     }

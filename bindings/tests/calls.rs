@@ -4,8 +4,8 @@ mod laws;
 use std::error::Error;
 
 use bilzarko::{
-    decode, findings, list, text, Count, Finding, Lint, Listed, Listing, Mode, Override, Refusal,
-    Settings, Severity, STORE_WORDS, TEXT_FINDINGS,
+    decode, findings, list, page, text, Count, Finding, Lint, Listed, Listing, Mode, Override,
+    Refusal, Settings, Severity, PAGE_BYTES, STORE_WORDS, TEXT_FINDINGS,
 };
 use laws::section;
 
@@ -98,6 +98,132 @@ fn texts_are_written() {
     assert_eq!(bytes, [b'?']);
 }
 
+/// A line of a page: 72 columns and a line feed.
+const LINE: usize = 73;
+
+/// The heading of a page in a law with two functions.
+fn heading(number: usize) -> String {
+    format!("2{number:71}\n")
+}
+
+/// The page of a law in a buffer of [`PAGE_BYTES`], whose other bytes must be kept.
+fn printed(settings: &Settings, law: &[u8]) -> Result<String, Refusal> {
+    let mut bytes = vec![b'?'; PAGE_BYTES];
+    let length = page(settings, law, &mut [OLD; STORE_WORDS], &mut bytes)?;
+    let rest = bytes.split_off(length);
+    assert!(rest.iter().all(|byte| *byte == b'?'));
+    Ok(String::from_utf8(bytes).unwrap())
+}
+
+#[test]
+fn page_is_written() {
+    let wanted = [
+        "2                                                                      1\n",
+        "F                        dead     deny          15         26          2\n",
+        "H                        no match deny          40         45          1\n",
+    ]
+    .concat();
+    let mut filled = [OLD; STORE_WORDS];
+    findings(&STRICT, &example(), &mut filled, &mut [OLD; 16]).unwrap();
+    for room in [0, 1, LINE, wanted.len() - 1] {
+        let mut store = [OLD; STORE_WORDS + 1];
+        let mut short = vec![b'?'; room];
+        assert_eq!(
+            page(&STRICT, &example(), &mut store, &mut short),
+            Err(Refusal::Page)
+        );
+        assert!(short.iter().all(|byte| *byte == b'?'));
+        assert_eq!(store[..STORE_WORDS], filled);
+        assert_eq!(store[STORE_WORDS], OLD);
+    }
+    for more in ["", "?", "?????"] {
+        let mut store = [OLD; STORE_WORDS + 1];
+        let mut bytes = vec![b'?'; wanted.len() + more.len()];
+        assert_eq!(
+            page(&STRICT, &example(), &mut store, &mut bytes),
+            Ok(wanted.len())
+        );
+        assert_eq!(String::from_utf8(bytes).unwrap(), format!("{wanted}{more}"));
+        assert_eq!(store[..STORE_WORDS], filled);
+        assert_eq!(store[STORE_WORDS], OLD);
+    }
+}
+
+/// The settings decide which lines there are, and the severity's word.
+#[test]
+fn page_has_the_settings() {
+    let of = |lint, severity| Override { lint, severity };
+    let settings = STRICT
+        .with(of(Lint::DeadSentence, Severity::Error))
+        .and_then(|some| some.with(of(Lint::RecognitionImpossible, Severity::Allow)))
+        .unwrap();
+    let dead = "F                        dead     error         15         26          2\n";
+    assert_eq!(
+        printed(&settings, &example()),
+        Ok(format!("{}{dead}", heading(1)))
+    );
+}
+
+/// A page has 59 findings; a page that is full is followed by no heading without a line under it.
+#[test]
+fn pages_have_sixty_lines() {
+    let line = "G                        no match deny           0          0          1\n";
+    for (findings, lines) in [
+        (0, 1),
+        (1, 2),
+        (58, 59),
+        (59, 60),
+        (60, 62),
+        (118, 120),
+        (119, 122),
+        (TEXT_FINDINGS, 261),
+    ] {
+        let mut wanted = if findings == 0 {
+            heading(1)
+        } else {
+            String::new()
+        };
+        for finding in 0..findings {
+            if finding % 59 == 0 {
+                wanted += &heading(finding / 59 + 1);
+            }
+            wanted += line;
+        }
+        assert_eq!(wanted.len(), lines * LINE);
+        assert_eq!(printed(&STRICT, &many(findings)), Ok(wanted));
+    }
+    let longest = many(TEXT_FINDINGS);
+    let mut store = [OLD; STORE_WORDS];
+    assert_eq!(
+        page(&STRICT, &longest, &mut store, &mut [b'?'; PAGE_BYTES - 1]),
+        Err(Refusal::Page)
+    );
+}
+
+/// Names of 23, 24 and 25 bytes, with a sentence each that has two e. variables and the greatest span.
+#[test]
+fn names_are_cut_to_their_columns() {
+    let spelled = b"ABCDEFGHIJKLMNOPQRSTUVWXYZ";
+    let mut law = (spelled.len() as u32).to_le_bytes().to_vec();
+    law.extend(spelled);
+    section(
+        &mut law,
+        &[[0, 23, 1, 0, 0], [0, 24, 1, 0, 0], [0, 25, 1, 0, 0]],
+    );
+    section(&mut law, &[[2, 0, 0, u32::MAX, u32::MAX]; 3]);
+    section::<4>(&mut law, &[]);
+    let pair = [[5, 0, 1, 0, 0, 0], [5, 1, 1, 0, 0, 0]];
+    section(&mut law, &[pair, pair, pair].concat());
+    let fields = "open     allow 4294967295 4294967295          2\n";
+    let wanted = [
+        "3                                                                      1\n",
+        &format!("ABCDEFGHIJKLMNOPQRSTUVW  {fields}"),
+        &format!("ABCDEFGHIJKLMNOPQRSTUVWX {fields}"),
+        &format!("ABCDEFGHIJKLMNOPQRSTUVW+ {fields}"),
+    ];
+    assert_eq!(printed(&STRICT, &law), Ok(wanted.concat()));
+}
+
 #[test]
 fn refused_files_leave_the_buffers() {
     let mut store = [OLD; STORE_WORDS];
@@ -118,6 +244,7 @@ fn refused_files_leave_the_buffers() {
     for (law, wanted) in cases {
         assert_eq!(findings(&STRICT, law, &mut store, &mut words), Err(wanted));
         assert_eq!(text(&STRICT, law, &mut store, 0, &mut []), Err(wanted));
+        assert_eq!(page(&STRICT, law, &mut store, &mut []), Err(wanted));
     }
     assert!(store.iter().chain(&words).all(|word| *word == OLD));
 }
@@ -139,6 +266,11 @@ fn buffers_may_be_short_or_empty() {
         text(&STRICT, &example(), &mut [], 0, &mut []),
         Err(Refusal::Store)
     );
+    assert_eq!(
+        page(&STRICT, &example(), &mut short, &mut []),
+        Err(Refusal::Store)
+    );
+    assert!(short.iter().all(|word| *word == OLD));
 
     let mut store = [OLD; STORE_WORDS];
     assert_eq!(
@@ -154,6 +286,10 @@ fn buffers_may_be_short_or_empty() {
     assert_eq!(
         text(&STRICT, &example(), &mut store, 0, &mut []),
         Err(Refusal::Text)
+    );
+    assert_eq!(
+        page(&STRICT, &example(), &mut store, &mut []),
+        Err(Refusal::Page)
     );
 }
 
@@ -191,6 +327,7 @@ fn first_refusal_is_answered() {
     for (law, wanted) in with_no_buffers {
         assert_eq!(findings(&STRICT, law, &mut [], &mut []), Err(wanted));
         assert_eq!(text(&STRICT, law, &mut [], 9, &mut []), Err(wanted));
+        assert_eq!(page(&STRICT, law, &mut [], &mut []), Err(wanted));
     }
 
     // A law with too many shapes and with findings that do not fit.
@@ -215,6 +352,12 @@ fn first_refusal_is_answered() {
         text(&STRICT, &wide_and_open, &mut store, 9, &mut []),
         Err(Refusal::Shapes)
     );
+    store.fill(OLD);
+    assert_eq!(
+        page(&STRICT, &wide_and_open, &mut store, &mut []),
+        Err(Refusal::Shapes)
+    );
+    assert!(store.iter().all(|word| *word == 0));
     assert_eq!(
         findings(&STRICT, &wide(64), &mut store, &mut []).map(|count| count.findings),
         Ok(0)
@@ -223,6 +366,10 @@ fn first_refusal_is_answered() {
     let more = many(TEXT_FINDINGS + 1);
     assert_eq!(
         text(&STRICT, &more, &mut store, usize::MAX, &mut []),
+        Err(Refusal::Findings)
+    );
+    assert_eq!(
+        page(&STRICT, &more, &mut store, &mut []),
         Err(Refusal::Findings)
     );
     assert_eq!(
@@ -362,7 +509,7 @@ fn numbers_go_back_and_forth() {
         let refusal = Refusal::of_number(number).unwrap();
         assert_eq!(refusal.number(), number);
         let unknown = matches!(refusal, Refusal::Other(_));
-        assert_eq!(unknown, number > 17);
+        assert_eq!(unknown, number > 18);
     }
     for number in (0..=40).chain([u32::MAX]) {
         assert_eq!(Lint::of_number(number).number(), number);
@@ -372,7 +519,7 @@ fn numbers_go_back_and_forth() {
 
 #[test]
 fn refusals_say_their_meaning() {
-    let said: Vec<String> = (1..=18)
+    let said: Vec<String> = (1..=19)
         .filter_map(Refusal::of_number)
         .map(|refusal| (Box::new(refusal) as Box<dyn Error>).to_string())
         .collect();
@@ -382,5 +529,6 @@ fn refusals_say_their_meaning() {
     }
     assert_eq!(said[12], "refusal 13: the text does not fit");
     assert_eq!(said[15], "refusal 16: the text is outside the grammar");
-    assert_eq!(said[17], "refusal 18: its meaning is not known");
+    assert_eq!(said[17], "refusal 18: the page does not fit");
+    assert_eq!(said[18], "refusal 19: its meaning is not known");
 }

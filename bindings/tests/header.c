@@ -1,7 +1,7 @@
 /* That the header compiles as C99 and as C++, and that its macros with parameters give what they should: an array of a
- * negative size does not compile. Run, it lists a law without functions, which has no findings and one round, lends settings
- * that are refused before all else, reads texts: one is taken, one is outside the grammar, one is too long; and takes digits up to
- * the last macrodigit and past it. */
+ * negative size does not compile. Run, it lists a law without functions, which has no findings, one round and a page of one
+ * line, lends settings that are refused before all else, reads texts: one is taken, one is outside the grammar, one is too long;
+ * and takes digits up to the last macrodigit and past it. */
 #include "bilzarko.h"
 
 #define HOLDS(name, condition) typedef char name[(condition) ? 1 : -1]
@@ -17,14 +17,17 @@ HOLDS(format_is_shapes, BILZARKO_FORMAT_SHAPES + 1 == BILZARKO_FORMAT_WORDS);
 static uint32_t store[BILZARKO_STORE_WORDS];
 static const uint8_t over[BILZARKO_LAW_BYTES + 1] = {0};
 static uint8_t file[BILZARKO_LAW_BYTES];
+static uint8_t page[74]; /* a line, its line feed, and a byte that must be kept */
 
-/* Both calls with a law that is too long and no buffers: are they refused for their settings? */
+/* The three calls with a law that is too long and no buffers: are they refused for their settings? */
 static int settings_refused(uint32_t mode, const uint32_t *overrides, size_t overrides_length)
 {
     uint64_t answer[BILZARKO_ANSWER_WORDS] = {7, 7, 7};
     return bilzarko_findings(mode, overrides, overrides_length, over, sizeof over, NULL, 0, NULL, 0, answer)
                == BILZARKO_REFUSAL_SETTINGS
            && bilzarko_text(mode, overrides, overrides_length, over, sizeof over, NULL, 0, 0, NULL, 0, answer)
+                  == BILZARKO_REFUSAL_SETTINGS
+           && bilzarko_page(mode, overrides, overrides_length, over, sizeof over, NULL, 0, NULL, 0, answer)
                   == BILZARKO_REFUSAL_SETTINGS
            && answer[0] == 7 && answer[1] == 7 && answer[2] == 7;
 }
@@ -71,5 +74,15 @@ int main(void)
         || take_digits("4294967296") != BILZARKO_DIGIT_PAST || take_digits("42949672950") != BILZARKO_DIGIT_PAST
         || take_digits("4294967296x") != BILZARKO_DIGIT_NONE)
         return 7;
+    page[73] = '?';
+    bytes = 7;
+    if (bilzarko_page(BILZARKO_MODE_CLASSIC, overrides, 1, law, sizeof law, store, BILZARKO_STORE_WORDS, page, 72, &bytes)
+            != BILZARKO_REFUSAL_PAGE
+        || bytes != 7 || page[0] != 0)
+        return 8;
+    if (bilzarko_page(BILZARKO_MODE_CLASSIC, overrides, 1, law, sizeof law, store, BILZARKO_STORE_WORDS, page, sizeof page,
+                      &bytes) != 0
+        || bytes != 73 || page[0] != '0' || page[71] != '1' || page[72] != '\n' || page[73] != '?')
+        return 9;
     return 0;
 }

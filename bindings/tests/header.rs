@@ -45,6 +45,7 @@ fn numbers_are_the_same() {
         ("FINDING_WORDS", bilzarko::FINDING_WORDS),
         ("TEXT_FINDINGS", bilzarko::TEXT_FINDINGS),
         ("TEXT_BYTES", bilzarko::TEXT_BYTES),
+        ("PAGE_BYTES", bilzarko::PAGE_BYTES),
         ("STACK_BYTES", bilzarko::STACK_BYTES),
         ("FORMATS", formats::FORMATS),
         ("FORMAT_WORDS", formats::FORMAT_WORDS),
@@ -114,6 +115,7 @@ fn numbers_are_the_same() {
         ("REFUSAL_STORE", Refusal::Store),
         ("REFUSAL_GRAMMAR", Refusal::Grammar),
         ("REFUSAL_LAW", Refusal::Law),
+        ("REFUSAL_PAGE", Refusal::Page),
     ];
     for (name, refusal) in refusals {
         same(name, refusal.number());

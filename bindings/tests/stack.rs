@@ -1,9 +1,10 @@
-//! That a thread with [`STACK_BYTES`] of stack lists the law that is known to need most (docs/ARCHITECTURE.md, "Stack").
+//! That a thread with [`STACK_BYTES`] of stack lists the law that is known to need most (docs/ARCHITECTURE.md, "Stack"), and
+//! writes its page.
 mod laws;
 
 use std::thread;
 
-use bilzarko::{list, Mode, Settings, STACK_BYTES};
+use bilzarko::{list, page, Mode, Settings, PAGE_BYTES, STACK_BYTES, STORE_WORDS};
 use laws::section;
 
 /// `()` so many times in the pattern and in the argument.
@@ -53,4 +54,31 @@ fn deepest_law_is_listed() {
     let open = "sentence of `F` has 33 `e.`-variables in its pattern; matching may backtrack proportionally to the argument \
                 length to the power 33";
     assert_eq!(texts, [open]);
+}
+
+#[test]
+fn page_of_the_deepest_law_is_written() {
+    let written = thread::Builder::new()
+        .stack_size(STACK_BYTES)
+        .spawn(|| {
+            let mut bytes = vec![0; PAGE_BYTES];
+            let mut store = vec![0; STORE_WORDS];
+            let length = page(
+                &Settings::new(Mode::Strict),
+                &deepest(),
+                &mut store,
+                &mut bytes,
+            )?;
+            bytes.truncate(length);
+            Ok::<_, bilzarko::Refusal>(bytes)
+        })
+        .unwrap()
+        .join()
+        .unwrap()
+        .unwrap();
+    let wanted = [
+        "2                                                                      1\n",
+        "F                        open     allow          0          0         33\n",
+    ];
+    assert_eq!(String::from_utf8(written).unwrap(), wanted.concat());
 }

@@ -17,11 +17,11 @@ use crate::zeros::without_zeros;
 
 /// Each time is the least of those taken in turns: so many turns at least, and more until both together took so many seconds,
 /// since one interruption is longer than a small law takes.
-const TURNS: usize = 9;
-const SECONDS: f64 = 2e-4;
+pub const TURNS: usize = 9;
+pub const SECONDS: f64 = 2e-4;
 /// All laws are gone through so many times, and the middle ratio of a law counts: both sides of a ratio are then of one state of
 /// the machine, and a short disturbance meets a law in one pass alone.
-const PASSES: usize = 5;
+pub const PASSES: usize = 5;
 const CLEARINGS: usize = 999;
 /// The ratios that the median, and that any law, shall not pass.
 const WISHED: [f64; 2] = [1.0, 2.0];

@@ -14,6 +14,7 @@ use crate::encode::{Encoded, Record, encode};
 use crate::generate::{self, Law};
 use crate::matching::{Steps, TooLong};
 use crate::ours::{Buffers, Words};
+use crate::pages::{UNDER, compare_pages, cut_names, owners, pages};
 use crate::random::Random;
 use crate::read_program::without_declarations;
 use crate::refal::notation;
@@ -216,8 +217,11 @@ pub fn compare(
         }
         Answer::Listed(listed) => {
             let rust = rust_lines(law, settings);
+            let lines = with_differences(&rust, &listed.remarks.all, settings)?;
+            let owners = owners(law, &rust, &listed.remarks.all, settings)?;
             let expected = Expected {
-                lines: with_differences(&rust, &listed.remarks.all, settings)?,
+                pages: pages(law, &lines, &owners),
+                lines,
                 listed,
                 encoded,
                 settings,
@@ -250,6 +254,7 @@ fn files(encoded: &Encoded, stripped: Option<&Program>) -> Result<Vec<Vec<u8>>, 
 struct Expected<'a> {
     listed: Listed,
     lines: Vec<Line>,
+    pages: String,
     /// Its records are those of all files.
     encoded: &'a Encoded,
     settings: &'a Settings,
@@ -286,6 +291,14 @@ impl Expected<'_> {
         compare_words(&self.lines, &found, self.encoded)?;
         compare_texts(&self.lines, self.settings, file, buffers)?;
         compare_store(&self.listed.formats, buffers.store())?;
+        compare_pages(
+            &self.pages,
+            self.lines.len(),
+            &self.listed.formats,
+            self.settings,
+            file,
+            buffers,
+        )?;
         Ok(found)
     }
 
@@ -295,7 +308,12 @@ impl Expected<'_> {
             counts.findings[line.lint as usize - 1] += 1;
         }
         match self.lines.len() <= bilzarko::TEXT_FINDINGS {
-            true => counts.texts += self.lines.len(),
+            true => {
+                counts.texts += self.lines.len();
+                counts.pages += self.lines.len().div_ceil(UNDER).max(1);
+                counts.cut_names += cut_names(&self.pages);
+                counts.refused[18] += 1;
+            }
             false => counts.without_texts += 1,
         }
         counts.formats += 2 * self.listed.formats.functions.len();
@@ -319,7 +337,10 @@ fn refused(
 ) -> Result<(), String> {
     let answer = buffers.findings(&settings.ours(), file);
     let number = answer.err().map(Refusal::number);
-    same("refusal", &number, &Some(expected))
+    same("refusal", &number, &Some(expected))?;
+    let printed = buffers.page(&settings.ours(), file);
+    let number = printed.err().map(Refusal::number);
+    same("refusal of the page call", &number, &Some(expected))
 }
 
 pub fn same<T: PartialEq + std::fmt::Debug>(

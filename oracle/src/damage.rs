@@ -80,7 +80,12 @@ fn turned_back(
         .text(&settings.ours(), bytes, random.below(3))
         .err()
         .map(Refusal::number);
-    same("refusal of the text call", &told, &Some(number))
+    same("refusal of the text call", &told, &Some(number))?;
+    let printed = buffers
+        .page(&settings.ours(), bytes)
+        .err()
+        .map(Refusal::number);
+    same("refusal of the page call", &printed, &Some(number))
 }
 
 /// Settings as any words: refusal 14 comes before all others.
@@ -115,7 +120,7 @@ fn with_words(
     same(
         &format!("answers with mode {mode} and overrides {overrides:?}"),
         &answers,
-        &(expected, expected),
+        &[expected; 3],
     )
 }
 
@@ -131,7 +136,7 @@ fn edges(
     let found = listed.map_err(|refusal| refusal.to_string())?.1.len();
     let filled = buffers.store.clone();
 
-    let expected = (Err(Refusal::Store), Err(Refusal::Store));
+    let expected = [Some(Refusal::Store); 3];
     same(
         "answers without a store",
         &buffers.without_store(&ours, bytes),

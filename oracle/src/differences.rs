@@ -19,6 +19,8 @@ pub const KINDS: [&str; 2] = ["single term", "bracketed literal"];
 /// What is said of one subject: the text, where it is listed.
 pub struct Remark {
     pub lint: u32,
+    /// The position of the function that the subject stands in.
+    pub function: usize,
     pub span: Span,
     pub rust: Option<String>,
     pub named: Option<String>,
@@ -54,6 +56,7 @@ pub fn remarks(
             .collect(),
         formats,
         steps,
+        function: 0,
         remarks: Remarks {
             all: Vec::new(),
             went_back: 0,
@@ -61,11 +64,13 @@ pub fn remarks(
             too_wide: false,
         },
     };
-    for function in functions(program) {
+    for (position, function) in functions(program).enumerate() {
+        walk.function = position;
         walk.dead(&function.name, &function.sentences)?;
         walk.dead_inside(&function.name, &function.sentences)?;
     }
-    for function in functions(program) {
+    for (position, function) in functions(program).enumerate() {
+        walk.function = position;
         walk.calls_of(&function.sentences)?;
     }
     Ok(walk.remarks)
@@ -76,6 +81,8 @@ struct Walk<'a> {
     defined: HashMap<String, &'a Function>,
     formats: &'a Formats,
     steps: &'a mut Steps,
+    /// The position of the function that is walked through.
+    function: usize,
     remarks: Remarks,
 }
 
@@ -83,6 +90,7 @@ impl Walk<'_> {
     fn note(&mut self, lint: u32, span: Span, rust: Option<String>, named: Option<String>) {
         self.remarks.all.push(Remark {
             lint,
+            function: self.function,
             span,
             rust,
             named,

@@ -22,6 +22,8 @@ mod listed;
 mod machine;
 mod matching;
 mod ours;
+mod page_bench;
+mod pages;
 mod pair_terms;
 mod pairs;
 mod parse;
@@ -89,6 +91,7 @@ const USAGE: &str = "usage:
   oracle rows                 how long both take for rows as long as the limits allow
   oracle families             how long the findings call takes where a plain search takes for ever
   oracle read-bench           how long the read call takes, over the check of what it writes
+  oracle pages LAWS SEED      how long the page call takes, over the findings call, for laws with few findings
   oracle stack LAWS SEED      how much stack the calls take
   oracle sample               writes the stored sample of the Rust's answers
   oracle sample --check       whether the stored sample is what would be written
@@ -110,6 +113,7 @@ fn main() -> ExitCode {
         (Some("pairs"), [pairs, seed]) => fast::run(*pairs, *seed),
         (Some("texts"), [texts, seed]) => texts::run(*texts, *seed),
         (Some("bench"), [laws, seed]) => bench::run(*laws, *seed),
+        (Some("pages"), [laws, seed]) => page_bench::run(*laws, *seed),
         (Some("stack"), [laws, seed]) => stack::run(*laws, *seed),
         (Some("quick"), []) => quick(),
         (Some("small"), []) => small::run(),

@@ -50,7 +50,8 @@ pub fn each_term(program: &mut Program, change: &mut dyn FnMut(&mut Term)) {
     }
 }
 
-fn in_sentences(sentences: &mut [Sentence], change: &mut dyn FnMut(&mut Term)) {
+/// All terms of sentences, at all depths.
+pub fn in_sentences(sentences: &mut [Sentence], change: &mut dyn FnMut(&mut Term)) {
     for sentence in sentences {
         in_terms(&mut sentence.pattern, change);
         for condition in &mut sentence.conditions {

@@ -1,4 +1,4 @@
-//! How much stack each of the three calls takes, at most, over random laws, laws at the limits and texts at the limits.
+//! How much stack each of the four calls takes, at most, over random laws, laws at the limits and texts at the limits.
 //!
 //! The memory below the caller's frame is given a value before a call; the deepest byte that has another value after it
 //! tells how far the call went. This goes past what the language promises of memory below a frame, and serves to measure
@@ -24,8 +24,10 @@ const DEPTH: usize = 2 << 20;
 const NEAR: usize = 4 << 10;
 const MARK: u8 = 0x5c;
 
-/// What the findings call and the text call took.
-type Taken = [usize; 2];
+/// The calls that list.
+const CALLS: [&str; 3] = ["findings", "text", "page"];
+/// What each of them took.
+type Taken = [usize; CALLS.len()];
 /// A law in Refal notation, and what it has.
 type Named = (&'static str, String);
 
@@ -34,11 +36,7 @@ pub fn run(laws: u64, seed: u64) -> ExitCode {
         .stack_size(THREAD)
         .spawn(move || {
             let [hand, random] = [by_hand(), at_random(laws, seed)];
-            println!(
-                "the most of all: findings call {} bytes, text call {} bytes",
-                hand[0].max(random[0]),
-                hand[1].max(random[1])
-            );
+            println!("the most of all: {}", said(more(hand, random)));
             reading();
         })
         .map(|thread| thread.join());
@@ -46,6 +44,16 @@ pub fn run(laws: u64, seed: u64) -> ExitCode {
         Ok(Ok(())) => ExitCode::SUCCESS,
         _ => ExitCode::FAILURE,
     }
+}
+
+fn more(one: Taken, other: Taken) -> Taken {
+    std::array::from_fn(|call| one[call].max(other[call]))
+}
+
+fn said(taken: Taken) -> String {
+    let each = |(call, bytes)| format!("{call} call {bytes} bytes");
+    let all: Vec<String> = CALLS.iter().zip(taken).map(each).collect();
+    all.join(", ")
 }
 
 /// The most of laws that go deep.
@@ -56,7 +64,7 @@ fn by_hand() -> Taken {
         bytes: None,
     };
     let mut buffers = Buffers::new();
-    let mut most: Taken = [0; 2];
+    let mut most: Taken = [0; CALLS.len()];
     for (name, notation) in deep_laws() {
         let program = parse(&notation).expect("the notation is right");
         let encoded = encode(&program, layout, &mut Random::of(0, 0));
@@ -68,9 +76,9 @@ fn by_hand() -> Taken {
             &mut buffers.words,
         );
         assert!(answer.is_ok(), "{name}: {answer:?}");
-        let [findings, text] = taken(&encoded.bytes, &mut buffers);
-        println!("{name}: findings call {findings} bytes, text call {text} bytes");
-        most = [most[0].max(findings), most[1].max(text)];
+        let taken = taken(&encoded.bytes, &mut buffers);
+        println!("{name}: {}", said(taken));
+        most = more(most, taken);
     }
     most
 }
@@ -229,8 +237,8 @@ fn at_random(laws: u64, seed: u64) -> Taken {
             taken(&encoded.bytes, &mut buffers)
         })
         .collect();
-    let mut most: Taken = [0; 2];
-    for (call, name) in ["findings", "text"].iter().enumerate() {
+    let mut most: Taken = [0; CALLS.len()];
+    for (call, name) in CALLS.iter().enumerate() {
         if let Some((law, deepest)) = all.iter().enumerate().max_by_key(|(_, taken)| taken[call]) {
             most[call] = deepest[call];
             println!(
@@ -260,14 +268,22 @@ fn reading() {
 
 fn taken(law: &[u8], buffers: &mut Buffers) -> Taken {
     let settings = Settings::strict().ours();
-    let Buffers { store, words, text } = buffers;
+    let Buffers {
+        store,
+        words,
+        text,
+        page,
+    } = buffers;
     let findings = depth(&mut || {
         black_box(bilzarko::findings(&settings, law, store, words)).ok();
     });
     let told = depth(&mut || {
         black_box(bilzarko::text(&settings, law, store, 0, text)).ok();
     });
-    [findings, told]
+    let printed = depth(&mut || {
+        black_box(bilzarko::page(&settings, law, store, page)).ok();
+    });
+    [findings, told, printed]
 }
 
 /// How many bytes below this function's frame a call changes.

@@ -15,13 +15,13 @@ use Rattle.listing.specs.declared.Found.{Found}
 use Rattle.listing.specs.declared.Found.the-variants as found
 use Rattle.listing.specs.declared.Told.{Told}
 use Rattle.listing.specs.declared.Told.the-variants as told
-use Rattle.listing.specs.Outcome.{turnedNumber, TextOutcome}
-use Rattle.listing.specs.Promise.{textAfter, FindingsPromise}
+use Rattle.listing.specs.Outcome.{turnedNumber, BytesOutcome}
+use Rattle.listing.specs.Promise.{bytesAfter, FindingsPromise}
 use Rattle.reader.specs.declared.Unread.{Unread}
 use Rattle.reader.specs.declared.Reading.{Reading}
 use Rattle.reader.specs.declared.Reading.the-variants as reading
 use Rattle.reader.specs.Outcome.{unreadNumber, ReadOutcome, readAfter}
-use Rattle.bilzarko.specs.Exported.{FindingsExported, TextExit, textExit, ReadExit, readExit, testedNumber, DigitExit, digitExit}
+use Rattle.bilzarko.specs.Exported.{FindingsExported, BytesExit, bytesExit, ReadExit, readExit, testedNumber, DigitExit, digitExit}
 
 -- no refusal's number is 0
 file-number-some : (why : Refusal) → numberOf why ≡ 0 → ⊥
@@ -43,6 +43,7 @@ turned-number-some turned.Shapes e = omega (arith, e)
 turned-number-some turned.Findings e = omega (arith, e)
 turned-number-some turned.NoFinding e = omega (arith, e)
 turned-number-some turned.Text e = omega (arith, e)
+turned-number-some turned.Page e = omega (arith, e)
 
 -- a word that is 1 says settled
 settled-by-word : (settled : Bool) → _≡_ {A = ℕ} (cond settled 1 0) 1 → settled ≡ true
@@ -68,16 +69,16 @@ module _ {limit : ℕ} {settings : Settings} {bytes store words filled listed : 
         promise .no-false-finding law (record { findings = count; rounds = rounds; settled = settled }) law-is (rw is refl) (settled-by-word settled (rw (← word-is) one));
   }
 
-module _ {filled after : List ℕ} (answer : ℕ) {o : TextOutcome} {r : Told} (outcome : textAfter r filled after ≡ o) where
-  -- the text call is refused: the answer keeps its word
-  pub text-refused : (why : Turned) {number : ℕ} → r ≡ told.Refused why → number ≡ turnedNumber why
-      → _≡_ {A = TextExit} (record { number = number; store = filled; text = after; answer = answer }) (textExit answer o)
-  text-refused why is number-is = rw (← outcome, is, number-is) refl
+module _ {filled after : List ℕ} (answer : ℕ) {o : BytesOutcome} {r : Told} (outcome : bytesAfter r filled after ≡ o) where
+  -- a call that writes bytes is refused: the answer keeps its word
+  pub bytes-refused : (why : Turned) {number : ℕ} → r ≡ told.Refused why → number ≡ turnedNumber why
+      → _≡_ {A = BytesExit} (record { number = number; store = filled; bytes = after; answer = answer }) (bytesExit answer o)
+  bytes-refused why is number-is = rw (← outcome, is, number-is) refl
 
-  -- the text call writes
-  pub text-written : (bytes : ℕ) → r ≡ told.Written bytes
-      → _≡_ {A = TextExit} (record { number = 0; store = filled; text = after; answer = bytes }) (textExit answer o)
-  text-written bytes is = rw (← outcome, is) refl
+  -- it writes
+  pub bytes-written : (number : ℕ) → r ≡ told.Written number
+      → _≡_ {A = BytesExit} (record { number = 0; store = filled; bytes = after; answer = number }) (bytesExit answer o)
+  bytes-written number is = rw (← outcome, is) refl
 
 module _ {after : List ℕ} (answer : ℕ) {o : ReadOutcome} {r : Reading} (outcome : readAfter r after ≡ o) where
   -- the text is not read: the answer keeps its word

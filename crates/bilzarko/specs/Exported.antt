@@ -1,5 +1,5 @@
 -- What the exported calls return, and every lent word after them. A call over C returns one number, and what it answers stands in lent words.
--- docs/SPECIFICATION.md, 13.1, 20.5.
+-- docs/SPECIFICATION.md, 13.1, 20.5, 21.11.
 use Prim.Native.Nat.{ℕ, _*_}
 use mathlib.Core.Bool.{cond}
 use mathlib.Core.List.{List, [], _∷_}
@@ -13,7 +13,7 @@ use Rattle.law.specs.Tree.{Law}
 use Rattle.law.specs.Law.{lawOf}
 use Rattle.lints.specs.Levels.{Settings}
 use Rattle.runs.specs.Claim.{NoFalseFinding}
-use Rattle.listing.specs.Outcome.{Count, FindingsOutcome, findingsOutcome, TextOutcome}
+use Rattle.listing.specs.Outcome.{Count, FindingsOutcome, findingsOutcome, BytesOutcome}
 use Rattle.reader.specs.Outcome.{ReadOutcome}
 
 -- the number that is returned: the refusal's, or 0
@@ -54,20 +54,20 @@ pub record FindingsExported (limit : ℕ) (settings : Settings) (bytes store wor
   pub no-false-finding : (law : Law) → lawOf bytes ≡ given law → after .number ≡ 0 → getD (after .answer) 2 0 ≡ 1
       → NoFalseFinding law (take (8 * getD (after .answer) 0 0) (after .findings))
 
--- ---- the text call
+-- ---- the calls that write bytes of a listing
 
-pub record TextExit : Type 0 where
+pub record BytesExit : Type 0 where
   pub number : ℕ
   pub store : List ℕ
-  pub text : List ℕ
+  pub bytes : List ℕ
   pub answer : ℕ
 
 -- the answer is the number of bytes written
-abbrev pub textExit : ℕ → TextOutcome → TextExit
-textExit before o = record {
+abbrev pub bytesExit : ℕ → BytesOutcome → BytesExit
+bytesExit before o = record {
   number = numberReturned (o .answer);
   store = o .store;
-  text = o .text;
+  bytes = o .bytes;
   answer = answerAfter (λ bytes. bytes) before (o .answer);
 }
 

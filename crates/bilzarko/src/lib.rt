@@ -1,6 +1,6 @@
-// The four calls for programs in other languages, as functions of C. A slice crosses as a pointer and a number of elements. The first three return 0 or a
+// The five calls for programs in other languages, as functions of C. A slice crosses as a pointer and a number of elements. The first four return 0 or a
 // refusal's number; what they answer stands in lent words, which keep their values where a call is refused. The last refuses nothing and returns its answer.
-// include/bilzarko.h says what stack a call is given, and that the first two can take for ever.
+// include/bilzarko.h says what stack a call is given, and that the first three can take for ever.
 use listing::Found;
 use listing::Told;
 use listing::turned_number;
@@ -12,9 +12,9 @@ ghost use mathlib.Core.Path.{_≡_};
 ghost use mathlib.Core.Bool.{cond};
 ghost use Rattle.numbers.specs.OnePass.{stepOf};
 ghost use Rattle.lints.specs.Levels.{settingsFrom};
-ghost use Rattle.listing.specs.Outcome.{textOutcome};
+ghost use Rattle.listing.specs.Outcome.{textOutcome, pageOutcome};
 ghost use Rattle.reader.specs.Outcome.{readOutcome};
-ghost use Rattle.bilzarko.specs.Exported.{FindingsExported, TextExit, textExit, ReadExit, readExit, testedNumber, DigitExit, digitExit};
+ghost use Rattle.bilzarko.specs.Exported.{FindingsExported, BytesExit, bytesExit, ReadExit, readExit, testedNumber, DigitExit, digitExit};
 
 // 1 for settled, 0 for not.
 fn settled_word(settled: bool) -> u64
@@ -56,10 +56,32 @@ pub extern "C" fn bilzarko_text(
     text: &mut [u8],
     answer: &mut u64,
 ) -> u32
-    ensures { λ r. ⌜ _≡_ {A = TextExit} (record { number = r; store = now (store .exit); text = now (text .exit); answer = now (answer .exit) })
-        (textExit (now (answer .entry)) (textOutcome 64 (settingsFrom mode (now (overrides .entry))) (now (law .entry)) (now (store .entry)) position (now (text .entry)))) ⌝ }
+    ensures { λ r. ⌜ _≡_ {A = BytesExit} (record { number = r; store = now (store .exit); bytes = now (text .exit); answer = now (answer .exit) })
+        (bytesExit (now (answer .entry)) (textOutcome 64 (settingsFrom mode (now (overrides .entry))) (now (law .entry)) (now (store .entry)) position (now (text .entry)))) ⌝ }
 {
     match listing::text(mode, overrides, law, store, position, text) {
+        Told::Refused(why) => turned_number(why),
+        Told::Written(bytes) => {
+            *answer = bytes as u64;
+            0
+        }
+    }
+}
+
+// Writes the page of a law's findings, and its formats in the store. `answer` is the number of bytes written.
+#[no_mangle]
+pub extern "C" fn bilzarko_page(
+    mode: u32,
+    overrides: &[u32],
+    law: &[u8],
+    store: &mut [u32],
+    page: &mut [u8],
+    answer: &mut u64,
+) -> u32
+    ensures { λ r. ⌜ _≡_ {A = BytesExit} (record { number = r; store = now (store .exit); bytes = now (page .exit); answer = now (answer .exit) })
+        (bytesExit (now (answer .entry)) (pageOutcome 64 (settingsFrom mode (now (overrides .entry))) (now (law .entry)) (now (store .entry)) (now (page .entry)))) ⌝ }
+{
+    match listing::page(mode, overrides, law, store, page) {
         Told::Refused(why) => turned_number(why),
         Told::Written(bytes) => {
             *answer = bytes as u64;

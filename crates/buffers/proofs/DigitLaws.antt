@@ -56,3 +56,8 @@ few k (suc most) n h = go k h (decLt n 10) (λ j l. few j most (n / 10) l)
 pub decimal-few : (n : ℕ) → n ≤ largest → length (decimal (n / 10)) ≤ 19
 unfolding tens
 decimal-few n h = few 18 (suc (n / 10)) (n / 10) (omega arith)
+
+-- a number below ten to the tenth has ten digits at most
+pub decimal-ten : (n : ℕ) → n < 10000000000 → length (decimal n) ≤ 10
+unfolding tens
+decimal-ten n h = few 9 (suc n) n (omega arith)

@@ -8,7 +8,7 @@ use lib.Dec.{ltb}
 -- the decimal digits of a number, at most so many of them
 unfoldable pub digitsWithin : ℕ → ℕ → List ℕ
 digitsWithin zero n = []
-digitsWithin (suc most) n = cond (ltb n 10) ((48 + n) ∷ []) (digitsWithin most (n / 10) ++ (48 + n % 10) ∷ [])
+digitsWithin (suc most) n = let more = digitsWithin most (n / 10) ++ (48 + n % 10) ∷ [] in cond (ltb n 10) ((48 + n) ∷ []) more
 
 -- all of them: n has no more than n + 1
 abbrev pub decimal : ℕ → List ℕ

@@ -6,3 +6,4 @@ pub mod dead;
 pub mod levels;
 pub mod open;
 pub mod recognition;
+pub mod words;

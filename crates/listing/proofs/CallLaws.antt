@@ -1,15 +1,17 @@
--- The two calls, by what their front says.
+-- The calls, by what their front says.
 use Prim.Native.Nat.{ℕ, _+_, _*_, _≤_}
 use mathlib.Core.List.{List, _++_}
 use mathlib.Core.Path.{_≡_, sym, ap, _∙_}
 use native.Mathlib.Omega.{arith}
 use lib.ListN.{length, take, drop}
 use lib.Seq.{length-take-le}
-use Rattle.file.specs.Answer.{given}
+use Rattle.file.specs.Answer.{Answer, given}
 use Rattle.file.specs.Sections.{fileOf}
+use Rattle.law.specs.Tree.{Law}
 use Rattle.law.specs.Reading.{treeOf}
 use Rattle.buffers.specs.Written.{written}
 use Rattle.lints.specs.Levels.{Settings, listingWords}
+use Rattle.lints.specs.Findings.{Listing}
 use Rattle.lints.specs.Code.Records.{formatsIn}
 use Rattle.findings.specs.Code.Events.{Tally, Upto, sinkOf, collect}
 use Rattle.findings.specs.Code.All.{allEvents}
@@ -21,9 +23,9 @@ use Rattle.listing.specs.declared.Told.{Told}
 use Rattle.listing.specs.declared.Told.the-variants as told
 use Rattle.listing.specs.declared.front.Front.{Front}
 use Rattle.listing.specs.declared.front.Front.the-variants.{Refused, Ready}
-use Rattle.listing.specs.Outcome.{findingsFront, findingsOutcome, textFront, textOutcome}
+use Rattle.listing.specs.Outcome.{findingsFront, findingsOutcome, bytesFront, bytesOutcome}
 use Rattle.listing.specs.Code.Gather.{Prepares, FrontIs, shownIn, Collected}
-use Rattle.listing.specs.Promise.{findingsAfter, FindingsPromise, textAfter}
+use Rattle.listing.specs.Promise.{findingsAfter, FindingsPromise, bytesAfter}
 use Rattle.listing.proofs.GatherLaws.{all-left}
 use Rattle.listing.proofs.PromiseLaws.{words-length, promise}
 
@@ -44,18 +46,18 @@ module _ (limit : ℕ) (settings : Settings) (bytes store : List ℕ) (front : F
   unfolding findingsOutcome
   findings-goes words filled after r is e = promise limit settings bytes store words filled after r (rw ((rw is at h) .0) e)
 
-  -- ---- the text call
+  -- ---- the calls that write bytes, whatever they write
 
-  pub text-turned : (position : ℕ) (text : List ℕ) (why : Turned) → front ≡ Refused why
-      → textAfter (told.Refused why) store text ≡ textOutcome limit settings bytes store position text
-  unfolding textOutcome
-  text-turned position text why is = rw (rw is at h)
+  module _ (number : ℕ) (bytesOf : Law → Listing → Answer (List ℕ)) (buffer : List ℕ) where
+    pub bytes-turned : (why : Turned) → front ≡ Refused why → bytesAfter (told.Refused why) store buffer ≡ bytesOutcome limit settings number bytesOf bytes store buffer
+    unfolding bytesOutcome
+    bytes-turned why is = rw (rw is at h)
 
-  pub text-goes : (position : ℕ) (text filled after : List ℕ) (r : Told) → front ≡ Ready
-      → textAfter r filled after ≡ textFront limit settings store text position (given (treeOf (fileOf bytes)))
-      → textAfter r filled after ≡ textOutcome limit settings bytes store position text
-  unfolding textOutcome
-  text-goes position text filled after r is e = rw ((rw is at h) .0) e
+    pub bytes-goes : (filled after : List ℕ) (r : Told) → front ≡ Ready
+        → bytesAfter r filled after ≡ bytesFront limit settings number bytesOf store buffer (given (treeOf (fileOf bytes)))
+        → bytesAfter r filled after ≡ bytesOutcome limit settings number bytesOf bytes store buffer
+    unfolding bytesOutcome
+    bytes-goes filled after r is e = rw ((rw is at h) .0) e
 
 -- ---- findings that had no place in the call's own buffer are collected again
 

@@ -1,12 +1,12 @@
 -- Document 01, "Small laws": "No functions: no findings, 1 round, settled."
-use Prim.Native.Nat.{ℕ, _*_, _≤_, _<_}
+use Prim.Native.Nat.{ℕ, _≤_, _<_}
 use mathlib.Core.Bool.{Bool, true, false, not, _&&_}
 use mathlib.Core.List.{List, [], _++_}
 use mathlib.Core.Path.{_≡_, refl, sym, ap, _∙_}
 use native.Mathlib.Omega.{arith}
 use native.Mathlib.Decide.{decLt}
 use native.Mathlib.Nat.{sub-zero}
-use borrow.Author.Tests.{eqb-true, le-leb, le-ltb, lt-ltb, not-true, not-false}
+use borrow.Author.Tests.{eqb-true, le-ltb, lt-ltb, not-true, not-false}
 use lib.ListN.{length, drop, replicate}
 use Rattle.file.specs.Answer.{Answer, refused, given}
 use Rattle.file.specs.Below.{every, total}
@@ -28,19 +28,15 @@ use Rattle.law.proofs.Owners.{block-of, sentence-of}
 use Rattle.law.proofs.Tables.{used-sums}
 use Rattle.formats.specs.Infer.{namesOf, allAt, round, roundsFrom, arguments, inferWithin, infer}
 use Rattle.formats.specs.Store.{storeSize, entryWords, storeOf}
-use Rattle.buffers.proofs.WrittenLaws.{written-none}
-use Rattle.lints.specs.Finding.{Finding, findingsFrom}
+use Rattle.lints.specs.Finding.{findingsFrom}
 use Rattle.lints.specs.Dead.{deadFindings}
 use Rattle.lints.specs.Recognition.{recognitionFindings, someOver, argumentsOver}
 use Rattle.lints.specs.Builtin.{builtinFindings}
 use Rattle.lints.specs.Open.{openFindings}
-use Rattle.lints.specs.Levels.{Settings, settingsAllowed, shown, listingWords}
-use Rattle.lints.specs.Findings.{findingsOf, listing, formatsOf}
-use Rattle.listing.specs.declared.Turned.the-variants as turned
-use Rattle.listing.specs.declared.Found.the-variants as found
-use Rattle.listing.specs.Outcome.{front, findingsOutcome}
+use Rattle.lints.specs.Levels.{Settings, settingsAllowed, shown}
+use Rattle.lints.specs.Findings.{Listing, findingsOf, listing, formatsOf}
+use Rattle.listing.specs.Outcome.{front, storeAfter}
 use Rattle.listing.specs.Code.Gather.{noRecords, emptyFile}
-use Rattle.listing.specs.Promise.{findingsAfter}
 
 false-says : {P : Type 0} → false ≡ true → P
 false-says e = let z : _≡_ {A = ℕ} 0 1 = cc in absurd (omega arith)
@@ -104,36 +100,32 @@ counts-empty bytes s r told e = rw (told .file, told .counts) e
 pub refused-empty : (bytes : List ℕ) (n : ℕ) → sectionsOf bytes ≡ refused n → false ≡ emptyFile (sectionsOf bytes)
 refused-empty bytes n cut = rw cut refl
 
-none-listed : (limit : ℕ) (settings : Settings)
-    → listing limit settings [] ≡ given (record { inferred = record { formats = record { arguments = []; results = [] }; rounds = 1; settled = true }; findings = [] })
+-- what is listed of a law without functions
+abbrev pub nothing : Listing
+nothing = record { inferred = record { formats = record { arguments = []; results = [] }; rounds = 1; settled = true }; findings = [] }
+
+pub none-listed : (limit : ℕ) (settings : Settings) → listing limit settings [] ≡ given nothing
 unfolding
     listing formatsOf infer inferWithin arguments namesOf allAt roundsFrom round argumentsOver someOver shown findingsOf deadFindings recognitionFindings builtinFindings
     openFindings findingsFrom
 none-listed limit settings = refl
 
--- the refusals that are left, 14 and 15; else the store is all zeros, and no word of the findings changes
-module _ (limit : ℕ) (settings : Settings) (bytes store words : List ℕ) (empty : lawOf bytes ≡ given []) {allowed : Bool} (is : allowed ≡ settingsAllowed settings) where
-  pub none-settings : not allowed ≡ true → findingsAfter (found.Refused turned.Settings) store words ≡ findingsOutcome limit settings bytes store words
-  unfolding findingsOutcome front
-  none-settings h = rw (← is, not-true allowed h)
+-- the store is then all zeros
+pub none-stored : (limit : ℕ) (store : List ℕ) → storeAfter limit store (given nothing) ≡ replicate (storeSize limit) 0 ++ drop (storeSize limit) store
+unfolding storeOf entryWords
+none-stored limit store = rw (sub-zero (storeSize limit))
+
+-- the refusals that are left are 14 and 15
+module _ (limit : ℕ) (settings : Settings) (bytes store : List ℕ) (empty : lawOf bytes ≡ given []) {allowed : Bool} (is : allowed ≡ settingsAllowed settings) where
+  pub front-settings : not allowed ≡ true → front limit settings bytes store ≡ refused 14
+  unfolding front
+  front-settings h = rw (← is, not-true allowed h)
 
   module _ (h : not allowed ≡ false) where
-    pub none-short : length store < storeSize limit → findingsAfter (found.Refused turned.Store) store words ≡ findingsOutcome limit settings bytes store words
-    unfolding findingsOutcome front
-    none-short short = rw (← is, not-false allowed h, empty, lt-ltb (length store) (storeSize limit) short)
+    pub front-short : length store < storeSize limit → front limit settings bytes store ≡ refused 15
+    unfolding front
+    front-short short = rw (← is, not-false allowed h, empty, lt-ltb (length store) (storeSize limit) short)
 
-    pub none-found : (after : List ℕ) → storeSize limit ≤ length store → after ≡ replicate (storeSize limit) 0 ++ drop (storeSize limit) store
-        → findingsAfter (found.Listed 0 1 true) after words ≡ findingsOutcome limit settings bytes store words
-    unfolding findingsOutcome front listingWords storeOf entryWords
-    none-found after enough cleared =
-        rw (
-          ← is,
-          not-false allowed h,
-          empty,
-          le-ltb (length store) (storeSize limit) enough,
-          none-listed limit settings,
-          le-leb (8 * length {A = Finding} []) (length words) (omega arith),
-          ← written-none words 0,
-          cleared,
-          sub-zero (storeSize limit),
-        )
+    pub front-none : storeSize limit ≤ length store → front limit settings bytes store ≡ given []
+    unfolding front
+    front-none enough = rw (← is, not-false allowed h, empty, le-ltb (length store) (storeSize limit) enough)

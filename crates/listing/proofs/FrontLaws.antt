@@ -1,4 +1,4 @@
--- The front that both calls share, one law for each way through it.
+-- The front that all calls share, one law for each way through it.
 use Prim.Native.Nat.{ℕ, _≤_, _<_}
 use mathlib.Core.Bool.{Bool, true, false}
 use mathlib.Core.List.{List}

@@ -4,5 +4,7 @@ pub mod PromiseLaws
 pub mod CollectedLaws
 pub mod ReadyLaws
 pub mod TellLaws
+pub mod WantedLaws
 pub mod CallLaws
 pub mod EmptyLaws
+pub mod NoneLaws

@@ -1,4 +1,4 @@
--- What the two calls answer of a law that is ready, by what was gathered.
+-- What the calls answer of a law that is ready, by what was gathered.
 use Prim.Native.Nat.{ℕ, _*_, _≤_, _<_}
 use mathlib.Core.Bool.{Bool}
 use mathlib.Core.List.{List}
@@ -9,9 +9,11 @@ use borrow.Author.Tests.{lt-ltb, le-ltb, le-leb, lt-leb}
 use lib.ListN.{length}
 use Rattle.file.specs.Answer.{Answer, refused, given}
 use Rattle.file.specs.Sections.{fileOf}
+use Rattle.law.specs.Tree.{Law}
 use Rattle.law.specs.Reading.{treeOf}
 use Rattle.formats.specs.Code.Slots.{SlotsOf}
 use Rattle.buffers.specs.Written.{written}
+use Rattle.lints.specs.Finding.{Finding}
 use Rattle.lints.specs.Levels.{Settings, listingWords}
 use Rattle.lints.specs.Findings.{Listing, listing}
 use Rattle.listing.specs.declared.Turned.the-variants as turned
@@ -20,9 +22,10 @@ use Rattle.listing.specs.declared.Told.{Told}
 use Rattle.listing.specs.declared.Told.the-variants as told
 use Rattle.listing.specs.declared.gather.Gathered.{Gathered}
 use Rattle.listing.specs.declared.gather.Gathered.the-variants as gathered
-use Rattle.listing.specs.Outcome.{findingsFront, textFront, textOf, findingAt}
-use Rattle.listing.specs.Code.Gather.{Prepares, Fitted, GatheredIs, GatherIs, shownIn, Collected, toldPair}
-use Rattle.listing.specs.Promise.{findingsAfter, textAfter}
+use Rattle.listing.specs.Outcome.{findingsFront, fittedBytes, bytesFront, ownBytes}
+use Rattle.listing.specs.Code.Gather.{Prepares, Fitted, GatheredIs, GatherIs, shownIn, Collected}
+use Rattle.listing.specs.Code.Bytes.{toldPair}
+use Rattle.listing.specs.Promise.{findingsAfter, bytesAfter}
 use Rattle.listing.proofs.CollectedLaws.{shown-are, collected}
 
 wide-full : gathered.TooWide ≡ gathered.Full → ⊥
@@ -125,25 +128,27 @@ module _ {limit room : ℕ} (settings : Settings) {bytes before after start own 
               upto-same (f .counted fits) .2,
             )
 
-    -- ---- the text call
+    -- ---- the calls that write bytes, whatever they write
 
-    pub text-places : room ≡ length own → 8 * count ≤ length own
-    text-places size = omega (arith, count-fits, size)
+    pub bytes-places : room ≡ length own → 8 * count ≤ length own
+    bytes-places size = omega (arith, count-fits, size)
 
-    pub text-told : (position : ℕ) (text end : List ℕ) (t : Told) → room ≡ 2048
-        → toldPair t end ≡ textOf text (findingAt (shownIn limit settings bytes after) position)
-        → textAfter t after end ≡ textFront limit settings before text position (given (treeOf (fileOf bytes)))
-    text-told position text end t size same =
+    pub bytes-told : (number : ℕ) (bytesOf : Law → List Finding → Answer (List ℕ)) (buffer end : List ℕ) (t : Told) → room ≡ 2048
+        → toldPair t end ≡ fittedBytes number buffer (bytesOf (treeOf (fileOf bytes)) (shownIn limit settings bytes after))
+        → bytesAfter t after end ≡ bytesFront limit settings number (ownBytes bytesOf) before buffer (given (treeOf (fileOf bytes)))
+    bytes-told number bytesOf buffer end t size same =
         let (l, e, fits, f) = listed is in
-        let told : toldPair t end ≡ textOf text (findingAt (l .findings) position) = rw (shown-are settings p s l e (rw e at (g .store))) at same in
+        let told : toldPair t end ≡ fittedBytes number buffer (bytesOf (treeOf (fileOf bytes)) (l .findings)) =
+        rw (shown-are settings p s l e (rw e at (g .store))) at same in
         rw (g .store, e, le-ltb 256 (length (l .findings)) (omega (arith, fits, size)), ← told)
 
-  pub text-wide : (position : ℕ) (text : List ℕ) → r ≡ gathered.TooWide
-      → textAfter (told.Refused turned.Shapes) after text ≡ textFront limit settings before text position (given (treeOf (fileOf bytes)))
-  text-wide position text is = rw (g .store, wide is)
+  module _ (number : ℕ) (bytesOf : Law → List Finding → Answer (List ℕ)) (buffer : List ℕ) where
+    pub bytes-wide : r ≡ gathered.TooWide
+        → bytesAfter (told.Refused turned.Shapes) after buffer ≡ bytesFront limit settings number (ownBytes bytesOf) before buffer (given (treeOf (fileOf bytes)))
+    bytes-wide is = rw (g .store, wide is)
 
-  pub text-full : (position : ℕ) (text : List ℕ) → room ≡ 2048 → r ≡ gathered.Full
-      → textAfter (told.Refused turned.Findings) after text ≡ textFront limit settings before text position (given (treeOf (fileOf bytes)))
-  text-full position text size is =
-      let (l, e, more) = full is in
-      rw (g .store, e, lt-ltb 256 (length (l .findings)) (omega (arith, more, size)))
+    pub bytes-full : room ≡ 2048 → r ≡ gathered.Full
+        → bytesAfter (told.Refused turned.Findings) after buffer ≡ bytesFront limit settings number (ownBytes bytesOf) before buffer (given (treeOf (fileOf bytes)))
+    bytes-full size is =
+        let (l, e, more) = full is in
+        rw (g .store, e, lt-ltb 256 (length (l .findings)) (omega (arith, more, size)))

@@ -1,8 +1,8 @@
--- The two calls on small files, by computation, every lent word included. Formats have at most one shape here, so that a store has 256 words.
--- docs/SPECIFICATION.md, 14.1, 14.2.
+-- The three calls on small files, by computation, every lent word included. Formats have at most one shape here, so that a store has 256 words.
+-- docs/SPECIFICATION.md, 14.1, 14.2, 21.
 use Prim.Native.Nat.{ℕ, _-_}
 use mathlib.Core.Bool.{true}
-use mathlib.Core.List.{List, [], _∷_, _++_, flatMap}
+use mathlib.Core.List.{List, [], _∷_, _++_, flatMap, flatten}
 use mathlib.Core.Path.{_≡_, refl}
 use lib.ListN.{length, replicate}
 use Rattle.names.specs.Name.{everyByte, sameBytes, orderBytes}
@@ -48,7 +48,8 @@ use Rattle.lints.specs.Findings.{findingsOf, formatsOf, listing}
 use Rattle.buffers.specs.Decimal.{digitsWithin}
 use Rattle.lints.specs.Message.{claimText, message}
 use Rattle.lints.specs.Levels.{settingsFrom}
-use Rattle.listing.specs.Outcome.{front, findingsOutcome, findingAt, textOutcome}
+use Rattle.pages.specs.Page.{left, right, line, heading, linesFrom, pageLines, page}
+use Rattle.listing.specs.Outcome.{front, findingsOutcome, bytesOutcome, textAt, textOutcome, pageOutcome}
 
 -- a file without text, functions, sentences, conditions and terms
 abbrev noFunctions : List ℕ
@@ -61,6 +62,13 @@ twoOpen =
 
 abbrev power : List ℕ
 power = bytesOf "sentence of `F` has 2 `e.`-variables in its pattern; matching may backtrack proportionally to the argument length to the power 2"
+
+-- the page of document 01's example, strict
+abbrev examplePage : List ℕ
+examplePage =
+    bytesOf "2                                                                      1" ++ 10
+    ∷ bytesOf "F                        dead     deny          15         26          2" ++ 10
+    ∷ bytesOf "H                        no match deny          40         45          1" ++ 10 ∷ []
 
 -- what is lent: a store with one word more than it needs, or one word less
 abbrev lent : List ℕ
@@ -100,17 +108,48 @@ Refusals =
 abbrev pub TextCalls : Type 0
 TextCalls =
     (textOutcome 1 (settingsFrom 1 []) exampleFile lent 1 (replicate 66 9) .answer ≡ given 65)
-    × (textOutcome 1 (settingsFrom 1 []) exampleFile lent 1 (replicate 66 9) .text
+    × (textOutcome 1 (settingsFrom 1 []) exampleFile lent 1 (replicate 66 9) .bytes
     ≡ bytesOf "`<H ...>` always fails: `H` accepts [C], but this call passes [N]" ++ 9 ∷ [])
     × (textOutcome 1 (settingsFrom 1 []) exampleFile lent 2 [] .answer ≡ refused 12)
     × (textOutcome 1 (settingsFrom 1 []) exampleFile lent 1 (replicate 64 9) .answer ≡ refused 13)
-    × (textOutcome 1 (settingsFrom 1 []) exampleFile lent 1 (replicate 64 9) .text ≡ replicate 64 9)
+    × (textOutcome 1 (settingsFrom 1 []) exampleFile lent 1 (replicate 64 9) .bytes ≡ replicate 64 9)
     -- a text that fits exactly and ends in a digit, and a buffer that is one byte short
     × (textOutcome 1 (settingsFrom 1 []) twoOpen lent 0 (replicate (length power) 9) .answer ≡ given (length power))
-    × (textOutcome 1 (settingsFrom 1 []) twoOpen lent 0 (replicate (length power) 9) .text ≡ power)
+    × (textOutcome 1 (settingsFrom 1 []) twoOpen lent 0 (replicate (length power) 9) .bytes ≡ power)
     × (textOutcome 1 (settingsFrom 1 []) twoOpen lent 0 (replicate (length power - 1) 9) .answer ≡ refused 13)
 
-pub examples : FindingsCalls × Refusals × TextCalls
+abbrev pub PageCalls : Type 0
+PageCalls =
+    -- three lines of 73 bytes each; of 220 bytes the last is kept
+    (pageOutcome 1 (settingsFrom 1 []) exampleFile lent (replicate 220 9) .answer ≡ given 219)
+    × (pageOutcome 1 (settingsFrom 1 []) exampleFile lent (replicate 220 9) .bytes ≡ examplePage ++ 9 ∷ [])
+    × (pageOutcome 1 (settingsFrom 1 []) exampleFile lent (replicate 220 9) .store
+    ≡ findingsOutcome 1 (settingsFrom 1 []) exampleFile lent (replicate 17 9) .store)
+    -- a page that fits exactly
+    × (pageOutcome 1 (settingsFrom 1 []) exampleFile lent (replicate 219 9) .answer ≡ given 219)
+    × (pageOutcome 1 (settingsFrom 1 []) exampleFile lent (replicate 219 9) .bytes ≡ examplePage)
+    -- one byte short: 18, and the store is filled
+    × (pageOutcome 1 (settingsFrom 1 []) exampleFile lent (replicate 218 9)
+    ≡ record {
+      answer = refused 18;
+      store = findingsOutcome 1 (settingsFrom 1 []) exampleFile lent (replicate 17 9) .store;
+      bytes = replicate 218 9;
+    })
+    -- no functions: one heading
+    × (pageOutcome 1 (settingsFrom 1 []) noFunctions lent (replicate 73 9)
+    ≡ record {
+      answer = given 73;
+      store = replicate 256 0 ++ 7 ∷ [];
+      bytes = bytesOf "0                                                                      1" ++ 10 ∷ [];
+    })
+    -- 14, 2, 15 and 10, in this order, also where no page fits
+    × (pageOutcome 1 (settingsFrom 2 []) [] short [] ≡ record { answer = refused 14; store = short; bytes = [] })
+    × (pageOutcome 1 (settingsFrom 1 []) [] short [] ≡ record { answer = refused 2; store = short; bytes = [] })
+    × (pageOutcome 1 (settingsFrom 1 []) exampleFile short [] ≡ record { answer = refused 15; store = short; bytes = [] })
+    × (pageOutcome 0 (settingsFrom 1 (515 ∷ [])) exampleFile lent (9 ∷ [])
+    ≡ record { answer = refused 10; store = replicate 128 0 ++ replicate 129 7; bytes = 9 ∷ [] })
+
+pub examples : FindingsCalls × Refusals × TextCalls × PageCalls
 unfolding
     bytesOf flatMap sameBytes orderBytes everyByte definition
     lawOf sectionsOf section wordAt every total fieldsAllowed termAllowed spelled
@@ -124,9 +163,11 @@ unfolding
     macrodigits unsigned allZero firstFails charactersOf domainIn builtinOn builtinRemarks builtinFindings
     eOccurrences openIn openRemarks openFindings overridesAllowed settingsAllowed overrideOf severityOf isShown shown listingWords findingsOf formatsOf listing
     digitsWithin claimText message shapeWords written entryWords storeOf
-    front findingsOutcome findingAt textOutcome
+    front findingsOutcome bytesOutcome textAt
+    left right line heading linesFrom pageLines page flatten
 examples = (
   (refl, refl, refl, refl, refl, refl, refl),
   (refl, refl, refl, refl),
   (refl, refl, refl, refl, refl, refl, refl, refl),
+  (refl, refl, refl, refl, refl, refl, refl, refl, refl, refl, refl),
 )

@@ -1,4 +1,4 @@
--- What the findings call promises: its outcome, and demand 3 of what it lists.
+-- What the findings call promises, its outcome and demand 3 of what it lists; and the outcome of a call that writes bytes.
 -- docs/SPECIFICATION.md, 16.4.
 use Prim.Native.Nat.{ℕ, _*_}
 use mathlib.Core.Bool.{true}
@@ -12,13 +12,13 @@ use Rattle.lints.specs.Levels.{Settings}
 use Rattle.runs.specs.Claim.{NoFalseFinding}
 use Rattle.listing.specs.declared.Found.{Found}
 use Rattle.listing.specs.declared.Told.{Told}
-use Rattle.listing.specs.Outcome.{Count, foundAnswer, FindingsOutcome, findingsOutcome, toldAnswer, TextOutcome}
+use Rattle.listing.specs.Outcome.{Count, foundAnswer, FindingsOutcome, findingsOutcome, toldAnswer, BytesOutcome}
 
 abbrev pub findingsAfter : Found → List ℕ → List ℕ → FindingsOutcome
 findingsAfter r store words = record { answer = foundAnswer r; store = store; findings = words }
 
-abbrev pub textAfter : Told → List ℕ → List ℕ → TextOutcome
-textAfter r store text = record { answer = toldAnswer r; store = store; text = text }
+abbrev pub bytesAfter : Told → List ℕ → List ℕ → BytesOutcome
+bytesAfter r store buffer = record { answer = toldAnswer r; store = store; bytes = buffer }
 
 -- `bytes` is the law; `store` and `words` are lent, and `filled` and `listed` are what they hold afterwards
 pub record FindingsPromise (limit : ℕ) (settings : Settings) (bytes store words filled listed : List ℕ) (r : Found) : Type 0 where

@@ -17,6 +17,9 @@ ghost use Rattle.formats.specs.Store.{storeSize};
 ghost use Rattle.lints.specs.Levels.{settingsFrom, settingsAllowed};
 ghost use Rattle.listing.specs.Code.Gather.{noRecords, emptyFile, FrontIs, IndexLeft};
 
+// The most shapes in a format.
+pub const LIMIT: usize = 64;
+
 // A refusal, or a law that is ready. `FrontIs` of specs/Code/Gather.antt says what either means.
 pub enum Front {
     Refused(Turned),

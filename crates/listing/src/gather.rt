@@ -13,6 +13,9 @@ ghost use Rattle.formats.specs.Code.Slots.{SlotsOf};
 ghost use Rattle.lints.specs.Levels.{settingsFrom};
 ghost use Rattle.listing.specs.Code.Gather.{Prepares, GatherIs, StoreFilled};
 
+// The words of a call's own findings: 256 places.
+pub const OWN: usize = 2048;
+
 // What a law comes to: a format has too many shapes, there are more findings than there is room for, or the number of findings, the rounds and whether the
 // last of them changed nothing.
 pub enum Gathered {

@@ -1,9 +1,13 @@
-// The two calls: the findings of a law, and the text of one of them.
+// The calls: the findings of a law, the text of one of them, and all of them on a page.
+use crate::bytes::Wanted;
+use crate::bytes::write;
 use crate::front::Front;
+use crate::front::LIMIT;
 use crate::front::check_front;
 use crate::front::is_empty;
 use crate::front::store_words;
 use crate::gather::Gathered;
+use crate::gather::OWN;
 use crate::gather::gather;
 use buffers::copy_words;
 use file::Refusal;
@@ -15,7 +19,6 @@ use formats::slots::slots_of;
 use law::Index;
 use law::places::sentences;
 use lints::levels::settings_allowed;
-use messages::put_message;
 ghost use mathlib.Core.List.{List, []};
 ghost use mathlib.Core.Path.{_≡_};
 ghost use Prim.Native.Nat.{ℕ, _*_, _≤_};
@@ -25,15 +28,16 @@ ghost use Rattle.file.specs.Sections.{fileOf};
 ghost use Rattle.law.specs.Law.{lawOf};
 ghost use Rattle.law.specs.Reading.{treeOf};
 ghost use Rattle.buffers.specs.Written.{written};
-ghost use Rattle.lints.specs.Levels.{Settings, settingsFrom, listingWords};
-ghost use Rattle.listing.specs.Outcome.{turnedNumber, findingsFront, findingsOutcome, textFront, textOf, findingAt, textOutcome};
-ghost use Rattle.listing.specs.Code.Gather.{Prepares, shownIn, Collected, toldPair};
-ghost use Rattle.listing.specs.Promise.{findingsAfter, textAfter, FindingsPromise};
+ghost use Rattle.lints.specs.Levels.{settingsFrom, listingWords};
+ghost use Rattle.listing.specs.Outcome.{turnedNumber, findingsFront, findingsOutcome, textOutcome, pageOutcome};
+ghost use Rattle.listing.specs.Code.Gather.{Prepares, shownIn, Collected};
+ghost use Rattle.listing.specs.Promise.{findingsAfter, bytesAfter, FindingsPromise};
 
+mod bytes;
 mod front;
 mod gather;
 
-// Why a call is turned back. `turnedNumber` of specs/Outcome.antt gives document 01's number.
+// Why a call is turned back. `turnedNumber` of specs/Outcome.antt gives the number of documents 01 and 02.
 pub enum Turned {
     Settings,
     File(Refusal),
@@ -42,6 +46,7 @@ pub enum Turned {
     Findings,
     NoFinding,
     Text,
+    Page,
 }
 
 // What the findings call answers: a refusal, or how many findings there are, how many rounds ran, and whether the last of these changed nothing.
@@ -50,24 +55,19 @@ pub enum Found {
     Listed(usize, usize, bool),
 }
 
-// What the text call answers: a refusal, or how many bytes were written.
+// What a call that writes bytes answers: a refusal, or how many bytes were written.
 pub enum Told {
     Refused(Turned),
     Written(usize),
 }
 
-// The most shapes in a format.
-const LIMIT: usize = 64;
-
-// The words of a call's own findings: 256 places, or 32 for a law of few sentences, since it takes time to clear them.
-const OWN: usize = 2048;
-
+// The words of the findings call's own findings for a law of few sentences, 32 places, since it takes time to clear them.
 const OWN_FEW: usize = 256;
 
 // The most sentences that are few.
 const FEW: usize = 32;
 
-// Document 01's number of a refusal.
+// The number of a refusal.
 pub fn turned_number(why: Turned) -> u32
     ensures { λ r. ⌜ r ≡ turnedNumber why ⌝ }
 {
@@ -79,6 +79,7 @@ pub fn turned_number(why: Turned) -> u32
         Turned::Findings => 11,
         Turned::NoFinding => 12,
         Turned::Text => 13,
+        Turned::Page => 18,
     }
 }
 
@@ -232,81 +233,6 @@ pub fn findings(
     }
 }
 
-// Writes the text of the finding at a position among the call's own.
-fn tell(
-    law: &[u8],
-    index: &Index,
-    slots: &Slots,
-    store: &[u32],
-    limit: usize,
-    own: &[u32],
-    count: usize,
-    position: usize,
-    text: &mut [u8],
-) -> Told
-    requires { ⌜ ((settings : Settings) × Collected limit settings (now law) (now index) (now slots) (now store) (now own) count) × (8 * count ≤ length (now own)) ⌝ }
-    ensures { λ r. ⌜ ((settings : Settings) → Collected limit settings (now (law .entry)) (now (index .entry)) (now (slots .entry)) (now (store .entry)) (now (own .entry)) count
-        → toldPair r (now (text .exit)) ≡ textOf (now (text .entry)) (findingAt (shownIn limit settings (now (law .entry)) (now (store .entry))) position)) ⌝ }
-{
-    if count <= position {
-        return Told::Refused(Turned::NoFinding);
-    }
-    let room = text.len();
-    let at = 8 * position;
-    let end = at + 8;
-    let words = &own[at..end];
-    let length = put_message(law, index, slots, store, limit, words, &mut text[..0]); // no byte fits: only the length is found
-    if room < length {
-        return Told::Refused(Turned::Text);
-    }
-    put_message(law, index, slots, store, limit, words, text);
-    Told::Written(length)
-}
-
-// The text call, of a law that is ready.
-fn text_ready(
-    law: &[u8],
-    index: &Index,
-    mode: u32,
-    overrides: &[u32],
-    store: &mut [u32],
-    limit: usize,
-    position: usize,
-    text: &mut [u8],
-) -> Told
-    requires { ⌜ Prepares limit (now law) (now index) (now store) ⌝ }
-    ensures { λ r. ⌜ textAfter r (now (store .exit)) (now (text .exit))
-        ≡ textFront limit (settingsFrom mode (now (overrides .entry))) (now (store .entry)) (now (text .entry)) position (given (treeOf (fileOf (now (law .entry))))) ⌝ }
-{
-    let slots = slots_of(law, index);
-    let mut own = [0u32; OWN];
-    match gather(
-        law,
-        index,
-        &slots,
-        store,
-        limit,
-        mode,
-        overrides,
-        OWN,
-        &mut own[..OWN],
-    ) {
-        Gathered::TooWide => Told::Refused(Turned::Shapes),
-        Gathered::Full => Told::Refused(Turned::Findings),
-        Gathered::Upto(count, _, _) => tell(
-            law,
-            index,
-            &slots,
-            store,
-            limit,
-            &own[..OWN],
-            count,
-            position,
-            text,
-        ),
-    }
-}
-
 // Writes the text of the finding at a position among those that the settings show.
 pub fn text(
     mode: u32,
@@ -316,12 +242,16 @@ pub fn text(
     position: usize,
     text: &mut [u8],
 ) -> Told
-    ensures { λ r. ⌜ textAfter r (now (store .exit)) (now (text .exit))
+    ensures { λ r. ⌜ bytesAfter r (now (store .exit)) (now (text .exit))
         ≡ textOutcome 64 (settingsFrom mode (now (overrides .entry))) (now (law .entry)) (now (store .entry)) position (now (text .entry)) ⌝ }
 {
-    let mut index: Index = [0; 972];
-    match check_front(mode, overrides, law, store.len(), LIMIT, &mut index) {
-        Front::Refused(why) => Told::Refused(why),
-        Front::Ready => text_ready(law, &index, mode, overrides, store, LIMIT, position, text),
-    }
+    write(mode, overrides, law, store, Wanted::Text(position), text)
+}
+
+// Writes the page of the findings that the settings show.
+pub fn page(mode: u32, overrides: &[u32], law: &[u8], store: &mut [u32], page: &mut [u8]) -> Told
+    ensures { λ r. ⌜ bytesAfter r (now (store .exit)) (now (page .exit))
+        ≡ pageOutcome 64 (settingsFrom mode (now (overrides .entry))) (now (law .entry)) (now (store .entry)) (now (page .entry)) ⌝ }
+{
+    write(mode, overrides, law, store, Wanted::Page, page)
 }

@@ -1,4 +1,4 @@
--- The rows that both calls share, and `front`.
+-- The rows that all calls of a listing share, and `front`.
 use Prim.Native.Nat.{ℕ, _<_}
 use mathlib.Core.Bool.{Bool, true, false}
 use mathlib.Core.List.{List}

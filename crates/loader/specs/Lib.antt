@@ -1,5 +1,6 @@
 pub mod Rows
 pub mod Loaded
 pub mod Shown
+pub mod Printed
 pub mod Typed
 pub mod Marked

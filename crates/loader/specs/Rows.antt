@@ -1,5 +1,6 @@
 -- What a caller relies on, in other words: the table of docs/SPECIFICATION.md, 12.3, row by row, and by no definition of the crates `listing` and
--- `bilzarko`. A contract there that promises less, or asks for something, leaves this crate's contracts without a proof. These rows both calls share.
+-- `bilzarko`. A contract there that promises less, or asks for something, leaves this crate's contracts without a proof. These rows all calls of a
+-- listing share.
 -- docs/SPECIFICATION.md, 12.3, 12.5.
 use Prim.Native.Nat.{ℕ, _≤_, _<_}
 use mathlib.Core.Bool.{true, false}
@@ -13,7 +14,7 @@ use Rattle.formats.specs.Store.{storeWords}
 use Rattle.lints.specs.Levels.{Settings, settingsAllowed}
 use Rattle.lints.specs.Findings.{Listing, listing}
 
--- what a caller sees after a call: the number that was returned, and every lent word. `words` are those of findings, or the bytes of a text
+-- what a caller sees after a call: the number that was returned, and every lent word. `words` are those of findings, or the bytes of a text or a page
 pub record After : Type 0 where
   pub number : ℕ
   pub store : List ℕ

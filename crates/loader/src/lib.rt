@@ -2,6 +2,7 @@
 // `bilzarko`, `listing`, `reader` or `numbers` promises less, or asks for something, they are not proved.
 use bilzarko::bilzarko_digit;
 use bilzarko::bilzarko_findings;
+use bilzarko::bilzarko_page;
 use bilzarko::bilzarko_read;
 use bilzarko::bilzarko_text;
 ghost use mathlib.Core.List.{[], _∷_};
@@ -9,6 +10,7 @@ ghost use Rattle.lints.specs.Levels.{settingsFrom};
 ghost use Rattle.loader.specs.Rows.{returned};
 ghost use Rattle.loader.specs.Loaded.{Loaded};
 ghost use Rattle.loader.specs.Shown.{Shown};
+ghost use Rattle.loader.specs.Printed.{Printed};
 ghost use Rattle.loader.specs.Typed.{Typed};
 ghost use Rattle.loader.specs.Marked.{Marked};
 
@@ -41,6 +43,21 @@ pub fn show(
         (returned r (now (store .exit)) (now (text .exit)) (now (answer .exit) ∷ [])) ⌝ }
 {
     bilzarko_text(mode, overrides, law, store, position, text, answer)
+}
+
+// Prints the page that a reviewer files. It returns 0 or a refusal's number.
+pub fn print(
+    mode: u32,
+    overrides: &[u32],
+    law: &[u8],
+    store: &mut [u32],
+    page: &mut [u8],
+    answer: &mut u64,
+) -> u32
+    ensures { λ r. ⌜ Printed (settingsFrom mode (now (overrides .entry))) (now (law .entry)) (now (store .entry)) (now (page .entry)) (now (answer .entry) ∷ [])
+        (returned r (now (store .exit)) (now (page .exit)) (now (answer .exit) ∷ [])) ⌝ }
+{
+    bilzarko_page(mode, overrides, law, store, page, answer)
 }
 
 // Writes the law file of a text that an editor was given. It returns 0 or a refusal's number.

@@ -42,6 +42,7 @@ use Rattle.lints.proofs.Everywhere.{each-function-in, EachRecord}
 use Rattle.lints.proofs.Records.{bound, InBlock, OfCalls, EverySentenceAt, functions-every, functions-below}
 use Rattle.lints.proofs.CallsIn.{either, sentence-call, sentence-block}
 use Rattle.lints.proofs.Defined.{definition-in}
+use Rattle.lints.proofs.Owners.{owned}
 use Rattle.lints.proofs.Listed.{subject-record, Remarked, finding-remarked, dead-remark, Judged, apart, literally, Recognition, recognition-finding, by-lint}
 use Rattle.messages.specs.Code.Spoken.{CallHere, ComparedHere, inBlock, apartClaim}
 
@@ -85,24 +86,6 @@ module _ (file : File) where
       let (kind, start, len) =
       call-words (wordAt (file .terms .records) (24 * t)) (wordAt (file .terms .records) (24 * t + 4)) (wordAt (file .terms .records) (24 * t + 8)) a b e in
       (record { inside = inside; kind = kind; argument = part }, rw (start, len), refl)
-
--- ---- the function of a finding
-
-module _ (file : File) (remarks : Function → List Remark) (x : Finding) where
-  abbrev Owned : Type 0
-  Owned = (x .position < file .functions .count) × (x .owner ≡ functionName file (x .position))
-
-  owned-from : (left f : ℕ) → f + left ≡ file .functions .count → List·Memᴰ x (findingsFrom remarks f (functionsAt file f)) → Owned
-  unfolding findingsFrom
-  owned-from zero f e m = let none : List·Memᴰ x [] = rw (functions-end file f (omega arith)) at m in elim none [ ]
-  owned-from (suc left) f e m =
-      either (map (findingIn f (functionName file f)) (remarks (functionAt file f))) (findingsFrom remarks (suc f) (functionsAt file (suc f)))
-      (rw (function-reads file f (omega arith)) at m)
-      (λ i. let (r, j, same) = in-map (findingIn f (functionName file f)) (remarks (functionAt file f)) i in rw same (omega arith, refl))
-      (λ i. owned-from left (suc f) (omega arith) i)
-
-  owned : List·Memᴰ x (findingsFrom remarks 0 (treeOf file)) → Owned
-  owned m = owned-from (file .functions .count) 0 (omega arith) (rw (tree-functions file) at m)
 
 -- ---- what is said of a sentence
 
@@ -275,13 +258,8 @@ module _ (file : File) (readable : Readable file) where
     -- every finding says something of the record that is its subject
     pub told : argumentsOver limit (treeOf file) (formatsIn file limit store) ≡ false
         → List·Memᴰ x (findingsOf (treeOf file) (formatsIn file limit store)) → Told file limit store x
-    unfolding deadFindings recognitionFindings builtinFindings openFindings
     told within m =
-        let (position, owner) : Owned file deadRemarks x = by-lint (treeOf file) (formatsIn file limit store) x m
-        (λ i. owned file deadRemarks x i)
-        (λ i. owned file (recognitionRemarks (treeOf file) (formatsIn file limit store)) x i)
-        (λ i. owned file (builtinRemarks (treeOf file)) x i)
-        (λ i. owned file openRemarks x i) in
+        let (position, owner) = owned file x (formatsIn file limit store) m in
         record {
           position = position;
           owner = owner;

@@ -15,6 +15,7 @@ use law::places::function_name;
 use law::places::functions;
 use law::places::term_word;
 use law::places::text;
+use lints::words::word;
 use names::name_in;
 use sentences::argument;
 ghost use mathlib.Core.Path.{_≡_};
@@ -36,21 +37,6 @@ ghost use Rattle.lints.specs.Code.Records.{Prepared, formatsIn, callAt};
 ghost use Rattle.messages.specs.Code.Spoken.{Spoken, CallHere, ComparedHere, inBlock, apartClaim, recognitionClaim};
 
 mod texts;
-
-// A word as a number.
-fn wide_word(word: u32) -> usize
-    ensures { λ r. ⌜ r ≡ word ⌝ }
-{
-    word as usize
-}
-
-// One of a finding's words.
-fn word(words: &[u32], i: usize) -> usize
-    requires { ⌜ i < length (now words) ⌝ }
-    ensures { λ r. ⌜ r ≡ getD (now (words .entry)) i 0 ⌝ }
-{
-    wide_word(words[i])
-}
 
 // The name of the call at a term record.
 fn call_name<'a>(law: &'a [u8], index: &Index, t: usize) -> &'a [u8]

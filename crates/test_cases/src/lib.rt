@@ -1,4 +1,4 @@
-// Reads the cases of the test programs from standard input.
+// Reads the cases of the test programs from standard input. What they lend to a call is filled and written by the module `lent`.
 //
 // A case is a label, one line of at most 80 bytes; the law's length, a 32-bit word with its least byte first; and the
 // law. Where a program asks for more, such as settings, their words stand after the label. The input ends where a label is
@@ -9,6 +9,8 @@ ghost use mathlib.Core.Path.{_≡_};
 ghost use Prim.Native.Nat.{_≤_, _<_};
 ghost use lib.ListN.{length};
 ghost use Rattle.io.specs.Counts.{Counts};
+
+pub mod lent;
 
 // A label's most bytes, with its line feed.
 pub const LABEL: usize = 81;

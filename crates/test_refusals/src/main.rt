@@ -12,18 +12,21 @@ use listing::Turned;
 use listing::findings;
 use listing::text;
 use listing::turned_number;
-use std::num::wrapping_add_u32;
-use std::num::wrapping_add_u64;
 use test_cases::LABEL;
 use test_cases::LAW;
 use test_cases::digit;
+use test_cases::lent::KEPT;
+use test_cases::lent::Run;
+use test_cases::lent::changed_bytes;
+use test_cases::lent::fill_bytes;
+use test_cases::lent::fill_words;
+use test_cases::lent::print_run;
+use test_cases::lent::print_words;
 use test_cases::read_at_most;
 use test_cases::read_label;
 use test_cases::read_law;
 use test_cases::read_overrides;
 use test_cases::read_word;
-ghost use Prim.Native.Nat.{_≤_};
-ghost use lib.ListN.{length};
 
 // The most that can be lent: more words than a store has, more than 512 findings have, more bytes than a text has.
 const STORE: usize = 8400;
@@ -38,126 +41,6 @@ const OVERRIDES: usize = 16;
 const STORE_FIRST: u32 = 0xa5a50000;
 
 const WORDS_FIRST: u32 = 0x5a5a0000;
-
-// The first value that is given to bytes, and the last, after which the first comes again. No text has such bytes.
-const BYTE_FIRST: u8 = 128;
-
-const BYTE_LAST: u8 = 250;
-
-// What stands for a word that has its value still.
-const KEPT: u64 = 0x100000000;
-
-// A value, and how often it was met in a row.
-struct Run {
-    value: u64,
-    count: u64,
-}
-
-// Gives each word a value of its own.
-fn fill_words(words: &mut [u32], first: u32) {
-    let mut value = first;
-    let mut i = 0;
-    while i < words.len() {
-        words[i] = value;
-        value = wrapping_add_u32(value, 1);
-        i += 1;
-    }
-}
-
-// The value of the byte after one with this value.
-fn next_byte(value: u8) -> u8 {
-    if value < BYTE_LAST {
-        value + 1
-    } else {
-        BYTE_FIRST
-    }
-}
-
-// Gives each byte a value.
-fn fill_bytes(bytes: &mut [u8]) {
-    let mut value = BYTE_FIRST;
-    let mut i = 0;
-    while i < bytes.len() {
-        bytes[i] = value;
-        value = next_byte(value);
-        i += 1;
-    }
-}
-
-// Writes a value after a space, and how often it was met.
-fn print_run(run: Run) {
-    if run.count == 0 {
-        return;
-    }
-    if run.value == KEPT {
-        io::write_all(STDOUT_FILENO, b" kept");
-    } else {
-        io::write_all(STDOUT_FILENO, b" ");
-        io::print_decimal(STDOUT_FILENO, run.value);
-    }
-    if run.count > 1 {
-        io::write_all(STDOUT_FILENO, b"*");
-        io::print_decimal(STDOUT_FILENO, run.count);
-    }
-}
-
-// What a word is now that was given this value before.
-fn meaning(word: u32, given: u32) -> u64 {
-    if word == given { KEPT } else { word as u64 }
-}
-
-// The values in a row with one more. A row that has ended is written.
-fn with_value(run: Run, value: u64) -> Run {
-    if run.value == value {
-        return Run {
-            value: value,
-            count: wrapping_add_u64(run.count, 1),
-        };
-    }
-    print_run(run);
-    Run {
-        value: value,
-        count: 1,
-    }
-}
-
-// Writes what all words are now.
-fn print_words(words: &[u32], first: u32) {
-    let mut run = Run { value: 0, count: 0 };
-    let mut given = first;
-    let mut i = 0;
-    while i < words.len() {
-        run = with_value(run, meaning(words[i], given));
-        given = wrapping_add_u32(given, 1);
-        i += 1;
-    }
-    print_run(run);
-    io::write_all(STDOUT_FILENO, b"\n");
-}
-
-// The end of what was changed, with one byte more: the position after it where it was changed, else the end before it.
-fn end_with(byte: u8, given: u8, end: usize, after: usize) -> usize
-    requires { ⌜ end ≤ after ⌝ }
-    ensures { λ r. ⌜ r ≤ after ⌝ }
-{
-    if byte == given { end } else { after }
-}
-
-// The number of bytes up to the last that has another value than it was given.
-fn changed_bytes(bytes: &[u8]) -> usize
-    ensures { λ r. ⌜ r ≤ length (now (bytes .entry)) ⌝ }
-{
-    let mut given = BYTE_FIRST;
-    let mut end = 0;
-    let mut i = 0;
-    while i < bytes.len() {
-        let after = i + 1;
-        end = end_with(bytes[i], given, end, after);
-        given = next_byte(given);
-        i = after;
-    }
-    end
-}
 
 // Writes the bytes up to the last that was changed, and how many are kept after it.
 fn print_bytes(bytes: &[u8]) {

@@ -7,85 +7,24 @@
 // byte has its value still, with `*` and a number for so many in a row.
 use libc::STDOUT_FILENO;
 use loader::read;
-use std::num::wrapping_add_u64;
 use test_cases::LABEL;
 use test_cases::LAW;
+use test_cases::lent::ANSWER;
+use test_cases::lent::BYTE_FIRST;
+use test_cases::lent::KEPT;
+use test_cases::lent::Run;
+use test_cases::lent::fill_bytes;
+use test_cases::lent::next_byte;
+use test_cases::lent::print_returned;
+use test_cases::lent::print_run;
+use test_cases::lent::with_value;
 use test_cases::read_at_most;
 use test_cases::read_label;
 use test_cases::read_law;
 
-// The first value that is given to bytes, and the last, after which the first comes again.
-const BYTE_FIRST: u8 = 128;
-
-const BYTE_LAST: u8 = 250;
-
-// What the answer's word holds before a call.
-const ANSWER: u64 = 99999;
-
-// What stands for a byte that has its value still.
-const KEPT: u64 = 256;
-
-// A value, and how often it was met in a row.
-struct Run {
-    value: u64,
-    count: u64,
-}
-
-// The value of the byte after one with this value.
-fn next_byte(value: u8) -> u8 {
-    if value < BYTE_LAST {
-        value + 1
-    } else {
-        BYTE_FIRST
-    }
-}
-
-// Gives each byte a value.
-fn fill_bytes(bytes: &mut [u8]) {
-    let mut value = BYTE_FIRST;
-    let mut i = 0;
-    while i < bytes.len() {
-        bytes[i] = value;
-        value = next_byte(value);
-        i += 1;
-    }
-}
-
-// Writes a value after a space, and how often it was met.
-fn print_run(run: Run) {
-    if run.count == 0 {
-        return;
-    }
-    if run.value == KEPT {
-        io::write_all(STDOUT_FILENO, b" kept");
-    } else {
-        io::write_all(STDOUT_FILENO, b" ");
-        io::print_decimal(STDOUT_FILENO, run.value);
-    }
-    if run.count > 1 {
-        io::write_all(STDOUT_FILENO, b"*");
-        io::print_decimal(STDOUT_FILENO, run.count);
-    }
-}
-
 // What a byte is now that was given this value before.
 fn meaning(byte: u8, given: u8) -> u64 {
     if byte == given { KEPT } else { byte as u64 }
-}
-
-// The values in a row with one more. A row that has ended is written.
-fn with_value(run: Run, value: u64) -> Run {
-    if run.value == value {
-        return Run {
-            value: value,
-            count: wrapping_add_u64(run.count, 1),
-        };
-    }
-    print_run(run);
-    Run {
-        value: value,
-        count: 1,
-    }
 }
 
 // Writes what all bytes are now.
@@ -100,25 +39,6 @@ fn print_bytes(bytes: &[u8]) {
     }
     print_run(run);
     io::write_all(STDOUT_FILENO, b"\n");
-}
-
-// Writes a word and a number.
-fn print_said(said: &[u8], number: u64) {
-    io::write_all(STDOUT_FILENO, said);
-    io::print_decimal(STDOUT_FILENO, number);
-    io::write_all(STDOUT_FILENO, b"\n");
-}
-
-// Writes the number that the call returned, or its answer. After a refusal the answer's word is written only where it changed.
-fn print_returned(number: u32, answer: u64) {
-    if number == 0 {
-        print_said(b"  written ", answer);
-        return;
-    }
-    print_said(b"  refused ", number as u64);
-    if answer != ANSWER {
-        print_said(b"  answer ", answer);
-    }
 }
 
 // Makes the call.

@@ -1,6 +1,6 @@
 -- `bilzarko_text`: one law for the refused call, one for the call that writes.
 use borrow.Author.Needs.{needs}
-use Rattle.bilzarko.proofs.ExportLaws.{text-refused, text-written}
+use Rattle.bilzarko.proofs.ExportLaws.{bytes-refused, bytes-written}
 use Rattle.bilzarko.proofs.bilzarko_text.Statement.{statement}
 use Rattle.bilzarko.proofs.bilzarko_text.Tie as tie
 
@@ -18,11 +18,11 @@ bilzarko-text-spec =
     let at-why = c .before .before in
     let at-call = c .before .before .before .before .before .before .before .before in
     let at-start = at-call .before .before .before .before .before .before .before in
-    text-refused (at-start .args .answer .now) (at-call .text .ensures) (at-why .why .given .0 .0) (at-why .why .given .1) (c .turned-number .ensures))
+    bytes-refused (at-start .args .answer .now) (at-call .text .ensures) (at-why .why .given .0 .0) (at-why .why .given .1) (c .turned-number .ensures))
     (λ c. search needs)
     (λ c. search needs)
     (λ c.
     let at-bytes = c .before in
     let at-call = c .before .before .before .before .before .before .before in
     let at-start = at-call .before .before .before .before .before .before .before in
-    text-written (at-start .args .answer .now) (at-call .text .ensures) (at-bytes .bytes .given .0 .0) (at-bytes .bytes .given .1)))
+    bytes-written (at-start .args .answer .now) (at-call .text .ensures) (at-bytes .bytes .given .0 .0) (at-bytes .bytes .given .1)))

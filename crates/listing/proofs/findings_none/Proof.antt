@@ -1,7 +1,7 @@
 use native.Mathlib.Omega.{arith}
 use borrow.Author.Needs.{needs}
 use Rattle.lints.specs.Levels.{settingsFrom}
-use Rattle.listing.proofs.EmptyLaws.{none-settings, none-short, none-found}
+use Rattle.listing.proofs.NoneLaws.{findings-settings, findings-short, findings-none}
 use Rattle.listing.proofs.findings_none.Statement.{statement}
 use Rattle.listing.proofs.findings_none.Tie as tie
 
@@ -11,14 +11,14 @@ findings-none-spec =
     (tie.spec
     (λ c κs. search needs)
     (λ c. let a = c .before .before .before .before .args in
-    λ bytes words empty. none-settings (a .limit) (settingsFrom (a .mode) (a .overrides .now)) bytes (a .store .now) words empty
-    (c .before .settings-allowed .ensures) (c .if1 .taken))
+    λ bytes words empty. findings-settings (a .limit) (settingsFrom (a .mode) (a .overrides .now)) bytes (a .store .now) empty
+    (c .before .settings-allowed .ensures) words (c .if1 .taken))
     (λ c κs. search needs)
     (λ c.
     let the-settings-allowed = c .before .before .before .settings-allowed in
     let a = c .before .before .before .before .before .before .args in
-    λ bytes words empty. none-short (a .limit) (settingsFrom (a .mode) (a .overrides .now)) bytes (a .store .now) words empty (the-settings-allowed .ensures)
-    (c .before .before .if1 .left) (omega (arith, c .if2 .taken, c .before .store-words .ensures)))
+    λ bytes words empty. findings-short (a .limit) (settingsFrom (a .mode) (a .overrides .now)) bytes (a .store .now) empty (the-settings-allowed .ensures)
+    words (c .before .before .if1 .left) (omega (arith, c .if2 .taken, c .before .store-words .ensures)))
     (λ c κs. search needs)
     (λ c. search needs)
     (λ c.
@@ -27,6 +27,6 @@ findings-none-spec =
     let allowed = c .before .before .before .before .before .before .before .settings-allowed in
     let the-if1 = c .before .before .before .before .before .before .if1 in
     let size = c .before .before .before .before .before .store-words in
-    λ bytes words empty. none-found (a .limit) (settingsFrom (a .mode) (a .overrides .now)) bytes (a .store .now) words empty
-    (allowed .ensures) (the-if1 .left) _
+    λ bytes words empty. findings-none (a .limit) (settingsFrom (a .mode) (a .overrides .now)) bytes (a .store .now) empty
+    (allowed .ensures) words (the-if1 .left) _
     (omega (arith, the-if2 .left, size .ensures)) (c .before .before .clear-store .ensures)))

@@ -1,4 +1,4 @@
--- What the steps of the two calls promise.
+-- What the steps of the calls promise.
 use Prim.Native.Nat.{ℕ, _*_, _≤_, _<_}
 use mathlib.Core.Bool.{Bool, true, false, _&&_}
 use mathlib.Core.List.{List, _++_}
@@ -27,12 +27,7 @@ use Rattle.listing.specs.declared.front.Front.{Front}
 use Rattle.listing.specs.declared.front.Front.the-variants.{Refused, Ready}
 use Rattle.listing.specs.declared.gather.Gathered.{Gathered}
 use Rattle.listing.specs.declared.gather.Gathered.the-variants.{TooWide, Full, Upto}
-use Rattle.listing.specs.declared.Told.{Told}
-use Rattle.listing.specs.Outcome.{turnedNumber, front, storeAfter, toldAnswer}
-
--- the answer of the text call, and the text after it
-abbrev pub toldPair : Told → List ℕ → Answer ℕ × List ℕ
-toldPair r text = (toldAnswer r, text)
+use Rattle.listing.specs.Outcome.{turnedNumber, front, storeAfter}
 
 -- ---- the front
 

@@ -42,13 +42,13 @@ any-heard : (c : tie.After-word5) (x : Finding) (severity : ℕ)
     → List·Memᴰ x (findingsOf (treeOf (file c)) (formatsIn (file c) (start c .args .limit) (start c .args .store .now)))
     → start c .args .words .now ≡ findingWords severity x → Read c x
 any-heard c =
-    heard (start c .pre .1) (start c .pre .0 .asked .readable) (first-read c .word .ensures) (second-read c .word2 .ensures)
-    (c .before .before .word3 .ensures) (c .before .word4 .ensures) (c .word5 .ensures)
+    heard (start c .pre .1) (start c .pre .0 .asked .readable) (first-read c .word .ensures .0) (second-read c .word2 .ensures .0)
+    (c .before .before .word3 .ensures .0) (c .before .word4 .ensures .0) (c .word5 .ensures .0)
 
 one-heard : (c : tie.After-word5) → Read c (start c .pre .1 .finding)
 one-heard c =
-    heard-one (start c .pre .1) (start c .pre .0 .asked .readable) (first-read c .word .ensures) (second-read c .word2 .ensures)
-    (c .before .before .word3 .ensures) (c .before .word4 .ensures) (c .word5 .ensures)
+    heard-one (start c .pre .1) (start c .pre .0 .asked .readable) (first-read c .word .ensures .0) (second-read c .word2 .ensures .0)
+    (c .before .before .word3 .ensures .0) (c .before .word4 .ensures .0) (c .word5 .ensures .0)
 
 pub put-message-spec : {M : Type 1} → statement M
 put-message-spec =

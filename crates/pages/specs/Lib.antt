@@ -1,0 +1,3 @@
+pub mod Page
+pub mod Examples
+pub mod Code
