@@ -12,7 +12,7 @@ ghost use Rattle.names.specs.Name.{name_allowed, number_allowed};
 use names::{is_name, is_number, length_allowed, name_bytes, name_in};
 
 // Why a file is no law. `number_of` of specs/Sections.antt gives each its number in document 01's table.
-#[derive(Drop)]
+#[derive(Clone, Copy)]
 pub enum Refusal {
     FileOver,
     CutOff,
@@ -26,7 +26,7 @@ pub enum Refusal {
 }
 
 // The counts of the five sections.
-#[derive(Drop)]
+#[derive(Clone, Copy)]
 pub struct Sections {
     pub text: usize,
     pub functions: usize,
@@ -36,28 +36,28 @@ pub struct Sections {
 }
 
 // A file cut into its sections.
-#[derive(Drop)]
+#[derive(Clone, Copy)]
 pub enum Cut {
     Refused(Refusal),
     Whole(Sections),
 }
 
 // A section's count, and the position after its records.
-#[derive(Drop)]
+#[derive(Clone, Copy)]
 struct Counted {
     count: usize,
     end: usize,
 }
 
 // What stands at a position where a section is to stand.
-#[derive(Drop)]
+#[derive(Clone, Copy)]
 enum Found {
     Refused(Refusal),
     Part(Counted),
 }
 
 // The three symbol kinds: a scalar value, or the start and length of a spelling in the text.
-#[derive(Drop)]
+#[derive(Clone, Copy)]
 pub enum Symbol {
     Character(u32),
     Identifier(u32, u32),
@@ -65,7 +65,7 @@ pub enum Symbol {
 }
 
 // A term record. Names and indices are a start and a length in the text; a block has a number of sentences.
-#[derive(Drop)]
+#[derive(Clone, Copy)]
 pub enum Term {
     Symbol(Symbol),
     SVariable(u32, u32),

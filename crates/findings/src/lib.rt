@@ -22,7 +22,7 @@ pub const NONE: Tally = 2;
 
 // What a way through a law is for: the lint's number, the severity of its findings, whether they are shown, the position of the function that is gone
 // through, the words that there is room for, and the most shapes of a format.
-#[derive(Drop)]
+#[derive(Clone, Copy)]
 pub struct Task {
     pub lint: u32,
     pub severity: u32,
@@ -33,7 +33,7 @@ pub struct Task {
 }
 
 // What a finding says, besides what its task says.
-#[derive(Drop)]
+#[derive(Clone, Copy)]
 pub struct Note {
     pub start: u32,
     pub end: u32,

@@ -26,7 +26,7 @@ use law::places::{first_sentence, functions, pattern, pattern_at, result, result
 use shapes::{header_word, is_never, join_formats, row_end, same_words};
 
 // A function's turn: a row passes the limit on shapes, its name's format changed, or it is as it was.
-#[derive(Drop)]
+#[derive(Clone, Copy)]
 pub enum Turn {
     Over,
     Changed,
@@ -34,7 +34,7 @@ pub enum Turn {
 }
 
 // What inference comes to: a row passed the limit on shapes, or how many rounds ran and whether the last changed nothing.
-#[derive(Drop)]
+#[derive(Clone, Copy)]
 pub enum Inference {
     TooWide,
     Ran(usize, bool),

@@ -22,14 +22,14 @@ pub mod slots;
 pub type Slots = [u8; 578];
 
 // A row of shapes that was written: it passes the room that there is, or it ends before a position, closed or open.
-#[derive(Drop)]
+#[derive(Clone, Copy)]
 pub enum Row {
     Over,
     Ends(usize, bool),
 }
 
 // What the inference call answers. `infer_answer` of specs/Call.antt gives document 01's number for each refusal.
-#[derive(Drop)]
+#[derive(Clone, Copy)]
 pub enum Answered {
     Refused(Refusal),
     ShapesOver,

@@ -19,7 +19,7 @@ use law::runs::end_of;
 use shapes::leaf::{CHARACTER, IDENTIFIER, NUMBER, SYMBOL, UNKNOWN};
 
 // What a term record adds to a row: a shape of one word, an open end, a bracket, or what the store has for a call.
-#[derive(Drop)]
+#[derive(Clone, Copy)]
 enum Step {
     Leaf(u32),
     Open,

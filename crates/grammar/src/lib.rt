@@ -7,7 +7,7 @@ use crate::table::{Mode, Move, may_end, move_of};
 mod table;
 
 // Where a token has led: a mode, and the number of brackets and calls that are open.
-#[derive(Drop)]
+#[derive(Clone, Copy)]
 enum Step {
     Refused,
     On(Mode, usize),

@@ -5,7 +5,7 @@ ghost use Rattle.grammar.specs.Accept.{by_mode, at_names, in_lists, in_terms, si
 ghost use Rattle.grammar.specs.Code.Machine.{brace_move, separator_move, kind_move, mode_ends};
 
 // Where the machine stands in a text.
-#[derive(Drop)]
+#[derive(Clone, Copy)]
 pub enum Mode {
     AtText,
     AfterEntry,
@@ -21,7 +21,7 @@ pub enum Mode {
 }
 
 // What a token does: it is refused; on to a mode; on to a mode where nothing is open; it opens or closes a bracket (0) or a call (1).
-#[derive(Drop)]
+#[derive(Clone, Copy)]
 pub enum Move {
     Refuse,
     Stay(Mode),

@@ -26,7 +26,7 @@ pub mod runs;
 pub type Index = [u16; 972];
 
 // Whether a file is a law. `check_answer` of specs/Law.antt gives document 01's number for each case.
-#[derive(Drop)]
+#[derive(Clone, Copy)]
 pub enum Check {
     Accepted,
     Refused(Refusal),

@@ -11,7 +11,7 @@ use names::names_equal;
 use numbers::{capped_value, is_macrodigit};
 
 // Why a call fails, if that is certain. `failure_in` of specs/Code/Part.antt gives the failure.
-#[derive(Drop)]
+#[derive(Clone, Copy)]
 pub enum Fails {
     No,
     TwoIntegersWanted,
@@ -21,7 +21,7 @@ pub enum Fails {
 
 // What a builtin asks of its argument: two integers, of which the second may not be zero (true) or may (false); digits; or nothing that the lint
 // knows. `domain_from` of specs/Code/Part.antt gives the domain.
-#[derive(Drop)]
+#[derive(Clone, Copy)]
 enum Domain {
     Integers(bool),
     Digits,
@@ -29,7 +29,7 @@ enum Domain {
 }
 
 // A term as a part of an integer: a sign, a macrodigit by its value, or anything else.
-#[derive(Drop)]
+#[derive(Clone, Copy)]
 enum Operand {
     Sign,
     Macrodigit(u64),
@@ -37,7 +37,7 @@ enum Operand {
 }
 
 // Whether all symbols of a run pass a test; undecided where something in the run is no symbol of the kind that is tested.
-#[derive(Drop)]
+#[derive(Clone, Copy)]
 enum All {
     Undecided,
     Yes,

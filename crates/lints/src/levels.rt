@@ -5,7 +5,7 @@ ghost use Rattle.lints.specs.Levels.{override_from, settings_from, overrides_all
 ghost use Rattle.lints.specs.Code.Overrides.{override_allowed, level_from, shown_itself};
 
 // What the overrides say of a lint: nothing, or its severity. `level_from` of specs/Code/Overrides.antt gives the severity.
-#[derive(Drop)]
+#[derive(Clone, Copy)]
 enum Level {
     Unsaid,
     Severity(u32),

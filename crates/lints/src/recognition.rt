@@ -23,7 +23,7 @@ use sentences::{argument, literal_sentence};
 use shapes::disjoint_formats;
 
 // What is said of a call: nothing, that its argument has too many shapes to be compared, or that no sentence matches it, by formats or by literals.
-#[derive(Drop)]
+#[derive(Clone, Copy)]
 pub enum Verdict {
     Nothing,
     TooWide,

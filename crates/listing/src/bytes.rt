@@ -26,7 +26,7 @@ use messages::put_message;
 use pages::{page_length, put_heading, put_page};
 
 // What is written of a listing: the text of the finding at a position, or all of it on a page.
-#[derive(Drop)]
+#[derive(Clone, Copy)]
 pub enum Wanted {
     Text(usize),
     Page,

@@ -15,7 +15,7 @@ use lints::levels::settings_allowed;
 pub const LIMIT: usize = 64;
 
 // A refusal, or a law that is ready. `FrontIs` of specs/Code/Gather.antt says what either means.
-#[derive(Drop)]
+#[derive(Clone, Copy)]
 pub enum Front {
     Refused(Turned),
     Ready,

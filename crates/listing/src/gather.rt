@@ -16,7 +16,7 @@ pub const OWN: usize = 2048;
 
 // What a law comes to: a format has too many shapes, there are more findings than there is room for, or the number of findings, the rounds and whether the
 // last of them changed nothing.
-#[derive(Drop)]
+#[derive(Clone, Copy)]
 pub enum Gathered {
     TooWide,
     Full,

@@ -28,7 +28,7 @@ mod front;
 mod gather;
 
 // Why a call is turned back. `turned_number` of specs/Outcome.antt gives the number of documents 01 and 02.
-#[derive(Drop)]
+#[derive(Clone, Copy)]
 pub enum Turned {
     Settings,
     File(Refusal),
@@ -41,14 +41,14 @@ pub enum Turned {
 }
 
 // What the findings call answers: a refusal, or how many findings there are, how many rounds ran, and whether the last of these changed nothing.
-#[derive(Drop)]
+#[derive(Clone, Copy)]
 pub enum Found {
     Refused(Turned),
     Listed(usize, usize, bool),
 }
 
 // What a call that writes bytes answers: a refusal, or how many bytes were written.
-#[derive(Drop)]
+#[derive(Clone, Copy)]
 pub enum Told {
     Refused(Turned),
     Written(usize),

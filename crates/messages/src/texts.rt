@@ -15,7 +15,7 @@ use buffers::{put, put_decimal};
 use shapes::display::show_format;
 
 // Why a builtin call fails.
-#[derive(Drop)]
+#[derive(Clone, Copy)]
 pub enum Failure {
     TwoIntegersWanted,
     DivisionByZero,

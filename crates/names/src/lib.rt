@@ -3,7 +3,7 @@ ghost use Rattle.std.specs.Prelude.{◌≡◌, ◌+◌, ◌≤◌, length, take,
 ghost use Rattle.names.specs.Name.{between, digit_byte, letter_byte, name_byte, upper_byte, fold_byte, folded, folded_index, same_bytes, order_bytes, every_byte, length_allowed, name_allowed, number_allowed};
 
 // How two names stand to each other, by the bytes of the folded names.
-#[derive(Drop)]
+#[derive(Clone, Copy)]
 pub enum Order {
     Less,
     Equal,

@@ -9,7 +9,7 @@ ghost use Rattle.numbers.specs.Code.Zero.{zero_byte};
 use names::digit_byte;
 
 // What the test of digits answers after a byte: the value of the digits so far is at most 4294967295, or past it; or the byte is no digit.
-#[derive(Drop)]
+#[derive(Clone, Copy)]
 pub enum Tested {
     AtMost,
     Past,
@@ -17,7 +17,7 @@ pub enum Tested {
 }
 
 // What the test keeps after a byte, and what it answers.
-#[derive(Drop)]
+#[derive(Clone, Copy)]
 pub struct Step {
     pub state: u64,
     pub answer: Tested,

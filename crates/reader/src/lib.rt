@@ -18,7 +18,7 @@ use tokens::{Tokens, lex_text};
 use writing::put_file;
 
 // Why a text is not read.
-#[derive(Drop)]
+#[derive(Clone, Copy)]
 pub enum Unread {
     TextOver,
     Outside,
@@ -27,7 +27,7 @@ pub enum Unread {
 }
 
 // The number of bytes written, or why there are none.
-#[derive(Drop)]
+#[derive(Clone, Copy)]
 pub enum Reading {
     Refused(Unread),
     Written(usize),

@@ -27,7 +27,7 @@ use matching::{Bindings, First, Known};
 
 // What is still to be matched around the brackets that were gone into: the positions among the term records where each level of the pattern and of the
 // row ends, the outermost first. A level begins where the one inside it ends.
-#[derive(Drop)]
+#[derive(Clone, Copy)]
 pub struct Pending {
     pub patterns: [u16; 33],
     pub rows: [u16; 33],

@@ -15,7 +15,7 @@ use matching::bound::wide;
 
 // Of a search's places, how many keep their values as long as it remembers, and of how many more it is known that their variables stand neither in the pattern nor in
 // what is around it; and whether what it remembers is of what is around the pattern here.
-#[derive(Drop)]
+#[derive(Clone, Copy)]
 pub struct Sure {
     pub fixed: usize,
     pub places: usize,

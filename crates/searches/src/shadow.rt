@@ -20,7 +20,7 @@ use matching::{Bindings, First, Known};
 // `failed` is what is remembered, of rests whose variables have the values of the fixed places of `sure`, or none.
 
 // Whether there is a match, and the values of the first.
-#[derive(Drop)]
+#[derive(Clone, Copy)]
 pub struct Matched {
     pub ok: bool,
     pub bindings: Bindings,

@@ -26,7 +26,7 @@ mod loose;
 mod parity;
 
 // Whether a sentence of any bytes shadows another. `shadow_answer` of specs/Entry.antt gives document 01's number for each refusal.
-#[derive(Drop)]
+#[derive(Clone, Copy)]
 pub enum Shadowed {
     Refused(Refusal),
     NoSentence,
@@ -34,7 +34,7 @@ pub enum Shadowed {
 }
 
 // Whether a sentence's pattern matches a call's argument; `NotLiteral` where the record is no call or its argument is not literal.
-#[derive(Drop)]
+#[derive(Clone, Copy)]
 pub enum Recognised {
     Refused(Refusal),
     NoSentence,

@@ -16,7 +16,7 @@ use matching::terms::may_stand;
 use searches::repeats::again;
 
 // Where a pattern and a row stand once the pattern's terms before its first e. variable are matched.
-#[derive(Drop)]
+#[derive(Clone, Copy)]
 pub enum Ahead {
     At(usize, usize),
     Fails,

@@ -10,7 +10,7 @@ use crate::{end_of, inside_open, is_bracket, is_never, row_end, row_open};
 use buffers::{put, put_byte};
 
 // The position after a text, or that there is no room for it.
-#[derive(Drop)]
+#[derive(Clone, Copy)]
 pub enum Shown {
     At(usize),
     NoRoom,

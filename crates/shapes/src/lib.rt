@@ -15,7 +15,7 @@ pub mod display;
 pub mod leaf;
 
 // After a join was written: the position after its words, and whether the row is open.
-#[derive(Drop)]
+#[derive(Clone, Copy)]
 pub struct Joined {
     pub next: usize,
     pub is_open: bool,

@@ -18,7 +18,7 @@ pub const ANSWER: u64 = 99999;
 pub const KEPT: u64 = 0x100000000;
 
 // A value, and how often it was met in a row.
-#[derive(Drop)]
+#[derive(Clone, Copy)]
 pub struct Run {
     pub value: u64,
     pub count: u64,

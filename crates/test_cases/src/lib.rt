@@ -17,7 +17,7 @@ pub const LABEL: usize = 81;
 pub const LAW: usize = 16400;
 
 // A law that was read: whether all of it was there and had room, and its bytes.
-#[derive(Drop)]
+#[derive(Clone, Copy)]
 pub struct Found {
     pub whole: bool,
     pub bytes: usize,

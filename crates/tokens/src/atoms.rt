@@ -9,7 +9,7 @@ ghost use Rattle.tokens.specs.Code.Found.{goes_on, kind_code, atom_in, EndsIn};
 use names::{digit_byte, name_byte};
 
 // A token that begins with a letter or a digit, by the byte where it ends; a variable with the number of its kind in a file.
-#[derive(Drop)]
+#[derive(Clone, Copy)]
 pub enum Lexeme {
     Identifier(usize),
     Number(usize),

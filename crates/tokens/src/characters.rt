@@ -7,7 +7,7 @@ ghost use Rattle.tokens.specs.Code.Found.{CharacterAt};
 use file::{scalar_allowed, wide};
 
 // A character with the number of its bytes, or bytes that are none.
-#[derive(Drop)]
+#[derive(Clone, Copy)]
 pub enum Character {
     Broken,
     Whole(u32, usize),

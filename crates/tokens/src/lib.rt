@@ -9,7 +9,7 @@ pub mod characters;
 mod pieces;
 
 // The number of a text's tokens, or that it is not made of pieces.
-#[derive(Drop)]
+#[derive(Clone, Copy)]
 pub enum Tokens {
     Refused,
     Count(usize),

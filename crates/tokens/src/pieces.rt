@@ -8,7 +8,7 @@ use crate::characters::{Character, character_at};
 use names::{digit_byte, letter_byte};
 
 // A piece by the byte where it ends: a blank or a comment, or a token with its kind (specs/Code/TokenKind.antt).
-#[derive(Drop)]
+#[derive(Clone, Copy)]
 pub enum Found {
     Nothing,
     Between(usize),
