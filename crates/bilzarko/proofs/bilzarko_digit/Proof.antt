@@ -10,4 +10,4 @@ bilzarko_digit_spec =
     (tie.spec
     (λ c κs. search rules)
     (λ c κs. search rules)
-    (λ c. digit_taken c.before.digit-step.ensures c.tested-number.ensures))
+    (λ c. digit_taken c.digit_step-step.ensures c.tested_number.ensures))

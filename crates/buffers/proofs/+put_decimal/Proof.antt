@@ -24,8 +24,8 @@ abbrev put_decimal_below : ℕ → In 1 put-decimal-kinds.ps
 put_decimal_below t =
     and 1 put-decimal-kinds.ps (falls 1 put-decimal-kinds.ps ◌<◌ μ-put-decimal t) put-decimal.Pre
 
-pub +put-decimal-spec : {M : Type 1} → statement M
-+put-decimal-spec = close μ-put-decimal λ t. put-decimal-lts.spec (
+pub +put_decimal_spec : {M : Type 1} → statement M
++put_decimal_spec = close μ-put-decimal λ t. put-decimal-lts.spec (
   put-byte-reads.Asked,
   put-byte-reads.Learnt,
   put_decimal_below t,
@@ -38,24 +38,24 @@ pub +put-decimal-spec : {M : Type 1} → statement M
     (λ c κs. omega arith)
     (λ c. search rules)
     (λ c.
-    let the_if1 = c.before.before.before.before.if1 in
-    let x = c.before.before.before.before.before.before.args in
-    let digit = c.before.before.put_byte.ensures in
+    let the_if1 = c.if-n-lt10 in
+    let x = c.args in
+    let digit = c.put_byte.ensures in
     (omega (arith, digit.end), rw (decimal_alone x.n (omega (arith, the_if1.true))) digit))
     (λ c κs. (omega arith, omega arith))
     (λ c. search rules)
     (λ c. search rules)
     (λ c κs.
-    let the_put_decimal = c.before.before.before.put-decimal in
+    let the_put_decimal = c.put_decimal-next in
     let start = c.before.before.before.before.before.before.before in
     omega (arith, the_put_decimal.ensures.1.end, decimal_few start.args.n (omega (arith, start.ranges.n.fits))))
     (λ c. search rules)
     (λ c.
     let start = c.before.before.before.before.before.before.before.before.before.before in
     let n = start.args.n in
-    let many = c.before.before.before.before.before.before.before.before.if1.false in
-    let before = c.before.before.before.before.before.before.put-decimal in
-    let digit = c.before.before.put-byte2 in (
+    let many = c.if-n-lt10.false in
+    let before = c.put_decimal-next in
+    let digit = c.put_byte-2 in (
       omega (arith, before.ensures.1.end, digit.ensures.end, decimal_few n (omega (arith, start.ranges.n.fits))),
       rw (decimal_last n (omega (arith, many))) (before.ensures.1 then digit.ensures),
     ))

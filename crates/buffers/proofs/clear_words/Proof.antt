@@ -10,10 +10,10 @@ use Rattle.buffers.proofs.CopyLaws.{cleared}
 use Rattle.buffers.proofs.clear_words.Statement.{statement}
 use Rattle.buffers.proofs.clear_words.Tie as tie
 
-abbrev invariant_loop : tie.invariant_loop
+abbrev invariant_loop : tie.invariant-loop-i
 invariant_loop words₀ i₀ words i = (i ≤ length words₀) × (length words ≡ length words₀) × (words ≡ replicate i 0 ++ drop i words₀)
 
-abbrev decreases_loop : tie.decreases_loop
+abbrev decreases_loop : tie.decreases-loop-i
 decreases_loop words₀ i₀ words i = length words₀ - i
 
 pub clear_words_spec : {M : Type 1} → statement M
@@ -28,9 +28,9 @@ clear_words_spec =
     (λ c. omega arith)
     (λ c. omega arith)
     (λ c.
-    let the_args = c.before.before.args in
-    (omega arith, length-set c.before.loop.words _ _ ∙ c.before.loop.invariant.1, rw c.before.loop.invariant.2 (fill_more c.before.loop.i 0 the_args.words.now (omega arith))))
+    let the_args = c.args in
+    (omega arith, length-set c.loop-i.words _ _ ∙ c.loop-i.invariant.1, rw c.loop-i.invariant.2 (fill_more c.loop-i.i 0 the_args.words.now (omega arith))))
     (λ c. omega arith)
     (λ c.
-    let the_args = c.before.before.args in
-    cleared the_args.words.now c.before.loop.words c.before.loop.i c.before.loop.invariant.0 (omega arith) c.before.loop.invariant.2))
+    let the_args = c.args in
+    cleared the_args.words.now c.loop-i.words c.loop-i.i c.loop-i.invariant.0 (omega arith) c.loop-i.invariant.2))

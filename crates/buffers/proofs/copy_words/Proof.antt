@@ -9,10 +9,10 @@ use Rattle.buffers.proofs.CopyLaws.{copy_next, copied}
 use Rattle.buffers.proofs.copy_words.Statement.{statement}
 use Rattle.buffers.proofs.copy_words.Tie as tie
 
-abbrev invariant_loop : tie.invariant_loop
+abbrev invariant_loop : tie.invariant-loop-i
 invariant_loop from to₀ i₀ to i = (i ≤ length from) × (length to ≡ length to₀) × (to ≡ take i from ++ drop i to₀)
 
-abbrev decreases_loop : tie.decreases_loop
+abbrev decreases_loop : tie.decreases-loop-i
 decreases_loop from to₀ i₀ to i = length from - i
 
 pub copy_words_spec : {M : Type 1} → statement M
@@ -28,10 +28,10 @@ copy_words_spec =
     (λ c. omega arith)
     (λ c. omega arith)
     (λ c. omega arith)
-    (λ c. let now = c.before.before.loop in
-    let x = c.before.before.before.args in
+    (λ c. let now = c.loop-i in
+    let x = c.args in
     (omega arith, length-set now.to _ _ ∙ now.invariant.1, copy_next x.to.now x.from.now now.to now.i (omega arith) (omega arith) now.invariant.2))
     (λ c. omega arith)
     (λ c.
     let start = c.before.before in
-    copied start.args.to.now start.args.from.now c.before.loop.to c.before.loop.i start.requires (omega arith) c.before.loop.invariant.2))
+    copied start.args.to.now start.args.from.now c.loop-i.to c.loop-i.i start.requires (omega arith) c.loop-i.invariant.2))

@@ -10,10 +10,10 @@ use Rattle.buffers.proofs.PutLaws.{put_none, put_length, put_next, put_all, put_
 use Rattle.buffers.proofs.put.Statement.{statement}
 use Rattle.buffers.proofs.put.Tie as tie
 
-abbrev invariant_loop : tie.invariant_loop
+abbrev invariant_loop : tie.invariant-loop-i
 invariant_loop piece out₀ at i₀ out i = (i ≤ length piece) × Put out₀ at (take i piece) (at + i) out
 
-abbrev decreases_loop : tie.decreases_loop
+abbrev decreases_loop : tie.decreases-loop-i
 decreases_loop piece out₀ at i₀ out i = length piece - i
 
 pub put_spec : {M : Type 1} → statement M
@@ -26,19 +26,19 @@ put_spec =
     (λ c. omega arith)
     (λ c. omega arith)
     (λ c. omega arith)
-    (λ c. ltb-true _ _ c.before.if1.true)
+    (λ c. ltb-true _ _ c.if-at-i.true)
     (λ c. omega arith)
     (λ c. omega arith)
     (λ c.
-    let x = c.before.before.before.before.args in
-    let now = c.before.before.before.loop in
-    (omega arith, put_next x.out.now x.piece.now x.at now.i now.invariant.1 (omega arith) (ltb-true _ _ c.before.if1.true)))
+    let x = c.args in
+    let now = c.loop-i in
+    (omega arith, put_next x.out.now x.piece.now x.at now.i now.invariant.1 (omega arith) (ltb-true _ _ c.if-at-i.true)))
     (λ c. omega arith)
-    (λ c. put_length c.before.loop.invariant.1)
+    (λ c. put_length c.loop-i.invariant.1)
     (λ c.
-    let x = c.before.before.args in
-    let now = c.before.loop in
+    let x = c.args in
+    let now = c.loop-i in
     ⊎_elim
     (λ w. put_full x.out.now x.piece.now x.at now.i now.invariant.1 now.invariant.0 (ltb-false _ _ w.1.left))
     (λ w. put_all x.out.now x.piece.now x.at now.i now.invariant.1 w.left)
-    c.loop-test.branch))
+    c.loop-i-test.branch))

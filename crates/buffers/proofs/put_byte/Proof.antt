@@ -10,5 +10,5 @@ put_byte_spec = tie.close (tie.spec
     (λ c. search rules)
     (λ c. search rules)
     (λ c. search rules)
-    (λ c. let x = c.before.args in put_one x.out.now x.at x.byte c.if1.true)
-    (λ c. let x = c.before.args in put_past x.out.now x.at (x.byte ∷ []) c.if1.false))
+    (λ c. let x = c.args in put_one x.out.now x.at x.byte c.if-at-out.true)
+    (λ c. let x = c.args in put_past x.out.now x.at (x.byte ∷ []) c.if-at-out.false))

@@ -9,14 +9,14 @@ character_fields_spec =
     tie.close
     (tie.spec
     (λ c κs. search rules)
-    (λ c. rw (← c.before.scalar-allowed.ensures, not-true c.before.scalar-allowed.result c.if1.true))
+    (λ c. rw (← c.scalar_allowed.ensures, not-true c.scalar_allowed.result c.if-not-scalar_allowed.true))
     (λ c. rw (
-      ← c.before.before.scalar-allowed.ensures,
-      not-false c.before.before.scalar-allowed.result c.before.if1.false,
-      eq-eqb _ _ c.if2.true,
+      ← c.scalar_allowed.ensures,
+      not-false c.scalar_allowed.result c.if-not-scalar_allowed.false,
+      eq-eqb _ _ c.if-b-eq0.true,
     ))
     (λ c. rw (
-      ← c.before.before.scalar-allowed.ensures,
-      not-false c.before.before.scalar-allowed.result c.before.if1.false,
-      ne_eqb _ _ c.if2.false,
+      ← c.scalar_allowed.ensures,
+      not-false c.scalar_allowed.result c.if-not-scalar_allowed.false,
+      ne_eqb _ _ c.if-b-eq0.false,
     )))

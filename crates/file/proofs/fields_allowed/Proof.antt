@@ -62,22 +62,22 @@ fields_allowed_spec =
     (λ c.
     let start = c.before.before.before.before.before.before.before.before in
     omega (arith, counts_known start.args.law.now start.args.sections start.requires.0 start.requires.1))
-    (λ c κs. (search rules, c.before.is-named.ensures))
+    (λ c κs. (search rules, c.is_named-named.ensures))
     (λ c.
     let start = c.before.before.before.before.before.before.before.before.before.before.before in
     sym (fields_parts start.args.law.now start.args.sections start.requires.1
-    ∙ first_fails_lem _ _ (sym c.before.functions-allowed.ensures ∙ not-true _ c.if1.true)))
+    ∙ first_fails_lem _ _ (sym c.functions_allowed.ensures ∙ c.if-not-functions_allowed.true)))
     (λ c. search rules)
     (λ c. search rules)
     (λ c.
     let start = c.before.before.before.before.before.before.before.before.before.before.before in
     omega (arith, counts_known start.args.law.now start.args.sections start.requires.0 start.requires.1))
     (λ c κs.
-    let the_is_named = c.before.before.before.before.is-named in
+    let the_is_named = c.is_named-named in
     (search rules, the_is_named.ensures))
     (λ c.
     let start = c.before.before.before.before.before.before.before.before.before.before.before.before.before in
-    let the_functions_allowed = c.before.before.before.functions-allowed in
-    let the_if1 = c.before.before.if1 in
-    c.terms-allowed.ensures ∙ sym (rw (sym the_functions_allowed.ensures ∙ not-false _ the_if1.false) at
+    let the_functions_allowed = c.functions_allowed in
+    let the_if1 = c.if-not-functions_allowed in
+    c.terms_allowed.ensures ∙ sym (rw (sym the_functions_allowed.ensures ∙ not-false _ the_if1.false) at
     (fields_parts start.args.law.now start.args.sections start.requires.1))))

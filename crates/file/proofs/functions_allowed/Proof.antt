@@ -12,10 +12,10 @@ use Rattle.file.proofs.Fields.{function_tested}
 use Rattle.file.proofs.functions_allowed.Statement.{statement}
 use Rattle.file.proofs.functions_allowed.Tie as tie
 
-abbrev invariant_loop : tie.invariant_loop
+abbrev invariant_loop : tie.invariant-loop-i
 invariant_loop text named functions count i₀ i = (i ≤ count) × (every i (λ k. function_fields_at text functions (20 * k)) ≡ true)
 
-abbrev decreases_loop : tie.decreases_loop
+abbrev decreases_loop : tie.decreases-loop-i
 decreases_loop text named functions count i₀ i = count - i
 
 pub functions_allowed_spec : {M : Type 1} → statement M
@@ -31,23 +31,23 @@ functions_allowed_spec =
     (λ c κs. omega arith)
     (λ c κs. search rules)
     (λ c.
-    let the_loop_test = c.before.before.before.before.loop-test in
-    let the_word_at = c.before.before.before.word_at in
-    let i = c.before.before.before.before.before.loop.i in
+    let the_loop_test = c.loop-i-test in
+    let the_word_at = c.word_at in
+    let i = c.loop-i.i in
     sym (every_fails _ _ i the_loop_test.true
-    (function_tested _ _ _ _ _ _ the_word_at.ensures c.before.before.word-at2.ensures c.before.spelled-name.ensures
-    ∙ not-true _ c.if1.true)))
+    (function_tested _ _ _ _ _ _ the_word_at.ensures c.word_at-in-loop-i.ensures c.spelled_name.ensures
+    ∙ c.if-not-spelled_name.true)))
     (λ c. omega arith)
     (λ c. omega arith)
     (λ c.
-    let the_word_at = c.before.before.before.word_at in
-    let the_loop = c.before.before.before.before.before.loop in
-    let i = c.before.before.before.before.before.loop.i in (
+    let the_word_at = c.word_at in
+    let the_loop = c.loop-i in
+    let i = c.loop-i.i in (
       omega arith,
-      every_next i _ the_loop.invariant.1 (function_tested _ _ _ _ _ _ the_word_at.ensures c.before.before.word-at2.ensures
-          c.before.spelled-name.ensures ∙ not-false _ c.if1.false),
+      every_next i _ the_loop.invariant.1 (function_tested _ _ _ _ _ _ the_word_at.ensures c.word_at-in-loop-i.ensures
+          c.spelled_name.ensures ∙ c.if-not-spelled_name.false),
     ))
     (λ c.
-    let the_args = c.before.before.before.before.args in
-    let e : c.before.loop.i ≡ the_args.count = omega arith in
-    sym (rw e at c.before.loop.invariant.1)))
+    let the_args = c.args in
+    let e : c.loop-i.i ≡ the_args.count = omega arith in
+    sym (rw e at c.loop-i.invariant.1)))

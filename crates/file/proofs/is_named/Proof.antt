@@ -10,4 +10,4 @@ is_named_spec =
     (tie.spec
     (λ c. λ e. absurd (false≢true e))
     (λ c κs. search rules)
-    (λ c. λ e. sym c.name-bytes.ensures ∙ e))
+    (λ c. λ e. sym c.name_bytes.ensures ∙ e))

@@ -15,4 +15,4 @@ is_plain_spec =
     (λ c q. (omega arith, ltb-true _ _ q, omega arith, omega arith))
     (λ c q.
     let start = c.before in
-    absurd (omega (arith, c.if1.false, eqb-true (start.args.kind + start.args.b + start.args.n) 0 q))))
+    absurd (omega (arith, c.if-kind-b-eq0.false, eqb-true (start.args.kind + start.args.b + start.args.n) 0 q))))

@@ -8,5 +8,5 @@ name_fields_spec =
     tie.close
     (tie.spec
     (λ c κs. search rules)
-    (λ c. rw (← c.before.spelled-name.ensures, c.if1.true))
-    (λ c. rw (← c.before.spelled-name.ensures, c.if1.false)))
+    (λ c. rw (← c.spelled_name.ensures, c.if-spelled_name.true))
+    (λ c. rw (← c.spelled_name.ensures, c.if-spelled_name.false)))

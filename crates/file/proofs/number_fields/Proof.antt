@@ -8,5 +8,5 @@ number_fields_spec =
     tie.close
     (tie.spec
     (λ c κs. search rules)
-    (λ c. rw (← c.before.spelled-number.ensures, c.if1.true))
-    (λ c. rw (← c.before.spelled-number.ensures, c.if1.false)))
+    (λ c. rw (← c.spelled_number.ensures, c.if-spelled_number.true))
+    (λ c. rw (← c.spelled_number.ensures, c.if-spelled_number.false)))

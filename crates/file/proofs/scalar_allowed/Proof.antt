@@ -7,7 +7,7 @@ pub scalar_allowed_spec : {M : Type 1} → statement M
 scalar_allowed_spec =
     tie.close
     (tie.spec
-    (λ c. simp (lt-leb _ _ c.if1.true))
-    (λ c. simp (le-leb _ _ c.before.if1.false, lt-leb _ _ c.if2.true))
-    (λ c. simp (le-leb _ _ c.before.before.if1.false, le-leb _ _ c.before.if2.false, le-leb _ _ c.if3.true))
-    (λ c. simp (le-leb _ _ c.before.before.if1.false, le-leb _ _ c.before.if2.false, lt-leb _ _ c.if3.false)))
+    (λ c. simp (lt-leb _ _ c.if-a-gt1114111.true))
+    (λ c. simp (le-leb _ _ c.if-a-gt1114111.false, lt-leb _ _ c.if-a-lt55296.true))
+    (λ c. simp (le-leb _ _ c.if-a-gt1114111.false, le-leb _ _ c.if-a-lt55296.false, le-leb _ _ c.if-a-le57343.true))
+    (λ c. simp (le-leb _ _ c.if-a-gt1114111.false, le-leb _ _ c.if-a-lt55296.false, lt-leb _ _ c.if-a-le57343.false)))

@@ -11,24 +11,24 @@ section_at_spec =
     (tie.spec
     (λ c. search rules)
     (λ c.
-    let the_args = c.before.before.args in
-    found_short the_args.law.now _ _ _ c.if1.true)
+    let the_args = c.args in
+    found_short the_args.law.now _ _ _ c.if-left-lt4.true)
     (λ c κs. search rules)
     (λ c. search rules)
     (λ c.
     let s = c.before.before.before.before in
-    found_over s.args.law.now _ _ _ _ c.before.before.if1.false c.before.word_at.ensures c.if2.true)
+    found_over s.args.law.now _ _ _ _ c.if-left-lt4.false c.word_at-count.ensures c.if-limit-count.true)
     (λ c.
     let s = c.before.before.before.before in
-    omega (arith, product_small s.args.size _ _ s.requires.2 c.if2.false s.requires.1))
+    omega (arith, product_small s.args.size _ _ s.requires.2 c.if-limit-count.false s.requires.1))
     (λ c.
-    let the_if1 = c.before.before.before.if1 in
+    let the_if1 = c.if-left-lt4 in
     let s = c.before.before.before.before.before in
-    found_cut s.args.law.now _ _ _ _ the_if1.false c.before.before.word_at.ensures c.before.if2.false c.if3.true)
+    found_cut s.args.law.now _ _ _ _ the_if1.false c.word_at-count.ensures c.if-limit-count.false c.if-left-size.true)
     (λ c. search rules)
     (λ c. search rules)
     (λ c. search rules)
     (λ c.
-    let the_if1 = c.before.before.before.if1 in
+    let the_if1 = c.if-left-lt4 in
     let s = c.before.before.before.before.before in
-    found_part s.args.law.now _ _ _ _ s.requires.0 the_if1.false c.before.before.word_at.ensures c.before.if2.false c.if3.false))
+    found_part s.args.law.now _ _ _ _ s.requires.0 the_if1.false c.word_at-count.ensures c.if-limit-count.false c.if-left-size.false))

@@ -12,18 +12,18 @@ spelled_name_spec =
     tie.close
     (tie.spec
     (λ c κs. search rules)
-    (λ c. sym (spelled_past name_allowed _ _ _ (sym c.before.inside.ensures ∙ not-true _ c.if1.true)))
+    (λ c. sym (spelled_past name_allowed _ _ _ (sym c.inside.ensures ∙ c.if-not-inside.true)))
     (λ c κs. search rules)
     (λ c.
-    let TheInside = c.before.before.before.inside in
+    let TheInside = c.inside in
     let start = c.before.before.before.before.before in
-    let fits = sym TheInside.ensures ∙ not-false _ c.before.before.if1.false in
-    c.length-allowed.ensures ∙ spelled_named start.args.text.now start.args.start start.args.len fits (start.requires c.before.if2.true))
-    (λ c κs. leb-true _ _ (sym c.before.before.inside.ensures ∙ not-false _ c.before.if1.false))
+    let fits = sym TheInside.ensures ∙ c.if-not-inside.false in
+    c.length_allowed.ensures ∙ spelled_named start.args.text.now start.args.start start.args.len fits (start.requires c.if-named.true))
+    (λ c κs. leb-true _ _ (sym c.inside.ensures ∙ c.if-not-inside.false))
     (λ c κs. search rules)
     (λ c.
-    let TheInside = c.before.before.before.before.inside in
-    let the_if1 = c.before.before.before.if1 in
-    let s = c.before.before.before.before.before.before.args in
+    let TheInside = c.inside in
+    let the_if1 = c.if-not-inside in
+    let s = c.args in
     let fits = sym TheInside.ensures ∙ not-false _ the_if1.false in
-    c.is_name.ensures ∙ spelled_test name_allowed s.text.now _ s.start s.len fits c.before.name_in.ensures))
+    c.is_name.ensures ∙ spelled_test name_allowed s.text.now _ s.start s.len fits c.name_in.ensures))

@@ -12,11 +12,11 @@ spelled_number_spec =
     tie.close
     (tie.spec
     (λ c κs. search rules)
-    (λ c. sym (spelled_past number_allowed _ _ _ (sym c.before.inside.ensures ∙ not-true _ c.if1.true)))
-    (λ c κs. leb-true _ _ (sym c.before.inside.ensures ∙ not-false _ c.if1.false))
+    (λ c. sym (spelled_past number_allowed _ _ _ (sym c.inside.ensures ∙ c.if-not-inside.true)))
+    (λ c κs. leb-true _ _ (sym c.inside.ensures ∙ c.if-not-inside.false))
     (λ c κs. search rules)
     (λ c.
-    let TheInside = c.before.before.before.inside in
-    let s = c.before.before.before.before.before.args in
-    let fits = sym TheInside.ensures ∙ not-false _ c.before.before.if1.false in
-    c.is_number.ensures ∙ spelled_test number_allowed s.text.now _ s.start s.len fits c.before.name_in.ensures))
+    let TheInside = c.inside in
+    let s = c.args in
+    let fits = sym TheInside.ensures ∙ c.if-not-inside.false in
+    c.is_number.ensures ∙ spelled_test number_allowed s.text.now _ s.start s.len fits c.name_in.ensures))

@@ -16,7 +16,7 @@ term_allowed_spec =
     tie.close
     (tie.spec
     (λ c κs. search rules)
-    (λ c. sym (plain_allowed _ _ _ _ _ (c.before.is_plain.ensures c.if1.true)))
+    (λ c. sym (plain_allowed _ _ _ _ _ (c.is_plain.ensures c.if-is_plain.true)))
     (λ c κs. search rules)
     (λ c κs. search rules)
     (λ c κs. search rules)
@@ -24,20 +24,20 @@ term_allowed_spec =
     (λ c κs. search rules)
     (λ c κs. search rules)
     (λ c κs. search rules)
-    (λ c. rw c.before.match.keys1 c.character-fields.ensures)
-    (λ c. rw c.before.match.keys2 c.name-fields.ensures)
-    (λ c. rw c.before.match.keys3 c.number-fields.ensures)
-    (λ c. rw c.before.match.keys4 c.name-fields2.ensures)
-    (λ c. rw c.before.match.keys5 c.name-fields3.ensures)
-    (λ c. rw c.before.match.keys6 c.name-fields4.ensures)
-    (λ c. rw (c.before.match.keys7, eq-eqb _ _ c.if2.true))
-    (λ c. rw (c.before.match.keys7, ne_eqb _ _ c.if2.false))
-    (λ c. rw c.before.match.keys8 c.spelled-name.ensures)
-    (λ c. rw c.match.keys9)
+    (λ c. rw c.in-0.keys1 c.character_fields.ensures)
+    (λ c. rw c.in-0.keys2 c.name_fields.ensures)
+    (λ c. rw c.in-0.keys3 c.number_fields.ensures)
+    (λ c. rw c.in-0.keys4 c.name_fields-in-3.ensures)
+    (λ c. rw c.in-0.keys5 c.name_fields-in-4.ensures)
+    (λ c. rw c.in-0.keys6 c.name_fields-in-5.ensures)
+    (λ c. rw (c.in-0.keys7, eq-eqb _ _ c.if-a-eq0.true))
+    (λ c. rw (c.in-0.keys7, ne_eqb _ _ c.if-a-eq0.false))
+    (λ c. rw c.in-0.keys8 c.spelled_name.ensures)
+    (λ c. rw c.in-0.keys9)
     (λ c.
-    let s = c.before.before.before.before.args in
+    let s = c.args in
     let k = s.kind in
-    let none-to-eight = c.match.rest in
+    let none-to-eight = c.in-0.rest in
     let none-to-four = none-to-eight.0.0.0.0 in
     let none-to-three = none-to-four.0 in
     let four : 4 ≤ k = above 3 k (above 2 k (above 1 k (above 0 k (omega arith) none-to-three.0.0.0.1) none-to-three.0.0.1) none-to-three.0.1)

@@ -12,17 +12,17 @@ unfolding term_from
 term_from_spec =
     tie.close
     (tie.spec
-    (λ c. rw c.match.keys1)
-    (λ c. rw c.match.keys2)
-    (λ c. rw c.match.keys3)
-    (λ c. rw c.match.keys4)
-    (λ c. rw c.match.keys5)
-    (λ c. rw c.match.keys6)
-    (λ c. rw c.match.keys7)
-    (λ c. rw c.match.keys8)
+    (λ c. rw c.in-0.keys1)
+    (λ c. rw c.in-0.keys2)
+    (λ c. rw c.in-0.keys3)
+    (λ c. rw c.in-0.keys4)
+    (λ c. rw c.in-0.keys5)
+    (λ c. rw c.in-0.keys6)
+    (λ c. rw c.in-0.keys7)
+    (λ c. rw c.in-0.keys8)
     (λ c.
-    let k = c.before.args.kind in
-    let none-to-seven = c.match.rest in
+    let k = c.args.kind in
+    let none-to-seven = c.in-0.rest in
     let none-to-three = none-to-seven.0.0.0.0 in
     let four : 4 ≤ k = above 3 k (above 2 k (above 1 k (above 0 k (omega arith) none-to-three.0.0.0.1) none-to-three.0.0.1) none-to-three.0.1)
     none-to-three.1 in

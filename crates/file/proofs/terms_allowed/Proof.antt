@@ -12,10 +12,10 @@ use Rattle.file.proofs.Fields.{term_tested}
 use Rattle.file.proofs.terms_allowed.Statement.{statement}
 use Rattle.file.proofs.terms_allowed.Tie as tie
 
-abbrev invariant_loop : tie.invariant_loop
+abbrev invariant_loop : tie.invariant-loop-i
 invariant_loop text named terms count i₀ i = (i ≤ count) × (every i (λ k. term_fields_at text terms (24 * k)) ≡ true)
 
-abbrev decreases_loop : tie.decreases_loop
+abbrev decreases_loop : tie.decreases-loop-i
 decreases_loop text named terms count i₀ i = count - i
 
 pub terms_allowed_spec : {M : Type 1} → statement M
@@ -35,27 +35,27 @@ terms_allowed_spec =
     (λ c κs. omega arith)
     (λ c κs. search rules)
     (λ c.
-    let the_word_at2 = c.before.before.before.before.word-at2 in
-    let the_word_at3 = c.before.before.before.word-at3 in
-    let the_loop_test = c.before.before.before.before.before.before.loop-test in
-    let the_word_at = c.before.before.before.before.before.word_at in
-    let i = c.before.before.before.before.before.before.before.loop.i in
+    let the_word_at2 = c.word_at-a in
+    let the_word_at3 = c.word_at-b in
+    let the_loop_test = c.loop-i-test in
+    let the_word_at = c.word_at-kind in
+    let i = c.loop-i.i in
     sym (every_fails _ _ i the_loop_test.true
-    (term_tested _ _ _ _ _ _ _ _ the_word_at.ensures the_word_at2.ensures the_word_at3.ensures c.before.before.word-at4.ensures
-    c.before.term_allowed.ensures ∙ not-true _ c.if1.true)))
+    (term_tested _ _ _ _ _ _ _ _ the_word_at.ensures the_word_at2.ensures the_word_at3.ensures c.word_at-n.ensures
+    c.term_allowed.ensures ∙ c.if-not-term_allowed.true)))
     (λ c. omega arith)
     (λ c. omega arith)
     (λ c.
-    let the_word_at2 = c.before.before.before.before.word-at2 in
-    let the_word_at3 = c.before.before.before.word-at3 in
-    let the_loop = c.before.before.before.before.before.before.before.loop in
-    let the_word_at = c.before.before.before.before.before.word_at in
-    let i = c.before.before.before.before.before.before.before.loop.i in (
+    let the_word_at2 = c.word_at-a in
+    let the_word_at3 = c.word_at-b in
+    let the_loop = c.loop-i in
+    let the_word_at = c.word_at-kind in
+    let i = c.loop-i.i in (
       omega arith,
       every_next i _ the_loop.invariant.1 (term_tested _ _ _ _ _ _ _ _ the_word_at.ensures the_word_at2.ensures the_word_at3.ensures
-          c.before.before.word-at4.ensures c.before.term_allowed.ensures ∙ not-false _ c.if1.false),
+          c.word_at-n.ensures c.term_allowed.ensures ∙ c.if-not-term_allowed.false),
     ))
     (λ c.
-    let the_args = c.before.before.before.before.args in
-    let e : c.before.loop.i ≡ the_args.count = omega arith in
-    sym (rw e at c.before.loop.invariant.1)))
+    let the_args = c.args in
+    let e : c.loop-i.i ≡ the_args.count = omega arith in
+    sym (rw e at c.loop-i.invariant.1)))

@@ -9,19 +9,19 @@ infer_accepted_spec =
     tie.close
     (tie.spec
     (λ c.
-    let the_args = c.before.before.before.args in
-    outcome_short 64 _ the_args.store.now c.if1.true)
+    let the_args = c.args in
+    outcome_short 64 _ the_args.store.now c.if-store-lt-STORE.true)
     (λ c κs. search rules)
     (λ c κs. search rules)
     (λ c. search rules)
     (λ c. search rules)
     (λ c. search rules)
-    (λ c. let the_if1 = c.before.before.before.before.before.before.before.before.if1 in
+    (λ c. let the_if1 = c.if-store-lt-STORE in
     let start = c.before.before.before.before.before.before.before.before.before.before.before in
-    let inferred = c.before.before.before.before.infer-store in
-    outcome_over 64 _ start.args.store.now _ the_if1.false inferred.result inferred.ensures c.enum_told.given.1)
+    let inferred = c.infer_store in
+    outcome_over 64 _ start.args.store.now _ the_if1.false inferred.result inferred.ensures c.enum_told-1.given.1)
     (λ c. search rules)
-    (λ c. let the_if1 = c.before.before.before.before.before.before.before.before.before.if1 in
+    (λ c. let the_if1 = c.if-store-lt-STORE in
     let start = c.before.before.before.before.before.before.before.before.before.before.before.before in
-    let inferred = c.before.before.before.before.before.infer-store in
-    outcome_formed 64 _ start.args.store.now _ the_if1.false inferred.result inferred.ensures _ _ c.before.rounds.given.1))
+    let inferred = c.infer_store in
+    outcome_formed 64 _ start.args.store.now _ the_if1.false inferred.result inferred.ensures _ _ c.rounds-1.given.1))

@@ -12,18 +12,18 @@ infer_formats_spec =
     (λ c. search rules)
     (λ c. search rules)
     (λ c κs.
-    let the_enum_told = c.before.before.enum_told in
+    let the_enum_told = c.enum_told-1 in
     let start = c.before.before.before.before.before.before.before.before in
-    let read = c.before.before.before.before.read-law in
+    let read = c.read_law in
     call_accepted start.args.law.now _ _ the_enum_told.given.1 read.ensures.0 read.ensures.1)
     (λ c.
     let start = c.before.before.before.before.before.before.before in
-    let read = c.before.before.before.read-law in
-    outcome_refused 64 start.args.law.now _ _ read.result c.before.why.given.1 read.ensures.0)
+    let read = c.read_law in
+    outcome_refused 64 start.args.law.now _ _ read.result c.why-1.given.1 read.ensures.0)
     (λ c. search rules)
-    (λ c. let the_enum_told = c.before.before.before.before.before.enum_told in
+    (λ c. let the_enum_told = c.enum_told-1 in
     let start = c.before.before.before.before.before.before.before.before.before.before.before in
-    let read = c.before.before.before.before.before.before.before.read-law in
-    let inferred = c.before.before.infer-accepted in
+    let read = c.read_law in
+    let inferred = c.infer_accepted in
     outcome_accepted 64 start.args.law.now start.args.store.now _ read.result the_enum_told.given.1 read.ensures.0
     inferred.result inferred.ensures))

@@ -7,17 +7,17 @@ use Rattle.grammar.proofs.KindLaws.{Left, left_start, left_refused, left_next, l
 use Rattle.grammar.proofs.accepts.Statement.{statement}
 use Rattle.grammar.proofs.accepts.Tie as tie
 
-abbrev invariant_loop : tie.invariant_loop
+abbrev invariant_loop : tie.invariant-loop-i
 invariant_loop kinds stack₀ depth₀ mode₀ i₀ stack depth mode i = Left kinds i mode depth stack
 
-abbrev decreases_loop : tie.decreases_loop
+abbrev decreases_loop : tie.decreases-loop-i
 decreases_loop kinds stack₀ depth₀ mode₀ i₀ stack depth mode i = length kinds - i
 
 -- the loop, from where a kind's move is known; where it was known, from where the move is done
-abbrev the_loop : tie.After-move-of invariant_loop decreases_loop → tie.At-loop invariant_loop decreases_loop
+abbrev the_loop : tie.After-move_of-m invariant_loop decreases_loop → tie.At-loop-i invariant_loop decreases_loop
 the_loop c = c.before.before.before
 
-abbrev moved : tie.After-perform invariant_loop decreases_loop → tie.After-move-of invariant_loop decreases_loop
+abbrev moved : tie.After-perform-step invariant_loop decreases_loop → tie.After-move_of-m invariant_loop decreases_loop
 moved c = c.before.before
 
 pub accepts_spec : {M : Type 1} → statement M
@@ -26,22 +26,22 @@ accepts_spec =
     (tie.spec
     invariant_loop
     decreases_loop
-    (λ c. left_start c.before.args.kinds.now c.before.args.stack.now c.before.requires.1)
+    (λ c. left_start c.args.kinds.now c.args.stack.now c.requires.1)
     (λ c. omega arith)
     (λ c κs. search rules)
     (λ c κs. let inv = (the_loop c.before).loop.inv in (omega (arith, inv.low), inv.long))
     (λ c. search rules)
     (λ c.
     let performed = c.before.before in
-    left_refused (the_loop (moved performed)).loop.inv (omega arith) (moved performed).move-of.ensures performed.perform.ensures.1 c.enum_told.given.1)
+    left_refused (the_loop (moved performed)).loop.inv (omega arith) (moved performed).move_of-m.ensures performed.perform-step.ensures.1 c.enum_told-1.given.1)
     (λ c. search rules)
     (λ c. omega arith)
     (λ c. omega arith)
     (λ c.
     let performed = c.before.before.before in
-    left_next (the_loop (moved performed)).loop.inv (omega arith) performed.perform.ensures.0 (moved performed).move-of.ensures performed.perform.ensures.1 c.before.step.given.1)
-    (λ c. left_open c.before.before.loop.invariant c.before.loop-test.false c.if1.true)
+    left_next (the_loop (moved performed)).loop.inv (omega arith) performed.perform-step.ensures.0 (moved performed).move_of-m.ensures performed.perform-step.ensures.1 c.step-1.given.1)
+    (λ c. left_open c.loop-i.invariant c.loop-i-test.false c.if-depth-ne0.true)
     (λ c κs. search rules)
     (λ c.
-    let the_loop = c.before.before.before.loop in
-    left_end the_loop.invariant c.before.before.loop-test.false c.before.if1.false c.may-end.ensures))
+    let the_loop = c.loop-i in
+    left_end the_loop.invariant c.loop-i-test.false c.if-depth-ne0.false c.may_end.ensures))

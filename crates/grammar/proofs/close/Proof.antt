@@ -9,24 +9,24 @@ pub close_spec : {M : Type 1} → statement M
 close_spec =
     tie.close
     (tie.spec
-    (λ c. let x = c.before.args in close_nothing x.stack.now x.n x.o c.if1.true)
+    (λ c. let x = c.args in close_nothing x.stack.now x.n x.o c.if-depth-eq0.true)
     (λ c. search rules)
     (λ c. search rules)
     (λ c. search rules)
     (λ c.
     let open-last = c.before.before in
-    let x = open-last.before.before.args in
-    close_bracket x.stack.now x.n x.o open-last.before.if1.false refl c.before.if2.true c.if3.true)
+    let x = open-last.args in
+    close_bracket x.stack.now x.n x.o open-last.if-depth-eq0.false refl c.if-o-eq0.true c.if-top-eq0.true)
     (λ c.
     let open-last = c.before.before in
-    let x = open-last.before.before.args in
-    bracket_mismatch x.stack.now x.n x.o open-last.before.if1.false refl c.before.if2.true c.if3.false)
+    let x = open-last.args in
+    bracket_mismatch x.stack.now x.n x.o open-last.if-depth-eq0.false refl c.if-o-eq0.true c.if-top-eq0.false)
     (λ c.
     let open-last = c.before.before in
-    let x = open-last.before.before.args in
-    call_mismatch x.stack.now x.n x.o open-last.before.if1.false refl c.before.if2.false c.if4.true)
+    let x = open-last.args in
+    call_mismatch x.stack.now x.n x.o open-last.if-depth-eq0.false refl c.if-o-eq0.false c.if-top-eq0-2.true)
     (λ c. search rules)
     (λ c.
     let open-last = c.before.before in
-    let x = open-last.before.before.args in
-    close_call x.stack.now x.n x.o open-last.before.if1.false refl c.before.if2.false c.if4.false))
+    let x = open-last.args in
+    close_call x.stack.now x.n x.o open-last.if-depth-eq0.false refl c.if-o-eq0.false c.if-top-eq0-2.false))

@@ -13,15 +13,15 @@ check_bytes_spec =
     (λ c. search rules)
     (λ c. search rules)
     (λ c κs.
-    let the_sections = c.before.before.sections in
+    let the_sections = c.sections-1 in
     let start = c.before.before.before.before.before.before in
-    let the_sections_of = c.before.before.before.before.sections-of in
+    let the_sections_of = c.sections_of in
     let cut = cut_whole start.args.law.now _ _ the_sections_of.ensures the_sections.given.1 in
     (cut.file, cut.counts, start.requires))
     (λ c.
     let start = c.before.before.before.before.before in
-    let the_sections_of = c.before.before.before.sections-of in
+    let the_sections_of = c.sections_of in
     let law = start.args.law.now in
-    let refused = cut_refused law _ _ the_sections_of.ensures c.before.why.given.1 in
+    let refused = cut_refused law _ _ the_sections_of.ensures c.why-1.given.1 in
     verdict.refused_filled law _ _ (verdict.sections_refused law _ refused))
     (λ c. search rules))

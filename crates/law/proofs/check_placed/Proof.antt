@@ -14,27 +14,27 @@ use Rattle.law.proofs.check_placed.Statement.{statement}
 use Rattle.law.proofs.check_placed.Tie as tie
 
 -- the call, from where the runs, the blocks and the depth are allowed
-abbrev from_runs : tie.Else1 → tie.Start
+abbrev from_runs : tie.Else-not-runs_fit → tie.Start
 from_runs c = c.before.before.before
 
-abbrev from_blocks : tie.Else2 → tie.Else1
+abbrev from_blocks : tie.Else-not-blocks_allowed → tie.Else-not-runs_fit
 from_blocks c = c.before.before
 
-abbrev from_depth : tie.Else3 → tie.Else2
+abbrev from_depth : tie.Else-not-depth_allowed → tie.Else-not-blocks_allowed
 from_depth c = c.before.before
 
 -- what the tests have told there
-runs_told : (c : tie.Else1) → runs_allowed (file_of (from_runs c).args.law.now) ≡ true
+runs_told : (c : tie.Else-not-runs_fit) → runs_allowed (file_of (from_runs c).args.law.now) ≡ true
 runs_told c =
     let start = from_runs c in
-    verdict.runs_all start.args.law.now start.pre.0.sections start.pre.1 start.pre.0.used
-    (sym c.before.Runs-Fit.ensures ∙ not-false _ c.if1.false)
+    verdict.runs_all start.args.law.now start.requires.0.sections start.requires.1 start.requires.0.used
+    (sym c.Runs-Fit.ensures ∙ c.if-not-runs_fit.false)
 
-blocks_told : (c : tie.Else2) → blocks_allowed (file_of (from_runs (from_blocks c)).args.law.now) ≡ true
-blocks_told c = sym c.before.blocks_allowed.ensures ∙ not-false _ c.if2.false
+blocks_told : (c : tie.Else-not-blocks_allowed) → blocks_allowed (file_of (from_runs (from_blocks c)).args.law.now) ≡ true
+blocks_told c = sym c.blocks_allowed.ensures ∙ c.if-not-blocks_allowed.false
 
-depth_told : (c : tie.Else3) → leb (depth_of (tree_of (file_of (from_runs (from_blocks (from_depth c))).args.law.now))) 32 ≡ true
-depth_told c = sym c.before.depth-allowed.ensures ∙ not-false _ c.if3.false
+depth_told : (c : tie.Else-not-depth_allowed) → leb (depth_of (tree_of (file_of (from_runs (from_blocks (from_depth c))).args.law.now))) 32 ≡ true
+depth_told c = sym c.depth_allowed.ensures ∙ c.if-not-depth_allowed.false
 
 pub check_placed_spec : {M : Type 1} → statement M
 check_placed_spec =
@@ -43,41 +43,41 @@ check_placed_spec =
     (λ c κs. search rules)
     (λ c.
     let start = c.before.before.before in
-    let unfit = sym c.before.Runs-Fit.ensures ∙ not-true _ c.if1.true in
+    let unfit = sym c.Runs-Fit.ensures ∙ c.if-not-runs_fit.true in
     sym (verdict.runs_refused start.args.law.now start.requires.0.sections start.requires.1 start.requires.0.used unfit))
     (λ c κs. search rules)
     (λ c.
     let runs = c.before.before in
     let start = from_runs runs in
-    let refused = sym c.before.blocks_allowed.ensures ∙ not-true _ c.if2.true in
-    sym (verdict.blocks_refused start.args.law.now start.pre.0.sections start.pre.1 (runs_told runs) refused))
+    let refused = sym c.blocks_allowed.ensures ∙ c.if-not-blocks_allowed.true in
+    sym (verdict.blocks_refused start.args.law.now start.requires.0.sections start.requires.1 (runs_told runs) refused))
     (λ c κs.
     let runs = from_blocks c in
     let start = from_runs runs in
-    let whole = (sections_records start.args.law.now (file_of start.args.law.now) start.pre.0.sections).4 in
-    (start.pre.0, record { whole = whole; fields = start.pre.1; runs = runs_told runs; blocks = blocks_told c }))
+    let whole = (sections_records start.args.law.now (file_of start.args.law.now) start.requires.0.sections).4 in
+    (start.requires.0, record { whole = whole; fields = start.requires.1; runs = runs_told runs; blocks = blocks_told c }))
     (λ c.
     let blocks = c.before.before in
     let runs = from_blocks blocks in
     let start = from_runs runs in
-    let refused = sym c.before.depth-allowed.ensures ∙ not-true _ c.if3.true in
-    sym (verdict.depth_refused start.args.law.now start.pre.0.sections start.pre.1 (runs_told runs) (blocks_told blocks) refused))
+    let refused = sym c.depth_allowed.ensures ∙ c.if-not-depth_allowed.true in
+    sym (verdict.depth_refused start.args.law.now start.requires.0.sections start.requires.1 (runs_told runs) (blocks_told blocks) refused))
     (λ c κs. search rules)
     (λ c.
     let depth = c.before.before in
     let blocks = from_depth depth in
     let runs = from_blocks blocks in
     let start = from_runs runs in
-    let refused = sym c.before.patterns-allowed.ensures ∙ not-true _ c.if4.true in
+    let refused = sym c.patterns_allowed.ensures ∙ c.if-not-patterns_allowed.true in
     sym
-    (verdict.patterns_refused start.args.law.now start.pre.0.sections start.pre.1
+    (verdict.patterns_refused start.args.law.now start.requires.0.sections start.requires.1
     (runs_told runs) (blocks_told blocks) (depth_told depth) refused))
     (λ c.
     let depth = c.before.before in
     let blocks = from_depth depth in
     let runs = from_blocks blocks in
     let start = from_runs runs in
-    let patterns = sym c.before.patterns-allowed.ensures ∙ not-false _ c.if4.false in
+    let patterns = sym c.patterns_allowed.ensures ∙ c.if-not-patterns_allowed.false in
     sym
-    (verdict.accepted start.args.law.now start.pre.0.sections start.pre.1
+    (verdict.accepted start.args.law.now start.requires.0.sections start.requires.1
     (runs_told runs) (blocks_told blocks) (depth_told depth) patterns)))

@@ -18,10 +18,10 @@ findings_gathered_spec =
     (λ c κs.
     let start = c.before.before.before.before.before.before.before.before.before.before.before.before.before.before.before.before.before.before.before.before.before in
     let settings = settings_from start.args.mode start.args.overrides.now in
-    let the_gather = c.before.before.before.before.before.before.before.before.before.before.before.gather in
+    let the_gather = c.gather in
     let out-kept = the_gather.auto.1.1.1.1.1.1.1.1.0 in
-    let the_slots_of = c.before.before.before.before.before.before.before.before.before.before.before.before.before.before.before.slots-of in
-    let the_count = c.before.before.before.before.before.count in (
+    let the_slots_of = c.slots_of-slots in
+    let the_count = c.count-1 in (
       findings_collected settings the_gather.ensures start.requires the_slots_of.ensures _ _ _ the_count.given.1 out-kept,
       omega (arith, count_fits settings the_gather.ensures start.requires the_slots_of.ensures _ _ _ the_count.given.1),
     ))
@@ -29,22 +29,22 @@ findings_gathered_spec =
     (λ c. search rules)
     (λ c.
     let start = c.before.before.before.before.before.before.before.before.before.before.before.before.before.before.before.before in
-    let the_gather = c.before.before.before.before.before.before.gather in
-    findings_wide (settings_from start.args.mode start.args.overrides.now) the_gather.ensures _ c.enum_told.given.1)
+    let the_gather = c.gather in
+    findings_wide (settings_from start.args.mode start.args.overrides.now) the_gather.ensures _ c.enum_told-1.given.1)
     (λ c. search rules)
     (λ c. search rules)
     (λ c.
     let start = c.before.before.before.before.before.before.before.before.before.before.before.before.before.before.before.before in
-    let the_gather = c.before.before.before.before.before.before.gather in
-    findings_full (settings_from start.args.mode start.args.overrides.now) the_gather.ensures _ refl c.enum-told2.given.1)
+    let the_gather = c.gather in
+    findings_full (settings_from start.args.mode start.args.overrides.now) the_gather.ensures _ refl c.enum_told-in-Full-1.given.1)
     (λ c. search rules)
     (λ c. search rules)
     (λ c. search rules)
-    (λ c. let the_count = c.before.before.before.before.before.before.before.before.count in
+    (λ c. let the_count = c.count-1 in
     let at-slots-of = c.before.before.before.before.before.before.before.before.before.before.before.before.before.before.before.before.before.before in
     let start = at-slots-of.before.before.before.before.before.before in
     let settings = settings_from start.args.mode start.args.overrides.now in
-    let the_gather = c.before.before.before.before.before.before.before.before.before.before.before.before.before.before.gather in
-    let the_slots_of = at-slots-of.slots-of in
+    let the_gather = c.gather in
+    let the_slots_of = at-slots-of.slots_of-slots in
     findings_listed settings the_gather.ensures start.requires the_slots_of.ensures _ _ _ the_count.given.1 _ _ refl
-    c.before.before.hand-over.ensures))
+    c.hand_over.ensures))

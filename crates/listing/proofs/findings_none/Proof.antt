@@ -10,23 +10,23 @@ findings_none_spec =
     tie.close
     (tie.spec
     (λ c κs. search rules)
-    (λ c. let a = c.before.before.before.before.args in
+    (λ c. let a = c.args in
     λ bytes words empty. findings_settings a.limit (settings_from a.mode a.overrides.now) bytes a.store.now empty
-    c.before.settings-allowed.ensures words c.if1.true)
+    c.settings_allowed.ensures words c.if-not-settings_allowed.true)
     (λ c κs. search rules)
     (λ c.
-    let the_settings_allowed = c.before.before.before.settings-allowed in
-    let a = c.before.before.before.before.before.before.args in
+    let the_settings_allowed = c.settings_allowed in
+    let a = c.args in
     λ bytes words empty. findings_short a.limit (settings_from a.mode a.overrides.now) bytes a.store.now empty the_settings_allowed.ensures
-    words c.before.before.if1.false (omega (arith, c.if2.true, c.before.store_words_lem.ensures)))
+    words c.if-not-settings_allowed.false (omega (arith, c.if-store-store_words.true, c.store_words.ensures)))
     (λ c κs. search rules)
     (λ c. search rules)
     (λ c.
-    let the_if2 = c.before.before.before.before.if2 in
-    let a = c.before.before.before.before.before.before.before.before.before.before.args in
-    let allowed = c.before.before.before.before.before.before.before.settings-allowed in
-    let the_if1 = c.before.before.before.before.before.before.if1 in
-    let size = c.before.before.before.before.before.store_words_lem in
+    let the_if2 = c.if-store-store_words in
+    let a = c.args in
+    let allowed = c.settings_allowed in
+    let the_if1 = c.if-not-settings_allowed in
+    let size = c.store_words in
     λ bytes words empty. findings_none a.limit (settings_from a.mode a.overrides.now) bytes a.store.now empty
     allowed.ensures words the_if1.false _
-    (omega (arith, the_if2.false, size.ensures)) c.before.before.clear-store.ensures))
+    (omega (arith, the_if2.false, size.ensures)) c.clear_store.ensures))

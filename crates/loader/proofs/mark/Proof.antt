@@ -10,5 +10,5 @@ mark_spec =
     (tie.spec
     (λ c κs. search rules)
     (λ c.
-    let the_args = c.before.before.args in
-    marked the_args.state.now the_args.byte _ c.bilzarko-digit.ensures))
+    let the_args = c.args in
+    marked the_args.state.now the_args.byte _ c.bilzarko_digit.ensures))

@@ -15,4 +15,4 @@ show_spec =
     let at_call = c.before.before.before.before in
     let at_start = at_call.before.before.before.before.before.before.before.before in
     shown _ at_start.args.law.now at_start.args.store.now at_start.args.position at_start.args.text.now at_start.args.answer.now _
-    at_call.bilzarko-text.ensures))
+    at_call.bilzarko_text.ensures))

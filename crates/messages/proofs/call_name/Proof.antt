@@ -12,9 +12,9 @@ call_name_spec =
     (λ c κs. search rules)
     (λ c κs. search rules)
     (λ c κs.
-    let p = c.before.before.before.before.requires in
-    call_inside p.0 p.2 c.before.before.term_word.ensures c.before.term-word2.ensures c.text.ensures p.1)
+    let p = c.requires in
+    call_inside p.0 p.2 c.term_word-start.ensures c.term_word-len.ensures c.text.ensures p.1)
     (λ c.
-    let the_term_word = c.before.before.before.term_word in
-    let p = c.before.before.before.before.before.requires in
-    call_read p.0 p.2 the_term_word.ensures c.before.before.term-word2.ensures c.before.text.ensures c.name_in.ensures))
+    let the_term_word = c.term_word-start in
+    let p = c.requires in
+    call_read p.0 p.2 the_term_word.ensures c.term_word-len.ensures c.text.ensures c.name_in.ensures))

@@ -15,17 +15,17 @@ put_dead_sentence_spec =
     (λ c κs. search rules)
     (λ c κs. search rules)
     (λ c κs.
-    let the_pre = c.before.before.before.before.requires in
+    let the_pre = c.requires in
     functions_few the_pre.0 c.functions.ensures)
     (λ c κs.
-    let the_function_name = c.before.before.before.function-name in
+    let the_function_name = c.function_name-owner in
     let start = c.before.before.before.before.before.before in
     omega (arith, owner_short start.requires.0 start.args.position the_function_name.ensures))
     (λ c. search rules)
     (λ c.
-    let the_first_sentence = c.before.before.before.before.first_sentence in
-    let the_functions = c.before.before.before.before.before.functions in
-    let the_function_name = c.before.before.before.before.before.before.function-name in
+    let the_first_sentence = c.first_sentence in
+    let the_functions = c.functions in
+    let the_function_name = c.function_name-owner in
     let start = c.before.before.before.before.before.before.before.before.before in
     rw (first_in_block start.requires.0 the_functions.ensures the_first_sentence.ensures) at
-    (c.before.before.put-dead.ensures (function_name (file_of start.args.law.now) start.args.position) (sym the_function_name.ensures))))
+    (c.put_dead.ensures (function_name (file_of start.args.law.now) start.args.position) (sym the_function_name.ensures))))

@@ -9,6 +9,6 @@ pub fold_byte_spec : {M : Type 1} → statement M
 fold_byte_spec =
     tie.close
     (tie.spec
-    (λ c. simp (eq-eqb _ _ c.if1.true))
+    (λ c. simp (eq-eqb _ _ c.if-c-eq95.true))
     (λ c κs. search rules)
-    (λ c. c.upper-byte.ensures ∙ simp (ne_eqb _ _ c.before.if1.false)))
+    (λ c. c.upper_byte.ensures ∙ simp (ne_eqb _ _ c.if-c-eq95.false)))

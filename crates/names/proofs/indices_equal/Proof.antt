@@ -8,10 +8,10 @@ use Rattle.names.proofs.Laws.{SameFrom, same_longer, same_start, same_next, same
 use Rattle.names.proofs.indices_equal.Statement.{statement}
 use Rattle.names.proofs.indices_equal.Tie as tie
 
-abbrev invariant_loop : tie.invariant_loop
+abbrev invariant_loop : tie.invariant-loop-i
 invariant_loop a b i₀ i = SameFrom upper_byte a b i
 
-abbrev decreases_loop : tie.decreases_loop
+abbrev decreases_loop : tie.decreases-loop-i
 decreases_loop a b i₀ i = length a - i
 
 pub indices_equal_spec : {M : Type 1} → statement M
@@ -22,18 +22,18 @@ indices_equal_spec =
     decreases_loop
     (λ c.
     let start = c.before.before.before in
-    same_longer upper_byte start.args.a.now start.args.b.now c.if1.true)
+    same_longer upper_byte start.args.a.now start.args.b.now c.if-a-b.true)
     (λ c.
     let start = c.before.before.before in
-    same_start upper_byte start.args.a.now start.args.b.now c.if1.false)
+    same_start upper_byte start.args.a.now start.args.b.now c.if-a-b.false)
     (λ c. omega arith)
     (λ c κs. search rules)
     (λ c. omega arith)
     (λ c κs. search rules)
-    (λ c. let the_loop = c.before.before.before.before.before.before.loop in
-    same_differ the_loop.invariant (omega arith) (search rules) (search rules) c.if2.true)
+    (λ c. let the_loop = c.loop-i in
+    same_differ the_loop.invariant (omega arith) (search rules) (search rules) c.if-upper_byte.true)
     (λ c. omega arith)
     (λ c. omega arith)
-    (λ c. let the_loop = c.before.before.before.before.before.before.loop in
-    same_next the_loop.invariant (omega arith) (search rules) (search rules) c.if2.false)
-    (λ c. same_end c.before.loop.invariant c.loop-test.false))
+    (λ c. let the_loop = c.loop-i in
+    same_next the_loop.invariant (omega arith) (search rules) (search rules) c.if-upper_byte.false)
+    (λ c. same_end c.loop-i.invariant c.loop-i-test.false))

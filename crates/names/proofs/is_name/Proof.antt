@@ -9,5 +9,5 @@ is_name_spec =
     (tie.spec
     (λ c κs. search rules)
     (λ c κs. search rules)
-    (λ c. rw (← c.before.before.length-allowed.ensures, c.before.if1.true) c.name-bytes.ensures)
-    (λ c. rw (← c.before.length-allowed.ensures, c.if1.false)))
+    (λ c. rw (← c.length_allowed.ensures, c.if-length_allowed.true) c.name_bytes.ensures)
+    (λ c. rw (← c.length_allowed.ensures, c.if-length_allowed.false)))

@@ -9,10 +9,10 @@ use Rattle.names.proofs.Laws.{allowed, allowed_length, PassedTo, passed_allowed,
 use Rattle.names.proofs.is_number.Statement.{statement}
 use Rattle.names.proofs.is_number.Tie as tie
 
-abbrev invariant_loop : tie.invariant_loop
+abbrev invariant_loop : tie.invariant-loop-i
 invariant_loop s i₀ i = PassedTo (allowed digit_byte s) digit_byte s i
 
-abbrev decreases_loop : tie.decreases_loop
+abbrev decreases_loop : tie.decreases-loop-i
 decreases_loop s i₀ i = length s - i
 
 pub is_number_spec : {M : Type 1} → statement M
@@ -23,19 +23,19 @@ is_number_spec =
     decreases_loop
     (λ c κs. search rules)
     (λ c.
-    let the_args = c.before.before.before.args in
-    allowed_length digit_byte the_args.s.now c.before.length-allowed.ensures (not-true _ c.if1.true))
+    let the_args = c.args in
+    allowed_length digit_byte the_args.s.now c.length_allowed.ensures c.if-not-length_allowed.true)
     (λ c.
-    let the_args = c.before.before.before.args in
-    passed_allowed digit_byte the_args.s.now c.before.length-allowed.ensures (not-false _ c.if1.false))
+    let the_args = c.args in
+    passed_allowed digit_byte the_args.s.now c.length_allowed.ensures c.if-not-length_allowed.false)
     (λ c. omega arith)
     (λ c κs. search rules)
     (λ c.
-    let the_loop = c.before.before.before.before.loop in
-    passed_fails the_loop.invariant (omega arith) c.before.digit-byte.ensures (not-true _ c.if2.true))
+    let the_loop = c.loop-i in
+    passed_fails the_loop.invariant (omega arith) c.digit_byte.ensures c.if-not-digit_byte.true)
     (λ c. omega arith)
     (λ c. omega arith)
     (λ c.
-    let the_loop = c.before.before.before.before.loop in
-    passed_next the_loop.invariant (omega arith) c.before.digit-byte.ensures (not-false _ c.if2.false))
-    (λ c. passed_end c.before.loop.invariant c.loop-test.false))
+    let the_loop = c.loop-i in
+    passed_next the_loop.invariant (omega arith) c.digit_byte.ensures c.if-not-digit_byte.false)
+    (λ c. passed_end c.loop-i.invariant c.loop-i-test.false))

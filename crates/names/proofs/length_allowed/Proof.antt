@@ -7,5 +7,5 @@ pub length_allowed_spec : {M : Type 1} → statement M
 length_allowed_spec =
     tie.close
     (tie.spec
-    (λ c. simp (le-leb _ _ c.if1.true))
-    (λ c. simp (lt-leb _ _ c.if1.false)))
+    (λ c. simp (le-leb _ _ c.if-n-ge1.true))
+    (λ c. simp (lt-leb _ _ c.if-n-ge1.false)))

@@ -9,6 +9,6 @@ letter_byte_spec =
     tie.close
     (tie.spec
     (λ c κs. search rules)
-    (λ c. simp (sym c.before.in-range.ensures ∙ c.if1.true))
+    (λ c. simp (sym c.in_range.ensures ∙ c.if-in_range.true))
     (λ c κs. search rules)
-    (λ c. c.in-range2.ensures ∙ simp (sym c.before.before.in-range.ensures ∙ c.before.if1.false)))
+    (λ c. c.in_range-2.ensures ∙ simp (sym c.in_range.ensures ∙ c.if-in_range.false)))

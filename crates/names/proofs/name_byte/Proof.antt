@@ -10,16 +10,16 @@ name_byte_spec =
     tie.close
     (tie.spec
     (λ c κs. search rules)
-    (λ c. simp (sym c.before.letter-byte.ensures ∙ c.if1.true))
+    (λ c. simp (sym c.letter_byte.ensures ∙ c.if-letter_byte.true))
     (λ c κs. search rules)
     (λ c.
     let first = c.before.before in
-    simp (sym first.before.letter-byte.ensures ∙ first.if1.false, sym c.before.digit-byte.ensures ∙ c.if2.true))
+    simp (sym first.letter_byte.ensures ∙ first.if-letter_byte.false, sym c.digit_byte.ensures ∙ c.if-digit_byte.true))
     (λ c.
     let second = c.before in
     let first = second.before.before in
-    simp (sym first.before.letter-byte.ensures ∙ first.if1.false, sym second.before.digit-byte.ensures ∙ second.if2.false, eq-eqb _ _ c.if3.true))
+    simp (sym first.letter_byte.ensures ∙ first.if-letter_byte.false, sym second.digit_byte.ensures ∙ second.if-digit_byte.false, eq-eqb _ _ c.if-c-eq45.true))
     (λ c.
     let second = c.before in
     let first = second.before.before in
-    simp (sym first.before.letter-byte.ensures ∙ first.if1.false, sym second.before.digit-byte.ensures ∙ second.if2.false, ne_eqb _ _ c.if3.false)))
+    simp (sym first.letter_byte.ensures ∙ first.if-letter_byte.false, sym second.digit_byte.ensures ∙ second.if-digit_byte.false, ne_eqb _ _ c.if-c-eq45.false)))

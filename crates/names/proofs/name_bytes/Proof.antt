@@ -9,10 +9,10 @@ use Rattle.names.proofs.Laws.{PassedTo, passed_none, passed_next, passed_fails, 
 use Rattle.names.proofs.name_bytes.Statement.{statement}
 use Rattle.names.proofs.name_bytes.Tie as tie
 
-abbrev invariant_loop : tie.invariant_loop
+abbrev invariant_loop : tie.invariant-loop-i
 invariant_loop s i₀ i = PassedTo (every_byte name_byte s) name_byte s i
 
-abbrev decreases_loop : tie.decreases_loop
+abbrev decreases_loop : tie.decreases-loop-i
 decreases_loop s i₀ i = length s - i
 
 pub name_bytes_spec : {M : Type 1} → statement M
@@ -21,15 +21,15 @@ name_bytes_spec =
     (tie.spec
     invariant_loop
     decreases_loop
-    (λ c. passed_none name_byte c.before.args.s.now)
+    (λ c. passed_none name_byte c.args.s.now)
     (λ c. omega arith)
     (λ c κs. search rules)
     (λ c.
-    let the_loop = c.before.before.before.before.loop in
-    passed_fails the_loop.invariant (omega arith) c.before.name-byte.ensures (not-true _ c.if1.true))
+    let the_loop = c.loop-i in
+    passed_fails the_loop.invariant (omega arith) c.name_byte.ensures c.if-not-name_byte.true)
     (λ c. omega arith)
     (λ c. omega arith)
     (λ c.
-    let the_loop = c.before.before.before.before.loop in
-    passed_next the_loop.invariant (omega arith) c.before.name-byte.ensures (not-false _ c.if1.false))
-    (λ c. passed_end c.before.loop.invariant c.loop-test.false))
+    let the_loop = c.loop-i in
+    passed_next the_loop.invariant (omega arith) c.name_byte.ensures c.if-not-name_byte.false)
+    (λ c. passed_end c.loop-i.invariant c.loop-i-test.false))

@@ -11,6 +11,6 @@ upper_byte_spec =
     tie.close
     (tie.spec
     (λ c κs. search rules)
-    (λ c. omega (arith, between_low 97 122 c.before.before.args.c (sym c.before.in-range.ensures ∙ c.if1.true)))
-    (λ c. rw (sym c.before.in-range.ensures ∙ c.if1.true))
-    (λ c. rw (sym c.before.in-range.ensures ∙ c.if1.false)))
+    (λ c. omega (arith, between_low 97 122 c.args.c (sym c.in_range.ensures ∙ c.if-in_range.true)))
+    (λ c. rw (sym c.in_range.ensures ∙ c.if-in_range.true))
+    (λ c. rw (sym c.in_range.ensures ∙ c.if-in_range.false)))

@@ -10,10 +10,10 @@ use Rattle.numbers.specs.Code.Zero.{zero_byte}
 use Rattle.numbers.proofs.all_zeros.Statement.{statement}
 use Rattle.numbers.proofs.all_zeros.Tie as tie
 
-abbrev invariant_loop : tie.invariant_loop
+abbrev invariant_loop : tie.invariant-loop-i
 invariant_loop digits i₀ i = PassedTo (every_byte zero_byte digits) zero_byte digits i
 
-abbrev decreases_loop : tie.decreases_loop
+abbrev decreases_loop : tie.decreases-loop-i
 decreases_loop digits i₀ i = length digits - i
 
 pub all_zeros_spec : {M : Type 1} → statement M
@@ -25,11 +25,11 @@ all_zeros_spec =
     (λ c. passed_none zero_byte c.args.digits.now)
     (λ c. omega arith)
     (λ c.
-    let the_loop = c.before.before.before.loop in
-    passed_fails the_loop.invariant (omega arith) refl (ne_eqb _ _ c.if1.true))
+    let the_loop = c.loop-i in
+    passed_fails the_loop.invariant (omega arith) refl (ne_eqb _ _ c.if-digits-i-ne48.true))
     (λ c. omega arith)
     (λ c. omega arith)
     (λ c.
-    let the_loop = c.before.before.before.loop in
-    passed_next the_loop.invariant (omega arith) refl (eq-eqb _ _ c.if1.false))
-    (λ c. passed_end c.before.loop.invariant c.loop-test.false))
+    let the_loop = c.loop-i in
+    passed_next the_loop.invariant (omega arith) refl (eq-eqb _ _ c.if-digits-i-ne48.false))
+    (λ c. passed_end c.loop-i.invariant c.loop-i-test.false))

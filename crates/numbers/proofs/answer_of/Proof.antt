@@ -9,5 +9,5 @@ answer_of_spec =
     tie.close
     (tie.spec
     (λ c κs. search rules)
-    (λ c. simp (sym c.before.is-macrodigit.ensures ∙ c.if1.true))
-    (λ c. simp (sym c.before.is-macrodigit.ensures ∙ c.if1.false)))
+    (λ c. simp (sym c.is_macrodigit.ensures ∙ c.if-is_macrodigit.true))
+    (λ c. simp (sym c.is_macrodigit.ensures ∙ c.if-is_macrodigit.false)))

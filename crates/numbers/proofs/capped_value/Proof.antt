@@ -8,10 +8,10 @@ use Rattle.numbers.proofs.LoopLaws.{StateFrom, state_start, state_next, state_pa
 use Rattle.numbers.proofs.capped_value.Statement.{statement}
 use Rattle.numbers.proofs.capped_value.Tie as tie
 
-abbrev invariant_loop : tie.invariant_loop
+abbrev invariant_loop : tie.invariant-loop-i
 invariant_loop digits state₀ i₀ state i = StateFrom digits state i
 
-abbrev decreases_loop : tie.decreases_loop
+abbrev decreases_loop : tie.decreases-loop-i
 decreases_loop digits state₀ i₀ state i = length digits - i
 
 pub capped_value_spec : {M : Type 1} → statement M
@@ -26,7 +26,7 @@ capped_value_spec =
     (λ c. omega arith)
     (λ c. omega arith)
     (λ c.
-    let the_loop = c.before.before.before.before.loop in
-    state_next the_loop.invariant (omega arith) c.with-digit.ensures)
-    (λ c. state_past c.before.before.loop.invariant (ltb-false _ _ c.if1.false))
-    (λ c. state_end c.before.loop.invariant (omega arith)))
+    let the_loop = c.loop-i in
+    state_next the_loop.invariant (omega arith) c.with_digit-state.ensures)
+    (λ c. state_past c.loop-i.invariant (ltb-false _ _ c.if-state-lt4294967296.false))
+    (λ c. state_end c.loop-i.invariant (omega arith)))

@@ -13,13 +13,13 @@ digit_step_spec =
     (tie.spec
     (λ c κs. search rules)
     (λ c.
-    let the_args = c.before.before.args in
-    step_none the_args.state the_args.byte (sym c.before.digit-byte.ensures ∙ not-true _ c.if1.true))
+    let the_args = c.args in
+    step_none the_args.state the_args.byte (sym c.digit_byte.ensures ∙ c.if-not-digit_byte.true))
     (λ c κs. search rules)
     (λ c κs. omega (arith, c.cap.ensures))
     (λ c κs. search rules)
     (λ c.
     let at-digit = c.before.before.before in
-    let the_args = at-digit.before.before.args in
-    let digit = sym at-digit.before.digit-byte.ensures ∙ not-false _ at-digit.if1.false in
-    step_digit the_args.state the_args.byte digit c.before.before.cap.ensures c.before.with-digit.ensures c.answer-of.ensures))
+    let the_args = at-digit.args in
+    let digit = sym at-digit.digit_byte.ensures ∙ at-digit.if-not-digit_byte.false in
+    step_digit the_args.state the_args.byte digit c.cap.ensures c.with_digit-after.ensures c.answer_of.ensures))

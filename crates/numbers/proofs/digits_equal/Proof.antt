@@ -6,10 +6,10 @@ use Rattle.numbers.proofs.StrippedLaws.{AgreeFrom, agree_end, agree_before, digi
 use Rattle.numbers.proofs.digits_equal.Statement.{statement}
 use Rattle.numbers.proofs.digits_equal.Tie as tie
 
-abbrev invariant_loop : tie.invariant_loop
+abbrev invariant_loop : tie.invariant-loop-i
 invariant_loop a b i₀ i = (i ≤ length a) × AgreeFrom a b i
 
-abbrev decreases_loop : tie.decreases_loop
+abbrev decreases_loop : tie.decreases-loop-i
 decreases_loop a b i₀ i = i
 
 pub digits_equal_spec : {M : Type 1} → statement M
@@ -21,17 +21,17 @@ digits_equal_spec =
     (λ c. (omega arith, agree_end c.args.a.now c.args.b.now))
     (λ c. omega arith)
     (λ c. let at-loop = c.before.before in omega (arith, at-loop.loop.invariant.0))
-    (λ c. let at-loop = c.before.before.before in omega (arith, at-loop.loop.invariant.0, at-loop.before.requires))
+    (λ c. let at-loop = c.before.before.before in omega (arith, at-loop.loop.invariant.0, at-loop.requires))
     (λ c.
     let at-loop = c.before.before.before.before in
-    let start = at-loop.before.args in
-    digits_differ start.a.now start.b.now _ c.if1.true)
+    let start = at-loop.args in
+    digits_differ start.a.now start.b.now _ c.if-a-i.true)
     (λ c. omega arith)
     (λ c.
     let at-loop = c.before.before.before.before in
-    let start = at-loop.before.args in
-    (omega (arith, at-loop.loop.invariant.0), agree_before start.a.now start.b.now at-loop.loop.invariant.1 c.before.before.before.loop-test.true c.if1.false))
+    let start = at-loop.args in
+    (omega (arith, at-loop.loop.invariant.0), agree_before start.a.now start.b.now at-loop.loop.invariant.1 c.loop-i-test.true c.if-a-i.false))
     (λ c.
     let at-loop = c.before in
     let start = at-loop.before in
-    digits_agree start.args.a.now start.args.b.now start.requires at-loop.loop.invariant.1 (omega (arith, c.loop-test.false))))
+    digits_agree start.args.a.now start.args.b.now start.requires at-loop.loop.invariant.1 (omega (arith, c.loop-i-test.false))))

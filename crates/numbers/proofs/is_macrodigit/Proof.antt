@@ -9,5 +9,5 @@ pub is_macrodigit_spec : {M : Type 1} → statement M
 is_macrodigit_spec =
     tie.close
     (tie.spec
-    (λ c. sym (le-leb c.before.args.value 4294967295 (omega arith)))
-    (λ c. sym (lt-leb c.before.args.value 4294967295 (omega arith))))
+    (λ c. sym (le-leb c.args.value 4294967295 (omega arith)))
+    (λ c. sym (lt-leb c.args.value 4294967295 (omega arith))))

@@ -13,6 +13,6 @@ numbers_equal_spec =
     (λ c κs. search rules)
     (λ c.
     let start = c.before.before.before.before in
-    c.digits-equal.ensures ∙ sym (same_length start.args.a.now start.args.b.now c.before.if1.true))
-    (λ c κs. search rules) (λ c. c.padded-equal.ensures ∙ same_flip _ _)
+    c.digits_equal.ensures ∙ sym (same_length start.args.a.now start.args.b.now c.if-a-b.true))
+    (λ c κs. search rules) (λ c. c.padded_equal.ensures ∙ same_flip _ _)
     (λ c κs. search rules) (λ c. search rules))

@@ -15,14 +15,14 @@ padded_equal_spec =
     (λ c. search rules)
     (λ c.
     let start = c.before.before.before in
-    padded_none start.args.long.now start.args.short.now start.requires c.if1.true)
+    padded_none start.args.long.now start.args.short.now start.requires c.if-short-eq0.true)
     (λ c.
     let start = c.before.before.before.before in
     omega (arith, length-take (length start.args.long.now - length start.args.short.now) start.args.long.now))
     (λ c κs. search rules)
     (λ c.
     let start = c.before.before.before.before.before.before in
-    padded_digit start.args.long.now start.args.short.now start.requires c.before.all-zeros.ensures (not-true _ c.if2.true))
+    padded_digit start.args.long.now start.args.short.now start.requires c.all_zeros.ensures c.if-not-all_zeros.true)
     (λ c. search rules)
     (λ c. search rules)
     (λ c. search rules)
@@ -30,5 +30,5 @@ padded_equal_spec =
     (λ c.
     let at-zeros = c.before.before.before in
     let start = at-zeros.before.before.before.before.before in
-    padded_zeros start.args.long.now start.args.short.now start.requires at-zeros.all-zeros.ensures (not-false _ c.before.before.if2.false)
-    at-zeros.before.before.if1.false c.digits-equal.ensures))
+    padded_zeros start.args.long.now start.args.short.now start.requires at-zeros.all_zeros.ensures c.if-not-all_zeros.false
+    at-zeros.if-short-eq0.false c.digits_equal.ensures))

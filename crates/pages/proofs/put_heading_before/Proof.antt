@@ -8,8 +8,8 @@ use Rattle.pages.proofs.put_heading_before.Tie as tie
 pub put_heading_before_spec : {M : Type 1} → statement M
 put_heading_before_spec =
     tie.close (tie.spec
-    (λ c. rw (no_heading c.before.before.args.functions c.before.before.args.i c.if1.true) (put_none c.before.before.args.out.now c.before.before.args.at))
+    (λ c. rw (no_heading c.args.functions c.args.i c.if-i-ne0.true) (put_none c.args.out-1.now c.args.at))
     (λ c. search rules)
     (λ c κs. search rules)
     (λ c. search rules)
-    (λ c. rw (some_heading c.before.before.before.before.before.before.args.functions c.before.before.before.before.before.before.args.i c.before.before.before.before.if1.false) c.before.before.put-heading.ensures))
+    (λ c. rw (some_heading c.args.functions c.args.i c.if-i-ne0.false) c.put_heading.ensures))

@@ -16,23 +16,23 @@ put_lint_spec =
     (λ c. search rules)
     (λ c.
     let here = c.before.before.before.before.before in
-    rw here.if1.true c.before.before.put.ensures)
+    rw here.if-lint-eq1.true c.put.ensures)
     (λ c. search rules)
     (λ c κs. search rules)
     (λ c. search rules)
     (λ c.
     let here = c.before.before.before.before.before in
-    rw here.if2.true c.before.before.put2.ensures)
+    rw here.if-lint-eq2.true c.put-then-lint-eq2.ensures)
     (λ c. search rules)
     (λ c κs. search rules)
     (λ c. search rules)
     (λ c.
     let here = c.before.before.before.before.before in
-    rw here.if3.true c.before.before.put3.ensures)
+    rw here.if-lint-eq3.true c.put-then-lint-eq3.ensures)
     (λ c. search rules)
     (λ c κs. search rules)
     (λ c. search rules)
     (λ c.
     let here = c.before.before.before.before.before in
-    let args = here.before.before.before.before.args in
-    rw (other_lint args.lint here.before.before.if1.false here.before.if2.false here.if3.false) c.before.before.put4.ensures))
+    let args = here.args in
+    rw (other_lint args.lint here.if-lint-eq1.false here.if-lint-eq2.false here.if-lint-eq3.false) c.put-2.ensures))

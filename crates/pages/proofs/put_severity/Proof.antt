@@ -16,23 +16,23 @@ put_severity_spec =
     (λ c. search rules)
     (λ c.
     let here = c.before.before.before.before.before in
-    rw here.if1.true c.before.before.put.ensures)
+    rw here.if-severity-eq0.true c.put.ensures)
     (λ c. search rules)
     (λ c κs. search rules)
     (λ c. search rules)
     (λ c.
     let here = c.before.before.before.before.before in
-    rw here.if2.true c.before.before.put2.ensures)
+    rw here.if-severity-eq1.true c.put-then-severity-eq1.ensures)
     (λ c. search rules)
     (λ c κs. search rules)
     (λ c. search rules)
     (λ c.
     let here = c.before.before.before.before.before in
-    rw here.if3.true c.before.before.put3.ensures)
+    rw here.if-severity-eq2.true c.put-then-severity-eq2.ensures)
     (λ c. search rules)
     (λ c κs. search rules)
     (λ c. search rules)
     (λ c.
     let here = c.before.before.before.before.before in
-    let args = here.before.before.before.before.args in
-    rw (other_severity args.severity here.before.before.if1.false here.before.if2.false here.if3.false) c.before.before.put4.ensures))
+    let args = here.args in
+    rw (other_severity args.severity here.if-severity-eq0.false here.if-severity-eq1.false here.if-severity-eq2.false) c.put-2.ensures))

@@ -12,23 +12,23 @@ use Rattle.pages.proofs.put_words.Statement.{statement}
 use Rattle.pages.proofs.put_words.Tie as tie
 
 -- where the name is known, and the start from there
-abbrev named : tie.After-put-name → tie.After-function-name
+abbrev named : tie.After-put_name-lint → tie.After-function_name-owner
 named c = c.before.before
 
-abbrev start : tie.After-function-name → tie.Start
+abbrev start : tie.After-function_name-owner → tie.Start
 start c = c.before.before.before.before.before
 
 -- where the name was put, from where the lint's number is read
-abbrev name_put : tie.After-word2 → tie.After-put-name
+abbrev name_put : tie.After-word-2 → tie.After-put_name-lint
 name_put c = c.before.before.before
 
-after_name : (c : tie.After-put-name) → c.put-name.result + 488 ≤ largest
-after_name c = omega (arith, (start (named c)).requires.4, c.put-name.ensures.end, left_columns 24 (cut (named c).function-name.result.now))
+after_name : (c : tie.After-put_name-lint) → c.put_name-lint.result + 488 ≤ largest
+after_name c = omega (arith, (start (named c)).requires.4, c.put_name-lint.ensures.end, left_columns 24 (cut (named c).function_name-owner.result.now))
 
-after_lint : (c : tie.After-put-lint) → c.put-lint.result + 479 ≤ largest
+after_lint : (c : tie.After-put_lint-severity) → c.put_lint-severity.result + 479 ≤ largest
 after_lint c =
     let read = c.before.before in
-    omega (arith, after_name (name_put read), c.put-lint.ensures.end, left_columns 8 (lint_word_by read.word2.result))
+    omega (arith, after_name (name_put read), c.put_lint-severity.ensures.end, left_columns 8 (lint_word_by read.word-2.result))
 
 pub put_words_spec : {M : Type 1} → statement M
 put_words_spec =
@@ -50,5 +50,5 @@ put_words_spec =
     let second = at-lint.before.before in
     let at_name = name_put second in
     let x = (start (named at_name)).args in
-    words_put (file_of x.law.now) x.words.now x.first (named at_name).before.word.ensures.0 (named at_name).function-name.ensures
-    second.word2.ensures.0 third.word3.ensures.0 at_name.put-name.ensures at-lint.put-lint.ensures c.before.before.put-severity.ensures))
+    words_put (file_of x.law.now) x.words.now x.first (named at_name).before.word.ensures.0 (named at_name).function_name-owner.ensures
+    second.word-2.ensures.0 third.word-3.ensures.0 at_name.put_name-lint.ensures at-lint.put_lint-severity.ensures c.put_severity.ensures))

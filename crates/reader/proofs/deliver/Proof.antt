@@ -9,9 +9,9 @@ pub deliver_spec : {M : Type 1} → statement M
 deliver_spec =
     tie.close
     (tie.spec
-    (λ c. too_short _ _ c.if1.true)
+    (λ c. too_short _ _ c.if-law-file.true)
     (λ c κs. search rules)
     (λ c. search rules)
     (λ c.
-    let the_if1 = c.before.before.before.before.if1 in
-    delivered _ _ _ _ (omega (arith, the_if1.false)) c.before.before.put.ensures))
+    let the_if1 = c.if-law-file in
+    delivered _ _ _ _ (omega (arith, the_if1.false)) c.put-end.ensures))

@@ -13,9 +13,9 @@ deliver_law_spec =
     (λ c. search rules)
     (λ c κs. search rules)
     (λ c.
-    let the_check_law = c.before.before.before.check-law in
-    law_refused _ _ _ _ c.before.why.given.1 the_check_law.ensures)
+    let the_check_law = c.check_law in
+    law_refused _ _ _ _ c.why-1.given.1 the_check_law.ensures)
     (λ c. search rules)
     (λ c.
     let accepted = c.before.before.before.before in
-    law_accepted _ _ _ _ accepted.enum_told.given.1 accepted.before.before.check-law.ensures c.before.before.deliver.ensures))
+    law_accepted _ _ _ _ accepted.enum_told-1.given.1 accepted.check_law.ensures c.deliver.ensures))

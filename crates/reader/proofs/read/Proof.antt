@@ -9,7 +9,7 @@ pub read_spec : {M : Type 1} → statement M
 read_spec =
     tie.close
     (tie.spec
-    (λ c. text_over _ _ c.if1.true)
+    (λ c. text_over _ _ c.if-text-gt4096.true)
     (λ c. search rules)
     (λ c. search rules)
     (λ c. search rules)
@@ -17,5 +17,5 @@ read_spec =
     (λ c. search rules)
     (λ c.
     let lent = c.before.before.before.before.before in
-    let few = lent.before.before.before.before.before.before.before.before.before.if1.false in
-    text_read _ _ _ (omega (arith, few)) lent.read-lent.ensures))
+    let few = lent.if-text-gt4096.false in
+    text_read _ _ _ (omega (arith, few)) lent.read_lent.ensures))

@@ -11,6 +11,6 @@ argument_spec =
     tie.close
     (tie.spec
     (λ c κs. search rules)
-    (λ c. let p = c.before.before.requires in omega (arith, terms_limit _ _ p.0, p.2))
-    (λ c κs. let p = c.before.before.requires in (p.0, argument_ends _ _ p.0 p.1 _ _ p.2 c.term_word.ensures))
-    (λ c. let p = c.before.before.before.requires in argument_is _ _ p.0 p.1 _ _ _ c.before.term_word.ensures c.records.ensures))
+    (λ c. let p = c.requires in omega (arith, terms_limit _ _ p.0, p.2))
+    (λ c κs. let p = c.requires in (p.0, argument_ends _ _ p.0 p.1 _ _ p.2 c.term_word-n.ensures))
+    (λ c. let p = c.requires in argument_is _ _ p.0 p.1 _ _ _ c.term_word-n.ensures c.records.ensures))

@@ -13,21 +13,21 @@ literal_spec =
     (λ c κs. search rules)
     (λ c. let start = c.before.before.before.before.before.before in
     let a = start.args in
-    laws.literal_not a.text.now a.pattern.now a.row.now refl start.requires.1.2 (c.before.parted.ensures c.if1.true))
+    laws.literal_not a.text.now a.pattern.now a.row.now refl start.requires.1.2 (c.parted.ensures c.if-parted.true))
     (λ c κs. search rules)
     (λ c. let start = c.before.before.before.before.before.before.before.before in
     let a = start.args in
-    laws.literal_not a.text.now a.pattern.now a.row.now c.before.loose.ensures start.requires.1.2
-    (not-true c.before.loose.result c.if2.true))
+    laws.literal_not a.text.now a.pattern.now a.row.now c.loose.ensures start.requires.1.2
+    (not-true c.loose.result c.if-not-loose.true))
     (λ c κs. search rules)
     (λ c. let start = c.before.before.before.before.before.before.before.before.before.before in
     let a = start.args in
-    let loose = c.before.before.before.loose in
+    let loose = c.loose in
     laws.literal_once a.text.now a.pattern.now a.row.now loose.ensures start.requires.1.2
-    (not-false loose.result c.before.before.if2.false) (c.before.once.ensures c.if3.true))
+    (not-false loose.result c.if-not-loose.false) (c.once.ensures c.if-once.true))
     (λ c κs. search rules)
     (λ c. let start = c.before.before.before.before.before.before.before.before.before.before.before.before in
     let a = start.args in
-    laws.literal_none a.text.now a.pattern.now a.row.now (c.before.uneven.ensures c.if4.true) start.requires.1.2)
+    laws.literal_none a.text.now a.pattern.now a.row.now (c.uneven.ensures c.if-uneven.true) start.requires.1.2)
     (λ c κs. search rules)
     (λ c. search rules))

@@ -13,23 +13,23 @@ literal_sentence_spec =
     (λ c κs. search rules)
     (λ c κs. search rules)
     (λ c κs. search rules)
-    (λ c. let p = c.before.before.before.before.requires in omega (arith, pattern_low _ _ p.0.0 p.0.1 _ _ p.1.0 c.pattern_at.ensures))
+    (λ c. let p = c.requires in omega (arith, pattern_low _ _ p.0.0 p.0.1 _ _ p.1.0 c.pattern_at-at.ensures))
     (λ c. search rules)
-    (λ c. let p = c.before.before.before.before.requires in omega (arith, terms_limit _ _ p.0.0, p.1.1))
+    (λ c. let p = c.requires in omega (arith, terms_limit _ _ p.0.0, p.1.1))
     (λ c κs. search rules)
     (λ c κs. search rules)
     (λ c κs. search rules)
     (λ c κs.
-    let the_records = c.before.before.before.before.records in
-    let the_pattern_at = c.before.before.before.pattern_at in
-    let the_terms = c.before.before.before.before.before.terms in
-    let p = c.before.before.before.before.before.before.before.requires in
-    literal_asks _ _ p.0.0 p.0.1 _ _ the_terms.ensures the_records.ensures _ c.before.before.text.ensures _ _ _ _ _
-    p.1.0 p.1.1 p.1.2 the_pattern_at.ensures c.before.pattern.ensures c.argument.ensures)
+    let the_records = c.records-section in
+    let the_pattern_at = c.pattern_at-at in
+    let the_terms = c.terms in
+    let p = c.requires in
+    literal_asks _ _ p.0.0 p.0.1 _ _ the_terms.ensures the_records.ensures _ c.text.ensures _ _ _ _ _
+    p.1.0 p.1.1 p.1.2 the_pattern_at.ensures c.pattern.ensures c.argument.ensures)
     (λ c.
-    let the_text = c.before.before.before.text in
-    let the_terms = c.before.before.before.before.before.before.terms in
-    let the_records = c.before.before.before.before.before.records in
-    let p = c.before.before.before.before.before.before.before.before.requires in
+    let the_text = c.text in
+    let the_terms = c.terms in
+    let the_records = c.records-section in
+    let p = c.requires in
     literal_is _ _ p.0.0 p.0.1 _ _ the_terms.ensures the_records.ensures _ the_text.ensures _ _ _ _ _
-    c.before.before.pattern.ensures c.before.argument.ensures c.literal.ensures))
+    c.pattern.ensures c.argument.ensures c.literal.ensures))

@@ -11,18 +11,18 @@ shadow_spec =
     tie.close
     (tie.spec
     (λ c κs. search rules)
-    (λ c. let a = c.before.before.before.before.before.before.args in
-    laws.shadow_not a.text.now a.earlier.now a.later.now refl (c.before.parted.ensures c.if1.true))
+    (λ c. let a = c.args in
+    laws.shadow_not a.text.now a.earlier.now a.later.now refl (c.parted.ensures c.if-parted.true))
     (λ c κs. search rules)
-    (λ c. let a = c.before.before.before.before.before.before.before.before.args in
-    laws.shadow_not a.text.now a.earlier.now a.later.now c.before.loose.ensures (not-true c.before.loose.result c.if2.true))
+    (λ c. let a = c.args in
+    laws.shadow_not a.text.now a.earlier.now a.later.now c.loose.ensures (not-true c.loose.result c.if-not-loose.true))
     (λ c κs. search rules)
-    (λ c. let a = c.before.before.before.before.before.before.before.before.before.before.args in
-    let loose = c.before.before.before.loose in
-    laws.shadow_once a.text.now a.earlier.now a.later.now loose.ensures (not-false loose.result c.before.before.if2.false)
-    (c.before.once.ensures c.if3.true))
+    (λ c. let a = c.args in
+    let loose = c.loose in
+    laws.shadow_once a.text.now a.earlier.now a.later.now loose.ensures (not-false loose.result c.if-not-loose.false)
+    (c.once.ensures c.if-once.true))
     (λ c κs. search rules)
-    (λ c. let a = c.before.before.before.before.before.before.before.before.before.before.before.before.args in
-    laws.shadow_none a.text.now a.earlier.now a.later.now (c.before.uneven.ensures c.if4.true))
+    (λ c. let a = c.args in
+    laws.shadow_none a.text.now a.earlier.now a.later.now (c.uneven.ensures c.if-uneven.true))
     (λ c κs. search rules)
     (λ c. search rules))

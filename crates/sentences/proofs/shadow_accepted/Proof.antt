@@ -8,11 +8,11 @@ shadow_accepted_spec =
     tie.close
     (tie.spec
     (λ c κs. search rules)
-    (λ c. let p = c.before.before.before.requires in shadow_no_earlier _ _ p.0 _ c.before.sentences.ensures _ _ c.if1.true)
-    (λ c. let p = c.before.before.before.before.requires in shadow_no_later _ _ p.0 _ c.before.before.sentences.ensures _ _
-    c.before.if1.false c.if2.true)
+    (λ c. let p = c.requires in shadow_no_earlier _ _ p.0 _ c.sentences-count.ensures _ _ c.if-count-earlier.true)
+    (λ c. let p = c.requires in shadow_no_later _ _ p.0 _ c.sentences-count.ensures _ _
+    c.if-count-earlier.false c.if-count-later.true)
     (λ c κs. search rules)
     (λ c.
-    let the_sentences = c.before.before.before.sentences in
-    let p = c.before.before.before.before.before.requires in shadow_answered _ _ p.0 _ the_sentences.ensures _ _ _ c.before.before.if1.false
-    c.before.if2.false c.shadow-sentences.ensures))
+    let the_sentences = c.sentences-count in
+    let p = c.requires in shadow_answered _ _ p.0 _ the_sentences.ensures _ _ _ c.if-count-earlier.false
+    c.if-count-later.false c.shadow_sentences.ensures))

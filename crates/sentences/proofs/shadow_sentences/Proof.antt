@@ -12,24 +12,24 @@ shadow_sentences_spec =
     (λ c κs. search rules)
     (λ c κs. search rules)
     (λ c κs. search rules)
-    (λ c. let p = c.before.before.before.before.requires in omega (arith, pattern_low _ _ p.0.0 p.0.1 _ _ p.1.0 c.pattern_at.ensures))
+    (λ c. let p = c.requires in omega (arith, pattern_low _ _ p.0.0 p.0.1 _ _ p.1.0 c.pattern_at-at.ensures))
     (λ c κs. search rules)
-    (λ c. let p = c.before.before.before.before.before.requires in omega (arith, pattern_low _ _ p.0.0 p.0.1 _ _ p.1.1 c.pattern-at2.ensures))
+    (λ c. let p = c.requires in omega (arith, pattern_low _ _ p.0.0 p.0.1 _ _ p.1.1 c.pattern_at-start.ensures))
     (λ c κs. search rules)
     (λ c κs. search rules)
     (λ c κs. search rules)
     (λ c κs.
-    let the_pattern_at = c.before.before.before.before.pattern_at in
-    let the_pattern_at2 = c.before.before.before.pattern-at2 in
-    let the_terms = c.before.before.before.before.before.before.terms in
-    let the_records = c.before.before.before.before.before.records in
-    let p = c.before.before.before.before.before.before.before.before.requires in
-    shadow_asks _ _ p.0.0 p.0.1 _ _ the_terms.ensures the_records.ensures _ c.before.before.text.ensures _ _ _ _ _ _
-    p.1.0 p.1.1 the_pattern_at.ensures the_pattern_at2.ensures c.before.pattern.ensures c.pattern2.ensures)
+    let the_pattern_at = c.pattern_at-at in
+    let the_pattern_at2 = c.pattern_at-start in
+    let the_terms = c.terms in
+    let the_records = c.records-section in
+    let p = c.requires in
+    shadow_asks _ _ p.0.0 p.0.1 _ _ the_terms.ensures the_records.ensures _ c.text.ensures _ _ _ _ _ _
+    p.1.0 p.1.1 the_pattern_at.ensures the_pattern_at2.ensures c.pattern.ensures c.pattern-2.ensures)
     (λ c.
-    let the_text = c.before.before.before.text in
-    let the_terms = c.before.before.before.before.before.before.before.terms in
-    let the_records = c.before.before.before.before.before.before.records in
-    let p = c.before.before.before.before.before.before.before.before.before.requires in
+    let the_text = c.text in
+    let the_terms = c.terms in
+    let the_records = c.records-section in
+    let p = c.requires in
     shadow_is _ _ p.0.0 p.0.1 _ _ the_terms.ensures the_records.ensures _ the_text.ensures _ _ _ _ _
-    c.before.before.pattern.ensures c.before.pattern2.ensures c.shadow.ensures))
+    c.pattern.ensures c.pattern-2.ensures c.shadow.ensures))

@@ -12,12 +12,12 @@ shadows_in_spec =
     (λ c. search rules)
     (λ c. search rules)
     (λ c κs.
-    let read = c.before.before.before.read-law in
-    law_asked _ _ read.ensures.0 _ read.ensures.1 c.before.enum_told.given.1)
+    let read = c.read_law in
+    law_asked _ _ read.ensures.0 _ read.ensures.1 c.enum_told-1.given.1)
     (λ c.
-    let the_read_law = c.before.before.before.read-law in
-    shadow_refused _ _ the_read_law.ensures.0 _ _ _ c.before.why.given.1)
+    let the_read_law = c.read_law in
+    shadow_refused _ _ the_read_law.ensures.0 _ _ _ c.why-1.given.1)
     (λ c.
-    let the_read_law = c.before.before.before.before.read-law in
-    let the_enum_told = c.before.before.enum_told in
+    let the_read_law = c.read_law in
+    let the_enum_told = c.enum_told-1 in
     shadow_accepted _ _ the_read_law.ensures.0 _ _ c.shadow_accepted.result the_enum_told.given.1 c.shadow_accepted.ensures))

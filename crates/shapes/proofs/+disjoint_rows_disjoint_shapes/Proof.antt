@@ -57,8 +57,8 @@ disjoint_shapes_below t =
     (falls 2 disjoint-shapes-kinds.ps ◌<◌ μ-disjoint-shapes t)
     disjoint-shapes.Pre
 
-pub +disjoint-rows-disjoint-shapes-spec : {M : Type 1} → statement M
-+disjoint-rows-disjoint-shapes-spec =
+pub +disjoint_rows_disjoint_shapes_spec : {M : Type 1} → statement M
++disjoint_rows_disjoint_shapes_spec =
     close μ-disjoint-rows μ-disjoint-shapes (λ t. disjoint-rows-lts.spec (
       disjoint_shapes_below t,
       disjoint-shapes.Post,
@@ -69,17 +69,17 @@ pub +disjoint-rows-disjoint-shapes-spec : {M : Type 1} → statement M
     )
     (disjoint_rows_at t)
     disjoint-rows.Post
-    (λ c. let x = c.before.before.before.before.args in disjoint_none_none x.a.now x.a-open x.b.now x.b_open
-    c.before.if1.true c.if2.true)
-    (λ c. let x = c.before.before.before.before.args in disjoint_none_some x.a.now x.a-open x.b.now x.b_open
-    c.before.if1.true c.if2.false)
-    (λ c. let x = c.before.before.before.before.args in disjoint_some_none x.a.now x.a-open x.b.now x.b_open
-    c.before.if1.false c.if3.true)
-    (λ c κs. (omega arith, (c.before.if1.false, c.if3.false)))
+    (λ c. let x = c.args in disjoint_none_none x.a.now x.a-open x.b.now x.b_open
+    c.if-a-lt1.true c.if-b-lt1.true)
+    (λ c. let x = c.args in disjoint_none_some x.a.now x.a-open x.b.now x.b_open
+    c.if-a-lt1.true c.if-b-lt1.false)
+    (λ c. let x = c.args in disjoint_some_none x.a.now x.a-open x.b.now x.b_open
+    c.if-a-lt1.false c.if-b-lt1-2.true)
+    (λ c κs. (omega arith, (c.if-a-lt1.false, c.if-b-lt1-2.false)))
     (λ c.
-    let the_if1 = c.before.before.before.if1 in
-    let x = c.before.before.before.before.before.before.args in disjoint_first x.a.now x.a-open x.b.now x.b_open _ the_if1.false
-    c.before.before.if3.false c.before.disjoint-shapes.ensures c.if4.true)
+    let the_if1 = c.if-a-lt1 in
+    let x = c.args in disjoint_first x.a.now x.a-open x.b.now x.b_open _ the_if1.false
+    c.if-b-lt1-2.false c.disjoint_shapes.ensures c.if-disjoint_shapes.true)
     (λ c κs. omega arith)
     (λ c κs. omega arith)
     (λ c. search rules)
@@ -91,20 +91,20 @@ pub +disjoint-rows-disjoint-shapes-spec : {M : Type 1} → statement M
     (λ c. omega arith)
     (λ c. search rules)
     (λ c κs.
-    let the_end_of = c.before.before.before.end_of_lem in
-    let the_args = c.before.before.before.before.before.before.before.before.before.before.args in
-    let the_if1 = c.before.before.before.before.before.before.before.if1 in
+    let the_end_of = c.end_of-ae in
+    let the_args = c.args in
+    let the_if1 = c.if-a-lt1 in
     (omega (arith, shapes_rest_falls the_args.a.now the_end_of.result the_if1.false the_end_of.ensures.0), tt))
     (λ c.
-    let the_end_of = c.before.before.before.before.end_of_lem in
-    let the_end_of2 = c.before.before.before.end-of2 in
-    let the_if1 = c.before.before.before.before.before.before.before.before.if1 in
-    let the_if3 = c.before.before.before.before.before.before.before.if3 in
-    let the_disjoint_shapes = c.before.before.before.before.before.before.disjoint-shapes in
-    let the_if4 = c.before.before.before.before.before.if4 in
-    let x = c.before.before.before.before.before.before.before.before.before.before.before.args in disjoint_rest x.a.now x.a-open x.b.now
+    let the_end_of = c.end_of-ae in
+    let the_end_of2 = c.end_of-be in
+    let the_if1 = c.if-a-lt1 in
+    let the_if3 = c.if-b-lt1-2 in
+    let the_disjoint_shapes = c.disjoint_shapes in
+    let the_if4 = c.if-disjoint_shapes in
+    let x = c.args in disjoint_rest x.a.now x.a-open x.b.now
     x.b_open _ _ _ _ the_if1.false the_if3.false the_disjoint_shapes.ensures the_if4.false the_end_of.ensures.0 the_end_of2.ensures.0
-    c.disjoint-rows.ensures))
+    c.disjoint_rows.ensures))
     λ t. disjoint-shapes-lts.spec (
       is-bracket-reads.Asked,
       is-bracket-reads.Learnt,
@@ -135,36 +135,36 @@ pub +disjoint-rows-disjoint-shapes-spec : {M : Type 1} → statement M
     (λ c. omega arith)
     (λ c. search rules)
     (λ c κs. search rules)
-    (λ c κs. let the_end_of = c.before.before.before.before.before.end_of_lem in
+    (λ c κs. let the_end_of = c.end_of-ae in
     let start = c.before.before.before.before.before.before.before.before.before.before.before.before.before.before in
     (omega (arith, shapes_contents_falls start.args.a.now the_end_of.result start.requires.1.0 the_end_of.ensures.0), tt))
     (λ c.
-    let the_inside_open = c.before.before.before.inside-open in
-    let the_is_bracket = c.before.before.before.before.before.before.before.before.before.before.is_bracket in
-    let the_is_bracket2 = c.before.before.before.before.before.before.before.before.is-bracket2 in
-    let the_if1 = c.before.before.before.before.before.before.before.before.before.if1 in
-    let the_if2 = c.before.before.before.before.before.before.before.if2 in
-    let the_end_of = c.before.before.before.before.before.before.end_of_lem in
-    let the_end_of2 = c.before.before.before.before.before.end-of2 in
-    let x = c.before.before.before.before.before.before.before.before.before.before.before.before.before.before.before.args in
+    let the_inside_open = c.inside_open in
+    let the_is_bracket = c.is_bracket in
+    let the_is_bracket2 = c.is_bracket-then-is_bracket in
+    let the_if1 = c.if-a-lt1 in
+    let the_if2 = c.if-b-lt1 in
+    let the_end_of = c.end_of-ae in
+    let the_end_of2 = c.end_of-be in
+    let x = c.args in
     apart_brackets x.a.now x.b.now _ _ the_is_bracket.ensures the_is_bracket2.ensures _ _ _ _ _ the_if1.true the_if2.true
-    the_end_of.ensures.0 the_end_of2.ensures.0 the_inside_open.ensures c.before.inside-open2.ensures c.disjoint-rows.ensures)
+    the_end_of.ensures.0 the_end_of2.ensures.0 the_inside_open.ensures c.inside_open-then-is_bracket-2.ensures c.disjoint_rows.ensures)
     (λ c κs. search rules)
     (λ c.
-    let the_is_bracket = c.before.before.before.before.is_bracket in
-    let the_if1 = c.before.before.before.if1 in
-    let x = c.before.before.before.before.before.before.before.before.before.args in apart_bracket_leaf x.a.now x.b.now _ _
-    the_is_bracket.ensures c.before.before.is-bracket2.ensures _ the_if1.true c.before.if2.false c.holds-brackets.ensures)
+    let the_is_bracket = c.is_bracket in
+    let the_if1 = c.if-a-lt1 in
+    let x = c.args in apart_bracket_leaf x.a.now x.b.now _ _
+    the_is_bracket.ensures c.is_bracket-then-is_bracket.ensures _ the_if1.true c.if-b-lt1.false c.holds_brackets.ensures)
     (λ c κs. search rules)
     (λ c κs. search rules)
     (λ c.
-    let the_is_bracket = c.before.before.before.before.is_bracket in
-    let the_if1 = c.before.before.before.if1 in
-    let x = c.before.before.before.before.before.before.before.before.before.args in apart_leaf_bracket x.a.now x.b.now _ _
-    the_is_bracket.ensures c.before.before.is-bracket3.ensures _ the_if1.false c.before.if3.true c.holds-brackets2.ensures)
+    let the_is_bracket = c.is_bracket in
+    let the_if1 = c.if-a-lt1 in
+    let x = c.args in apart_leaf_bracket x.a.now x.b.now _ _
+    the_is_bracket.ensures c.is_bracket-2.ensures _ the_if1.false c.if-b-lt1-2.true c.holds_brackets-then-is_bracket-3.ensures)
     (λ c κs. search rules)
     (λ c.
-    let the_is_bracket = c.before.before.before.before.is_bracket in
-    let the_if1 = c.before.before.before.if1 in
-    let x = c.before.before.before.before.before.before.before.before.before.args in apart_leaves x.a.now x.b.now _ _
-    the_is_bracket.ensures c.before.before.is-bracket3.ensures _ the_if1.false c.before.if3.false c.leaves_apart.ensures)
+    let the_is_bracket = c.is_bracket in
+    let the_if1 = c.if-a-lt1 in
+    let x = c.args in apart_leaves x.a.now x.b.now _ _
+    the_is_bracket.ensures c.is_bracket-2.ensures _ the_if1.false c.if-b-lt1-2.false c.leaves_apart.ensures)

@@ -116,11 +116,11 @@ brackets_start t c = shapes_start t (first_asked_of_both t (brackets_ended t c))
 -- the position after the contents is within the buffer, and is not past the first bracket's words. (Said here, not beside the `let`s of the answer:
 -- `omega` reads every record that a `let` names, up to a bound.)
 contents_within : (t : ℕ) (c : In-shapes t join-shapes-lts.After-bracket-word)
-    → (contents_joined t c).join-rows.result.next ≤ length (brackets_start t c).args.out.now
+    → (contents_joined t c).join_rows.result.next ≤ length (brackets_start t c).args.out-1.now
 contents_within t c = omega arith
 
 contents_short : (t : ℕ) (c : In-shapes t join-shapes-lts.After-bracket-word)
-    → (let args = (brackets_start t c).args in (contents_joined t c).join-rows.result.next ≤ args.at + shapes_end args.a.now)
+    → (let args = (brackets_start t c).args in (contents_joined t c).join_rows.result.next ≤ args.at + shapes_end args.a.now)
 contents_short t c = omega arith
 
 -- the two cases of an `||`
@@ -130,33 +130,33 @@ or_left o p e = rw e
 or_right : (o p : Bool) → o ≡ false → p ≡ (o || p)
 or_right o p e = rw e
 
-pub +join-rows-join-shapes-spec : {M : Type 1} → statement M
-+join-rows-join-shapes-spec = close μ-join-rows μ-join-shapes (λ t. join-rows-lts.spec (rows_claims t)
+pub +join_rows_join_shapes_spec : {M : Type 1} → statement M
++join_rows_join_shapes_spec = close μ-join-rows μ-join-shapes (λ t. join-rows-lts.spec (rows_claims t)
     (join_rows_at t)
     join-rows.Post
     (λ c.
     let args = (rows_start t c.before.before.before).args in (
       omega arith,
-      join_none_none args.a.now args.a-open args.b.now args.b_open args.out.now args.at _ c.before.before.if1.true
-          c.before.if2.true (or_left args.a-open args.b_open c.if3.true),
+      join_none_none args.a.now args.a-open args.b.now args.b_open args.out-1.now args.at _ c.if-a-lt1.true
+          c.if-b-lt1.true (or_left args.a-open args.b_open c.if-a_open.true),
     ))
     (λ c.
     let args = (rows_start t c.before.before.before).args in (
       omega arith,
-      join_none_none args.a.now args.a-open args.b.now args.b_open args.out.now args.at _ c.before.before.if1.true
-          c.before.if2.true (or_right args.a-open args.b_open c.if3.false),
+      join_none_none args.a.now args.a-open args.b.now args.b_open args.out-1.now args.at _ c.if-a-lt1.true
+          c.if-b-lt1.true (or_right args.a-open args.b_open c.if-a_open.false),
     ))
     (λ c.
     let args = (rows_start t c.before.before).args in (
       omega arith,
-      join_none_some args.a.now args.a-open args.b.now args.b_open args.out.now args.at
-          c.before.if1.true c.if2.false,
+      join_none_some args.a.now args.a-open args.b.now args.b_open args.out-1.now args.at
+          c.if-a-lt1.true c.if-b-lt1.false,
     ))
     (λ c.
     let args = (rows_start t c.before.before).args in (
       omega arith,
-      join_some_none args.a.now args.a-open args.b.now args.b_open args.out.now args.at
-          c.before.if1.false c.if4.true,
+      join_some_none args.a.now args.a-open args.b.now args.b_open args.out-1.now args.at
+          c.if-a-lt1.false c.if-b-lt1-2.true,
     ))
     (λ c κs. search rules)
     (λ c κs. search rules)
@@ -177,9 +177,9 @@ pub +join-rows-join-shapes-spec : {M : Type 1} → statement M
     let neither-empty = first_joined.before.before in
     let args = (rows_start t neither-empty.before.before).args in (
       omega arith,
-      join_some_some args.a.now args.a-open args.b.now args.b_open args.out.now args.at _ _ _ _ _ _ _
-          neither-empty.before.if1.left neither-empty.if4.left ends.before.end_of_lem.ensures.0 ends.end-of2.ensures.0 (omega arith)
-          first_joined.join-shapes.ensures.1 first_joined.join-shapes.ensures.2 (rest_joined t c).join-rows.ensures.1,
+      join_some_some args.a.now args.a-open args.b.now args.b_open args.out-1.now args.at _ _ _ _ _ _ _
+          neither-empty.if-a-lt1.left neither-empty.if-b-lt1-2.left ends.end_of-ae.ensures.0 ends.end_of-be.ensures.0 (omega arith)
+          first_joined.join_shapes-next.ensures.1 first_joined.join_shapes-next.ensures.2 (rest_joined t c).join_rows.ensures.1,
     )))
     λ t. join-shapes-lts.spec (shapes_claims t)
     (join_shapes_at t)
@@ -217,48 +217,48 @@ pub +join-rows-join-shapes-spec : {M : Type 1} → statement M
     let first-asked = first_bracket.before in
     let args = (brackets_start t c).args in
     let joined =
-    join_brackets args.a.now args.b.now args.out.now args.at _ _ first-asked.is_bracket.ensures second-asked.is-bracket2.ensures
-    _ _ _ _ _ _ _ _ first_bracket.if1.taken both-brackets.if2.taken ends.before.end_of_lem.ensures.0 ends.end-of2.ensures.0
-    first-inside.inside-open.ensures second-inside.inside-open2.ensures (contents_within t c) contents.join-rows.ensures.1
-    c.bracket-word.ensures in
+    join_brackets args.a.now args.b.now args.out-1.now args.at _ _ first-asked.is_bracket.ensures second-asked.is_bracket-then-is_bracket.ensures
+    _ _ _ _ _ _ _ _ first_bracket.if-a-lt1.taken both-brackets.if-b-lt1.taken ends.end_of-ae.ensures.0 ends.end_of-be.ensures.0
+    first-inside.inside_open.ensures second-inside.inside_open-then-is_bracket-2.ensures (contents_within t c) contents.join_rows.ensures.1
+    c.bracket_word.ensures in
     (contents_short t c, joined.0, joined.1))
     (λ c. search rules)
     (λ c. omega arith)
     (λ c. omega arith)
     (λ c. search rules)
     (λ c.
-    let the_is_bracket = c.before.before.before.is_bracket in
+    let the_is_bracket = c.is_bracket in
     let start = shapes_start t c.before.before.before in
     let args = start.args in
     let joined =
-    join_bracket_leaf args.a.now args.b.now args.out.now args.at _ _
-    the_is_bracket.ensures c.before.is-bracket2.ensures c.before.before.if1.true c.if2.false (omega arith) in
-    (omega (arith, shapes_end_low args.a.now start.pre.1.0), joined.0, joined.1))
+    join_bracket_leaf args.a.now args.b.now args.out-1.now args.at _ _
+    the_is_bracket.ensures c.is_bracket-then-is_bracket.ensures c.if-a-lt1.true c.if-b-lt1.false (omega arith) in
+    (omega (arith, shapes_end_low args.a.now start.requires.1.0), joined.0, joined.1))
     (λ c κs. search rules)
     (λ c. search rules)
     (λ c. omega arith)
     (λ c. omega arith)
     (λ c. search rules)
     (λ c.
-    let the_is_bracket = c.before.before.before.is_bracket in
+    let the_is_bracket = c.is_bracket in
     let start = shapes_start t c.before.before.before in
     let args = start.args in
     let joined =
-    join_leaf_bracket args.a.now args.b.now args.out.now args.at _ _
-    the_is_bracket.ensures c.before.is-bracket3.ensures c.before.before.if1.false c.if3.true (omega arith) in
-    (omega (arith, shapes_end_low args.a.now start.pre.1.0), joined.0, joined.1))
+    join_leaf_bracket args.a.now args.b.now args.out-1.now args.at _ _
+    the_is_bracket.ensures c.is_bracket-2.ensures c.if-a-lt1.false c.if-a_open.true (omega arith) in
+    (omega (arith, shapes_end_low args.a.now start.requires.1.0), joined.0, joined.1))
     (λ c κs. search rules)
     (λ c. search rules)
     (λ c. omega arith)
     (λ c. omega arith)
     (λ c. search rules)
     (λ c.
-    let the_is_bracket = c.before.before.before.before.is_bracket in
-    let the_if1 = c.before.before.before.if1 in
+    let the_is_bracket = c.is_bracket in
+    let the_if1 = c.if-a-lt1 in
     let start = shapes_start t c.before.before.before.before in
     let args = start.args in
     let joined =
-    join_leaves_lem args.a.now args.b.now args.out.now args.at _ _
-    the_is_bracket.ensures c.before.before.is-bracket3.ensures _ the_if1.false
-    c.before.if3.false (omega arith) c.join_leaves.ensures in
-    (omega (arith, shapes_end_low args.a.now start.pre.1.0), joined.0, joined.1))
+    join_leaves_lem args.a.now args.b.now args.out-1.now args.at _ _
+    the_is_bracket.ensures c.is_bracket-2.ensures _ the_if1.false
+    c.if-a_open.false (omega arith) c.join_leaves.ensures in
+    (omega (arith, shapes_end_low args.a.now start.requires.1.0), joined.0, joined.1))

@@ -15,5 +15,5 @@ bracket_word_spec =
     (λ c. search rules)
     (λ c. search rules)
     (λ c. search rules)
-    (λ c. rw c.if1.true)
-    (λ c. rw c.if1.false (omega arith)))
+    (λ c. rw c.if-is_open.true)
+    (λ c. rw c.if-is_open.false (omega arith)))

@@ -14,28 +14,28 @@ disjoint_formats_spec =
     (λ c κs. search rules)
     (λ c κs. search rules)
     (λ c. let heads = c.before.before in
-    let x = heads.before.before.before.before.args in
-    disjoint_never_left x.a.now x.b.now _ (c.before.is_never.ensures ∙ ap (leb 512) heads.before.header_of.ensures) c.if1.true)
+    let x = heads.args in
+    disjoint_never_left x.a.now x.b.now _ (c.is_never.ensures ∙ ap (leb 512) heads.header_of-x.ensures) c.if-is_never.true)
     (λ c κs. search rules)
     (λ c. let heads = c.before.before.before.before in
-    let x = heads.before.before.before.before.args in
-    disjoint_never_right x.a.now x.b.now _ (c.before.is-never2.ensures ∙ ap (leb 512) heads.header-of2.ensures) c.if2.true)
+    let x = heads.args in
+    disjoint_never_right x.a.now x.b.now _ (c.is_never-2.ensures ∙ ap (leb 512) heads.header_of-y.ensures) c.if-is_never-2.true)
     (λ c κs. search rules)
     (λ c κs. search rules)
     (λ c κs. search rules)
     (λ c κs. search rules)
     (λ c κs. search rules)
     (λ c.
-    let the_row_open = c.before.before.before.row-Open in
+    let the_row_open = c.row-Open in
     let rows = c.before.before.before.before in
     let tests = rows.before.before in
     let heads = tests.before.before.before in
-    let x = heads.before.before.before.before.args in
-    let first = heads.before.header_of.ensures in
-    let second = heads.header-of2.ensures in
+    let x = heads.args in
+    let first = heads.header_of-x.ensures in
+    let second = heads.header_of-y.ensures in
     disjoint_rows_are x.a.now x.b.now _ _ _
-    (read_shapes x.a.now _ _ _ (tests.before.before.is_never.ensures ∙ ap (leb 512) first) tests.before.if1.false
-    (the_row_open.ensures ∙ ap (leb 256) first) rows.shapes-of.ensures)
-    (read_shapes x.b.now _ _ _ (tests.is-never2.ensures ∙ ap (leb 512) second) rows.before.if2.false
-    (c.before.row-open2.ensures ∙ ap (leb 256) second) c.before.before.shapes-of2.ensures)
-    c.disjoint-rows.ensures))
+    (read_shapes x.a.now _ _ _ (tests.is_never.ensures ∙ ap (leb 512) first) tests.if-is_never.false
+    (the_row_open.ensures ∙ ap (leb 256) first) rows.shapes_of.ensures)
+    (read_shapes x.b.now _ _ _ (tests.is_never-2.ensures ∙ ap (leb 512) second) rows.if-is_never-2.false
+    (c.row_open-2.ensures ∙ ap (leb 256) second) c.shapes_of-2.ensures)
+    c.disjoint_rows.ensures))

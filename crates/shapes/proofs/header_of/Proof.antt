@@ -6,6 +6,6 @@ use Rattle.shapes.proofs.header_of.Tie as tie
 
 pub header_of_spec : {M : Type 1} → statement M
 header_of_spec = tie.close (tie.spec
-    (λ c. header_none c.before.args.f.now c.if1.true)
+    (λ c. header_none c.args.f.now c.if-f-lt1.true)
     (λ c. search rules)
     (λ c. search rules))

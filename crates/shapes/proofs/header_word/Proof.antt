@@ -9,5 +9,5 @@ header_word_spec = tie.close (tie.spec
     (λ c. search rules)
     (λ c. search rules)
     (λ c. search rules)
-    (λ c. rw c.if1.true)
-    (λ c. rw c.if1.false (omega arith)))
+    (λ c. rw c.if-is_open.true)
+    (λ c. rw c.if-is_open.false (omega arith)))

@@ -8,5 +8,5 @@ pub inside_spec : {M : Type 1} → statement M
 inside_spec = tie.close (tie.spec
     (λ c κs. search rules)
     (λ c. search rules)
-    (λ c. (rw (← c.before.is_bracket.ensures, c.if1.true), omega arith))
-    (λ c. (rw (← c.before.is_bracket.ensures, c.if1.false), omega arith)))
+    (λ c. (rw (← c.is_bracket.ensures, c.if-is_bracket.true), omega arith))
+    (λ c. (rw (← c.is_bracket.ensures, c.if-is_bracket.false), omega arith)))

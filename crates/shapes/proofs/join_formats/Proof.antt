@@ -24,22 +24,22 @@ join_formats_spec =
     omega (arith, start.requires.3, format_in_length start.args.limit start.args.b.now start.requires.2))
     (λ c. search rules)
     (λ c.
-    let the_if1 = c.before.before.before.before.if1 in
-    let the_pre = c.before.before.before.before.before.before.before.before.before.before.before.requires in
-    let the_is_never = c.before.before.before.before.before.is_never in
-    let x = c.before.before.before.before.before.before.before.before.before.before.before.args in
-    join_never_left x.limit x.a.now x.b.now _ _ the_pre.0 the_pre.2 the_is_never.ensures the_if1.true c.before.before.copy-words.ensures)
+    let the_if1 = c.if-is_never in
+    let the_pre = c.requires in
+    let the_is_never = c.is_never in
+    let x = c.args in
+    join_never_left x.limit x.a.now x.b.now _ _ the_pre.0 the_pre.2 the_is_never.ensures the_if1.true c.copy_words.ensures)
     (λ c κs. search rules)
     (λ c κs.
     let start = c.before.before.before.before.before.before.before.before.before.before in
     omega (arith, start.requires.3, format_in_length start.args.limit start.args.a.now start.requires.1))
     (λ c. search rules)
     (λ c.
-    let the_if2 = c.before.before.before.before.if2 in
-    let the_pre = c.before.before.before.before.before.before.before.before.before.before.before.before.before.requires in
-    let the_is_never2 = c.before.before.before.before.before.is-never2 in
-    let x = c.before.before.before.before.before.before.before.before.before.before.before.before.before.args in
-    join_never_right x.limit x.a.now x.b.now _ _ the_pre.0 the_pre.1 the_is_never2.ensures the_if2.true c.before.before.copy-words2.ensures)
+    let the_if2 = c.if-is_never-2 in
+    let the_pre = c.requires in
+    let the_is_never2 = c.is_never-2 in
+    let x = c.args in
+    join_never_right x.limit x.a.now x.b.now _ _ the_pre.0 the_pre.1 the_is_never2.ensures the_if2.true c.copy_words-then-is_never-2.ensures)
     (λ c κs.
     let start = c.before.before.before.before.before.before.before.before.before in
     omega (arith, format_in_length start.args.limit start.args.a.now start.requires.1))
@@ -55,34 +55,34 @@ join_formats_spec =
     (λ c. search rules)
     (λ c. search rules)
     (λ c κs. search rules)
-    (λ c κs. let the_row_end = c.before.before.before.before.before.before.before.before.before.before.row_end in
-    let the_clear_words = c.before.before.before.before.before.before.before.clear-words in
+    (λ c κs. let the_row_end = c.row_end-ae in
+    let the_clear_words = c.clear_words in
     let start = c.before.before.before.before.before.before.before.before.before.before.before.before.before.before.before.before.before.before.before.before in
     omega (arith, start.requires, the_row_end.ensures, the_clear_words.auto, format_in_length start.args.limit start.args.a.now start.requires.1))
     (λ c. search rules)
     (λ c κs.
-    let the_join_rows = c.before.before.before.join-rows in
-    let the_row_end = c.before.before.before.before.before.before.before.before.before.before.before.before.before.before.row_end in
+    let the_join_rows = c.join_rows-j in
+    let the_row_end = c.row_end-ae in
     let start = c.before.before.before.before.before.before.before.before.before.before.before.before.before.before.before.before.before.before.before.before.before.before.before.before in
-    omega (arith, start.pre, the_row_end.ensures, the_join_rows.ensures.0, format_in_length start.args.limit start.args.a.now start.pre.1))
+    omega (arith, start.requires, the_row_end.ensures, the_join_rows.ensures.0, format_in_length start.args.limit start.args.a.now start.requires.1))
     (λ c. search rules)
     (λ c.
-    let the_join_rows = c.before.before.before.before.join-rows in
-    let the_clear_words = c.before.before.before.before.before.before.before.before.before.before.before.before.clear-words in
+    let the_join_rows = c.join_rows-j in
+    let the_clear_words = c.clear_words in
     simp length-set (omega (arith, the_clear_words.auto, the_join_rows.auto)))
     (λ c.
-    let the_join_rows = c.before.before.before.before.join-rows in
-    let the_is_never = c.before.before.before.before.before.before.before.before.before.before.before.before.before.before.before.before.before.before.before.is_never in
-    let the_if1 = c.before.before.before.before.before.before.before.before.before.before.before.before.before.before.before.before.before.before.if1 in
-    let the_row_end = c.before.before.before.before.before.before.before.before.before.before.before.before.before.before.before.row_end in
-    let the_row_open = c.before.before.before.before.before.before.before.before.row-Open in
-    let the_is_never2 = c.before.before.before.before.before.before.before.before.before.before.before.before.before.before.before.before.before.is-never2 in
-    let the_if2 = c.before.before.before.before.before.before.before.before.before.before.before.before.before.before.before.before.if2 in
-    let the_row_end2 = c.before.before.before.before.before.before.before.before.before.before.before.before.before.before.row-end2 in
-    let the_row_open2 = c.before.before.before.before.before.before.row-open2 in
-    let the_clear_words = c.before.before.before.before.before.before.before.before.before.before.before.before.clear-words in
-    let x = c.before.before.before.before.before.before.before.before.before.before.before.before.before.before.before.before.before.before.before.before.before.before.before.before.before.args in
-    let p = c.before.before.before.before.before.before.before.before.before.before.before.before.before.before.before.before.before.before.before.before.before.before.before.before.before.requires in
+    let the_join_rows = c.join_rows-j in
+    let the_is_never = c.is_never in
+    let the_if1 = c.if-is_never in
+    let the_row_end = c.row_end-ae in
+    let the_row_open = c.row-Open in
+    let the_is_never2 = c.is_never-2 in
+    let the_if2 = c.if-is_never-2 in
+    let the_row_end2 = c.row_end-be in
+    let the_row_open2 = c.row_open-2 in
+    let the_clear_words = c.clear_words in
+    let x = c.args in
+    let p = c.requires in
     let long : length x.a.now ≡ x.limit + 1 = format_in_length x.limit x.a.now p.1 in
     let others : length x.b.now ≡ x.limit + 1 = format_in_length x.limit x.b.now p.2 in
     join_rows_are x.limit x.a.now x.b.now _ _ _ _ _ _ _
@@ -91,4 +91,4 @@ join_formats_spec =
     (the_clear_words.ensures ∙ ap (λ n. replicate n 0) p.3)
     (omega (arith, the_row_end.ensures, the_join_rows.ensures.0))
     the_join_rows.ensures.1
-    c.header-word.ensures))
+    c.header_word.ensures))

@@ -9,12 +9,12 @@ shapes_of_spec =
     tie.close
     (tie.spec
     (λ c.
-    let the_args = c.before.before.args in
-    shapes_of_none the_args.f.now c.if1.true)
+    let the_args = c.args in
+    shapes_of_none the_args.f.now c.if-f-lt1.true)
     (λ c κs. search rules)
     (λ c. search rules)
     (λ c. search rules)
     (λ c. search rules)
     (λ c.
-    let the_args = c.before.before.before.before.args in
-    shapes_of_some the_args.f.now _ c.before.before.if1.false c.before.row_end.ensures.0))
+    let the_args = c.args in
+    shapes_of_some the_args.f.now _ c.if-f-lt1.false c.row_end-e.ensures.0))

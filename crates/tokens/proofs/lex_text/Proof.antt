@@ -7,21 +7,21 @@ use Rattle.tokens.proofs.LexLaws.{Lexing, lexing_start, lexing_end, lexing_nothi
 use Rattle.tokens.proofs.lex_text.Statement.{statement}
 use Rattle.tokens.proofs.lex_text.Tie as tie
 
-abbrev invariant_loop : tie.invariant_loop
+abbrev invariant_loop : tie.invariant-loop-at
 invariant_loop text kinds₀ starts₀ ends₀ at₀ n₀ kinds starts ends at n = Lexing text at n kinds starts ends
 
-abbrev decreases_loop : tie.decreases_loop
+abbrev decreases_loop : tie.decreases-loop-at
 decreases_loop text kinds₀ starts₀ ends₀ at₀ n₀ kinds starts ends at n = length text - at
 
 -- the loop, from where a piece is found
-abbrev the_loop : tie.After-next-piece invariant_loop decreases_loop → tie.At-loop invariant_loop decreases_loop
+abbrev the_loop : tie.After-next_piece invariant_loop decreases_loop → tie.At-loop-at invariant_loop decreases_loop
 the_loop c = c.before.before
 
 -- where it was found, from where it is known to be a blank or a comment, or a token
-abbrev skipping : tie.After-known-told invariant_loop decreases_loop → tie.After-next-piece invariant_loop decreases_loop
+abbrev skipping : tie.In-Between invariant_loop decreases_loop → tie.After-next_piece invariant_loop decreases_loop
 skipping c = c.before.before.before
 
-abbrev taking : tie.After-known-told2 invariant_loop decreases_loop → tie.After-next-piece invariant_loop decreases_loop
+abbrev taking : tie.In-Token invariant_loop decreases_loop → tie.After-next_piece invariant_loop decreases_loop
 taking c = c.before.before.before
 
 pub lex_text_spec : {M : Type 1} → statement M
@@ -30,16 +30,16 @@ lex_text_spec =
     (tie.spec
     invariant_loop
     decreases_loop
-    (λ c. let x = c.before.args in lexing_start x.text.now x.kinds.now x.starts.now x.ends.now c.before.requires.0 c.before.requires.1)
-    (λ c κs. (c.before.loop.invariant.short, omega arith))
+    (λ c. let x = c.args in lexing_start x.text.now x.kinds.now x.starts.now x.ends.now c.requires.0 c.requires.1)
+    (λ c κs. (c.loop-at.invariant.short, omega arith))
     (λ c. search rules)
     (λ c.
     let piece = c.before.before in
     let inv = (the_loop piece).loop.invariant in
-    (inv.long, lexing_nothing inv (omega arith) piece.next-piece.ensures c.enum_told.given.1))
+    (inv.long, lexing_nothing inv (omega arith) piece.next_piece.ensures c.enum_told-1.given.1))
     (λ c. search rules)
-    (λ c. omega (arith, between_within (the_loop (skipping c)).loop.inv (omega arith) (skipping c).next-piece.ensures c.before.e.given.1))
-    (λ c. lexing_between (the_loop (skipping c)).loop.inv (omega arith) (skipping c).next-piece.ensures c.before.e.given.1)
+    (λ c. omega (arith, between_within (the_loop (skipping c)).loop.inv (omega arith) (skipping c).next_piece.ensures c.e-1.given.1))
+    (λ c. lexing_between (the_loop (skipping c)).loop.inv (omega arith) (skipping c).next_piece.ensures c.e-1.given.1)
     (λ c. search rules)
     (λ c. (lexing_room (the_loop (taking c)).loop.inv (omega arith)).0)
     (λ c κs. omega (arith, (lexing_room (the_loop (taking c)).loop.inv (omega arith)).1))
@@ -47,14 +47,14 @@ lex_text_spec =
     (λ c. (lexing_room (the_loop (taking c.before)).loop.inv (omega arith)).0)
     (λ c κs.
     let known = c.before in
-    omega (arith, token_within (the_loop (taking known)).loop.inv (omega arith) (taking known).next-piece.ensures known.before.k.given.1))
+    omega (arith, token_within (the_loop (taking known)).loop.inv (omega arith) (taking known).next_piece.ensures known.k-1.given.1))
     (λ c. omega (arith, (lexing_room (the_loop (taking c.before.before)).loop.inv (omega arith)).0))
     (λ c. (lexing_room (the_loop (taking c.before.before)).loop.inv (omega arith)).0)
     (λ c. omega (arith, (lexing_room (the_loop (taking c.before.before)).loop.inv (omega arith)).0))
     (λ c.
     let known = c.before.before in
-    omega (arith, token_within (the_loop (taking known)).loop.inv (omega arith) (taking known).next-piece.ensures known.before.k.given.1))
+    omega (arith, token_within (the_loop (taking known)).loop.inv (omega arith) (taking known).next_piece.ensures known.k-1.given.1))
     (λ c.
     let known = c.before.before in
-    lexing_token (the_loop (taking known)).loop.inv (omega arith) (taking known).next-piece.ensures known.before.k.given.1 c.before.short.ensures c.short2.ensures)
-    (λ c. let inv = c.before.loop.invariant in (inv.long, lexing_end inv c.loop-test.false)))
+    lexing_token (the_loop (taking known)).loop.inv (omega arith) (taking known).next_piece.ensures known.k-1.given.1 c.short.ensures c.short-in-Token.ensures)
+    (λ c. let inv = c.loop-at.invariant in (inv.long, lexing_end inv c.loop-at-test.false)))

@@ -5,4 +5,4 @@ use Rattle.findings.proofs.all.is_due.Tie as tie
 pub is_due_spec : {M : Type 1} → statement M
 is_due_spec = tie.close (tie.spec
     (λ c. search rules)
-    (λ c. simp c.before.if1.false))
+    (λ c. simp c.if-task.false))

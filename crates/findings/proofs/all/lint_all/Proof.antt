@@ -11,11 +11,11 @@ use Rattle.findings.proofs.AllLaws as laws
 use Rattle.findings.proofs.all.lint_all.Statement.{statement}
 use Rattle.findings.proofs.all.lint_all.Tie as tie
 
-abbrev invariant_loop : tie.invariant_loop
+abbrev invariant_loop : tie.invariant-loop-lint
 invariant_loop law index slots store mode overrides room limit out₀ tally₀ lint₀ out tally lint =
     (length out ≡ length out₀) × laws.Linted (settings_from mode overrides) room limit (file_of law) store (sink_of tally₀ out₀) lint (sink_of tally out)
 
-abbrev decreases_loop : tie.decreases_loop
+abbrev decreases_loop : tie.decreases-loop-lint
 decreases_loop law index slots store mode overrides room limit out₀ tally₀ lint₀ out tally lint = 5 - lint
 
 pub lint_all_spec : {M : Type 1} → statement M
@@ -24,22 +24,22 @@ lint_all_spec =
     (tie.spec
     invariant_loop
     decreases_loop
-    (λ c. let a = c.before.before.before.before.args in
-    (refl, laws.linted_begun (settings_from a.mode a.overrides.now) a.room a.limit (file_of a.law.now) a.store.now (sink_of 2 a.out.now)))
+    (λ c. let a = c.args in
+    (refl, laws.linted_begun (settings_from a.mode a.overrides.now) a.room a.limit (file_of a.law.now) a.store.now (sink_of 2 a.out-1.now)))
     (λ c κs. search rules)
     (λ c κs.
-    let the_loop = c.before.before.before.loop in
+    let the_loop = c.loop-lint in
     let start = c.before.before.before.before.before.before.before.before in
-    laws.linted_asks the_loop.invariant.1 c.before.before.loop-test.true c.before.task-of.ensures start.requires)
-    (λ c. let the_loop_test = c.before.before.before.before.before.loop-test in
+    laws.linted_asks the_loop.invariant.1 c.loop-lint-test.true c.task_of-task.ensures start.requires)
+    (λ c. let the_loop_test = c.loop-lint-test in
     omega (arith, the_loop_test.true))
-    (λ c. let the_loop_test = c.before.before.before.before.before.loop-test in
+    (λ c. let the_loop_test = c.loop-lint-test in
     omega (arith, the_loop_test.true))
-    (λ c. let the_loop = c.before.before.before.before.before.before.loop in
-    let the_loop_test = c.before.before.before.before.before.loop-test in
-    let task = c.before.before.before.before.task-of in
-    let lint-task = c.before.before.lint-task in
+    (λ c. let the_loop = c.loop-lint in
+    let the_loop_test = c.loop-lint-test in
+    let task = c.task_of-task in
+    let lint-task = c.lint_task-tally in
     let out-kept = lint-task.auto.1.1.1.1.1.0 in
     (out-kept ∙ the_loop.invariant.0, laws.linted_next the_loop.invariant.1 the_loop_test.true task.ensures lint-task.ensures))
-    (λ c. c.before.loop.invariant.0)
-    (λ c. laws.linted_all c.before.loop.invariant.1 (λ h. omega (arith, h, c.loop-test.false))))
+    (λ c. c.loop-lint.invariant.0)
+    (λ c. laws.linted_all c.loop-lint.invariant.1 (λ h. omega (arith, h, c.loop-lint-test.false))))

@@ -14,18 +14,18 @@ lint_task_spec =
     (λ c κs. search rules)
     (λ c.
     let start = c.before.before.before.before.before in
-    let before = sink_of start.args.tally start.args.out.now in
+    let before = sink_of start.args.tally start.args.out-1.now in
     let file = file_of start.args.law.now in
     let formats = formats_in file start.args.task.limit start.args.store.now in
-    not_due (tree_of file) formats start.args.task start.args.task.room before c.before.is_due.ensures (not-true _ c.if1.true))
+    not_due (tree_of file) formats start.args.task start.args.task.room before c.is_due.ensures c.if-not-is_due.true)
     (λ c κs. search rules)
     (λ c. search rules)
     (λ c.
-    let the_if1 = c.before.before.before.before.if1 in
-    let the_is_due = c.before.before.before.before.before.is_due in
+    let the_if1 = c.if-not-is_due in
+    let the_is_due = c.is_due in
     let start = c.before.before.before.before.before.before.before.before.before in
-    let before = sink_of start.args.tally start.args.out.now in
+    let before = sink_of start.args.tally start.args.out-1.now in
     let file = file_of start.args.law.now in
     let formats = formats_in file start.args.task.limit start.args.store.now in
     is_due_lem (tree_of file) formats start.args.task start.args.task.room before the_is_due.ensures (not-false _ the_if1.false)
-    c.before.before.lint-law.ensures))
+    c.lint_law.ensures))

@@ -10,4 +10,4 @@ task_of_spec = tie.close (tie.spec
     (λ c.
     let start = c.before.before.before in
     task_is start.args.mode start.args.overrides.now start.args.room start.args.limit
-    c.before.severity-of.ensures c.is-shown.ensures))
+    c.severity_of-severity.ensures c.is_shown-shown.ensures))

@@ -13,19 +13,19 @@ call_note_spec =
     tie.close (tie.spec
     (λ c κs. search rules)
     (λ c κs.
-    let p = c.before.before.requires in
-    let a = c.before.before.args in
-    omega (arith, record_length (file_of a.law.now) (accepted_readable a.law.now p.1).whole a.t p.2 c.records.ensures))
+    let p = c.requires in
+    let a = c.args in
+    omega (arith, record_length (file_of a.law.now) (accepted_readable a.law.now p.1).whole a.t p.2 c.records-record.ensures))
     (λ c κs.
-    let p = c.before.before.before.requires in
-    let a = c.before.before.before.args in
-    omega (arith, record_length (file_of a.law.now) (accepted_readable a.law.now p.1).whole a.t p.2 c.before.records.ensures))
+    let p = c.requires in
+    let a = c.args in
+    omega (arith, record_length (file_of a.law.now) (accepted_readable a.law.now p.1).whole a.t p.2 c.records-record.ensures))
     (λ c.
-    let p = c.before.before.before.before.requires in
-    let a = c.before.before.before.before.args in
+    let p = c.requires in
+    let a = c.args in
     omega (arith, p.2, terms_limit a.law.now a.index.now p.0))
     (λ c.
-    let p = c.before.before.before.before.requires in
-    let a = c.before.before.before.before.args in
-    note_is (file_of a.law.now) (accepted_readable a.law.now p.1).whole a.t p.2 c.before.before.records.ensures a.a
-    c.before.word_at.ensures c.word-at2.ensures))
+    let p = c.requires in
+    let a = c.args in
+    note_is (file_of a.law.now) (accepted_readable a.law.now p.1).whole a.t p.2 c.records-record.ensures a.a
+    c.word_at.ensures c.word_at-2.ensures))

@@ -15,50 +15,50 @@ note_call_spec =
     (tie.spec
     (λ c κs. search rules)
     (λ c.
-    let a = c.before.before.before.before.before.args in
-    let before = sink_of a.tally a.out.now in
+    let a = c.args in
+    let before = sink_of a.tally a.out-1.now in
     let file = file_of a.law.now in
     let formats = formats_in file a.task.limit a.store.now in
-    met_none file a.t c.before.term_word.ensures a.task.room before (call_events (tree_of file) formats a.task) c.if1.true)
+    met_none file a.t c.term_word.ensures a.task.room before (call_events (tree_of file) formats a.task) c.if-term_word-ne7.true)
     (λ c κs.
-    let the_term_word = c.before.before.before.before.term_word in
-    let the_if1 = c.before.before.before.if1 in
-    let p = c.before.before.before.before.before.before.before.before.requires in
-    let a = c.before.before.before.before.before.before.before.before.args in
+    let the_term_word = c.term_word in
+    let the_if1 = c.if-term_word-ne7 in
+    let p = c.requires in
+    let a = c.args in
     (p.0, p.1, kind_call (file_of a.law.now) a.t the_term_word.ensures the_if1.false))
     (λ c. search rules)
     (λ c.
-    let the_if2 = c.before.before.before.before.if2 in
-    let the_term_word = c.before.before.before.before.before.before.before.term_word in
-    let the_if1 = c.before.before.before.before.before.before.if1 in
-    let a = c.before.before.before.before.before.before.before.before.before.before.before.args in
-    let before = sink_of a.tally a.out.now in
+    let the_if2 = c.if-task-eq2 in
+    let the_term_word = c.term_word in
+    let the_if1 = c.if-term_word-ne7 in
+    let a = c.args in
+    let before = sink_of a.tally a.out-1.now in
     let file = file_of a.law.now in
     let formats = formats_in file a.task.limit a.store.now in
     met_recognition file a.t the_term_word.ensures (tree_of file) formats a.task the_if1.false a.task.room before the_if2.true
-    c.before.before.note-recognition.ensures)
-    (λ c κs. let the_term_word = c.before.before.before.before.before.before.term_word in
-    let the_if1 = c.before.before.before.before.before.if1 in
-    let p = c.before.before.before.before.before.before.before.before.before.before.requires in
-    let a = c.before.before.before.before.before.before.before.before.before.before.args in
+    c.note_recognition.ensures)
+    (λ c κs. let the_term_word = c.term_word in
+    let the_if1 = c.if-term_word-ne7 in
+    let p = c.requires in
+    let a = c.args in
     (p.0.asked.indexed, p.0.accepted, p.1, kind_call (file_of a.law.now) a.t the_term_word.ensures the_if1.false))
     (λ c. search rules)
     (λ c.
-    let the_if3 = c.before.before.before.before.if3 in
-    let the_term_word = c.before.before.before.before.before.before.before.before.before.term_word in
-    let the_if1 = c.before.before.before.before.before.before.before.before.if1 in
-    let a = c.before.before.before.before.before.before.before.before.before.before.before.before.before.args in
-    let before = sink_of a.tally a.out.now in
+    let the_if3 = c.if-task-eq3 in
+    let the_term_word = c.term_word in
+    let the_if1 = c.if-term_word-ne7 in
+    let a = c.args in
+    let before = sink_of a.tally a.out-1.now in
     let file = file_of a.law.now in
     let formats = formats_in file a.task.limit a.store.now in
     met_builtin file a.t the_term_word.ensures (tree_of file) formats a.task the_if1.false a.task.room before the_if3.true
-    c.before.before.note-builtin.ensures)
+    c.note_builtin.ensures)
     (λ c.
-    let the_if1 = c.before.before.before.before.if1 in
-    let the_term_word = c.before.before.before.before.before.term_word in
-    let a = c.before.before.before.before.before.before.before.before.before.args in
-    let before = sink_of a.tally a.out.now in
+    let the_if1 = c.if-term_word-ne7 in
+    let the_term_word = c.term_word in
+    let a = c.args in
+    let before = sink_of a.tally a.out-1.now in
     let file = file_of a.law.now in
     let formats = formats_in file a.task.limit a.store.now in
     met_other file a.t the_term_word.ensures (tree_of file) formats a.task the_if1.false a.task.room before
-    c.before.before.if2.false c.if3.false))
+    c.if-task-eq2.false c.if-task-eq3.false))

@@ -22,31 +22,31 @@ note_failure_spec =
     (λ c. search rules)
     (λ c κs. search rules)
     (λ c.
-    let a = c.before.before.before.before.args in
-    let before = sink_of a.tally a.out.now in
-    met_by (λ (x : Fails). failure_events (file_of a.law.now) a.task a.t (failure_in x)) a.task.room before c.enum_told.given.1
+    let a = c.args in
+    let before = sink_of a.tally a.out-1.now in
+    met_by (λ (x : Fails). failure_events (file_of a.law.now) a.task a.t (failure_in x)) a.task.room before c.enum_told-1.given.1
     (collect_none a.task.room before))
     (λ c. search rules)
     (λ c.
-    let the_enum_told2 = c.before.before.before.before.enum-told2 in
-    let a = c.before.before.before.before.before.before.before.before.args in
-    let before = sink_of a.tally a.out.now in
+    let the_enum_told2 = c.enum_told-in-TwoIntegersWanted-1 in
+    let a = c.args in
+    let before = sink_of a.tally a.out-1.now in
     let file = file_of a.law.now in
     met_by (λ (x : Fails). failure_events file a.task a.t (failure_in x)) a.task.room before the_enum_told2.given.1
-    (collect_met a.task.room (call_found file a.task a.t 1) a.tally a.out.now c.before.before.put-call.ensures))
+    (collect_met a.task.room (call_found file a.task a.t 1) a.tally a.out-1.now c.put_call.ensures))
     (λ c. search rules)
     (λ c.
-    let the_enum_told3 = c.before.before.before.before.enum-told3 in
-    let a = c.before.before.before.before.before.before.before.before.args in
-    let before = sink_of a.tally a.out.now in
+    let the_enum_told3 = c.enum_told-in-DivisionByZero-1 in
+    let a = c.args in
+    let before = sink_of a.tally a.out-1.now in
     let file = file_of a.law.now in
     met_by (λ (x : Fails). failure_events file a.task a.t (failure_in x)) a.task.room before the_enum_told3.given.1
-    (collect_met a.task.room (call_found file a.task a.t 2) a.tally a.out.now c.before.before.put-call2.ensures))
+    (collect_met a.task.room (call_found file a.task a.t 2) a.tally a.out-1.now c.put_call-in-DivisionByZero.ensures))
     (λ c. search rules)
     (λ c.
-    let the_enum_told4 = c.before.before.before.before.enum-told4 in
-    let a = c.before.before.before.before.before.before.before.before.args in
-    let before = sink_of a.tally a.out.now in
+    let the_enum_told4 = c.enum_told-in-DigitsWanted-1 in
+    let a = c.args in
+    let before = sink_of a.tally a.out-1.now in
     let file = file_of a.law.now in
     met_by (λ (x : Fails). failure_events file a.task a.t (failure_in x)) a.task.room before the_enum_told4.given.1
-    (collect_met a.task.room (call_found file a.task a.t 3) a.tally a.out.now c.before.before.put-call3.ensures)))
+    (collect_met a.task.room (call_found file a.task a.t 3) a.tally a.out-1.now c.put_call-in-DigitsWanted.ensures)))

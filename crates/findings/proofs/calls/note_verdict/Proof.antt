@@ -19,23 +19,23 @@ note_verdict_spec =
     (λ c. search rules)
     (λ c κs. search rules)
     (λ c.
-    let a = c.before.before.before.before.args in
-    let before = sink_of a.tally a.out.now in
-    met_by (verdict_events (file_of a.law.now) a.task a.t) a.task.room before c.enum_told.given.1 (collect_none a.task.room before))
+    let a = c.args in
+    let before = sink_of a.tally a.out-1.now in
+    met_by (verdict_events (file_of a.law.now) a.task a.t) a.task.room before c.enum_told-1.given.1 (collect_none a.task.room before))
     (λ c.
-    let a = c.before.before.before.before.args in
-    let before = sink_of a.tally a.out.now in
-    met_by (verdict_events (file_of a.law.now) a.task a.t) a.task.room before c.enum-told2.given.1
-    (collect_wide a.task.room a.tally a.out.now))
+    let a = c.args in
+    let before = sink_of a.tally a.out-1.now in
+    met_by (verdict_events (file_of a.law.now) a.task a.t) a.task.room before c.enum_told-in-TooWide-1.given.1
+    (collect_wide a.task.room a.tally a.out-1.now))
     (λ c. search rules)
     (λ c.
-    let the_enum_told3 = c.before.before.before.before.enum-told3 in
-    let a = c.before.before.before.before.before.before.before.before.args in
-    let before = sink_of a.tally a.out.now in
-    met_by (verdict_events (file_of a.law.now) a.task a.t) a.task.room before the_enum_told3.given.1 c.before.before.put-shown.ensures)
+    let the_enum_told3 = c.enum_told-in-ByFormats-1 in
+    let a = c.args in
+    let before = sink_of a.tally a.out-1.now in
+    met_by (verdict_events (file_of a.law.now) a.task a.t) a.task.room before the_enum_told3.given.1 c.put_shown.ensures)
     (λ c. search rules)
     (λ c.
-    let the_enum_told4 = c.before.before.before.before.enum-told4 in
-    let a = c.before.before.before.before.before.before.before.before.args in
-    let before = sink_of a.tally a.out.now in
-    met_by (verdict_events (file_of a.law.now) a.task a.t) a.task.room before the_enum_told4.given.1 c.before.before.put-shown2.ensures))
+    let the_enum_told4 = c.enum_told-in-ByLiterals-1 in
+    let a = c.args in
+    let before = sink_of a.tally a.out-1.now in
+    met_by (verdict_events (file_of a.law.now) a.task a.t) a.task.room before the_enum_told4.given.1 c.put_shown-in-ByLiterals.ensures))

@@ -14,22 +14,22 @@ field_spec =
     (λ c κs. search rules)
     (λ c.
     let start = c.before.before.before in
-    omega (arith, sentences_limit start.args.law.now start.args.index.now start.requires.0, start.requires.1, start.requires.2, c.wide.ensures.1))
+    omega (arith, sentences_limit start.args.law.now start.args.index.now start.requires.0, start.requires.1, start.requires.2, c.wide-start.ensures.1))
     (λ c.
     let start = c.before.before.before in
-    omega (arith, sentences_limit start.args.law.now start.args.index.now start.requires.0, start.requires.1, start.requires.2, c.wide.ensures.1))
+    omega (arith, sentences_limit start.args.law.now start.args.index.now start.requires.0, start.requires.1, start.requires.2, c.wide-start.ensures.1))
     (λ c.
     let start = c.before.before.before in
-    omega (arith, sentences_limit start.args.law.now start.args.index.now start.requires.0, start.requires.1, start.requires.2, c.wide.ensures.1))
+    omega (arith, sentences_limit start.args.law.now start.args.index.now start.requires.0, start.requires.1, start.requires.2, c.wide-start.ensures.1))
     (λ c κs.
     let start = c.before.before.before in
     omega (
       arith,
       laws.sentence_word_inside start.args.law.now start.args.index.now start.requires.0 start.args.s start.args.at start.requires.1
           start.requires.2,
-      c.wide.ensures.0,
+      c.wide-start.ensures.0,
     ))
     (λ c.
     let start = c.before.before.before.before in
-    c.word_at.ensures ∙ rw c.before.wide.ensures.0
+    c.word_at.ensures ∙ rw c.wide-start.ensures.0
     (laws.sentence_word start.args.law.now start.args.index.now start.requires.0 start.args.s start.args.at start.requires.1 start.requires.2)))

@@ -12,14 +12,14 @@ use Rattle.findings.proofs.DeadLaws as laws
 use Rattle.findings.proofs.dead.note_dead.Statement.{statement}
 use Rattle.findings.proofs.dead.note_dead.Tie as tie
 
-abbrev invariant_loop : tie.invariant_loop
+abbrev invariant_loop : tie.invariant-loop-later
 invariant_loop law index task first count out₀ tally so-far₀ later₀ out so_far later =
     (later ≤ count)
     × (length out ≡ length out₀)
     × ((in_block : Bool) → collect task.room (sink_of so-far₀ out₀) (dead_from (file_of law) task in_block first count 0)
     ≡ collect task.room (sink_of so_far out) (dead_from (file_of law) task in_block first count later))
 
-abbrev decreases_loop : tie.decreases_loop
+abbrev decreases_loop : tie.decreases-loop-later
 decreases_loop law index task first count out₀ tally so-far₀ later₀ out so_far later = count - later
 
 pub note_dead_spec : {M : Type 1} → statement M
@@ -31,29 +31,29 @@ note_dead_spec =
     (λ c. (omega arith, refl, λ in_block. refl))
     (λ c κs.
     let start = c.before.before.before.before.before in
-    (start.requires.0, start.requires.1, omega (arith, c.before.loop-test.true, start.requires.2)))
+    (start.requires.0, start.requires.1, omega (arith, c.loop-later-test.true, start.requires.2)))
     (λ c.
-    let the_loop_test = c.before.before.before.before.loop-test in
+    let the_loop_test = c.loop-later-test in
     let start = c.before.before.before.before.before.before.before.before in
     omega (arith, the_loop_test.true, start.requires.2, sentences_limit start.args.law.now start.args.index.now start.requires.0))
     (λ c.
-    let the_loop_test = c.before.before.before.before.loop-test in
+    let the_loop_test = c.loop-later-test in
     omega (arith, the_loop_test.true))
     (λ c.
-    let the_loop_test = c.before.before.before.before.loop-test in
-    let the_note_sentence = c.before.before.note-sentence in
+    let the_loop_test = c.loop-later-test in
+    let the_note_sentence = c.note_sentence-so_far in
     let out-kept = the_note_sentence.auto.1.1.1.1.1.0 in
-    let the_loop = c.before.before.before.before.before.loop in
+    let the_loop = c.loop-later in
     let start = c.before.before.before.before.before.before.before.before in
     let readable = accepted_readable start.args.law.now start.requires.1 in (
       omega (arith, the_loop_test.true),
       out-kept ∙ the_loop.invariant.1,
       laws.dead_again (file_of start.args.law.now) start.args.task start.args.first start.args.count readable the_loop.later
-          the_loop_test.true start.requires.2 _ _ _ the_loop.invariant.2 c.before.before.note-sentence.ensures,
+          the_loop_test.true start.requires.2 _ _ _ the_loop.invariant.2 c.note_sentence-so_far.ensures,
     ))
-    (λ c. c.before.loop.invariant.1)
+    (λ c. c.loop-later.invariant.1)
     (λ c.
     let start = c.before.before.before.before in
     λ in_block. rw (laws.dead_starts (file_of start.args.law.now) start.args.task start.args.first start.args.count in_block)
-    (laws.dead_ends (file_of start.args.law.now) start.args.task start.args.first start.args.count c.before.loop.later
-    (omega (arith, c.loop-test.false)) _ _ c.before.loop.invariant.2 in_block)))
+    (laws.dead_ends (file_of start.args.law.now) start.args.task start.args.first start.args.count c.loop-later.later
+    (omega (arith, c.loop-later-test.false)) _ _ c.loop-later.invariant.2 in_block)))

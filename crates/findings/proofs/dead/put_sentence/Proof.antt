@@ -18,8 +18,8 @@ put_sentence_spec =
     (λ c κs. search rules)
     (λ c. search rules)
     (λ c.
-    let the_field2 = c.before.before.before.before.field2 in
-    let the_field = c.before.before.before.before.before.field in
+    let the_field2 = c.field-end in
+    let the_field = c.field-start in
     let start = c.before.before.before.before.before.before.before.before in
     laws.sentence_noted (file_of start.args.law.now) start.args.task start.args.s start.args.a start.args.b the_field.result
-    the_field2.result start.args.tally start.args.out.now the_field.ensures the_field2.ensures c.before.before.put-note.ensures))
+    the_field2.result start.args.tally start.args.out-1.now the_field.ensures the_field2.ensures c.put_note.ensures))

@@ -10,14 +10,14 @@ use Rattle.findings.proofs.OpenLaws as laws
 use Rattle.findings.proofs.open.note_open.Statement.{statement}
 use Rattle.findings.proofs.open.note_open.Tie as tie
 
-abbrev invariant_loop : tie.invariant_loop
+abbrev invariant_loop : tie.invariant-loop-i
 invariant_loop law index task first count out₀ tally so-far₀ i₀ out so_far i =
     (i ≤ count)
     × (length out ≡ length out₀)
     × (collect task.room (sink_of so-far₀ out₀) (laws.open_from (file_of law) task count first)
     ≡ collect task.room (sink_of so_far out) (laws.open_from (file_of law) task (count - i) (first + i)))
 
-abbrev decreases_loop : tie.decreases_loop
+abbrev decreases_loop : tie.decreases-loop-i
 decreases_loop law index task first count out₀ tally so-far₀ i₀ out so_far i = count - i
 
 pub note_open_spec : {M : Type 1} → statement M
@@ -29,7 +29,7 @@ note_open_spec =
     (λ c.
     let start = c.before.before in
     let readable = accepted_readable start.args.law.now start.requires.1 in
-    let before = sink_of start.args.tally start.args.out.now in (
+    let before = sink_of start.args.tally start.args.out-1.now in (
       omega arith,
       refl,
       ap (collect start.args.task.room before) (laws.open_starts (file_of start.args.law.now) readable start.args.task
@@ -37,32 +37,32 @@ note_open_spec =
     ))
     (λ c.
     let start = c.before.before.before.before in
-    omega (arith, c.loop-test.true, start.requires.2, sentences_limit start.args.law.now start.args.index.now start.requires.0))
+    omega (arith, c.loop-i-test.true, start.requires.2, sentences_limit start.args.law.now start.args.index.now start.requires.0))
     (λ c κs.
     let start = c.before.before.before.before.before in
-    (start.requires.0, start.requires.1, omega (arith, c.before.loop-test.true, start.requires.2)))
+    (start.requires.0, start.requires.1, omega (arith, c.loop-i-test.true, start.requires.2)))
     (λ c.
-    let the_loop_test = c.before.before.before.before.loop-test in
+    let the_loop_test = c.loop-i-test in
     let start = c.before.before.before.before.before.before.before.before in
     omega (arith, the_loop_test.true, start.requires.2, sentences_limit start.args.law.now start.args.index.now start.requires.0))
     (λ c.
-    let the_loop_test = c.before.before.before.before.loop-test in
+    let the_loop_test = c.loop-i-test in
     omega (arith, the_loop_test.true))
     (λ c.
-    let the_loop_test = c.before.before.before.before.loop-test in
-    let the_note_pattern = c.before.before.note-pattern in
+    let the_loop_test = c.loop-i-test in
+    let the_note_pattern = c.note_pattern-so_far in
     let out-kept = the_note_pattern.auto.1.1.1.1.0 in
-    let the_loop = c.before.before.before.before.before.loop in
+    let the_loop = c.loop-i in
     let start = c.before.before.before.before.before.before.before.before in
     let readable = accepted_readable start.args.law.now start.requires.1 in (
       omega (arith, the_loop_test.true),
       out-kept ∙ the_loop.invariant.1,
       laws.open_again (file_of start.args.law.now) readable start.args.task start.args.first start.args.count the_loop.i
-          the_loop_test.true start.requires.2 _ _ _ the_loop.invariant.2 c.before.before.note-pattern.ensures,
+          the_loop_test.true start.requires.2 _ _ _ the_loop.invariant.2 c.note_pattern-so_far.ensures,
     ))
-    (λ c. c.before.loop.invariant.1)
+    (λ c. c.loop-i.invariant.1)
     (λ c.
     let start = c.before.before.before.before in
     let readable = accepted_readable start.args.law.now start.requires.1 in
-    laws.open_ends (file_of start.args.law.now) readable start.args.task start.args.first start.args.count c.before.loop.i
-    (omega (arith, c.loop-test.false)) _ _ c.before.loop.invariant.2))
+    laws.open_ends (file_of start.args.law.now) readable start.args.task start.args.first start.args.count c.loop-i.i
+    (omega (arith, c.loop-i-test.false)) _ _ c.loop-i.invariant.2))

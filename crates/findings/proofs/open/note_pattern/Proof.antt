@@ -15,24 +15,24 @@ note_pattern_spec =
     (λ c.
     let start = c.before.before.before.before.before in
     let readable = accepted_readable start.args.law.now start.requires.1 in
-    laws.open_few (file_of start.args.law.now) readable start.args.task start.args.s c.before.e-occurrences.result _ start.args.out.now
-    start.args.tally start.requires.2 c.before.before.pattern.ensures c.before.e-occurrences.ensures.0 c.if1.true)
+    laws.open_few (file_of start.args.law.now) readable start.args.task start.args.s c.e_occurrences-occurrences.result _ start.args.out-1.now
+    start.args.tally start.requires.2 c.pattern.ensures c.e_occurrences-occurrences.ensures.0 c.if-occurrences-lt2.true)
     (λ c.
     let start = c.before.before.before.before.before in
     let readable = accepted_readable start.args.law.now start.requires.1 in
     omega (
       arith,
       laws.occurrences_few start.args.law.now start.args.index.now start.requires.0 readable start.args.s
-          c.before.e-occurrences.result _ c.before.before.pattern.ensures c.before.e-occurrences.ensures.1,
+          c.e_occurrences-occurrences.result _ c.pattern.ensures c.e_occurrences-occurrences.ensures.1,
     ))
     (λ c κs. search rules)
     (λ c. search rules)
     (λ c.
-    let the_if1 = c.before.before.before.before.if1 in
-    let the_e_occurrences = c.before.before.before.before.before.e-occurrences in
-    let the_pattern = c.before.before.before.before.before.before.pattern in
+    let the_if1 = c.if-occurrences-lt2 in
+    let the_e_occurrences = c.e_occurrences-occurrences in
+    let the_pattern = c.pattern in
     let start = c.before.before.before.before.before.before.before.before.before in
     let readable = accepted_readable start.args.law.now start.requires.1 in
-    laws.open_many (file_of start.args.law.now) readable start.args.task start.args.s the_e_occurrences.result _ start.args.out.now
+    laws.open_many (file_of start.args.law.now) readable start.args.task start.args.s the_e_occurrences.result _ start.args.out-1.now
     start.args.tally start.requires.2 the_pattern.ensures the_e_occurrences.ensures.0 _ (omega (arith, the_if1.false))
-    c.before.before.put-sentence.ensures))
+    c.put_sentence.ensures))

@@ -178,9 +178,9 @@ walk-sentences-Inv-loop law index slots store task first count out₀ tally so-f
 abbrev walk-sentences-μ-loop : walk-sentences-lts.decreases_loop
 walk-sentences-μ-loop law index slots store task first count out₀ tally so-far₀ i₀ out so_far i = count - i
 
-pub +walk-conditions-walk-pattern-walk-run-walk-sentence-walk-sentences-walk-term-spec :
+pub +walk_conditions_walk_pattern_walk_run_walk_sentence_walk_sentences_walk_term_spec :
     {M : Type 1} → statement M
-+walk-conditions-walk-pattern-walk-run-walk-sentence-walk-sentences-walk-term-spec =
++walk_conditions_walk_pattern_walk_run_walk_sentence_walk_sentences_walk_term_spec =
     close
     μ-walk-conditions
     μ-walk-pattern
@@ -219,8 +219,8 @@ pub +walk-conditions-walk-pattern-walk-run-walk-sentence-walk-sentences-walk-ter
     omega (arith, steps.sentences_small start.requires.1.0, start.requires.1.1))
     (λ c.
     let start = c.before.before.before.before.before in
-    let the_first_condition = c.before.first_condition in
-    let the_first_condition2 = c.first-condition2 in
+    let the_first_condition = c.first_condition-first in
+    let the_first_condition2 = c.first_condition in
     omega (
       arith,
       steps.conditions_first_reads start.requires.1.0 start.args.s start.requires.1.1 the_first_condition.result
@@ -230,26 +230,26 @@ pub +walk-conditions-walk-pattern-walk-run-walk-sentence-walk-sentences-walk-ter
     ))
     (λ c.
     let start = c.before.before.before.before.before in
-    let before = sink_of start.args.tally start.args.out.now in
+    let before = sink_of start.args.tally start.args.out-1.now in
     let file = file_of start.args.law.now in
     let formats = formats_in file start.args.task.limit start.args.store.now in
-    let the_first_condition = c.before.first_condition in
-    let the_first_condition2 = c.first-condition2 in
+    let the_first_condition = c.first_condition-first in
+    let the_first_condition2 = c.first_condition in
     let count = the_first_condition2.result - the_first_condition.result in
     let first = the_first_condition.result in
     let read = steps.conditions_first_reads start.requires.1.0 _ start.requires.1.1 _ the_first_condition.ensures in
     let counted = steps.conditions_count start.requires.1.0 _ start.requires.1.1 _ _ the_first_condition.ensures the_first_condition2.ensures in
-    (read, counted, omega arith, refl, steps.conditions_start file formats start.args.task start.args.s count first before read counted))
+    (read, counted, omega arith, refl, steps.conditions_start_lem file formats start.args.task start.args.s count first before read counted))
     (λ c.
     let start = c.before.before.before.before.before.before.before in
-    let the_loop = c.before.loop in
-    let the_loop_test = c.loop-test in
+    let the_loop = c.loop-i in
+    let the_loop_test = c.loop-i-test in
     omega (arith, steps.condition_small start.requires.1.0 _ start.requires.1.1 _ _ _ the_loop.invariant.0 the_loop.invariant.1 the_loop_test.true))
     (λ c κs.
     let start = c.before.before.before.before.before.before.before in
     let asked = start.requires.1.0.asked in
-    let the_loop = c.before.loop in
-    let the_loop_test = c.loop-test in (
+    let the_loop = c.loop-i in
+    let the_loop_test = c.loop-i-test in (
       asked.indexed,
       start.requires.1.1,
       steps.condition_inside start.requires.1.0 _ start.requires.1.1 _ _ _ the_loop.invariant.0
@@ -258,15 +258,15 @@ pub +walk-conditions-walk-pattern-walk-run-walk-sentence-walk-sentences-walk-ter
     (λ c κs.
     let start = c.before.before.before.before.before.before.before.before in
     let asked = start.requires.1.0.asked in
-    let the_loop = c.before.before.loop in
-    let the_loop_test = c.before.loop-test in
+    let the_loop = c.loop-i in
+    let the_loop_test = c.loop-i-test in
     (asked.indexed, steps.condition_owned start.requires.1.0 _ start.requires.1.1 _ _ _ the_loop.invariant.0 the_loop.invariant.1 the_loop_test.true))
     (λ c κs.
     let start = c.before.before.before.before.before.before.before.before.before.before in
-    let the_loop = c.before.before.before.before.loop in
-    let the_loop_test = c.before.before.before.loop-test in
-    let the_condition_result_at = c.before.before.condition-result-at in
-    let the_condition_result = c.before.condition-result in (
+    let the_loop = c.loop-i in
+    let the_loop_test = c.loop-i-test in
+    let the_condition_result_at = c.condition_result_at-at in
+    let the_condition_result = c.condition_result-part in (
       steps.asked_falls start.requires.1.0 _ start.requires.1.1 _ _ _ the_loop.invariant.0 the_loop.invariant.1 the_loop_test.true
           the_condition_result_at.result t the_condition_result.result.now the_condition_result_at.ensures the_condition_result.ensures start.requires.0,
       (
@@ -278,14 +278,14 @@ pub +walk-conditions-walk-pattern-walk-run-walk-sentence-walk-sentences-walk-ter
     (λ c κs.
     let start = c.before.before.before.before.before.before.before.before.before.before.before.before.before in
     let asked = start.requires.1.0.asked in
-    let the_loop = c.before.before.before.before.before.before.before.loop in
-    let the_loop_test = c.before.before.before.before.before.before.loop-test in
+    let the_loop = c.loop-i in
+    let the_loop_test = c.loop-i-test in
     (asked.indexed, steps.condition_inside start.requires.1.0 _ start.requires.1.1 _ _ _ the_loop.invariant.0 the_loop.invariant.1 the_loop_test.true))
     (λ c.
     let start = c.before.before.before.before.before.before.before.before.before.before.before.before.before.before in
-    let the_loop = c.before.before.before.before.before.before.before.before.loop in
-    let the_loop_test = c.before.before.before.before.before.before.before.loop-test in
-    let the_condition_result_at = c.before.before.before.before.before.before.condition-result-at in
+    let the_loop = c.loop-i in
+    let the_loop_test = c.loop-i-test in
+    let the_condition_result_at = c.condition_result_at-at in
     let the_condition_result_size = c.condition_result_size in
     omega (
       arith,
@@ -295,16 +295,16 @@ pub +walk-conditions-walk-pattern-walk-run-walk-sentence-walk-sentences-walk-ter
     (λ c κs.
     let start = c.before.before.before.before.before.before.before.before.before.before.before.before.before.before in
     let asked = start.requires.1.0.asked in
-    let the_loop = c.before.before.before.before.before.before.before.before.loop in
-    let the_loop_test = c.before.before.before.before.before.before.before.loop-test in
+    let the_loop = c.loop-i in
+    let the_loop_test = c.loop-i-test in
     (asked.indexed, steps.condition_owned start.requires.1.0 _ start.requires.1.1 _ _ _ the_loop.invariant.0 the_loop.invariant.1 the_loop_test.true))
     (λ c κs.
     let start = c.before.before.before.before.before.before.before.before.before.before.before.before.before.before.before.before in
-    let the_loop = c.before.before.before.before.before.before.before.before.before.before.loop in
-    let the_loop_test = c.before.before.before.before.before.before.before.before.before.loop-test in
-    let the_condition_result_at = c.before.before.before.before.before.before.before.before.condition-result-at in
-    let the_condition_result_size = c.before.before.condition_result_size in
-    let the_condition_pattern = c.before.condition-pattern in (
+    let the_loop = c.loop-i in
+    let the_loop_test = c.loop-i-test in
+    let the_condition_result_at = c.condition_result_at-at in
+    let the_condition_result_size = c.condition_result_size in
+    let the_condition_pattern = c.condition_pattern-whole in (
       steps.wanted_falls start.requires.1.0 _ start.requires.1.1 _ _ _ the_loop.invariant.0 the_loop.invariant.1 the_loop_test.true
           the_condition_result_at.result the_condition_result_size.result t the_condition_pattern.result.now the_condition_result_at.ensures
           the_condition_result_size.ensures the_condition_pattern.ensures start.requires.0,
@@ -316,32 +316,32 @@ pub +walk-conditions-walk-pattern-walk-run-walk-sentence-walk-sentences-walk-ter
       ),
     ))
     (λ c.
-    let the_loop_test = c.before.before.before.before.before.before.before.before.before.before.before.before.loop-test in
+    let the_loop_test = c.loop-i-test in
     omega (arith, the_loop_test.true))
     (λ c.
-    let the_loop_test = c.before.before.before.before.before.before.before.before.before.before.before.before.loop-test in
+    let the_loop_test = c.loop-i-test in
     omega (arith, the_loop_test.true))
     (λ c.
     let start = c.before.before.before.before.before.before.before.before.before.before.before.before.before.before.before.before.before.before.before in
     let task = start.args.task in
-    let before = sink_of start.args.tally start.args.out.now in
+    let before = sink_of start.args.tally start.args.out-1.now in
     let file = file_of start.args.law.now in
     let formats = formats_in file start.args.task.limit start.args.store.now in
-    let the_loop = c.before.before.before.before.before.before.before.before.before.before.before.before.before.loop in
-    let the_loop_test = c.before.before.before.before.before.before.before.before.before.before.before.before.loop-test in
-    let the_walk_pattern = c.before.before.walk-pattern in
+    let the_loop = c.loop-i in
+    let the_loop_test = c.loop-i-test in
+    let the_walk_pattern = c.walk_pattern-so_far in
     let out-after-pattern = the_walk_pattern.new.1.1.1.1.1.1.1.0 in
     let out-kept-by-pattern = the_walk_pattern.auto.1.1.1.1.1.1.1.0 in
-    let the_walk_run = c.before.before.before.before.before.before.before.before.walk-run in
+    let the_walk_run = c.walk_run-left in
     let out-after-run = the_walk_run.new.1.1.1.1.1.1.1.0 in
     let out-kept-by-run = the_walk_run.auto.1.1.1.1.1.1.1.0 in
-    let the_first_condition2 = c.before.before.before.before.before.before.before.before.before.before.before.before.before.before.first-condition2 in
-    let the_first_condition = c.before.before.before.before.before.before.before.before.before.before.before.before.before.before.before.first_condition in
+    let the_first_condition2 = c.first_condition in
+    let the_first_condition = c.first_condition-first in
     let count = the_first_condition2.result - the_first_condition.result in
-    let the_condition_result_at = c.before.before.before.before.before.before.before.before.before.before.before.condition-result-at in
-    let the_condition_result_size = c.before.before.before.before.before.condition_result_size in
-    let the_condition_result = c.before.before.before.before.before.before.before.before.before.before.condition-result in
-    let the_condition_pattern = c.before.before.before.before.condition-pattern in (
+    let the_condition_result_at = c.condition_result_at-at in
+    let the_condition_result_size = c.condition_result_size in
+    let the_condition_result = c.condition_result-part in
+    let the_condition_pattern = c.condition_pattern-whole in (
       the_loop.invariant.0,
       the_loop.invariant.1,
       omega (arith, the_loop_test.true),
@@ -349,53 +349,53 @@ pub +walk-conditions-walk-pattern-walk-run-walk-sentence-walk-sentences-walk-ter
       steps.conditions_next file formats task start.args.s count the_first_condition.result the_loop.i the_condition_result_at.result
           the_condition_result_size.result the_condition_result.result.now the_condition_pattern.result.now
           (steps.after file formats task before (steps.conditions_met file formats task start.args.s (conditions_of file start.args.s)
-          (first_condition file start.args.s))) (sink_of the_loop.so_far the_loop.out) (sink_of the_walk_run.result out-after-run)
+          (first_condition file start.args.s))) (sink_of the_loop.so_far the_loop.out-1) (sink_of the_walk_run.result out-after-run)
           (sink_of the_walk_pattern.result out-after-pattern) the_loop_test.true the_condition_result_at.ensures the_condition_result.ensures
           the_condition_result_size.ensures the_condition_pattern.ensures the_loop.invariant.4 the_walk_run.ensures the_walk_pattern.ensures,
     ))
     (λ c.
-    let the_loop = c.before.loop in
+    let the_loop = c.loop-i in
     the_loop.invariant.3)
     (λ c.
     let start = c.before.before.before.before.before.before.before in
     let task = start.args.task in
-    let before = sink_of start.args.tally start.args.out.now in
+    let before = sink_of start.args.tally start.args.out-1.now in
     let file = file_of start.args.law.now in
     let formats = formats_in file start.args.task.limit start.args.store.now in
-    let the_first_condition2 = c.before.before.first-condition2 in
-    let the_first_condition = c.before.before.before.first_condition in
+    let the_first_condition2 = c.first_condition in
+    let the_first_condition = c.first_condition-first in
     let count = the_first_condition2.result - the_first_condition.result in
-    let the_loop = c.before.loop in
-    let the_loop_test = c.loop-test in
+    let the_loop = c.loop-i in
+    let the_loop_test = c.loop-i-test in
     steps.conditions_end file formats task start.args.s count the_first_condition.result the_loop.i
     (steps.after file formats task before (steps.conditions_met file formats task start.args.s (conditions_of file start.args.s)
-    (first_condition file start.args.s))) (sink_of the_loop.so_far the_loop.out) the_loop_test.false the_loop.invariant.4))
+    (first_condition file start.args.s))) (sink_of the_loop.so_far the_loop.out-1) the_loop_test.false the_loop.invariant.4))
     (λ t. walk-pattern-lts.spec
     (walk_run_below t, walk-run.Post)
     (walk_pattern_at t)
     walk-pattern.Post
     (λ c.
     let start = c.before.before.before.before.before.before in
-    let before = sink_of start.args.tally start.args.out.now in
+    let before = sink_of start.args.tally start.args.out-1.now in
     let file = file_of start.args.law.now in
     let formats = formats_in file start.args.task.limit start.args.store.now in
-    let the_if1 = c.if1 in
+    let the_if1 = c.if-task-ne1 in
     steps.pattern_passed file formats start.args.task start.args.at start.args.part.now before the_if1.true)
     (λ c κs.
     let start = c.before.before.before.before.before.before.before in
     (steps.run_less (file_of start.args.law.now) start.args.at t start.args.part.now start.requires.0, start.requires.1))
     (λ c.
-    let the_walk_run = c.before.before.walk-run in
+    let the_walk_run = c.walk_run-left in
     let out-kept = the_walk_run.auto.1.1.1.1.1.1.1.0 in
     out-kept)
     (λ c.
     let start = c.before.before.before.before.before.before.before.before.before.before in
-    let before = sink_of start.args.tally start.args.out.now in
+    let before = sink_of start.args.tally start.args.out-1.now in
     let file = file_of start.args.law.now in
     let formats = formats_in file start.args.task.limit start.args.store.now in
-    let the_walk_run = c.before.before.walk-run in
+    let the_walk_run = c.walk_run-left in
     let out-after = the_walk_run.new.1.1.1.1.1.1.1.0 in
-    let the_if1 = c.before.before.before.before.if1 in
+    let the_if1 = c.if-task-ne1 in
     steps.pattern_walked file formats start.args.task start.args.at start.args.part.now before (sink_of the_walk_run.result out-after)
     the_if1.false the_walk_run.ensures))
     (λ t. walk-run-lts.spec (
@@ -412,42 +412,42 @@ pub +walk-conditions-walk-pattern-walk-run-walk-sentence-walk-sentences-walk-ter
     walk-run-μ-loop
     (λ c.
     let start = c.before.before.before.before in
-    let before = sink_of start.args.tally start.args.out.now in
+    let before = sink_of start.args.tally start.args.out-1.now in
     let file = file_of start.args.law.now in
     let formats = formats_in file start.args.task.limit start.args.store.now in
     (refl, steps.left_start file formats start.args.task start.args.at start.args.part.now before start.requires.1.1))
     (λ c κs.
     let start = c.before.before.before.before.before.before in
     let asked = start.requires.1.0.asked in
-    omega (arith, steps.left_more c.before.loop.invariant.1 asked.readable c.loop-test.true))
+    omega (arith, steps.left_more c.loop-i.invariant.1 asked.readable c.loop-i-test.true))
     (λ c.
-    let the_loop = c.before.before.before.loop in
+    let the_loop = c.loop-i in
     let start = c.before.before.before.before.before.before.before.before in
     let asked = start.requires.1.0.asked in
-    omega (arith, steps.left_more the_loop.invariant.1 asked.readable c.before.before.loop-test.true))
-    (λ c. omega (arith, c.before.before.loop-test.true))
+    omega (arith, steps.left_more the_loop.invariant.1 asked.readable c.loop-i-test.true))
+    (λ c. omega (arith, c.loop-i-test.true))
     (λ c.
     let start = c.before.before.before.before.before.before.before.before in
-    let the_loop = c.before.before.before.loop in
+    let the_loop = c.loop-i in
     let readable = start.requires.1.0.asked.readable in
-    let the_word_at = c.before.word_at in (
+    let the_word_at = c.word_at in (
       the_loop.invariant.0,
-      steps.leaf_next the_loop.invariant.1 (steps.left_more the_loop.invariant.1 readable c.before.before.loop-test.true) readable
-          start.requires.1.1 the_word_at.result the_word_at.ensures c.if1.true,
+      steps.leaf_next the_loop.invariant.1 (steps.left_more the_loop.invariant.1 readable c.loop-i-test.true) readable
+          start.requires.1.1 the_word_at.result the_word_at.ensures c.if-task-ne1.true,
     ))
     (λ c.
-    let the_loop = c.before.before.before.loop in
+    let the_loop = c.loop-i in
     the_loop.invariant.1.within)
     (λ c.
-    let the_loop = c.before.before.before.loop in
+    let the_loop = c.loop-i in
     the_loop.invariant.1.within)
     (λ c. search rules)
     (λ c.
-    let the_loop = c.before.before.before.before.loop in
-    let the_loop_test = c.before.before.before.loop-test in
+    let the_loop = c.loop-i in
+    let the_loop_test = c.loop-i-test in
     let start = c.before.before.before.before.before.before.before.before.before in
     let asked = start.requires.1.0.asked in
-    let the_left = c.before.before.before.before.loop.invariant.1 in
+    let the_left = c.loop-i.invariant.1 in
     let more = steps.left_more the_left asked.readable the_loop_test.true in
     omega (
       arith,
@@ -455,41 +455,41 @@ pub +walk-conditions-walk-pattern-walk-run-walk-sentence-walk-sentences-walk-ter
           (steps.left_some the_left more),
     ))
     (λ c κs.
-    let the_loop_test = c.before.before.before.before.loop-test in
+    let the_loop_test = c.loop-i-test in
     let start = c.before.before.before.before.before.before.before.before.before.before in
     let asked = start.requires.1.0.asked in
-    let the_left = c.before.before.before.before.before.loop.invariant.1 in
+    let the_left = c.loop-i.invariant.1 in
     let more = steps.left_more the_left asked.readable the_loop_test.true in
     (steps.first_less the_left more t start.requires.0, (start.requires.1.0, the_left.part, steps.left_some the_left more)))
-    (λ c κs. let the_loop_test = c.before.before.before.before.before.before.before.loop-test in
+    (λ c κs. let the_loop_test = c.loop-i-test in
     let start = c.before.before.before.before.before.before.before.before.before.before.before.before.before in
     let asked = start.requires.1.0.asked in
-    let the_left = c.before.before.before.before.before.before.before.before.loop.invariant.1 in
+    let the_left = c.loop-i.invariant.1 in
     steps.left_some the_left (steps.left_more the_left asked.readable the_loop_test.true))
     (λ c.
     let start = c.before.before.before.before.before.before.before.before.before.before.before.before.before.before in
-    let the_left = c.before.before.before.before.before.before.before.before.before.loop.invariant.1 in
+    let the_left = c.loop-i.invariant.1 in
     omega (
       arith,
-      steps.next_within the_left c.end_of_lem.ensures.2,
+      steps.next_within the_left c.end_of-i.ensures.2,
       steps.run_small start.requires.1.0 start.args.at start.args.part.now start.requires.1.1,
     ))
-    (λ c. let the_loop_test = c.before.before.before.before.before.before.before.before.loop-test in
-    omega (arith, c.end_of_lem.ensures.1, the_loop_test.true))
-    (λ c. let the_loop_test = c.before.before.before.before.before.before.before.before.loop-test in
+    (λ c. let the_loop_test = c.loop-i-test in
+    omega (arith, c.end_of-i.ensures.1, the_loop_test.true))
+    (λ c. let the_loop_test = c.loop-i-test in
     let start = c.before.before.before.before.before.before.before.before.before.before.before.before.before.before in
-    let the_loop = c.before.before.before.before.before.before.before.before.before.loop in
+    let the_loop = c.loop-i in
     let readable = start.requires.1.0.asked.readable in
     let more = steps.left_more the_loop.invariant.1 readable the_loop_test.true in
-    let the_walk_term = c.before.before.before.walk-term in
+    let the_walk_term = c.walk_term-so_far in
     let out-after = the_walk_term.new.1.1.1.1.1.1.1.0 in
     let out-kept = the_walk_term.auto.1.1.1.1.1.1.1.0 in (
       out-kept ∙ the_loop.invariant.0,
-      steps.left_next the_loop.invariant.1 more readable start.requires.1.1 c.end_of_lem.result (sink_of the_walk_term.result out-after) c.end_of_lem.ensures.0
+      steps.left_next the_loop.invariant.1 more readable start.requires.1.1 c.end_of-i.result (sink_of the_walk_term.result out-after) c.end_of-i.ensures.0
           the_walk_term.ensures,
     ))
-    (λ c. c.before.loop.invariant.0)
-    (λ c. steps.left_end c.before.loop.invariant.1 c.loop-test.false))
+    (λ c. c.loop-i.invariant.0)
+    (λ c. steps.left_end c.loop-i.invariant.1 c.loop-i-test.false))
     (λ t. walk-sentence-lts.spec (
       pattern-at-reads.Asked,
       pattern-at-reads.Learnt,
@@ -520,8 +520,8 @@ pub +walk-conditions-walk-pattern-walk-run-walk-sentence-walk-sentences-walk-ter
     let start = c.before.before.before.before.before.before in
     let file = file_of start.args.law.now in
     let asked = start.requires.1.0.asked in
-    let the_pattern_at = c.before.before.pattern_at in
-    let the_pattern = c.before.pattern in (
+    let the_pattern_at = c.pattern_at-at in
+    let the_pattern = c.pattern-first in (
       steps.pattern_less file asked.readable start.args.s the_pattern_at.result t the_pattern.result.now start.requires.1.1
           the_pattern_at.ensures the_pattern.ensures start.requires.0,
       (
@@ -547,8 +547,8 @@ pub +walk-conditions-walk-pattern-walk-run-walk-sentence-walk-sentences-walk-ter
     let start = c.before.before.before.before.before.before.before.before.before.before.before.before.before.before.before.before in
     let file = file_of start.args.law.now in
     let asked = start.requires.1.0.asked in
-    let the_result_at = c.before.before.result-at in
-    let the_result = c.before.result in (
+    let the_result_at = c.result_at-next in
+    let the_result = c.result-last in (
       steps.result_less file asked.readable start.args.s the_result_at.result t the_result.result.now start.requires.1.1 the_result_at.ensures
           the_result.ensures start.requires.0,
       (
@@ -558,28 +558,28 @@ pub +walk-conditions-walk-pattern-walk-run-walk-sentence-walk-sentences-walk-ter
       ),
     ))
     (λ c.
-    let the_walk_run = c.before.before.walk-run in
+    let the_walk_run = c.walk_run-left in
     let out-kept-by-run = the_walk_run.auto.1.1.1.1.1.1.1.0 in
-    let the_walk_conditions = c.before.before.before.before.before.before.before.before.walk-conditions in
+    let the_walk_conditions = c.walk_conditions-asked in
     let out-kept-by-conditions = the_walk_conditions.auto.1.1.1.1.1.1.0 in
-    let the_walk_pattern = c.before.before.before.before.before.before.before.before.before.before.before.before.walk-pattern in
+    let the_walk_pattern = c.walk_pattern-so_far in
     let out-kept-by-pattern = the_walk_pattern.auto.1.1.1.1.1.1.1.0 in
     out-kept-by-run ∙ out-kept-by-conditions ∙ out-kept-by-pattern)
     (λ c.
     let start = c.before.before.before.before.before.before.before.before.before.before.before.before.before.before.before.before.before.before.before in
-    let before = sink_of start.args.tally start.args.out.now in
+    let before = sink_of start.args.tally start.args.out-1.now in
     let file = file_of start.args.law.now in
     let formats = formats_in file start.args.task.limit start.args.store.now in
     let asked = start.requires.1.0.asked in
-    let the_pattern_at = c.before.before.before.before.before.before.before.before.before.before.before.before.before.before.before.pattern_at in
-    let the_result_at = c.before.before.before.before.before.result-at in
-    let the_pattern = c.before.before.before.before.before.before.before.before.before.before.before.before.before.before.pattern in
-    let the_result = c.before.before.before.before.result in
-    let the_walk_pattern = c.before.before.before.before.before.before.before.before.before.before.before.before.walk-pattern in
+    let the_pattern_at = c.pattern_at-at in
+    let the_result_at = c.result_at-next in
+    let the_pattern = c.pattern-first in
+    let the_result = c.result-last in
+    let the_walk_pattern = c.walk_pattern-so_far in
     let out-after-pattern = the_walk_pattern.new.1.1.1.1.1.1.1.0 in
-    let the_walk_conditions = c.before.before.before.before.before.before.before.before.walk-conditions in
+    let the_walk_conditions = c.walk_conditions-asked in
     let out-after-conditions = the_walk_conditions.new.1.1.1.1.1.1.0 in
-    let the_walk_run = c.before.before.walk-run in
+    let the_walk_run = c.walk_run-left in
     let out-after-run = the_walk_run.new.1.1.1.1.1.1.1.0 in
     steps.sentence_steps file formats start.args.task asked.readable start.args.s the_pattern_at.result the_result_at.result
     the_pattern.result.now the_result.result.now before (sink_of the_walk_pattern.result out-after-pattern)
@@ -593,63 +593,63 @@ pub +walk-conditions-walk-pattern-walk-run-walk-sentence-walk-sentences-walk-ter
     walk-sentences-μ-loop
     (λ c.
     let start = c.before.before.before in
-    let before = sink_of start.args.tally start.args.out.now in
+    let before = sink_of start.args.tally start.args.out-1.now in
     let file = file_of start.args.law.now in
     let formats = formats_in file start.args.task.limit start.args.store.now in
-    (omega arith, refl, steps.sentences_start file formats start.args.task start.args.count start.args.first before))
+    (omega arith, refl, steps.sentences_start_lem file formats start.args.task start.args.count start.args.first before))
     (λ c.
     let start = c.before.before.before.before.before in
-    let the_loop_test = c.loop-test in
+    let the_loop_test = c.loop-i-test in
     omega (arith, steps.sentences_small start.requires.1.0, start.requires.1.1, the_loop_test.true))
     (λ c κs.
     let start = c.before.before.before.before.before.before in
     let file = file_of start.args.law.now in
     let asked = start.requires.1.0.asked in
-    let the_loop = c.before.before.loop in
-    let the_loop_test = c.before.loop-test in (
+    let the_loop = c.loop-i in
+    let the_loop_test = c.loop-i-test in (
       steps.sentence_less file asked.readable start.args.count start.args.first the_loop.i t the_loop_test.true start.requires.1.1
           start.requires.0,
       (start.requires.1.0, omega (arith, start.requires.1.1, the_loop_test.true)),
     ))
     (λ c.
-    let the_loop_test = c.before.before.before.before.loop-test in
+    let the_loop_test = c.loop-i-test in
     omega (arith, the_loop_test.true))
     (λ c.
-    let the_loop_test = c.before.before.before.before.loop-test in
+    let the_loop_test = c.loop-i-test in
     omega (arith, the_loop_test.true))
     (λ c.
     let start = c.before.before.before.before.before.before.before.before.before in
     let task = start.args.task in
-    let before = sink_of start.args.tally start.args.out.now in
+    let before = sink_of start.args.tally start.args.out-1.now in
     let file = file_of start.args.law.now in
     let formats = formats_in file start.args.task.limit start.args.store.now in
     let asked = start.requires.1.0.asked in
-    let the_loop_test = c.before.before.before.before.loop-test in
-    let the_walk_sentence = c.before.before.walk-sentence in
+    let the_loop_test = c.loop-i-test in
+    let the_walk_sentence = c.walk_sentence-so_far in
     let out-after = the_walk_sentence.new.1.1.1.1.1.1.0 in
     let out-kept = the_walk_sentence.auto.1.1.1.1.1.1.0 in
-    let the_loop = c.before.before.before.before.before.loop in (
+    let the_loop = c.loop-i in (
       omega (arith, the_loop_test.true),
       out-kept ∙ the_loop.invariant.1,
       steps.sentences_next file formats task asked.readable start.args.count start.args.first the_loop.i
           (steps.after file formats task before (steps.sentences_met file formats task start.args.count start.args.first))
-          (sink_of the_loop.so_far the_loop.out) (sink_of the_walk_sentence.result out-after) the_loop_test.true start.requires.1.1 the_loop.invariant.2
+          (sink_of the_loop.so_far the_loop.out-1) (sink_of the_walk_sentence.result out-after) the_loop_test.true start.requires.1.1 the_loop.invariant.2
           the_walk_sentence.ensures,
     ))
     (λ c.
-    let the_loop = c.before.loop in
+    let the_loop = c.loop-i in
     the_loop.invariant.1)
     (λ c.
     let start = c.before.before.before.before.before in
     let task = start.args.task in
-    let before = sink_of start.args.tally start.args.out.now in
+    let before = sink_of start.args.tally start.args.out-1.now in
     let file = file_of start.args.law.now in
     let formats = formats_in file start.args.task.limit start.args.store.now in
-    let the_loop = c.before.loop in
-    let the_loop_test = c.loop-test in
+    let the_loop = c.loop-i in
+    let the_loop_test = c.loop-i-test in
     steps.sentences_end file formats task start.args.count start.args.first the_loop.i
     (steps.after file formats task before (steps.sentences_met file formats task start.args.count start.args.first))
-    (sink_of the_loop.so_far the_loop.out) the_loop_test.false the_loop.invariant.2))
+    (sink_of the_loop.so_far the_loop.out-1) the_loop_test.false the_loop.invariant.2))
     λ t. walk-term-lts.spec (
       note-call-reads.Asked,
       note-call-reads.Learnt,
@@ -673,11 +673,11 @@ pub +walk-conditions-walk-pattern-walk-run-walk-sentence-walk-sentences-walk-ter
     (λ c κs.
     let start = c.before.before.before.before.before in
     (start.requires.1.0, steps.at_inside start.requires.1.0 _ _ start.requires.1.1 start.requires.1.2))
-    (λ c κs. let the_pre = c.before.before.before.before.before.before.before.before.requires in
+    (λ c κs. let the_pre = c.requires in
     the_pre.1.2)
-    (λ c. c.end_of_lem.ensures.1)
-    (λ c. c.end_of_lem.ensures.1)
-    (λ c. c.end_of_lem.ensures.2)
+    (λ c. c.end_of-i.ensures.1)
+    (λ c. c.end_of-i.ensures.1)
+    (λ c. c.end_of-i.ensures.2)
     (λ c.
     let start = c.before.before.before.before.before.before.before.before.before.before in
     omega (arith, steps.at_small start.requires.1.0 _ _ start.requires.1.1 start.requires.1.2))
@@ -685,36 +685,36 @@ pub +walk-conditions-walk-pattern-walk-run-walk-sentence-walk-sentences-walk-ter
     let start = c.before.before.before.before.before.before.before.before.before.before.before in
     let file = file_of start.args.law.now in
     let asked = start.requires.1.0.asked in
-    let the_end_of = c.before.before.end_of_lem in (
+    let the_end_of = c.end_of-i in (
       steps.inside_less file asked.readable start.args.at the_end_of.result t start.args.part.now start.requires.1.1 start.requires.1.2
           the_end_of.ensures.0 start.requires.0,
       (start.requires.1.0, steps.inside_part start.requires.1.0 _ _ start.requires.1.1 start.requires.1.2 the_end_of.result the_end_of.ensures.0),
     ))
-    (λ c κs. let the_pre = c.before.before.before.before.before.before.before.before.before.before.before.before.before.before.requires in
+    (λ c κs. let the_pre = c.requires in
     omega (arith, the_pre.1.2))
     (λ c κs. search rules)
     (λ c.
-    let the_walk_run = c.before.before.before.before.before.walk-run in
+    let the_walk_run = c.walk_run-left in
     let out-kept-by-run = the_walk_run.auto.1.1.1.1.1.1.1.0 in
-    let the_note_call = c.before.before.before.before.before.before.before.before.before.before.before.note-call in
+    let the_note_call = c.note_call-called in
     let out-kept-by-call = the_note_call.auto.1.1.1.1.1.1.0 in
     out-kept-by-run ∙ out-kept-by-call)
     (λ c.
     let start = c.before.before.before.before.before.before.before.before.before.before.before.before.before.before.before.before.before in
-    let before = sink_of start.args.tally start.args.out.now in
+    let before = sink_of start.args.tally start.args.out-1.now in
     let file = file_of start.args.law.now in
     let formats = formats_in file start.args.task.limit start.args.store.now in
     let asked = start.requires.1.0.asked in
-    let the_sentences_in = c.before.sentences-in in
-    let the_term_at = c.before.before.term-at in
-    let the_walk_run = c.before.before.before.before.before.walk-run in
+    let the_sentences_in = c.sentences_in-count in
+    let the_term_at = c.term_at in
+    let the_walk_run = c.walk_run-left in
     let out-after-run = the_walk_run.new.1.1.1.1.1.1.1.0 in
-    let the_end_of = c.before.before.before.before.before.before.before.before.end_of_lem in
-    let the_note_call = c.before.before.before.before.before.before.before.before.before.before.before.note-call in
+    let the_end_of = c.end_of-i in
+    let the_note_call = c.note_call-called in
     let out-after-call = the_note_call.new.1.1.1.1.1.1.0 in
     steps.term_ends file formats start.args.task asked.readable start.args.at the_end_of.result the_sentences_in.result
     start.args.part.now before (sink_of the_note_call.result out-after-call) (sink_of the_walk_run.result out-after-run) start.requires.1.1
-    start.requires.1.2 the_end_of.ensures.0 (the_sentences_in.ensures ∙ ap sentences_in the_term_at.ensures) c.if1.true
+    start.requires.1.2 the_end_of.ensures.0 (the_sentences_in.ensures ∙ ap sentences_in the_term_at.ensures) c.if-task-ne1.true
     the_note_call.ensures the_walk_run.ensures)
     (λ c κs.
     let start = c.before.before.before.before.before.before.before.before.before.before.before.before.before.before.before.before.before in
@@ -722,9 +722,9 @@ pub +walk-conditions-walk-pattern-walk-run-walk-sentence-walk-sentences-walk-ter
     (λ c κs.
     let start = c.before.before.before.before.before.before.before.before.before.before.before.before.before.before.before.before.before.before.before in
     let asked = start.requires.1.0.asked in
-    let the_block_first = c.before.block-first in
-    let the_sentences_in = c.before.before.before.sentences-in in
-    let the_term_at = c.before.before.before.before.term-at in (
+    let the_block_first = c.block_first-first in
+    let the_sentences_in = c.sentences_in-count in
+    let the_term_at = c.term_at in (
       asked.indexed,
       start.requires.1.0.accepted,
       steps.block_inside start.requires.1.0 _ _ start.requires.1.1 start.requires.1.2 the_block_first.result the_sentences_in.result
@@ -735,9 +735,9 @@ pub +walk-conditions-walk-pattern-walk-run-walk-sentence-walk-sentences-walk-ter
     let start = at-sentences-in.before.before.before.before.before.before.before.before.before.before.before.before.before.before.before.before in
     let file = file_of start.args.law.now in
     let asked = start.requires.1.0.asked in
-    let the_block_first = c.before.before.before.before.before.block-first in
-    let the_sentences_in = at-sentences-in.sentences-in in
-    let the_term_at = c.before.before.before.before.before.before.before.before.term-at in (
+    let the_block_first = c.block_first-first in
+    let the_sentences_in = at-sentences-in.sentences_in-count in
+    let the_term_at = c.term_at in (
       steps.entered_less file asked.readable start.args.at the_sentences_in.result the_block_first.result t start.args.part.now
           start.requires.1.1 start.requires.1.2 (the_sentences_in.ensures ∙ ap sentences_in the_term_at.ensures) (steps.block_reads start.requires.1.0 _ _
           start.requires.1.1 start.requires.1.2 the_block_first.result the_block_first.ensures) start.requires.0,
@@ -748,33 +748,33 @@ pub +walk-conditions-walk-pattern-walk-run-walk-sentence-walk-sentences-walk-ter
       ),
     ))
     (λ c.
-    let the_walk_sentences = c.before.before.walk-sentences in
+    let the_walk_sentences = c.walk_sentences in
     let out-kept-by-sentences = the_walk_sentences.auto.1.1.1.1.1.1.1.0 in
-    let the_note_block = c.before.before.before.before.before.before.note-block in
+    let the_note_block = c.note_block-own in
     let out-kept-by-block = the_note_block.auto.1.1.1.1.1.0 in
-    let the_walk_run = c.before.before.before.before.before.before.before.before.before.before.before.before.before.before.walk-run in
+    let the_walk_run = c.walk_run-left in
     let out-kept-by-run = the_walk_run.auto.1.1.1.1.1.1.1.0 in
-    let the_note_call = c.before.before.before.before.before.before.before.before.before.before.before.before.before.before.before.before.before.before.before.before.note-call in
+    let the_note_call = c.note_call-called in
     let out-kept-by-call = the_note_call.auto.1.1.1.1.1.1.0 in
     out-kept-by-sentences ∙ out-kept-by-block ∙ out-kept-by-run ∙ out-kept-by-call)
     (λ c.
     let at-note-call = c.before.before.before.before.before.before.before.before.before.before.before.before.before.before.before.before.before.before.before.before in
     let start = at-note-call.before.before.before.before.before.before in
-    let before = sink_of start.args.tally start.args.out.now in
+    let before = sink_of start.args.tally start.args.out-1.now in
     let file = file_of start.args.law.now in
     let formats = formats_in file start.args.task.limit start.args.store.now in
     let asked = start.requires.1.0.asked in
-    let the_walk_sentences = c.before.before.walk-sentences in
+    let the_walk_sentences = c.walk_sentences in
     let out-after-sentences = the_walk_sentences.new.1.1.1.1.1.1.1.0 in
-    let the_note_block = c.before.before.before.before.before.before.note-block in
+    let the_note_block = c.note_block-own in
     let out-after-block = the_note_block.new.1.1.1.1.1.0 in
-    let the_block_first = c.before.before.before.before.before.before.before.before.block-first in
-    let the_sentences_in = c.before.before.before.before.before.before.before.before.before.before.sentences-in in
-    let the_term_at = c.before.before.before.before.before.before.before.before.before.before.before.term-at in
-    let the_walk_run = c.before.before.before.before.before.before.before.before.before.before.before.before.before.before.walk-run in
+    let the_block_first = c.block_first-first in
+    let the_sentences_in = c.sentences_in-count in
+    let the_term_at = c.term_at in
+    let the_walk_run = c.walk_run-left in
     let out-after-run = the_walk_run.new.1.1.1.1.1.1.1.0 in
-    let the_end_of = c.before.before.before.before.before.before.before.before.before.before.before.before.before.before.before.before.before.end_of_lem in
-    let the_note_call = at-note-call.note-call in
+    let the_end_of = c.end_of-i in
+    let the_note_call = at-note-call.note_call-called in
     let out-after-call = the_note_call.new.1.1.1.1.1.1.0 in
     steps.term_steps file formats start.args.task asked.readable start.args.at the_end_of.result the_sentences_in.result
     the_block_first.result start.args.part.now before (sink_of the_note_call.result out-after-call) (sink_of the_walk_run.result out-after-run)

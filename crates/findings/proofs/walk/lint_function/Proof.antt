@@ -26,13 +26,13 @@ lint_function_spec =
     omega (arith, steps.function_small start.requires.0 start.args.f start.requires.1))
     (λ c.
     let start = c.before.before.before.before.before in
-    let the_first_sentence = c.before.first_sentence in
-    let the_first_sentence2 = c.first-sentence2 in
+    let the_first_sentence = c.first_sentence-first in
+    let the_first_sentence2 = c.first_sentence in
     omega (arith, steps.sentences_next_reads start.requires.0 _ start.requires.1 _ _ the_first_sentence.ensures the_first_sentence2.ensures))
     (λ c κs.
     let start = c.before.before.before.before.before.before.before.before in
-    let the_first_sentence = c.before.before.before.before.first_sentence in
-    let the_first_sentence2 = c.before.before.before.first-sentence2 in (
+    let the_first_sentence = c.first_sentence-first in
+    let the_first_sentence2 = c.first_sentence in (
       start.requires.0.asked.indexed,
       start.requires.0.accepted,
       steps.sentences_inside start.requires.0 _ start.requires.1 _ _ the_first_sentence.ensures the_first_sentence2.ensures,
@@ -40,23 +40,23 @@ lint_function_spec =
     (λ c. search rules)
     (λ c.
     let start = c.before.before.before.before.before.before.before.before.before.before.before in
-    let before = sink_of start.args.tally start.args.out.now in
+    let before = sink_of start.args.tally start.args.out-1.now in
     let file = file_of start.args.law.now in
     let formats = formats_in file start.args.task.limit start.args.store.now in
-    let the_first_sentence2 = c.before.before.before.before.before.before.first-sentence2 in
-    let the_first_sentence = c.before.before.before.before.before.before.before.first_sentence in
+    let the_first_sentence2 = c.first_sentence in
+    let the_first_sentence = c.first_sentence-first in
     let counted = steps.sentences_count start.requires.0 _ start.requires.1 _ _ the_first_sentence.ensures the_first_sentence2.ensures in
     let read = steps.sentences_first_reads start.requires.0 _ start.requires.1 _ _ the_first_sentence.ensures the_first_sentence2.ensures in
     let count = the_first_sentence2.result - the_first_sentence.result in
-    let the_note_open = c.before.before.note-open in
+    let the_note_open = c.note_open in
     let out-after = the_note_open.new.1.1.1.1.1.0 in
-    let the_if1 = c.before.before.before.before.if1 in
+    let the_if1 = c.if-task-eq4 in
     steps.function_open file formats start.args.task start.args.f count the_first_sentence.result counted read before
     (sink_of the_note_open.result out-after) the_if1.true the_note_open.ensures)
     (λ c κs.
     let start = c.before.before.before.before.before.before.before.before in
-    let the_first_sentence = c.before.before.before.before.first_sentence in
-    let the_first_sentence2 = c.before.before.before.first-sentence2 in (
+    let the_first_sentence = c.first_sentence-first in
+    let the_first_sentence2 = c.first_sentence in (
       start.requires.0.asked.indexed,
       start.requires.0.accepted,
       steps.sentences_inside start.requires.0 _ start.requires.1 _ _ the_first_sentence.ensures the_first_sentence2.ensures,
@@ -68,20 +68,20 @@ lint_function_spec =
     (λ c.
     let start = c.before.before.before.before.before.before.before.before.before.before.before.before.before in
     let task = start.args.task in
-    let before = sink_of start.args.tally start.args.out.now in
+    let before = sink_of start.args.tally start.args.out-1.now in
     let file = file_of start.args.law.now in
     let formats = formats_in file start.args.task.limit start.args.store.now in
     let asked = start.requires.0.asked in
-    let the_first_sentence = c.before.before.before.before.before.before.before.before.before.first_sentence in
-    let the_first_sentence2 = c.before.before.before.before.before.before.before.before.first-sentence2 in
+    let the_first_sentence = c.first_sentence-first in
+    let the_first_sentence2 = c.first_sentence in
     let counted = steps.sentences_count start.requires.0 _ start.requires.1 _ _ the_first_sentence.ensures the_first_sentence2.ensures in
     let read = steps.sentences_first_reads start.requires.0 _ start.requires.1 _ _ the_first_sentence.ensures the_first_sentence2.ensures in
     let count = the_first_sentence2.result - the_first_sentence.result in
     let first = the_first_sentence.result in
-    let the_if1 = c.before.before.before.before.before.before.if1 in
-    let the_note_block = c.before.before.before.before.note-block in
+    let the_if1 = c.if-task-eq4 in
+    let the_note_block = c.note_block-own in
     let out-after = the_note_block.new.1.1.1.1.1.0 in
-    let alone = sym c.before.none_inside.ensures ∙ c.if2.true in
+    let alone = sym c.none_inside.ensures ∙ c.if-none_inside.true in
     let noted = sink_of the_note_block.result out-after in
     let inside = steps.sentences_inside start.requires.0 _ start.requires.1 _ _ the_first_sentence.ensures the_first_sentence2.ensures in
     let none = nothing_inside start.args.law.now start.args.index.now start.args.slots.now (tree_of file) formats task asked.indexed
@@ -89,24 +89,24 @@ lint_function_spec =
     steps.function_steps file formats task start.args.f count first counted read before noted noted the_if1.false the_note_block.ensures none)
     (λ c κs.
     let start = c.before.before.before.before.before.before.before.before.before.before.before.before.before.before in
-    let the_first_sentence = c.before.before.before.before.before.before.before.before.before.before.first_sentence in
-    let the_first_sentence2 = c.before.before.before.before.before.before.before.before.before.first-sentence2 in
+    let the_first_sentence = c.first_sentence-first in
+    let the_first_sentence2 = c.first_sentence in
     (start.requires.0, steps.sentences_inside start.requires.0 _ start.requires.1 _ _ the_first_sentence.ensures the_first_sentence2.ensures))
     (λ c. search rules)
     (λ c.
     let start = c.before.before.before.before.before.before.before.before.before.before.before.before.before.before.before.before.before in
-    let before = sink_of start.args.tally start.args.out.now in
+    let before = sink_of start.args.tally start.args.out-1.now in
     let file = file_of start.args.law.now in
     let formats = formats_in file start.args.task.limit start.args.store.now in
-    let the_first_sentence = c.before.before.before.before.before.before.before.before.before.before.before.before.before.first_sentence in
-    let the_first_sentence2 = c.before.before.before.before.before.before.before.before.before.before.before.before.first-sentence2 in
+    let the_first_sentence = c.first_sentence-first in
+    let the_first_sentence2 = c.first_sentence in
     let counted = steps.sentences_count start.requires.0 _ start.requires.1 _ _ the_first_sentence.ensures the_first_sentence2.ensures in
     let read = steps.sentences_first_reads start.requires.0 _ start.requires.1 _ _ the_first_sentence.ensures the_first_sentence2.ensures in
     let count = the_first_sentence2.result - the_first_sentence.result in
-    let the_if1 = c.before.before.before.before.before.before.before.before.before.before.if1 in
-    let the_note_block = c.before.before.before.before.before.before.before.before.note-block in
+    let the_if1 = c.if-task-eq4 in
+    let the_note_block = c.note_block-own in
     let out-after-block = the_note_block.new.1.1.1.1.1.0 in
-    let the_walk_sentences = c.before.before.walk-sentences in
+    let the_walk_sentences = c.walk_sentences in
     let out-after-sentences = the_walk_sentences.new.1.1.1.1.1.1.1.0 in
     steps.function_steps file formats start.args.task start.args.f count the_first_sentence.result counted read before
     (sink_of the_note_block.result out-after-block) (sink_of the_walk_sentences.result out-after-sentences) the_if1.false the_note_block.ensures

@@ -12,7 +12,7 @@ use Rattle.findings.proofs.WalkSteps as steps
 use Rattle.findings.proofs.walk.lint_law.Statement.{statement}
 use Rattle.findings.proofs.walk.lint_law.Tie as tie
 
-abbrev invariant_loop : tie.invariant_loop
+abbrev invariant_loop : tie.invariant-loop-f
 invariant_loop law index slots store task out₀ tally count so-far₀ f₀ out so_far f =
     (f ≤ count)
     × (length out ≡ length out₀)
@@ -21,7 +21,7 @@ invariant_loop law index slots store task out₀ tally count so-far₀ f₀ out 
     ≡ steps.after (file_of law) (formats_in (file_of law) task.limit store) task (sink_of so_far out)
     (steps.functions_met (file_of law) (formats_in (file_of law) task.limit store) task f))
 
-abbrev decreases_loop : tie.decreases_loop
+abbrev decreases_loop : tie.decreases-loop-f
 decreases_loop law index slots store task out₀ tally count so-far₀ f₀ out so_far f = count - f
 
 pub lint_law_spec : {M : Type 1} → statement M
@@ -33,15 +33,15 @@ lint_law_spec =
     (λ c κs. search rules)
     (λ c.
     let start = c.before.before.before.before in
-    let before = sink_of start.args.tally start.args.out.now in
+    let before = sink_of start.args.tally start.args.out-1.now in
     let file = file_of start.args.law.now in
     let formats = formats_in file start.args.task.limit start.args.store.now in
-    (omega arith, refl, steps.functions_start file formats start.args.task before))
+    (omega arith, refl, steps.functions_start_lem file formats start.args.task before))
     (λ c.
     let start = c.before.before.before.before.before.before in
-    let the_loop = c.before.loop in
-    let the_loop_test = c.loop-test in
-    let the_functions = c.before.before.functions in
+    let the_loop = c.loop-f in
+    let the_loop_test = c.loop-f-test in
+    let the_functions = c.functions-count in
     omega (
       arith,
       steps.function_small start.requires the_loop.f
@@ -49,46 +49,46 @@ lint_law_spec =
     ))
     (λ c κs.
     let start = c.before.before.before.before.before.before.before in
-    let the_loop_test = c.before.loop-test in
-    let the_functions = c.before.before.before.functions in
+    let the_loop_test = c.loop-f-test in
+    let the_functions = c.functions-count in
     (start.requires, omega (arith, the_loop_test.true, steps.functions_read start.requires the_functions.result the_functions.ensures)))
     (λ c.
-    let the_loop_test = c.before.before.before.before.loop-test in
+    let the_loop_test = c.loop-f-test in
     omega (arith, the_loop_test.true))
     (λ c.
-    let the_loop_test = c.before.before.before.before.loop-test in
+    let the_loop_test = c.loop-f-test in
     omega (arith, the_loop_test.true))
     (λ c.
     let start = c.before.before.before.before.before.before.before.before.before.before in
     let task = start.args.task in
-    let before = sink_of start.args.tally start.args.out.now in
+    let before = sink_of start.args.tally start.args.out-1.now in
     let file = file_of start.args.law.now in
     let formats = formats_in file start.args.task.limit start.args.store.now in
-    let the_loop_test = c.before.before.before.before.loop-test in
-    let the_lint_function = c.before.before.lint-function in
+    let the_loop_test = c.loop-f-test in
+    let the_lint_function = c.lint_function-so_far in
     let out-after = the_lint_function.new.1.1.1.1.1.1.0 in
     let out-kept = the_lint_function.auto.1.1.1.1.1.1.0 in
-    let the_loop = c.before.before.before.before.before.loop in
-    let the_functions = c.before.before.before.before.before.before.functions in (
+    let the_loop = c.loop-f in
+    let the_functions = c.functions-count in (
       omega (arith, the_loop_test.true),
       out-kept ∙ the_loop.invariant.1,
       steps.functions_next file formats task the_loop.f (steps.after file formats task before (lint_events (tree_of file) formats task))
-          (sink_of the_loop.so_far the_loop.out) (sink_of the_lint_function.result out-after)
+          (sink_of the_loop.so_far the_loop.out-1) (sink_of the_lint_function.result out-after)
           (omega (arith, the_loop_test.true, steps.functions_read start.requires the_functions.result the_functions.ensures)) the_loop.invariant.2
           the_lint_function.ensures,
     ))
     (λ c.
-    let the_loop = c.before.loop in
+    let the_loop = c.loop-f in
     the_loop.invariant.1)
     (λ c.
     let start = c.before.before.before.before.before.before in
     let task = start.args.task in
-    let before = sink_of start.args.tally start.args.out.now in
+    let before = sink_of start.args.tally start.args.out-1.now in
     let file = file_of start.args.law.now in
     let formats = formats_in file start.args.task.limit start.args.store.now in
-    let the_loop = c.before.loop in
-    let the_loop_test = c.loop-test in
-    let the_functions = c.before.before.functions in
+    let the_loop = c.loop-f in
+    let the_loop_test = c.loop-f-test in
+    let the_functions = c.functions-count in
     steps.functions_end file formats task the_loop.f (steps.after file formats task before (lint_events (tree_of file) formats task))
-    (sink_of the_loop.so_far the_loop.out)
+    (sink_of the_loop.so_far the_loop.out-1)
     (omega (arith, the_loop_test.false, steps.functions_read start.requires the_functions.result the_functions.ensures)) the_loop.invariant.2))

@@ -9,10 +9,10 @@ none_inside_spec =
     tie.close
     (tie.spec
     (λ c. omega arith)
-    (λ c. rw (ne_eqb _ 1 c.before.if1.true))
+    (λ c. rw (ne_eqb _ 1 c.if-lint-ne1.true))
     (λ c κs. search rules)
     (λ c κs. search rules)
     (λ c κs. search rules)
     (λ c.
-    let the_if1 = c.before.before.before.if1 in
-    rw (eq-eqb _ 1 the_if1.false, c.sentences.ensures, c.before.first_sentence.ensures, c.before.before.functions.ensures)))
+    let the_if1 = c.if-lint-ne1 in
+    rw (eq-eqb _ 1 the_if1.false, c.sentences.ensures, c.first_sentence.ensures, c.functions.ensures)))

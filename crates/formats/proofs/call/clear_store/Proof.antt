@@ -20,4 +20,4 @@ clear_store_spec =
     (λ c. search rules)
     (λ c.
     let start = c.before.before.before.before.before in
-    rw (c.before.before.clear-words.ensures, length-take-le (128 * (start.args.limit + 1)) start.args.store.now start.requires.1)))
+    rw (c.clear_words.ensures, length-take-le (128 * (start.args.limit + 1)) start.args.store.now start.requires.1)))

@@ -24,37 +24,37 @@ infer_started_spec =
     (λ c. search rules)
     (λ c.
     let start = c.before.before.before.before.before.before.before.before.before in
-    let arguments = c.before.before.before.before.infer-arguments in
-    λ tail h. started_over start.args.limit _ tail _ arguments.result (not-true _ c.if1.true) (arguments.ensures _ _ tail h))
+    let arguments = c.infer_arguments in
+    λ tail h. started_over start.args.limit _ tail _ arguments.result c.if-not-infer_arguments.true (arguments.ensures _ _ tail h))
     (λ c.
     let start = c.before.before.before.before.before.before.before.before.before.before in
     omega (arith, names_at_most start.requires.0))
     (λ c.
     let start = c.before.before.before.before.before.before.before.before.before.before in
-    let arguments = c.before.before.before.before.before.infer-arguments in
+    let arguments = c.infer_arguments in
     let joined-kept = arguments.auto.1.1.1.1.1.1.0 in
     let joined-after = arguments.new.1.1.1.1.1.1.0 in
     back_inside start.requires.0.small joined-after _ joined-kept)
     (λ c.
     let start = c.before.before.before.before.before.before.before.before.before.before.before in
-    let arguments = c.before.before.before.before.before.before.infer-arguments in
+    let arguments = c.infer_arguments in
     let joined-kept = arguments.auto.1.1.1.1.1.1.0 in
     let joined-after = arguments.new.1.1.1.1.1.1.0 in
     sym (back_length start.requires.0.small joined-after _ joined-kept))
     (λ c κs.
     let start = c.before.before.before.before.before.before.before.before.before.before.before in
-    let arguments = c.before.before.before.before.before.before.infer-arguments in
+    let arguments = c.infer_arguments in
     let joined-kept = arguments.auto.1.1.1.1.1.1.0 in
     let joined-after = arguments.new.1.1.1.1.1.1.0 in
-    let (found, is, held) = started_arguments start.args.limit _ start.requires.1.0 _ arguments.result (not-false _ c.before.before.if1.false)
+    let (found, is, held) = started_arguments start.args.limit _ start.requires.1.0 _ arguments.result c.if-not-infer_arguments.false
     (arguments.ensures _ _ start.requires.1.0 start.requires.1.1) in
     (start.requires.0, holding held, back_length start.requires.0.small joined-after _ joined-kept))
     (λ c. search rules)
     (λ c.
     let start = c.before.before.before.before.before.before.before.before.before.before.before.before.before.before.before in
-    let arguments = c.before.before.before.before.before.before.before.before.before.before.infer-arguments in
-    let tested = c.before.before.before.before.before.before.if1 in
-    let rounds = c.before.before.before.infer-rounds in
+    let arguments = c.infer_arguments in
+    let tested = c.if-not-infer_arguments in
+    let rounds = c.infer_rounds in
     λ tail h.
     let (found, is, held) = started_arguments start.args.limit _ tail _ arguments.result (not-false _ tested.false) (arguments.ensures _ _ tail h) in
     started_rounds start.args.limit _ tail found _ rounds.result _ (omega (arith, start.requires.0.names)) is (rounds.ensures found _ tail held)))

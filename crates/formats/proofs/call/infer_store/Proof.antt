@@ -14,15 +14,15 @@ infer_store_spec =
     (λ c. search rules)
     (λ c κs.
     let start = c.before.before.before.before.before in
-    let names = c.before.wide in (
+    let names = c.wide-count in (
       start.requires.2,
       omega (arith, store_few start.requires.0 start.requires.1 start.requires.4 start.requires.2 names.result names.ensures.0),
       start.requires.3,
     ))
     (λ c κs.
     let start = c.before.before.before.before.before.before.before.before.before in
-    let names = c.before.before.before.before.before.wide in
-    let begun = c.before.before.before.start-store in (
+    let names = c.wide-count in
+    let begun = c.start_store in (
       store_asked start.requires.0 start.requires.1 start.requires.4 start.requires.2 names.result names.ensures.0,
       (_, store_started start.requires.0 start.requires.1 start.requires.4 start.requires.2 names.result names.ensures.0 _ _ begun.ensures),
     ))
@@ -31,19 +31,19 @@ infer_store_spec =
     (λ c. search rules)
     (λ c. search rules)
     (λ c.
-    let the_enum_told = c.before.before.before.before.enum_told in
+    let the_enum_told = c.enum_told-1 in
     let start = c.before.before.before.before.before.before.before.before.before.before.before.before.before.before.before.before.before.before in
-    let names = c.before.before.before.before.before.before.before.before.before.before.before.before.before.before.wide in
-    let begun = c.before.before.before.before.before.before.before.before.before.before.before.before.start-store in
-    let started = c.before.before.before.before.before.before.before.before.infer-started in
+    let names = c.wide-count in
+    let begun = c.start_store in
+    let started = c.infer_started in
     let held = store_started start.requires.0 start.requires.1 start.requires.4 start.requires.2 names.result names.ensures.0 _ _ begun.ensures in
     infer_cleared start.args.limit _ start.args.store.now _ started.result (started.ensures _ held) _ the_enum_told.given.1
-    c.before.before.clear-store.ensures)
+    c.clear_store.ensures)
     (λ c. search rules)
     (λ c.
     let start = c.before.before.before.before.before.before.before.before.before.before.before.before.before.before.before in
-    let names = c.before.before.before.before.before.before.before.before.before.before.before.wide in
-    let begun = c.before.before.before.before.before.before.before.before.before.start-store in
-    let started = c.before.before.before.before.before.infer-started in
+    let names = c.wide-count in
+    let begun = c.start_store in
+    let started = c.infer_started in
     let held = store_started start.requires.0 start.requires.1 start.requires.4 start.requires.2 names.result names.ensures.0 _ _ begun.ensures in
-    infer_ran start.args.limit _ start.args.store.now _ started.result (started.ensures _ held) _ _ c.before.rounds.given.1))
+    infer_ran start.args.limit _ start.args.store.now _ started.result (started.ensures _ held) _ _ c.rounds-1.given.1))

@@ -11,10 +11,10 @@ use Rattle.formats.specs.Code.Entries.{start_of}
 use Rattle.formats.proofs.call.start_store.Statement.{statement}
 use Rattle.formats.proofs.call.start_store.Tie as tie
 
-abbrev invariant_loop : tie.invariant_loop
+abbrev invariant_loop : tie.invariant-loop-k
 invariant_loop store₀ limit most k₀ store k = (k ≤ most) × (length store ≡ length store₀) × (store ≡ start_of limit k ++ drop (store_size limit) store₀)
 
-abbrev decreases_loop : tie.decreases_loop
+abbrev decreases_loop : tie.decreases-loop-k
 decreases_loop store₀ limit most k₀ store k = most - k
 
 pub start_store_spec : {M : Type 1} → statement M
@@ -31,7 +31,7 @@ start_store_spec =
       omega arith,
       refl,
       rw (
-        c.before.before.clear-store.ensures,
+        c.clear_store.ensures,
         cleared_past start.args.limit start.args.store.now,
         start_none start.args.limit,
       ),
@@ -39,29 +39,29 @@ start_store_spec =
     (λ c. search rules)
     (λ c.
     let start = c.before.before.before.before.before.before.before in
-    omega (arith, header_inside start.args.limit c.before.loop.k (omega (arith, c.loop-test.true, start.requires.1)), start.requires.0))
+    omega (arith, header_inside start.args.limit c.loop-k.k (omega (arith, c.loop-k-test.true, start.requires.1)), start.requires.0))
     (λ c.
     let start = c.before.before.before.before.before.before.before in
-    omega (arith, header_inside start.args.limit c.before.loop.k (omega (arith, c.loop-test.true, start.requires.1)), start.requires.0))
+    omega (arith, header_inside start.args.limit c.loop-k.k (omega (arith, c.loop-k-test.true, start.requires.1)), start.requires.0))
     (λ c.
     let start = c.before.before.before.before.before.before.before in
     omega (
       arith,
-      header_inside start.args.limit c.before.loop.k (omega (arith, c.loop-test.true, start.requires.1)),
-      started_length start.args.limit c.before.loop.k _ _ (omega (arith, c.loop-test.true, start.requires.1)) c.before.loop.invariant.2,
+      header_inside start.args.limit c.loop-k.k (omega (arith, c.loop-k-test.true, start.requires.1)),
+      started_length start.args.limit c.loop-k.k _ _ (omega (arith, c.loop-k-test.true, start.requires.1)) c.loop-k.invariant.2,
     ))
     (λ c. search rules)
-    (λ c. omega (arith, c.loop-test.true))
+    (λ c. omega (arith, c.loop-k-test.true))
     (λ c.
     let start = c.before.before.before.before.before.before.before in (
-      omega (arith, c.loop-test.true),
-      simp length-set c.before.loop.invariant.1,
-      rw c.before.loop.invariant.2 (start_next start.args.limit c.before.loop.k (c.before.loop.k + 1) _
-          (omega (arith, c.loop-test.true, start.requires.1)) (omega arith)),
+      omega (arith, c.loop-k-test.true),
+      simp length-set c.loop-k.invariant.1,
+      rw c.loop-k.invariant.2 (start_next start.args.limit c.loop-k.k (c.loop-k.k + 1) _
+          (omega (arith, c.loop-k-test.true, start.requires.1)) (omega arith)),
     ))
     (λ c. search rules)
     (λ c.
-    let the_clear_store = c.before.before.before.before.clear-store in
+    let the_clear_store = c.clear_store in
     let start = c.before.before.before.before.before.before.before in
-    let last : c.before.loop.k ≡ start.args.most = omega (arith, c.loop-test.false, c.before.loop.invariant.0) in
-    c.before.loop.invariant.2 ∙ rw (last, the_clear_store.ensures, cleared_past start.args.limit start.args.store.now)))
+    let last : c.loop-k.k ≡ start.args.most = omega (arith, c.loop-k-test.false, c.loop-k.invariant.0) in
+    c.loop-k.invariant.2 ∙ rw (last, the_clear_store.ensures, cleared_past start.args.limit start.args.store.now)))

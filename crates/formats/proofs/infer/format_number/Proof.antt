@@ -7,5 +7,5 @@ format_number_spec = tie.close (tie.spec
     (λ c. search rules)
     (λ c. search rules)
     (λ c. search rules)
-    (λ c. rw c.if1.true)
-    (λ c. rw c.if1.false))
+    (λ c. rw c.if-patterns.true)
+    (λ c. rw c.if-patterns.false))

@@ -26,20 +26,20 @@ function_turn_spec =
     let start = c.before.before.before.before.before in
     omega (
       arith,
-      c.before.first_sentence.ensures,
-      c.first-sentence2.ensures,
+      c.first_sentence-first.ensures,
+      c.first_sentence.ensures,
       turn_first start.requires.0 start.args.f start.requires.2,
       turn_next start.requires.0 start.args.f start.requires.2,
     ))
     (λ c κs.
-    let the_first_sentence = c.before.before.before.first_sentence in
+    let the_first_sentence = c.first_sentence-first in
     let start = c.before.before.before.before.before.before.before in (
       start.requires.0,
       start.requires.1,
       omega (
         arith,
         the_first_sentence.ensures,
-        c.before.before.first-sentence2.ensures,
+        c.first_sentence.ensures,
         turn_first start.requires.0 start.args.f start.requires.2,
         turn_next start.requires.0 start.args.f start.requires.2,
         turn_inside start.requires.0 start.args.f start.requires.2,
@@ -50,11 +50,11 @@ function_turn_spec =
     (λ c. search rules)
     (λ c.
     let start = c.before.before.before.before.before.before.before.before.before.before.before in
-    let first = c.before.before.before.before.before.before.before.first_sentence in
-    let next = c.before.before.before.before.before.before.first-sentence2 in
-    let sentences = c.before.before.before.sentences-format in
+    let first = c.first_sentence-first in
+    let next = c.first_sentence in
+    let sentences = c.sentences_format in
     let joined = rw (turn_sentences start.requires.0 _ start.requires.2 _ _ first.ensures next.ensures) at sentences.ensures in
-    turn_over start.args.limit start.args.patterns _ _ _ sentences.result (not-true _ c.if1.true) joined _ _)
+    turn_over start.args.limit start.args.patterns _ _ _ sentences.result c.if-not-sentences_format.true joined _ _)
     (λ c.
     let start = c.before.before.before.before.before.before.before.before.before.before.before in
     omega (arith, turn_few start.requires.0 start.args.f start.requires.2))
@@ -62,10 +62,10 @@ function_turn_spec =
     (λ c κs. search rules)
     (λ c κs.
     let start = c.before.before.before.before.before.before.before.before.before.before.before.before.before.before.before.before in
-    let sentences = c.before.before.before.before.before.before.before.before.sentences-format in
-    let tested = c.before.before.before.before.before.if1 in
-    let place = c.before.before.before.wide in
-    let numbered = c.before.before.format-number in
+    let sentences = c.sentences_format in
+    let tested = c.if-not-sentences_format in
+    let place = c.wide-place in
+    let numbered = c.format_number-k in
     let number = turn_number start.requires.0 _ start.requires.2 start.args.patterns _ _ place.ensures.0 numbered.ensures in
     let placed = turn_place start.requires.0 start.args.f start.requires.2 in
     let few = turn_place_few start.requires.0 start.args.f start.requires.2 in (
@@ -79,31 +79,31 @@ function_turn_spec =
     (λ c. search rules)
     (λ c.
     let start = c.before.before.before.before.before.before.before.before.before.before.before.before.before.before.before.before.before.before.before.before in
-    let first = c.before.before.before.before.before.before.before.before.before.before.before.before.before.before.before.before.first_sentence in
-    let next = c.before.before.before.before.before.before.before.before.before.before.before.before.before.before.before.first-sentence2 in
-    let sentences = c.before.before.before.before.before.before.before.before.before.before.before.before.sentences-format in
-    let tested = c.before.before.before.before.before.before.before.before.before.if1 in
-    let place = c.before.before.before.before.before.before.before.wide in
-    let numbered = c.before.before.before.before.before.before.format-number in
-    let renew = c.before.before.before.renew-format in
+    let first = c.first_sentence-first in
+    let next = c.first_sentence in
+    let sentences = c.sentences_format in
+    let tested = c.if-not-sentences_format in
+    let place = c.wide-place in
+    let numbered = c.format_number-k in
+    let renew = c.renew_format in
     let number = turn_number start.requires.0 _ start.requires.2 start.args.patterns _ _ place.ensures.0 numbered.ensures in
     let joined = rw (turn_sentences start.requires.0 _ start.requires.2 _ _ first.ensures next.ensures) at sentences.ensures in
     let renewed = rw number at renew.ensures in
     turn_renewed start.args.limit start.requires.0.small start.args.patterns _ _ _ _ (not-false _ tested.false) joined _ _ _ renew.result Changed
-    renewed.0 renewed.1 (rw c.if2.true))
+    renewed.0 renewed.1 (rw c.if-renew_format.true))
     (λ c. search rules)
     (λ c. search rules)
     (λ c.
     let start = c.before.before.before.before.before.before.before.before.before.before.before.before.before.before.before.before.before.before.before.before in
-    let first = c.before.before.before.before.before.before.before.before.before.before.before.before.before.before.before.before.first_sentence in
-    let next = c.before.before.before.before.before.before.before.before.before.before.before.before.before.before.before.first-sentence2 in
-    let sentences = c.before.before.before.before.before.before.before.before.before.before.before.before.sentences-format in
-    let tested = c.before.before.before.before.before.before.before.before.before.if1 in
-    let place = c.before.before.before.before.before.before.before.wide in
-    let numbered = c.before.before.before.before.before.before.format-number in
-    let renew = c.before.before.before.renew-format in
+    let first = c.first_sentence-first in
+    let next = c.first_sentence in
+    let sentences = c.sentences_format in
+    let tested = c.if-not-sentences_format in
+    let place = c.wide-place in
+    let numbered = c.format_number-k in
+    let renew = c.renew_format in
     let number = turn_number start.requires.0 _ start.requires.2 start.args.patterns _ _ place.ensures.0 numbered.ensures in
     let joined = rw (turn_sentences start.requires.0 _ start.requires.2 _ _ first.ensures next.ensures) at sentences.ensures in
     let renewed = rw number at renew.ensures in
     turn_renewed start.args.limit start.requires.0.small start.args.patterns _ _ _ _ (not-false _ tested.false) joined _ _ _ renew.result Same
-    renewed.0 renewed.1 (rw c.if2.false)))
+    renewed.0 renewed.1 (rw c.if-renew_format.false)))

@@ -11,11 +11,11 @@ use Rattle.formats.proofs.FunctionSteps.{arguments_holding, arguments_long, argu
 use Rattle.formats.proofs.infer.infer_arguments.Statement.{statement}
 use Rattle.formats.proofs.infer.infer_arguments.Tie as tie
 
-abbrev invariant_loop : tie.invariant_loop
+abbrev invariant_loop : tie.invariant-loop-f
 invariant_loop law index slots store₀ limit count joined₀ most f₀ store joined f =
     ArgumentsFrom limit (file_of law) store₀ f store × (length joined ≡ limit + 1)
 
-abbrev decreases_loop : tie.decreases_loop
+abbrev decreases_loop : tie.decreases-loop-f
 decreases_loop law index slots store₀ limit count joined₀ most f₀ store joined f = most - f
 
 pub infer_arguments_spec : {M : Type 1} → statement M
@@ -29,36 +29,36 @@ infer_arguments_spec =
     let start = c.before.before.before.before in
     (arguments_start start.args.limit (file_of start.args.law.now) start.args.store.now, start.requires.2))
     (λ c κs.
-    let the_functions = c.before.before.before.before.functions in
-    let the_pre = c.before.before.before.before.before.before.before.before.requires in
-    let now = c.before.before.before.loop in
+    let the_functions = c.functions-most in
+    let the_pre = c.requires in
+    let now = c.loop-f in
     let start = c.before.before.before.before.before.before.before.before in (
       start.requires.0,
       arguments_holding now.invariant.0 start.requires.1,
-      (omega (arith, c.before.before.loop-test.true, functions_read the_pre.0 the_functions.result the_functions.ensures)),
+      (omega (arith, c.loop-f-test.true, functions_read the_pre.0 the_functions.result the_functions.ensures)),
       now.invariant.1,
     ))
-    (λ c. c.match.keys1)
-    (λ c. let the_function_turn = c.before.before.before.before.before.before.function-turn in
+    (λ c. c.in-Over.keys1)
+    (λ c. let the_function_turn = c.function_turn in
     let store-Kept = the_function_turn.auto.1.1.1.0 in
-    let the_loop = c.before.before.before.before.before.before.before.before.before.before.loop in
-    let the_pre = c.before.before.before.before.before.before.before.before.before.before.before.before.before.before.before.requires in
+    let the_loop = c.loop-f in
+    let the_pre = c.requires in
     store-Kept ∙ arguments_long the_loop.invariant.0 the_pre.1)
-    (λ c. let the_function_turn = c.before.before.before.before.before.before.function-turn in
+    (λ c. let the_function_turn = c.function_turn in
     let joined-kept = the_function_turn.auto.1.1.1.1.1.1.1.1.0 in
-    let the_loop = c.before.before.before.before.before.before.before.before.before.before.loop in
-    let the_pre = c.before.before.before.before.before.before.before.before.before.before.before.before.before.before.before.requires in
+    let the_loop = c.loop-f in
+    let the_pre = c.requires in
     joined-kept ∙ the_loop.invariant.1 ∙ sym the_pre.2)
-    (λ c. let the_loop = c.before.before.before.before.before.before.before.before.before.before.loop in
-    let the_loop_test = c.before.before.before.before.before.before.before.before.before.loop-test in
-    let the_pre = c.before.before.before.before.before.before.before.before.before.before.before.before.before.before.before.requires in
-    let the_functions = c.before.before.before.before.before.before.before.before.before.before.before.functions in
-    let turn = c.before.before.before.before.before.before.function-turn in
+    (λ c. let the_loop = c.loop-f in
+    let the_loop_test = c.loop-f-test in
+    let the_pre = c.requires in
+    let the_functions = c.functions-most in
+    let turn = c.function_turn in
     let store-after = turn.new.1.1.1.0 in
-    arguments_refused the_loop.invariant.0 store-after turn.result turn.ensures (tag_over _ c.before.match.keys1)
+    arguments_refused the_loop.invariant.0 store-after turn.result turn.ensures (tag_over _ c.in-Over.keys1)
     (omega (arith, the_loop_test.true, functions_read the_pre.0 the_functions.result the_functions.ensures)))
-    (λ c. let the_loop_test = c.before.before.before.before.before.before.before.before.loop-test in
-    let the_functions = c.before.before.before.before.before.before.before.before.before.before.functions in
+    (λ c. let the_loop_test = c.loop-f-test in
+    let the_functions = c.functions-most in
     let start = c.before.before.before.before.before.before.before.before.before.before.before.before.before.before in
     omega (
       arith,
@@ -66,23 +66,23 @@ infer_arguments_spec =
       functions_read start.requires.0 the_functions.result the_functions.ensures,
       functions_limit start.args.law.now start.args.index.now start.requires.0.indexed,
     ))
-    (λ c. let the_loop_test = c.before.before.before.before.before.before.before.before.loop-test in
+    (λ c. let the_loop_test = c.loop-f-test in
     omega (arith, the_loop_test.true))
-    (λ c. let the_loop = c.before.before.before.before.before.before.before.before.before.loop in
-    let the_loop_test = c.before.before.before.before.before.before.before.before.loop-test in
-    let the_pre = c.before.before.before.before.before.before.before.before.before.before.before.before.before.before.requires in
-    let the_functions = c.before.before.before.before.before.before.before.before.before.before.functions in
-    let turn = c.before.before.before.before.before.function-turn in
+    (λ c. let the_loop = c.loop-f in
+    let the_loop_test = c.loop-f-test in
+    let the_pre = c.requires in
+    let the_functions = c.functions-most in
+    let turn = c.function_turn in
     let joined-kept = turn.auto.1.1.1.1.1.1.1.1.0 in
     let store-after = turn.new.1.1.1.0 in (
-      arguments_more the_loop.invariant.0 store-after turn.result turn.ensures (tag_not_over _ c.match.keys2)
+      arguments_more the_loop.invariant.0 store-after turn.result turn.ensures (tag_not_over _ c.in-Over.keys2)
           (omega (arith, the_loop_test.true, functions_read the_pre.0 the_functions.result the_functions.ensures)) the_pre.0.small,
       joined-kept ∙ the_loop.invariant.1,
     ))
-    (λ c. let the_pre = c.before.before.before.before.before.before.requires in
-    arguments_long c.before.loop.invariant.0 the_pre.1)
-    (λ c. let the_pre = c.before.before.before.before.before.before.requires in
-    c.before.loop.invariant.1 ∙ sym the_pre.2)
-    (λ c. let the_pre = c.before.before.before.before.before.before.requires in
-    arguments_all c.before.loop.invariant.0 (omega
-    (arith, c.loop-test.false, functions_read the_pre.0 c.before.before.functions.result c.before.before.functions.ensures))))
+    (λ c. let the_pre = c.requires in
+    arguments_long c.loop-f.invariant.0 the_pre.1)
+    (λ c. let the_pre = c.requires in
+    c.loop-f.invariant.1 ∙ sym the_pre.2)
+    (λ c. let the_pre = c.requires in
+    arguments_all c.loop-f.invariant.0 (omega
+    (arith, c.loop-f-test.false, functions_read the_pre.0 c.functions-most.result c.functions-most.ensures))))

@@ -13,11 +13,11 @@ use Rattle.formats.proofs.FunctionSteps.{round_holding, round_long, round_all, r
 use Rattle.formats.proofs.infer.infer_round.Statement.{statement}
 use Rattle.formats.proofs.infer.infer_round.Tie as tie
 
-abbrev invariant_loop : tie.invariant_loop
+abbrev invariant_loop : tie.invariant-loop-f
 invariant_loop law index slots store₀ limit count joined₀ most changed₀ f₀ store joined changed f =
     RoundFrom limit (file_of law) store₀ f store changed × (length joined ≡ limit + 1)
 
-abbrev decreases_loop : tie.decreases_loop
+abbrev decreases_loop : tie.decreases-loop-f
 decreases_loop law index slots store₀ limit count joined₀ most changed₀ f₀ store joined changed f = most - f
 
 pub infer_round_spec : {M : Type 1} → statement M
@@ -31,38 +31,38 @@ infer_round_spec =
     let start = c.before.before.before.before in
     (round_start start.args.limit (file_of start.args.law.now) start.args.store.now, start.requires.2))
     (λ c κs.
-    let the_functions = c.before.before.before.before.functions in
-    let the_pre = c.before.before.before.before.before.before.before.before.requires in
-    let now = c.before.before.before.loop in
+    let the_functions = c.functions-most in
+    let the_pre = c.requires in
+    let now = c.loop-f in
     let start = c.before.before.before.before.before.before.before.before in (
       start.requires.0,
       round_holding now.invariant.0 start.requires.1,
-      (omega (arith, c.before.before.loop-test.true, functions_read the_pre.0 the_functions.result the_functions.ensures)),
+      (omega (arith, c.loop-f-test.true, functions_read the_pre.0 the_functions.result the_functions.ensures)),
       now.invariant.1,
     ))
-    (λ c. c.match.keys1)
-    (λ c. let the_function_turn = c.before.before.before.before.before.before.function-turn in
+    (λ c. c.in-Over.keys1)
+    (λ c. let the_function_turn = c.function_turn in
     let store-Kept = the_function_turn.auto.1.1.1.0 in
-    let the_loop = c.before.before.before.before.before.before.before.before.before.before.loop in
-    let the_pre = c.before.before.before.before.before.before.before.before.before.before.before.before.before.before.before.requires in
+    let the_loop = c.loop-f in
+    let the_pre = c.requires in
     store-Kept ∙ round_long the_loop.invariant.0 the_pre.1)
-    (λ c. let the_function_turn = c.before.before.before.before.before.before.function-turn in
+    (λ c. let the_function_turn = c.function_turn in
     let joined-kept = the_function_turn.auto.1.1.1.1.1.1.1.1.0 in
-    let the_loop = c.before.before.before.before.before.before.before.before.before.before.loop in
-    let the_pre = c.before.before.before.before.before.before.before.before.before.before.before.before.before.before.before.requires in
+    let the_loop = c.loop-f in
+    let the_pre = c.requires in
     joined-kept ∙ the_loop.invariant.1 ∙ sym the_pre.2)
-    (λ c. let the_loop = c.before.before.before.before.before.before.before.before.before.before.loop in
-    let the_loop_test = c.before.before.before.before.before.before.before.before.before.loop-test in
-    let the_pre = c.before.before.before.before.before.before.before.before.before.before.before.before.before.before.before.requires in
-    let the_functions = c.before.before.before.before.before.before.before.before.before.before.before.functions in
-    let turn = c.before.before.before.before.before.before.function-turn in
+    (λ c. let the_loop = c.loop-f in
+    let the_loop_test = c.loop-f-test in
+    let the_pre = c.requires in
+    let the_functions = c.functions-most in
+    let turn = c.function_turn in
     let store-after = turn.new.1.1.1.0 in
-    round_refused the_loop.invariant.0 store-after turn.result turn.ensures (tag_over _ c.before.match.keys1)
+    round_refused the_loop.invariant.0 store-after turn.result turn.ensures (tag_over _ c.in-Over.keys1)
     (omega (arith, the_loop_test.true, functions_read the_pre.0 the_functions.result the_functions.ensures)) the_pre.0.small)
-    (λ c. c.match.keys2)
-    (λ c. c.match.keys3)
-    (λ c. let the_loop_test = c.before.before.before.before.before.before.before.before.loop-test in
-    let the_functions = c.before.before.before.before.before.before.before.before.before.before.functions in
+    (λ c. c.in-Over.keys2)
+    (λ c. c.in-Over.keys3)
+    (λ c. let the_loop_test = c.loop-f-test in
+    let the_functions = c.functions-most in
     let start = c.before.before.before.before.before.before.before.before.before.before.before.before.before.before in
     omega (
       arith,
@@ -70,46 +70,46 @@ infer_round_spec =
       functions_read start.requires.0 the_functions.result the_functions.ensures,
       functions_limit start.args.law.now start.args.index.now start.requires.0.indexed,
     ))
-    (λ c. let the_loop_test = c.before.before.before.before.before.before.before.before.loop-test in
+    (λ c. let the_loop_test = c.loop-f-test in
     omega (arith, the_loop_test.true))
-    (λ c. let the_loop = c.before.before.before.before.before.before.before.before.before.loop in
-    let the_loop_test = c.before.before.before.before.before.before.before.before.loop-test in
-    let the_pre = c.before.before.before.before.before.before.before.before.before.before.before.before.before.before.requires in
-    let the_functions = c.before.before.before.before.before.before.before.before.before.before.functions in
-    let turn = c.before.before.before.before.before.function-turn in
+    (λ c. let the_loop = c.loop-f in
+    let the_loop_test = c.loop-f-test in
+    let the_pre = c.requires in
+    let the_functions = c.functions-most in
+    let turn = c.function_turn in
     let joined-kept = turn.auto.1.1.1.1.1.1.1.1.0 in
     let store-after = turn.new.1.1.1.0 in
-    let marked : Marked turn.result the_loop.changed c.match.changed =
-    ⊎_elim (λ w. inl (tag_changed _ w.0.keys2, w.2)) (λ w. inr (tag_same _ w.0.keys3, w.2)) c.match.branch in (
-      round_more the_loop.invariant.0 store-after turn.result turn.ensures c.match.changed marked
+    let marked : Marked turn.result the_loop.changed c.in-Over.changed =
+    ⊎_elim (λ w. inl (tag_changed _ w.0.keys2, w.2)) (λ w. inr (tag_same _ w.0.keys3, w.2)) c.in-Over.branch in (
+      round_more the_loop.invariant.0 store-after turn.result turn.ensures c.in-Over.changed marked
           (omega (arith, the_loop_test.true, functions_read the_pre.0 the_functions.result the_functions.ensures)) the_pre.0.small,
       joined-kept ∙ the_loop.invariant.1,
     ))
     (λ c.
-    let the_loop = c.before.before.loop in
-    let the_pre = c.before.before.before.before.before.before.before.requires in
+    let the_loop = c.loop-f in
+    let the_pre = c.requires in
     round_long the_loop.invariant.0 the_pre.1)
     (λ c.
-    let the_loop = c.before.before.loop in
-    let the_pre = c.before.before.before.before.before.before.before.requires in
+    let the_loop = c.loop-f in
+    let the_pre = c.requires in
     the_loop.invariant.1 ∙ sym the_pre.2)
     (λ c.
-    let the_functions = c.before.before.before.functions in
-    let the_loop = c.before.before.loop in
-    let the_pre = c.before.before.before.before.before.before.before.requires in
-    round_all the_loop.invariant.0 Changed (rw c.if1.true)
-    (omega (arith, c.before.loop-test.false, functions_read the_pre.0 the_functions.result the_functions.ensures)))
+    let the_functions = c.functions-most in
+    let the_loop = c.loop-f in
+    let the_pre = c.requires in
+    round_all the_loop.invariant.0 Changed (rw c.if-changed.true)
+    (omega (arith, c.loop-f-test.false, functions_read the_pre.0 the_functions.result the_functions.ensures)))
     (λ c.
-    let the_loop = c.before.before.loop in
-    let the_pre = c.before.before.before.before.before.before.before.requires in
+    let the_loop = c.loop-f in
+    let the_pre = c.requires in
     round_long the_loop.invariant.0 the_pre.1)
     (λ c.
-    let the_loop = c.before.before.loop in
-    let the_pre = c.before.before.before.before.before.before.before.requires in
+    let the_loop = c.loop-f in
+    let the_pre = c.requires in
     the_loop.invariant.1 ∙ sym the_pre.2)
     (λ c.
-    let the_functions = c.before.before.before.functions in
-    let the_loop = c.before.before.loop in
-    let the_pre = c.before.before.before.before.before.before.before.requires in
-    round_all the_loop.invariant.0 Same (rw c.if1.false)
-    (omega (arith, c.before.loop-test.false, functions_read the_pre.0 the_functions.result the_functions.ensures))))
+    let the_functions = c.functions-most in
+    let the_loop = c.loop-f in
+    let the_pre = c.requires in
+    round_all the_loop.invariant.0 Same (rw c.if-changed.false)
+    (omega (arith, c.loop-f-test.false, functions_read the_pre.0 the_functions.result the_functions.ensures))))

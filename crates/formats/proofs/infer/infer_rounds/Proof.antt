@@ -11,11 +11,11 @@ use Rattle.formats.proofs.RoundSteps.{RoundsAt, rounds_start, rounds_holding, ro
 use Rattle.formats.proofs.infer.infer_rounds.Statement.{statement}
 use Rattle.formats.proofs.infer.infer_rounds.Tie as tie
 
-abbrev invariant_loop : tie.invariant_loop
+abbrev invariant_loop : tie.invariant-loop-done
 invariant_loop law index slots store₀ limit count most joined₀ done₀ store joined done =
     (length joined ≡ limit + 1) × RoundsAt limit (tree_of (file_of law)) most store₀ store done
 
-abbrev decreases_loop : tie.decreases_loop
+abbrev decreases_loop : tie.decreases-loop-done
 decreases_loop law index slots store₀ limit count most joined₀ done₀ store joined done = most - done
 
 pub infer_rounds_spec : {M : Type 1} → statement M
@@ -27,55 +27,55 @@ infer_rounds_spec =
     (λ c. let start = c.before.before.before in
     (start.requires.2, rounds_start start.args.limit start.args.most (tree_of (file_of start.args.law.now)) start.args.store.now))
     (λ c κs.
-    let the_loop = c.before.before.before.loop in
-    let p = c.before.before.before.before.before.before.before.requires in (p.0, rounds_holding the_loop.invariant.1 p.1, the_loop.invariant.0))
+    let the_loop = c.loop-done in
+    let p = c.requires in (p.0, rounds_holding the_loop.invariant.1 p.1, the_loop.invariant.0))
     (λ c. search rules)
-    (λ c. let the_infer_round = c.before.before.before.before.before.before.infer-round in
+    (λ c. let the_infer_round = c.infer_round in
     let store-Kept = the_infer_round.auto.1.1.1.0 in
-    let the_loop = c.before.before.before.before.before.before.before.before.before.before.loop in
+    let the_loop = c.loop-done in
     store-Kept ∙ the_loop.invariant.1.long)
-    (λ c. let the_infer_round = c.before.before.before.before.before.before.infer-round in
+    (λ c. let the_infer_round = c.infer_round in
     let joined-kept = the_infer_round.auto.1.1.1.1.1.1.0 in
-    let the_loop = c.before.before.before.before.before.before.before.before.before.before.loop in
-    let the_pre = c.before.before.before.before.before.before.before.before.before.before.before.before.before.before.requires in
+    let the_loop = c.loop-done in
+    let the_pre = c.requires in
     joined-kept ∙ the_loop.invariant.0 ∙ sym the_pre.2)
-    (λ c. let the_loop = c.before.before.before.before.before.before.before.before.before.before.loop in
-    let the_loop_test = c.before.before.before.before.before.before.before.before.before.loop-test in
-    let one = c.before.before.before.before.before.before.infer-round in
+    (λ c. let the_loop = c.loop-done in
+    let the_loop_test = c.loop-done-test in
+    let one = c.infer_round in
     let store-after = one.new.1.1.1.0 in
-    rounds_wide the_loop.invariant.1 store-after one.result one.ensures c.enum_told.given.1 the_loop_test.true)
+    rounds_wide the_loop.invariant.1 store-after one.result one.ensures c.enum_told-1.given.1 the_loop_test.true)
     (λ c. search rules)
     (λ c. search rules)
-    (λ c. let the_loop_test = c.before.before.before.before.before.before.before.before.before.loop-test in
+    (λ c. let the_loop_test = c.loop-done-test in
     omega (arith, the_loop_test.true))
-    (λ c. let the_loop_test = c.before.before.before.before.before.before.before.before.before.loop-test in
-    let one = c.before.before.before.before.before.before.infer-round in
+    (λ c. let the_loop_test = c.loop-done-test in
+    let one = c.infer_round in
     let store-Kept = one.auto.1.1.1.0 in
     let store-after = one.new.1.1.1.0 in
     let joined-kept = one.auto.1.1.1.1.1.1.0 in
-    let inv = c.before.before.before.before.before.before.before.before.before.before.loop.invariant in (
+    let inv = c.loop-done.invariant in (
       joined-kept ∙ inv.0,
-      rounds_more inv.1 store-after one.result one.ensures c.enum-told2.given.1 the_loop_test.true store-Kept,
+      rounds_more inv.1 store-after one.result one.ensures c.enum_told-in-Changed-1.given.1 the_loop_test.true store-Kept,
     ))
     (λ c. search rules)
     (λ c. search rules)
-    (λ c. let the_infer_round = c.before.before.before.before.before.before.infer-round in
+    (λ c. let the_infer_round = c.infer_round in
     let store-Kept = the_infer_round.auto.1.1.1.0 in
-    let the_loop = c.before.before.before.before.before.before.before.before.before.before.loop in
+    let the_loop = c.loop-done in
     store-Kept ∙ the_loop.invariant.1.long)
-    (λ c. let the_infer_round = c.before.before.before.before.before.before.infer-round in
+    (λ c. let the_infer_round = c.infer_round in
     let joined-kept = the_infer_round.auto.1.1.1.1.1.1.0 in
-    let the_loop = c.before.before.before.before.before.before.before.before.before.before.loop in
-    let the_pre = c.before.before.before.before.before.before.before.before.before.before.before.before.before.before.requires in
+    let the_loop = c.loop-done in
+    let the_pre = c.requires in
     joined-kept ∙ the_loop.invariant.0 ∙ sym the_pre.2)
-    (λ c. let the_loop = c.before.before.before.before.before.before.before.before.before.before.loop in
-    let the_loop_test = c.before.before.before.before.before.before.before.before.before.loop-test in
-    let one = c.before.before.before.before.before.before.infer-round in
+    (λ c. let the_loop = c.loop-done in
+    let the_loop_test = c.loop-done-test in
+    let one = c.infer_round in
     let store-after = one.new.1.1.1.0 in
-    rounds_settled the_loop.invariant.1 store-after one.result one.ensures c.enum-told3.given.1 the_loop_test.true)
+    rounds_settled the_loop.invariant.1 store-after one.result one.ensures c.enum_told-in-Same-1.given.1 the_loop_test.true)
     (λ c.
-    let the_loop = c.before.loop in
+    let the_loop = c.loop-done in
     the_loop.invariant.1.long)
-    (λ c. let the_pre = c.before.before.before.before.before.requires in
-    c.before.loop.invariant.0 ∙ sym the_pre.2)
-    (λ c. rounds_out c.before.loop.invariant.1 c.loop-test.false))
+    (λ c. let the_pre = c.requires in
+    c.loop-done.invariant.0 ∙ sym the_pre.2)
+    (λ c. rounds_out c.loop-done.invariant.1 c.loop-done-test.false))

@@ -19,12 +19,12 @@ use Rattle.formats.proofs.SentenceLaws.{RowsLeft, rows_start, rows_format, rows_
 use Rattle.formats.proofs.infer.join_sentences.Statement.{statement}
 use Rattle.formats.proofs.infer.join_sentences.Tie as tie
 
-abbrev invariant_loop : tie.invariant_loop
+abbrev invariant_loop : tie.invariant-loop-i
 invariant_loop law index slots store first number patterns limit count joined₀ row₀ end i₀ joined row i =
     (length row ≡ 65) × RowsLeft limit (file_of law) patterns (find (results_in limit (file_names (file_of law)) store))
     (read_format joined₀) first number i joined
 
-abbrev decreases_loop : tie.decreases_loop
+abbrev decreases_loop : tie.decreases-loop-i
 decreases_loop law index slots store first number patterns limit count joined₀ row₀ end i₀ joined row i = number - i
 
 -- the front of the buffer
@@ -43,40 +43,40 @@ join_sentences_spec =
     invariant_loop
     decreases_loop
     (λ c.
-    let the_pre = c.before.before.before.requires in
+    let the_pre = c.requires in
     omega (arith, the_pre.0.small))
     (λ c. let start = c.before.before.before in (refl, rows_start start.requires.0.small start.requires.3))
     (λ c.
     let start = c.before.before.before.before.before in
-    omega (arith, c.loop-test.true, start.requires.2, sentences_limit start.args.law.now start.args.index.now start.requires.0.indexed))
-    (λ c. let the_pre = c.before.before.before.before.before.requires in
-    omega (arith, c.before.loop.invariant.0, the_pre.0.small))
+    omega (arith, c.loop-i-test.true, start.requires.2, sentences_limit start.args.law.now start.args.index.now start.requires.0.indexed))
+    (λ c. let the_pre = c.requires in
+    omega (arith, c.loop-i.invariant.0, the_pre.0.small))
     (λ c.
-    let now = c.before.before.loop in
+    let now = c.loop-i in
     let start = c.before.before.before.before.before.before in
     sym (lent_length start.args.limit now.row start.requires.0.small now.invariant.0))
     (λ c κs.
-    let now = c.before.before.loop in
+    let now = c.loop-i in
     let start = c.before.before.before.before.before.before in (
       start.requires.0,
       start.requires.1,
-      omega (arith, c.before.loop-test.true, start.requires.2),
+      omega (arith, c.loop-i-test.true, start.requires.2),
       lent_length start.args.limit now.row start.requires.0.small now.invariant.0,
     ))
-    (λ c. let the_loop = c.before.before.before.before.before.loop in
+    (λ c. let the_loop = c.loop-i in
     let start = c.before.before.before.before.before.before.before.before.before in
-    rows_length the_loop.invariant.1 ∙ sym (format_in_length start.args.limit start.args.joined.now start.requires.3))
+    rows_length the_loop.invariant.1 ∙ sym (format_in_length start.args.limit start.args.joined-1.now start.requires.3))
     (λ c.
-    let the_loop_test = c.before.before.before.before.loop-test in
-    let the_loop = c.before.before.before.before.before.loop in
-    let p = c.before.before.before.before.before.before.before.before.before.requires in
-    rows_refused the_loop.invariant.1 c.before.before.sentence-format.ensures (not-true _ c.if1.true) p.0.readable p.2
+    let the_loop_test = c.loop-i-test in
+    let the_loop = c.loop-i in
+    let p = c.requires in
+    rows_refused the_loop.invariant.1 c.sentence_format.ensures c.if-not-sentence_format.true p.0.readable p.2
     the_loop_test.true)
     (λ c.
-    let made = c.before.before.before.sentence-format in
+    let made = c.sentence_format in
     let out-kept = made.auto.1.1.1.1.1.1.1.1.0 in
     let out-after = made.new.1.1.1.1.1.1.1.1.0 in
-    let now = c.before.before.before.before.before.before.loop in
+    let now = c.loop-i in
     let start = c.before.before.before.before.before.before.before.before.before.before in
     omega (
       arith,
@@ -84,41 +84,41 @@ join_sentences_spec =
       start.requires.0.small,
     ))
     (λ c.
-    let made = c.before.before.before.before.sentence-format in
+    let made = c.sentence_format in
     let out-kept = made.auto.1.1.1.1.1.1.1.1.0 in
-    let now = c.before.before.before.before.before.before.before.loop in
+    let now = c.loop-i in
     let start = c.before.before.before.before.before.before.before.before.before.before.before in
     let new = made.new.1.1.1.1.1.1.1.1.0 in
     sym
     (lent_length start.args.limit (new ++ drop (start.args.limit + 1) now.row) start.requires.0.small
     (back_length start.args.limit now.row new out-kept now.invariant.0)))
     (λ c κs.
-    let made = c.before.before.before.before.sentence-format in
-    let now = c.before.before.before.before.before.before.before.loop in
+    let made = c.sentence_format in
+    let now = c.loop-i in
     let start = c.before.before.before.before.before.before.before.before.before.before.before in (
       start.requires.0.small,
       rows_format now.invariant.1,
-      row_format now.invariant.1 made.ensures (not-false _ c.before.before.if1.false) (drop (start.args.limit + 1) now.row),
+      row_format now.invariant.1 made.ensures c.if-not-sentence_format.false (drop (start.args.limit + 1) now.row),
     ))
-    (λ c. let the_loop_test = c.before.before.before.before.before.before.before.before.before.loop-test in
-    let the_fits = c.before.before.before.before.before.before.before.before.before.before.before.before.before.before.ranges in
+    (λ c. let the_loop_test = c.loop-i-test in
+    let the_fits = c.ranges in
     omega (arith, the_loop_test.true, the_fits))
-    (λ c. let the_loop_test = c.before.before.before.before.before.before.before.before.before.loop-test in
+    (λ c. let the_loop_test = c.loop-i-test in
     omega (arith, the_loop_test.true))
-    (λ c. let the_if1 = c.before.before.before.before.before.if1 in
-    let the_loop_test = c.before.before.before.before.before.before.before.before.before.loop-test in
-    let made = c.before.before.before.before.before.before.before.sentence-format in
+    (λ c. let the_if1 = c.if-not-sentence_format in
+    let the_loop_test = c.loop-i-test in
+    let made = c.sentence_format in
     let out-kept = made.auto.1.1.1.1.1.1.1.1.0 in
     let out-after = made.new.1.1.1.1.1.1.1.1.0 in
     let good : made.result ≡ true = not-false made.result the_if1.false in
-    let now = c.before.before.before.before.before.before.before.before.before.before.loop in
+    let now = c.loop-i in
     let start = c.before.before.before.before.before.before.before.before.before.before.before.before.before.before in
     let a = start.args in (
       back_length a.limit now.row out-after out-kept now.invariant.0,
       rows_more now.invariant.1 made.ensures good (drop (a.limit + 1) now.row) start.requires.0.small start.requires.0.readable start.requires.2
-          the_loop_test.true refl c.before.before.join-into.ensures,
+          the_loop_test.true refl c.join_into.ensures,
     ))
     (λ c.
     let start = c.before.before.before.before.before in
-    rows_length c.before.loop.invariant.1 ∙ sym (format_in_length start.args.limit start.args.joined.now start.requires.3))
-    (λ c. rows_all c.before.loop.invariant.1 c.loop-test.false))
+    rows_length c.loop-i.invariant.1 ∙ sym (format_in_length start.args.limit start.args.joined-1.now start.requires.3))
+    (λ c. rows_all c.loop-i.invariant.1 c.loop-i-test.false))

@@ -19,53 +19,53 @@ sentences_format_spec =
     (tie.spec
     (λ c κs. search rules)
     (λ c.
-    let the_clear_words = c.before.before.clear-words in
-    let the_pre = c.before.before.before.before.before.before.before.before.requires in
+    let the_clear_words = c.clear_words in
+    let the_pre = c.requires in
     omega (arith, the_clear_words.auto.0, the_pre.3))
     (λ c.
-    let the_clear_words = c.before.before.clear-words in
+    let the_clear_words = c.clear_words in
     length-set the_clear_words.new.0 _ _ ∙ the_clear_words.auto.0)
     (λ c.
-    let the_if1 = c.before.before.before.before.if1 in
+    let the_if1 = c.if-number-eq0 in
     let start = c.before.before.before.before.before.before.before.before in
     let file = file_of start.args.law.now in
     let known = find (results_in start.args.limit (file_names file) start.args.store.now) in
-    rows_none start.args.limit file start.args.patterns known start.args.from start.args.number (length start.args.out.now)
-    the_if1.true c.before.before.clear-words.ensures start.requires.3)
+    rows_none start.args.limit file start.args.patterns known start.args.from start.args.number (length start.args.out-1.now)
+    the_if1.true c.clear_words.ensures start.requires.3)
     (λ c κs.
     let start = c.before.before.before.before.before in
-    (start.requires.0, start.requires.1, omega (arith, c.before.if1.false, start.requires.2), start.requires.3))
+    (start.requires.0, start.requires.1, omega (arith, c.if-number-eq0.false, start.requires.2), start.requires.3))
     (λ c.
-    let the_sentence_format = c.before.before.before.sentence-format in
+    let the_sentence_format = c.sentence_format in
     let out-kept = the_sentence_format.auto.1.1.1.1.1.1.1.1.0 in
     out-kept)
     (λ c.
-    let the_sentence_format = c.before.before.before.sentence-format in
-    let the_if1 = c.before.before.before.before.before.if1 in
+    let the_sentence_format = c.sentence_format in
+    let the_if1 = c.if-number-eq0 in
     let start = c.before.before.before.before.before.before.before.before.before in
     let file = file_of start.args.law.now in
     let known = find (results_in start.args.limit (file_names file) start.args.store.now) in
     first_refused start.args.limit file start.args.patterns known start.args.from start.args.number the_sentence_format.ensures
-    start.requires.0.readable start.requires.2 (omega (arith, the_if1.false)) (not-true _ c.if2.true))
+    start.requires.0.readable start.requires.2 (omega (arith, the_if1.false)) c.if-not-sentence_format.true)
     (λ c.
-    let the_sentence_format = c.before.before.before.before.sentence-format in
+    let the_sentence_format = c.sentence_format in
     let out-kept = the_sentence_format.auto.1.1.1.1.1.1.1.1.0 in
     out-kept)
     (λ c.
-    let the_sentence_format = c.before.before.before.before.sentence-format in
-    let the_if1 = c.before.before.before.before.before.before.if1 in
+    let the_sentence_format = c.sentence_format in
+    let the_if1 = c.if-number-eq0 in
     let start = c.before.before.before.before.before.before.before.before.before.before in
     let file = file_of start.args.law.now in
     let known = find (results_in start.args.limit (file_names file) start.args.store.now) in
     first_alone start.args.limit file start.args.patterns known start.args.from start.args.number the_sentence_format.ensures
-    start.requires.0.readable start.requires.2 (omega (arith, the_if1.false)) start.requires.0.small (not-false _ c.before.if2.false) c.if3.true)
-    (λ c. let the_if1 = c.before.before.before.before.before.before.if1 in
+    start.requires.0.readable start.requires.2 (omega (arith, the_if1.false)) start.requires.0.small c.if-not-sentence_format.false c.if-number-eq1.true)
+    (λ c. let the_if1 = c.if-number-eq0 in
     let start = c.before.before.before.before.before.before.before.before.before.before in
     omega (arith, the_if1.false, start.requires.2, sentences_limit start.args.law.now start.args.index.now start.requires.0.indexed))
-    (λ c. let the_if1 = c.before.before.before.before.before.before.if1 in
+    (λ c. let the_if1 = c.if-number-eq0 in
     omega (arith, the_if1.false))
-    (λ c κs. let the_if1 = c.before.before.before.before.before.before.before.if1 in
-    let the_sentence_format = c.before.before.before.before.before.sentence-format in
+    (λ c κs. let the_if1 = c.if-number-eq0 in
+    let the_sentence_format = c.sentence_format in
     let start = c.before.before.before.before.before.before.before.before.before.before.before in
     let file = file_of start.args.law.now in
     let known = find (results_in start.args.limit (file_names file) start.args.store.now) in (
@@ -73,21 +73,21 @@ sentences_format_spec =
       start.requires.1,
       omega (arith, the_if1.false, start.requires.2),
       first_format start.args.limit file start.args.patterns known start.args.from start.args.number the_sentence_format.ensures
-          start.requires.0.readable start.requires.2 (omega (arith, the_if1.false)) start.requires.0.small (not-false _ c.before.before.if2.false),
+          start.requires.0.readable start.requires.2 (omega (arith, the_if1.false)) start.requires.0.small c.if-not-sentence_format.false,
     ))
     (λ c.
-    let the_join_sentences = c.before.before.join-sentences in
+    let the_join_sentences = c.join_sentences in
     let joined-kept = the_join_sentences.auto.1.1.1.1.1.1.1.1.1.0 in
-    let the_sentence_format = c.before.before.before.before.before.before.before.before.sentence-format in
+    let the_sentence_format = c.sentence_format in
     let out-kept = the_sentence_format.auto.1.1.1.1.1.1.1.1.0 in
     joined-kept ∙ out-kept)
-    (λ c. let the_sentence_format = c.before.before.before.before.before.before.before.before.sentence-format in
-    let the_if1 = c.before.before.before.before.before.before.before.before.before.before.if1 in
-    let the_if2 = c.before.before.before.before.before.if2 in
+    (λ c. let the_sentence_format = c.sentence_format in
+    let the_if1 = c.if-number-eq0 in
+    let the_if2 = c.if-not-sentence_format in
     let start = c.before.before.before.before.before.before.before.before.before.before.before.before.before.before in
     let file = file_of start.args.law.now in
     let known = find (results_in start.args.limit (file_names file) start.args.store.now) in
-    let others = c.before.before.join-sentences in
+    let others = c.join_sentences in
     let joined-after = others.new.1.1.1.1.1.1.1.1.1.0 in
     first_joined start.args.limit file start.args.patterns known start.args.from start.args.number the_sentence_format.ensures
     start.requires.0.readable start.requires.2 (omega (arith, the_if1.false)) start.requires.0.small (not-false _ the_if2.false) others.result

@@ -15,5 +15,5 @@ bracket_word_spec =
     (λ c. search rules)
     (λ c. search rules)
     (λ c. search rules)
-    (λ c. rw c.if1.true)
-    (λ c. rw c.if1.false (omega arith)))
+    (λ c. rw c.if-opened.true)
+    (λ c. rw c.if-opened.false (omega arith)))

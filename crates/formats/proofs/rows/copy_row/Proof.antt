@@ -9,10 +9,10 @@ use Rattle.formats.proofs.RowLaws.{copied_more}
 use Rattle.formats.proofs.rows.copy_row.Statement.{statement}
 use Rattle.formats.proofs.rows.copy_row.Tie as tie
 
-abbrev invariant_loop : tie.invariant_loop
+abbrev invariant_loop : tie.invariant-loop-i
 invariant_loop store from n out₀ to i₀ out i = (i ≤ n) × (length out ≡ length out₀) × (out ≡ written out₀ to (take i (drop from store)))
 
-abbrev decreases_loop : tie.decreases_loop
+abbrev decreases_loop : tie.decreases-loop-i
 decreases_loop store from n out₀ to i₀ out i = n - i
 
 pub copy_row_spec : {M : Type 1} → statement M
@@ -31,13 +31,13 @@ copy_row_spec =
     (λ c. omega arith)
     (λ c. omega arith)
     (λ c.
-    let start = c.before.before.before.args in
-    let loop = c.before.before.loop in (
+    let start = c.args in
+    let loop = c.loop-i in (
       omega arith,
       length-set loop.out _ _ ∙ loop.invariant.1,
       rw loop.invariant.2 (copied_more start.store.now start.from start.out.now start.to loop.i (omega arith) (omega arith)),
     ))
-    (λ c. c.before.loop.invariant.1)
+    (λ c. c.loop-i.invariant.1)
     (λ c.
-    let all : c.before.loop.i ≡ c.before.before.args.n = omega arith in
-    rw all at c.before.loop.invariant.2))
+    let all : c.loop-i.i ≡ c.args.n = omega arith in
+    rw all at c.loop-i.invariant.2))

@@ -4,8 +4,8 @@ use Rattle.formats.proofs.rows.leaf_word.Tie as tie
 
 pub leaf_word_spec : {M : Type 1} → statement M
 leaf_word_spec = tie.close (tie.spec
-    (λ c. kind_identifier _ c.if1.true)
-    (λ c. kind_number_lem _ c.if2.true)
+    (λ c. kind_identifier _ c.if-kind-eq1.true)
+    (λ c. kind_number_lem _ c.if-kind-eq2.true)
     (λ c.
     let start = c.before.before in
-    kind_itself start.args.kind start.requires c.before.if1.false c.if2.false))
+    kind_itself start.args.kind start.requires c.if-kind-eq1.false c.if-kind-eq2.false))

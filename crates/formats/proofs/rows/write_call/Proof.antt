@@ -11,9 +11,9 @@ write_call_spec =
     tie.close
     (tie.spec
     (λ c.
-    let a = c.before.before.before.args in (
+    let a = c.args in (
       (omega arith, omega arith),
-      row_unknown a.store.now a.limit a.count a.place a.out.now a.to a.most c.if1.true
+      row_unknown a.store.now a.limit a.count a.place a.out-1.now a.to a.most c.if-count-place.true
           (omega arith) (omega arith),
     ))
     (λ c. search rules)
@@ -22,57 +22,57 @@ write_call_spec =
     (λ c.
     let start = c.before.before.before in
     let a = start.args in
-    omega (arith, callee_inside a.store.now a.limit a.count a.place start.requires.0 c.if1.false))
+    omega (arith, callee_inside a.store.now a.limit a.count a.place start.requires.0 c.if-count-place.false))
     (λ c.
     let start = c.before.before.before in
     let a = start.args in
-    omega (arith, callee_inside a.store.now a.limit a.count a.place start.requires.0 c.if1.false))
+    omega (arith, callee_inside a.store.now a.limit a.count a.place start.requires.0 c.if-count-place.false))
     (λ c.
     let start = c.before.before.before.before in
     let a = start.args in
-    omega (arith, callee_inside a.store.now a.limit a.count a.place start.requires.0 c.before.if1.false))
+    omega (arith, callee_inside a.store.now a.limit a.count a.place start.requires.0 c.if-count-place.false))
     (λ c.
     let start = c.before.before.before.before.before in
     let a = start.args in (
       (omega arith, omega arith),
-      row_never a.store.now a.limit a.count a.place start.requires.0 c.before.before.if1.false a.out.now a.to
-          a.most (omega arith) (omega arith) c.if2.true,
+      row_never a.store.now a.limit a.count a.place start.requires.0 c.if-count-place.false a.out-1.now a.to
+          a.most (omega arith) (omega arith) c.if-header-ge512.true,
     ))
     (λ c. search rules)
     (λ c. search rules)
     (λ c.
-    let the_if1 = c.before.before.before.if1 in
+    let the_if1 = c.if-count-place in
     let start = c.before.before.before.before.before.before in
     let a = start.args in (
       tt,
-      row_callee_over a.store.now a.limit a.count a.place start.requires.0 the_if1.false a.out.now a.to a.most (omega arith)
-          (omega arith) c.before.if2.false c.if3.true,
+      row_callee_over a.store.now a.limit a.count a.place start.requires.0 the_if1.false a.out-1.now a.to a.most (omega arith)
+          (omega arith) c.if-header-ge512.false c.if-most-to.true,
     ))
     (λ c.
-    let the_if1 = c.before.before.before.if1 in
+    let the_if1 = c.if-count-place in
     let start = c.before.before.before.before.before.before in
     let a = start.args in
     omega (arith, callee_inside a.store.now a.limit a.count a.place start.requires.0 the_if1.false))
     (λ c κs.
-    let the_if1 = c.before.before.before.before.if1 in
+    let the_if1 = c.if-count-place in
     let start = c.before.before.before.before.before.before.before in
     let a = start.args in
     let known : a.place < a.count = the_if1.false in
-    let found = callee_shapes_lem a.store.now a.limit a.count a.place start.requires.0 known c.before.before.if2.false in (
+    let found = callee_shapes_lem a.store.now a.limit a.count a.place start.requires.0 known c.if-header-ge512.false in (
       omega (arith, callee_inside a.store.now a.limit a.count a.place start.requires.0 known, found.number, found.few),
-      omega (arith, c.before.if3.false, start.requires),
+      omega (arith, c.if-most-to.false, start.requires),
     ))
     (λ c. search rules)
     (λ c. search rules)
     (λ c.
-    let the_if3 = c.before.before.before.before.if3 in
-    let the_copy_row = c.before.before.copy-row in
+    let the_if3 = c.if-most-to in
+    let the_copy_row = c.copy_row in
     let out-after = the_copy_row.new.1.1.1.0 in
-    let the_if1 = c.before.before.before.before.before.before.before.if1 in
-    let the_if2 = c.before.before.before.before.before.if2 in
+    let the_if1 = c.if-count-place in
+    let the_if2 = c.if-header-ge512 in
     let start = c.before.before.before.before.before.before.before.before.before.before in
     let a = start.args in (
       (omega arith, omega arith),
-      row_callee a.store.now a.limit a.count a.place start.requires.0 the_if1.false a.out.now a.to a.most
-          (omega arith) (omega arith) out-after the_if2.false the_if3.false c.before.before.copy-row.ensures,
+      row_callee a.store.now a.limit a.count a.place start.requires.0 the_if1.false a.out-1.now a.to a.most
+          (omega arith) (omega arith) out-after the_if2.false the_if3.false c.copy_row.ensures,
     )))

@@ -8,12 +8,12 @@ use Rattle.formats.proofs.rows.write_leaf.Tie as tie
 pub write_leaf_spec : {M : Type 1} → statement M
 write_leaf_spec = tie.close (tie.spec
     (λ c.
-    let start = c.before.args in
-    (tt, leaf_over start.word start.out.now start.to start.most c.if1.true))
+    let start = c.args in
+    (tt, leaf_over start.word start.out.now start.to start.most c.if-most-to.true))
     (λ c. search rules)
     (λ c. search rules)
     (λ c. search rules)
     (λ c. search rules)
     (λ c.
-    let start = c.before.args in
+    let start = c.args in
     ((omega arith, omega arith), row_leaf start.word start.out.now start.to start.most (omega arith) (omega arith) (omega arith))))

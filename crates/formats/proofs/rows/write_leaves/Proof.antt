@@ -10,10 +10,10 @@ use Rattle.formats.proofs.RowLaws.{left_length, leaves_none, leaves_next}
 use Rattle.formats.proofs.rows.write_leaves.Statement.{statement}
 use Rattle.formats.proofs.rows.write_leaves.Tie as tie
 
-abbrev invariant_loop : tie.invariant_loop
+abbrev invariant_loop : tie.invariant-loop-n
 invariant_loop part out₀ to most n₀ out n = (24 * n ≤ length part) × (to + n ≤ most) × (length out ≡ length out₀) × LeavesAre part out₀ out to most n
 
-abbrev decreases_loop : tie.decreases_loop
+abbrev decreases_loop : tie.decreases-loop-n
 decreases_loop part out₀ to most n₀ out n = most - n
 
 pub write_leaves_spec : {M : Type 1} → statement M
@@ -23,7 +23,7 @@ write_leaves_spec =
     invariant_loop
     decreases_loop
     (λ c.
-    let a = c.before.before.args in
+    let a = c.args in
     (omega arith, omega arith, refl, leaves_none a.part.now a.out.now a.to a.most))
     (λ c. omega arith)
     (λ c. omega arith)
@@ -33,13 +33,13 @@ write_leaves_spec =
     (λ c. search rules)
     (λ c. search rules)
     (λ c κs.
-    let the_loop = c.before.before.before.loop in
-    let the_args = c.before.before.before.before.before.before.args in
-    omega (arith, leb-true (24 * the_loop.n + 24) (length the_args.part.now) c.before.if1.true, left_length the_loop.n the_args.part.now))
-    (λ c. let the_loop = c.before.before.before.before.before.loop in
+    let the_loop = c.loop-n in
+    let the_args = c.args in
+    omega (arith, leb-true (24 * the_loop.n + 24) (length the_args.part.now) c.if-n-part.true, left_length the_loop.n the_args.part.now))
+    (λ c. let the_loop = c.loop-n in
     the_loop.invariant.2)
     (λ c.
-    let inv = c.before.before.before.before.before.loop.invariant in
+    let inv = c.loop-n.invariant in
     (inv.0, inv.1, inv.3))
     (λ c κs. omega arith)
     (λ c. omega arith)
@@ -48,24 +48,24 @@ write_leaves_spec =
     (λ c. omega arith)
     (λ c. omega arith)
     (λ c.
-    let the_if1 = c.before.before.before.before.if1 in
-    let a = c.before.before.before.before.before.before.before.before.before.args in
-    let loop = c.before.before.before.before.before.before.loop in
-    let kind = c.before.before.word_at in
+    let the_if1 = c.if-n-part in
+    let a = c.args in
+    let loop = c.loop-n in
+    let kind = c.word_at-kind in
     let enough = leb-true (24 * loop.n + 24) (length a.part.now) the_if1.true in (
       omega (arith, enough),
       omega arith,
       length-set loop.out _ _ ∙ loop.invariant.2,
-      leaves_next a.part.now a.out.now loop.out a.to a.most loop.n c.leaf-word.result loop.invariant.3 (omega arith)
-          (omega (arith, enough)) (omega (arith, kind.ensures)) (rw kind.ensures at c.leaf-word.ensures),
+      leaves_next a.part.now a.out.now loop.out a.to a.most loop.n c.leaf_word.result loop.invariant.3 (omega arith)
+          (omega (arith, enough)) (omega (arith, kind.ensures)) (rw kind.ensures at c.leaf_word.ensures),
     ))
     (λ c.
-    let the_loop = c.before.before.loop in
+    let the_loop = c.loop-n in
     the_loop.invariant.2)
     (λ c.
-    let inv = c.before.before.loop.invariant in
+    let inv = c.loop-n.invariant in
     (inv.0, inv.1, inv.3))
-    (λ c. c.before.loop.invariant.2)
+    (λ c. c.loop-n.invariant.2)
     (λ c.
-    let inv = c.before.loop.invariant in
+    let inv = c.loop-n.invariant in
     (inv.0, inv.1, inv.3)))

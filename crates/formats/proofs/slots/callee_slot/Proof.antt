@@ -14,26 +14,26 @@ callee_slot_spec =
     (λ c κs. search rules)
     (λ c κs. search rules)
     (λ c κs. search rules)
-    (λ c κs. let p = c.before.before.before.before.requires in
-    rw c.text.ensures (call_name_inside _ _ _ _ p.1 p.2 p.3 c.before.before.term_word.ensures c.before.term-word2.ensures))
+    (λ c κs. let p = c.requires in
+    rw c.text.ensures (call_name_inside _ _ _ _ p.1 p.2 p.3 c.term_word-start.ensures c.term_word-len.ensures))
     (λ c κs. search rules)
     (λ c κs. search rules)
     (λ c.
-    let the_text = c.before.before.before.before.text in
-    let the_name_in = c.before.before.before.name_in in
-    let the_term_word = c.before.before.before.before.before.before.term_word in
-    let the_term_word2 = c.before.before.before.before.before.term-word2 in
+    let the_text = c.text in
+    let the_name_in = c.name_in in
+    let the_term_word = c.term_word-start in
+    let the_term_word2 = c.term_word-len in
     let start = c.before.before.before.before.before.before.before.before in
     let name = call_name_read (file_of start.args.law.now) _ _ _ _ _ the_text.ensures the_term_word.ensures the_term_word2.ensures
     the_name_in.ensures in
-    slot_found _ _ _ (functions_limit _ _ start.requires.0) (rw name at c.before.before.first-named.ensures)
-    (omega (arith, c.before.functions.ensures, start.requires.0.words.functions)))
+    slot_found _ _ _ (functions_limit _ _ start.requires.0) (rw name at c.first_named-f.ensures)
+    (omega (arith, c.functions.ensures, start.requires.0.words.functions)))
     (λ c.
-    let the_text = c.before.before.before.before.text in
-    let the_name_in = c.before.before.before.name_in in
-    let the_term_word = c.before.before.before.before.before.before.term_word in
-    let the_term_word2 = c.before.before.before.before.before.term-word2 in
+    let the_text = c.text in
+    let the_name_in = c.name_in in
+    let the_term_word = c.term_word-start in
+    let the_term_word2 = c.term_word-len in
     let start = c.before.before.before.before.before.before.before.before in
     let name = call_name_read (file_of start.args.law.now) _ _ _ _ _ the_text.ensures the_term_word.ensures the_term_word2.ensures
     the_name_in.ensures in
-    slot_missing _ _ _ (rw name at c.before.before.first-named.ensures) (omega (arith, c.before.functions.ensures, start.requires.0.words.functions))))
+    slot_missing _ _ _ (rw name at c.first_named-f.ensures) (omega (arith, c.functions.ensures, start.requires.0.words.functions))))

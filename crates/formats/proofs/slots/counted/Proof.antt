@@ -11,15 +11,15 @@ pub counted_spec : {M : Type 1} → statement M
 counted_spec =
     tie.close
     (tie.spec
-    (λ c. let p = c.before.before.requires in omega (arith, functions_limit _ _ p.0, p.3))
-    (λ c. let p = c.before.before.before.before.requires in (newly_none _ _ _ _ (p.2 _ p.3) c.if1.true, omega arith))
+    (λ c. let p = c.requires in omega (arith, functions_limit _ _ p.0, p.3))
+    (λ c. let p = c.requires in (newly_none _ _ _ _ (p.2 _ p.3) c.if-weights-g-eq0.true, omega arith))
     (λ c κs. search rules)
     (λ c κs. search rules)
     (λ c κs. search rules)
     (λ c.
-    let the_if1 = c.before.before.before.if1 in
-    let p = c.before.before.before.before.before.before.before.requires in (
-      c.less-count.ensures.0 ∙ rw (c.before.names-order.ensures, c.before.before.function-name.ensures) (newly_all _ _ _ _ (p.2 _ p.3)
+    let the_if1 = c.if-weights-g-eq0 in
+    let p = c.requires in (
+      c.less_count.ensures.0 ∙ rw (c.names_order.ensures, c.function_name.ensures) (newly_all _ _ _ _ (p.2 _ p.3)
           the_if1.false),
-      c.less-count.ensures.1,
+      c.less_count.ensures.1,
     )))

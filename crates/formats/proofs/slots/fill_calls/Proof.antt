@@ -11,30 +11,30 @@ use Rattle.formats.proofs.SlotLaws.{kind_read, slots_pass, slots_next}
 use Rattle.formats.proofs.slots.fill_calls.Statement.{statement}
 use Rattle.formats.proofs.slots.fill_calls.Tie as tie
 
-abbrev invariant_loop : tie.invariant_loop
+abbrev invariant_loop : tie.invariant-loop-t
 invariant_loop law index slots₀ count t₀ slots t =
     (count ≡ (file_of law).terms.count) × (t ≤ count) × (length slots ≡ 578) × SlotsUpTo (file_of law) slots t
 
-abbrev decreases_loop : tie.decreases_loop
+abbrev decreases_loop : tie.decreases-loop-t
 decreases_loop law index slots₀ count t₀ slots t = count - t
 
 -- the slots, where the ways meet
-passed : (c : tie.Joined1 invariant_loop decreases_loop) → (let start = c.before.before.before.before.before.before in
-    let the_loop = c.before.before.before.loop in
-    (length c.if1.slots ≡ 578) × SlotsUpTo (file_of start.args.law.now) c.if1.slots (the_loop.t + 1))
+passed : (c : tie.Joined-term_word-eq7 invariant_loop decreases_loop) → (let start = c.before.before.before.before.before.before in
+    let the_loop = c.loop-t in
+    (length c.if-term_word-eq7.slots ≡ 578) × SlotsUpTo (file_of start.args.law.now) c.if-term_word-eq7.slots (the_loop.t + 1))
 passed c =
     let start = c.before.before.before.before.before.before in
-    let the_loop = c.before.before.before.loop in
+    let the_loop = c.loop-t in
     ⊎_elim
     (λ w.
     let wide = length-set the_loop.slots 577 1 ∙ the_loop.invariant.2 in
     rw w.3 (
       length-set (set the_loop.slots 577 1) _ _ ∙ wide,
       slots_next _ the_loop.slots the_loop.t _ (functions_limit _ _ start.requires.0) (terms_limit _ _ start.requires.0) the_loop.invariant.2 the_loop.invariant.3
-          (omega arith) (kind_read (file_of start.args.law.now) _ _ c.before.term_word.ensures ∙ w.0.taken) w.1.ensures,
+          (omega arith) (kind_read (file_of start.args.law.now) _ _ c.term_word.ensures ∙ w.0.taken) w.1.ensures,
     ))
-    (λ w. rw w.1 (the_loop.invariant.2, slots_pass _ the_loop.slots the_loop.t _ the_loop.invariant.3 c.before.term_word.ensures w.0.left))
-    c.if1.branch
+    (λ w. rw w.1 (the_loop.invariant.2, slots_pass _ the_loop.slots the_loop.t _ the_loop.invariant.3 c.term_word.ensures w.0.left))
+    c.if-term_word-eq7.branch
 
 pub fill_calls_spec : {M : Type 1} → statement M
 fill_calls_spec =
@@ -45,23 +45,23 @@ fill_calls_spec =
     (λ c κs. tt)
     (λ c.
     let start = c.before.before in
-    (c.terms.ensures ∙ start.requires.0.words.terms, omega arith, start.requires.2, start.requires.3))
-    (λ c κs. let p = c.before.before.before.before.requires in (p.0, omega arith, omega arith))
+    (c.terms-count.ensures ∙ start.requires.0.words.terms, omega arith, start.requires.2, start.requires.3))
+    (λ c κs. let p = c.requires in (p.0, omega arith, omega arith))
     (λ c κs. let start = c.before.before.before.before.before.before in
-    (start.requires.0, start.requires.1, omega arith, kind_read (file_of start.args.law.now) _ _ c.before.term_word.ensures ∙ c.if1.true))
+    (start.requires.0, start.requires.1, omega arith, kind_read (file_of start.args.law.now) _ _ c.term_word.ensures ∙ c.if-term_word-eq7.true))
     (λ c. omega arith)
-    (λ c. omega (arith, c.callee-slot.ensures.inside))
-    (λ c. let the_pre = c.before.before.before.before.before.before.before.before.requires in
+    (λ c. omega (arith, c.callee_slot-from.ensures.inside))
+    (λ c. let the_pre = c.requires in
     omega (arith, terms_limit _ _ the_pre.0))
-    (λ c. let the_pre = c.before.before.before.before.before.before.before.before.requires in
+    (λ c. let the_pre = c.requires in
     omega (arith, terms_limit _ _ the_pre.0))
     (λ c. omega arith)
     (λ c. omega arith)
     (λ c.
-    let the_loop = c.before.before.before.loop in
+    let the_loop = c.loop-t in
     (the_loop.invariant.0, omega arith, (passed c).0, (passed c).1))
     (λ c.
-    let the_args = c.before.before.before.before.args in
-    let i = c.before.loop.invariant in
-    let e : c.before.loop.t ≡ (file_of the_args.law.now).terms.count = omega arith in
+    let the_args = c.args in
+    let i = c.loop-t.invariant in
+    let e : c.loop-t.t ≡ (file_of the_args.law.now).terms.count = omega arith in
     rw e at i.3))

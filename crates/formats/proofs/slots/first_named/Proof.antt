@@ -8,10 +8,10 @@ use Rattle.formats.proofs.SlotLaws.{SearchAt, named_start, named_here, named_nex
 use Rattle.formats.proofs.slots.first_named.Statement.{statement}
 use Rattle.formats.proofs.slots.first_named.Tie as tie
 
-abbrev invariant_loop : tie.invariant_loop
+abbrev invariant_loop : tie.invariant-loop-f
 invariant_loop law index name from count f₀ f = (count ≡ (file_of law).functions.count) × SearchAt (file_of law) from (folded name) f
 
-abbrev decreases_loop : tie.decreases_loop
+abbrev decreases_loop : tie.decreases-loop-f
 decreases_loop law index name from count f₀ f = count - f
 
 pub first_named_spec : {M : Type 1} → statement M
@@ -21,13 +21,13 @@ first_named_spec =
     invariant_loop
     decreases_loop
     (λ c κs. tt)
-    (λ c. let p = c.before.before.before.requires in (c.functions.ensures ∙ p.0.words.functions, named_start _ _ _ p.2))
-    (λ c κs. let p = c.before.before.before.before.before.requires in (p.0, omega arith, p.1))
+    (λ c. let p = c.requires in (c.functions-count.ensures ∙ p.0.words.functions, named_start _ _ _ p.2))
+    (λ c κs. let p = c.requires in (p.0, omega arith, p.1))
     (λ c κs. tt)
-    (λ c. let i = c.before.before.before.before.loop.invariant in named_here _ _ _ _ _ _ i.1 (omega arith) c.before.before.function-name.ensures
-    c.before.names-equal.ensures c.if1.true)
+    (λ c. let i = c.loop-f.invariant in named_here _ _ _ _ _ _ i.1 (omega arith) c.function_name.ensures
+    c.names_equal.ensures c.if-names_equal.true)
     (λ c. omega arith)
     (λ c. omega arith)
-    (λ c. let i = c.before.before.before.before.loop.invariant in
-    (i.0, named_next _ _ _ _ _ _ i.1 (omega arith) c.before.before.function-name.ensures c.before.names-equal.ensures c.if1.false))
-    (λ c. let i = c.before.loop.invariant in named_end _ _ _ _ i.1 (omega arith)))
+    (λ c. let i = c.loop-f.invariant in
+    (i.0, named_next _ _ _ _ _ _ i.1 (omega arith) c.function_name.ensures c.names_equal.ensures c.if-names_equal.false))
+    (λ c. let i = c.loop-f.invariant in named_end _ _ _ _ i.1 (omega arith)))

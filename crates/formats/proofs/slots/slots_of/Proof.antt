@@ -15,11 +15,11 @@ slots_of_spec =
     (λ c κs. search rules)
     (λ c. search rules)
     (λ c κs.
-    let the_fill_weights = c.before.before.before.before.fill-weights in
-    let the_fill_functions = c.before.fill-functions in
+    let the_fill_weights = c.fill_weights-count in
+    let the_fill_functions = c.fill_functions in
     let slots-after = the_fill_functions.new.1.1.1.0 in
-    let p = c.before.before.before.before.before.before.before.requires in
-    let f = c.before.fill-functions.ensures in (
+    let p = c.requires in
+    let f = c.fill_functions.ensures in (
       p.0,
       p.1,
       length-set slots-after 576 _ ∙ f.0,

@@ -11,20 +11,20 @@ weight_spec =
     tie.close
     (tie.spec
     (λ c κs. search rules)
-    (λ c. let p = c.before.before.requires in omega (arith, functions_limit _ _ p.0, p.2))
+    (λ c. let p = c.requires in omega (arith, functions_limit _ _ p.0, p.2))
     (λ c κs. search rules)
     (λ c κs. search rules)
     (λ c.
-    let the_function_name = c.before.before.before.function-name in
-    let the_pre = c.before.before.before.before.before.requires in (
-      weight_later _ _ _ _ the_function_name.ensures c.before.before.first-named.ensures
-          (omega (arith, c.before.functions.ensures, the_pre.0.words.functions)),
+    let the_function_name = c.function_name in
+    let the_pre = c.requires in (
+      weight_later _ _ _ _ the_function_name.ensures c.first_named.ensures
+          (omega (arith, c.functions.ensures, the_pre.0.words.functions)),
       omega arith,
     ))
     (λ c.
-    let the_function_name = c.before.before.before.function-name in
-    let the_pre = c.before.before.before.before.before.requires in (
-      weight_last _ _ _ _ the_function_name.ensures c.before.before.first-named.ensures
-          (omega (arith, c.before.functions.ensures, the_pre.0.words.functions)),
+    let the_function_name = c.function_name in
+    let the_pre = c.requires in (
+      weight_last _ _ _ _ the_function_name.ensures c.first_named.ensures
+          (omega (arith, c.functions.ensures, the_pre.0.words.functions)),
       omega arith,
     )))

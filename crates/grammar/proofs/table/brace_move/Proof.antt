@@ -10,18 +10,18 @@ brace_move_spec =
     tie.close
     (tie.spec
     (λ c κs. search rules)
-    (λ c. rw c.before.if1.true c.left-brace-move.ensures)
+    (λ c. rw c.if-kind-eq123.true c.left_brace_move.ensures)
     (λ c κs. search rules)
-    (λ c. rw c.before.if2.true c.right-brace-move.ensures)
+    (λ c. rw c.if-kind-eq125.true c.right_brace_move.ensures)
     (λ c κs. search rules)
-    (λ c. rw c.before.if3.true c.entry-move.ensures)
+    (λ c. rw c.if-kind-eq69.true c.entry_move.ensures)
     (λ c κs. search rules)
-    (λ c. rw c.before.if4.true c.extern-move.ensures)
+    (λ c. rw c.if-kind-eq88.true c.extern_move.ensures)
     (λ c κs. search rules)
     (λ c.
     let fourth = c.before in
     let third = fourth.before in
     let second = third.before in
     let first = second.before in
-    let x = first.before.args in
-    c.other-move.ensures ∙ no_brace x.kind x.mode first.if1.false second.if2.false third.if3.false fourth.if4.false))
+    let x = first.args in
+    c.other_move.ensures ∙ no_brace x.kind x.mode first.if-kind-eq123.false second.if-kind-eq125.false third.if-kind-eq69.false fourth.if-kind-eq88.false))

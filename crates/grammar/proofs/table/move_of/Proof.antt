@@ -10,15 +10,15 @@ move_of_spec =
     tie.close
     (tie.spec
     (λ c κs. search rules)
-    (λ c. rw c.before.if1.true c.identifier-move.ensures)
+    (λ c. rw c.if-kind-eq1.true c.identifier_move.ensures)
     (λ c κs. search rules)
-    (λ c. rw c.before.if2.true c.left-bracket-move.ensures)
+    (λ c. rw c.if-kind-eq40.true c.left_bracket_move.ensures)
     (λ c κs. search rules)
-    (λ c. rw c.before.if3.true c.right-bracket-move.ensures)
+    (λ c. rw c.if-kind-eq41.true c.right_bracket_move.ensures)
     (λ c κs. search rules)
-    (λ c. rw c.before.if4.true c.left-angle-move.ensures)
+    (λ c. rw c.if-kind-eq60.true c.left_angle_move.ensures)
     (λ c κs. search rules)
-    (λ c. rw c.before.if5.true c.right-angle-move.ensures)
+    (λ c. rw c.if-kind-eq62.true c.right_angle_move.ensures)
     (λ c κs. search rules)
     (λ c.
     let fifth = c.before in
@@ -26,5 +26,5 @@ move_of_spec =
     let third = fourth.before in
     let second = third.before in
     let first = second.before in
-    let x = first.before.args in
-    c.separator-move.ensures ∙ no_bracket x.kind x.mode first.if1.false second.if2.false third.if3.false fourth.if4.false fifth.if5.false))
+    let x = first.args in
+    c.separator_move.ensures ∙ no_bracket x.kind x.mode first.if-kind-eq1.false second.if-kind-eq40.false third.if-kind-eq41.false fourth.if-kind-eq60.false fifth.if-kind-eq62.false))

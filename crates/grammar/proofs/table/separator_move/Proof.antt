@@ -10,18 +10,18 @@ separator_move_spec =
     tie.close
     (tie.spec
     (λ c κs. search rules)
-    (λ c. rw c.before.if1.true c.comma-move.ensures)
+    (λ c. rw c.if-kind-eq44.true c.comma_move.ensures)
     (λ c κs. search rules)
-    (λ c. rw c.before.if2.true c.colon-move.ensures)
+    (λ c. rw c.if-kind-eq58.true c.colon_move.ensures)
     (λ c κs. search rules)
-    (λ c. rw c.before.if3.true c.equals-move.ensures)
+    (λ c. rw c.if-kind-eq61.true c.equals_move.ensures)
     (λ c κs. search rules)
-    (λ c. rw c.before.if4.true c.semicolon-move.ensures)
+    (λ c. rw c.if-kind-eq59.true c.semicolon_move.ensures)
     (λ c κs. search rules)
     (λ c.
     let fourth = c.before in
     let third = fourth.before in
     let second = third.before in
     let first = second.before in
-    let x = first.before.args in
-    c.brace-move.ensures ∙ no_separator x.kind x.mode first.if1.false second.if2.false third.if3.false fourth.if4.false))
+    let x = first.args in
+    c.brace_move.ensures ∙ no_separator x.kind x.mode first.if-kind-eq44.false second.if-kind-eq58.false third.if-kind-eq61.false fourth.if-kind-eq59.false))

@@ -13,13 +13,13 @@ block_later_spec =
     (tie.spec
     (λ c κs. search rules)
     (λ c.
-    let the_args = c.before.before.before.args in
-    later_empty (file_of the_args.law.now) _ _ _ c.before.block_size.ensures c.if1.true)
+    let the_args = c.args in
+    later_empty (file_of the_args.law.now) _ _ _ c.block_size.ensures c.if-block_size-eq0.true)
     (λ c κs.
-    let the_pre = c.before.before.before.requires in
+    let the_pre = c.requires in
     omega (arith, terms_limit _ _ the_pre.0))
     (λ c.
-    let the_args = c.before.before.before.before.args in
-    let p = c.before.before.before.before.requires in
-    let place = block_place _ _ p.0 _ _ p.1 c.block-first.ensures in
-    later_first (file_of the_args.law.now) _ _ _ _ c.before.before.block_size.ensures c.before.if1.false place))
+    let the_args = c.args in
+    let p = c.requires in
+    let place = block_place _ _ p.0 _ _ p.1 c.block_first.ensures in
+    later_first (file_of the_args.law.now) _ _ _ _ c.block_size.ensures c.if-block_size-eq0.false place))

@@ -11,9 +11,9 @@ block_size_spec =
     (tie.spec
     (λ c κs. search rules)
     (λ c.
-    let the_args = c.before.before.before.args in
-    no_block (file_of the_args.law.now) _ _ c.before.term_word.ensures c.if1.true)
+    let the_args = c.args in
+    no_block (file_of the_args.law.now) _ _ c.term_word.ensures c.if-term_word-ne8.true)
     (λ c κs. search rules)
     (λ c.
-    let the_args = c.before.before.before.before.args in
-    some_block (file_of the_args.law.now) _ _ _ c.before.before.term_word.ensures c.before.if1.false c.term-word2.ensures))
+    let the_args = c.args in
+    some_block (file_of the_args.law.now) _ _ _ c.term_word.ensures c.if-term_word-ne8.false c.term_word-2.ensures))

@@ -14,10 +14,10 @@ use Rattle.law.proofs.BlockLaws.{sentences_fail, sentences_hold, functions_have_
 use Rattle.law.proofs.blocks.blocks_allowed.Statement.{statement}
 use Rattle.law.proofs.blocks.blocks_allowed.Tie as tie
 
-abbrev invariant_loop : tie.invariant_loop
+abbrev invariant_loop : tie.invariant-loop-s
 invariant_loop law index count s₀ s = (s ≤ count) × (every s (sentence_blocks (file_of law)) ≡ true)
 
-abbrev decreases_loop : tie.decreases_loop
+abbrev decreases_loop : tie.decreases-loop-s
 decreases_loop law index count s₀ s = count - s
 
 pub blocks_allowed_spec : {M : Type 1} → statement M
@@ -29,28 +29,28 @@ blocks_allowed_spec =
     decreases_loop
     (λ c κs. tt)
     (λ c κs. tt)
-    (λ c κs. let p = c.before.before.before.requires in omega (arith, p.words.functions, c.functions.ensures, functions_limit _ _ p))
+    (λ c κs. let p = c.requires in omega (arith, p.words.functions, c.functions.ensures, functions_limit _ _ p))
     (λ c.
-    let the_sentences = c.before.before.before.sentences in
+    let the_sentences = c.sentences-count in
     let start = c.before.before.before.before.before in
-    functions_have_all _ _ start.requires _ _ _ c.before.before.functions.ensures c.before.first_sentence.ensures
-    the_sentences.ensures c.if1.true)
+    functions_have_all _ _ start.requires _ _ _ c.functions.ensures c.first_sentence.ensures
+    the_sentences.ensures c.if-first_sentence-count.true)
     (λ c. (omega arith, every_none _))
     (λ c κs.
     let called = c.before.before.before.before.before in
-    let p = called.before.before.requires in
+    let p = called.requires in
     (p, omega (arith, p.words.sentences, called.sentences.ensures)))
     (λ c.
     let called = c.before.before.before.before.before.before.before in
     let start = called.before.before in
     sentences_fail _ _ start.requires (sentence_blocks (file_of start.args.law.now)) _ _ _ called.sentences.ensures
-    c.before.before.loop-test.true c.before.sentence-blocks.ensures (not-true _ c.if2.true))
+    c.loop-s-test.true c.sentence_blocks.ensures c.if-not-sentence_blocks.true)
     (λ c. omega arith)
     (λ c. omega arith)
     (λ c.
-    let the_loop = c.before.before.before.loop in
-    (omega arith, every_next the_loop.s _ the_loop.invariant.1 (sym c.before.sentence-blocks.ensures ∙ not-false _ c.if2.false)))
+    let the_loop = c.loop-s in
+    (omega arith, every_next the_loop.s _ the_loop.invariant.1 (sym c.sentence_blocks.ensures ∙ c.if-not-sentence_blocks.false)))
     (λ c.
     let called = c.before.before.before.before.before in
-    let inv = c.before.loop.invariant in
-    sentences_hold _ _ called.before.before.requires _ _ _ called.sentences.ensures inv.0 c.loop-test.false inv.1))
+    let inv = c.loop-s.invariant in
+    sentences_hold _ _ called.requires _ _ _ called.sentences.ensures inv.0 c.loop-s-test.false inv.1))

@@ -15,10 +15,10 @@ use Rattle.law.proofs.BlockLaws.{sentence_term, sentence_fails, sentence_holds}
 use Rattle.law.proofs.blocks.sentence_blocks.Statement.{statement}
 use Rattle.law.proofs.blocks.sentence_blocks.Tie as tie
 
-abbrev invariant_loop : tie.invariant_loop
+abbrev invariant_loop : tie.invariant-loop-i
 invariant_loop law index s first count i₀ i = (i ≤ count) × (every i (λ k. block_later (file_of law) s (first + k)) ≡ true)
 
-abbrev decreases_loop : tie.decreases_loop
+abbrev decreases_loop : tie.decreases-loop-i
 decreases_loop law index s first count i₀ i = count - i
 
 pub sentence_blocks_spec : {M : Type 1} → statement M
@@ -35,32 +35,32 @@ sentence_blocks_spec =
     let start = c.before.before in
     (start.requires.0, omega (arith, start.requires.1)))
     (λ c.
-    let the_args = c.before.before.before.args in
-    let s = c.before.before.before.args.s in
-    omega (arith, pattern_grows (file_of the_args.law.now) s (s + 1) (omega arith), c.before.pattern_at.ensures, c.pattern-at2.ensures))
+    let the_args = c.args in
+    let s = c.args.s in
+    omega (arith, pattern_grows (file_of the_args.law.now) s (s + 1) (omega arith), c.pattern_at-first.ensures, c.pattern_at.ensures))
     (λ c. (omega arith, every_none _))
     (λ c.
-    let the_pattern_at = c.before.before.before.pattern_at in
-    let p = c.before.before.before.before.before.requires in
-    omega (arith, terms_limit _ _ p.0, the_pattern_at.ensures, c.before.before.pattern-at2.ensures))
+    let the_pattern_at = c.pattern_at-first in
+    let p = c.requires in
+    omega (arith, terms_limit _ _ p.0, the_pattern_at.ensures, c.pattern_at.ensures))
     (λ c κs.
-    let the_pattern_at = c.before.before.before.pattern_at in
-    let the_pattern_at2 = c.before.before.pattern-at2 in
-    let p = c.before.before.before.before.before.requires in
-    (p.0, sentence_term _ _ p.0 _ _ _ _ p.1 the_pattern_at.ensures the_pattern_at2.ensures c.loop-test.true))
+    let the_pattern_at = c.pattern_at-first in
+    let the_pattern_at2 = c.pattern_at in
+    let p = c.requires in
+    (p.0, sentence_term _ _ p.0 _ _ _ _ p.1 the_pattern_at.ensures the_pattern_at2.ensures c.loop-i-test.true))
     (λ c.
-    let the_pattern_at2 = c.before.before.before.before.pattern-at2 in
-    let the_pattern_at = c.before.before.before.before.before.pattern_at in
-    let a = c.before.before.before.before.before.before.before.args in
+    let the_pattern_at2 = c.pattern_at in
+    let the_pattern_at = c.pattern_at-first in
+    let a = c.args in
     sentence_fails (file_of a.law.now) a.s _ _ the_pattern_at.ensures the_pattern_at2.ensures _ _
-    c.before.before.loop-test.true c.before.block_later.ensures (not-true _ c.if1.true))
+    c.loop-i-test.true c.block_later.ensures c.if-not-block_later.true)
     (λ c. omega arith)
     (λ c. omega arith)
     (λ c.
-    let the_loop = c.before.before.before.loop in
-    (omega arith, every_next the_loop.i _ the_loop.invariant.1 (sym c.before.block_later.ensures ∙ not-false _ c.if1.false)))
+    let the_loop = c.loop-i in
+    (omega arith, every_next the_loop.i _ the_loop.invariant.1 (sym c.block_later.ensures ∙ c.if-not-block_later.false)))
     (λ c.
-    let the_pattern_at = c.before.before.before.pattern_at in
-    let a = c.before.before.before.before.before.args in
-    sentence_holds (file_of a.law.now) a.s _ _ the_pattern_at.ensures c.before.before.pattern-at2.ensures
-    c.before.loop.i c.before.loop.invariant.0 c.loop-test.false c.before.loop.invariant.1))
+    let the_pattern_at = c.pattern_at-first in
+    let a = c.args in
+    sentence_holds (file_of a.law.now) a.s _ _ the_pattern_at.ensures c.pattern_at.ensures
+    c.loop-i.i c.loop-i.invariant.0 c.loop-i-test.false c.loop-i.invariant.1))

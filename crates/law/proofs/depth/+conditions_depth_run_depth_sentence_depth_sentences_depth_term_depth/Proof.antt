@@ -229,14 +229,14 @@ module _ (t : ℕ) where
   condition_sentence c = (condition_call c).args.s
 
   abbrev condition_at : Condition-round → ℕ
-  condition_at c = let first = c.before.before.before.first_condition in first.result + c.before.loop.i
+  condition_at c = let first = c.first_condition-first in first.result + c.loop-i.i
 
   condition_owned : (c : Condition-round) → Owns (condition_file c) (condition_sentence c) (condition_at c)
   condition_owned c =
       let start = condition_call c in
-      let loop = c.before.loop in
+      let loop = c.loop-i in
       rw (sym loop.invariant.0)
-      at (laws.owns _ _ start.pre.1.0 start.args.s loop.i start.pre.1.2 (omega (arith, loop.invariant.1, c.loop-test.true)))
+      at (laws.owns _ _ start.requires.1.0 start.args.s loop.i start.requires.1.2 (omega (arith, loop.invariant.1, c.loop-i-test.true)))
 
   condition_inside : (c : Condition-round) → condition_at c < (condition_file c).conditions.count
   condition_inside c = laws.owned _ _ (condition_call c).requires.1.0 _ _ (condition_owned c)
@@ -245,30 +245,30 @@ module _ (t : ℕ) where
   condition_limit c = omega (arith, condition_inside c, laws.conditions_limit _ _ (condition_call c).requires.1.0)
 
   -- the numbers of the sentence's conditions, as the index has them
-  first_is_lem : (c : Conditions-counted) → c.before.first_condition.result
+  first_is_lem : (c : Conditions-counted) → c.first_condition-first.result
       ≡ first_condition (file_of (conditions_call c).args.law.now) (conditions_call c).args.s
   first_is_lem c =
       let start = conditions_call c in
-      let indexed = start.pre.1.0 in
-      c.before.first_condition.ensures ∙ indexed.words.first_conditions start.args.s (le_of_lt start.pre.1.2)
+      let indexed = start.requires.1.0 in
+      c.first_condition-first.ensures ∙ indexed.words.first_conditions start.args.s (le_of_lt start.requires.1.2)
 
-  next_is : (c : Conditions-counted) → c.first-condition2.result
+  next_is : (c : Conditions-counted) → c.first_condition.result
       ≡ first_condition (file_of (conditions_call c).args.law.now) (conditions_call c).args.s
       + conditions_of (file_of (conditions_call c).args.law.now) (conditions_call c).args.s
   next_is c =
       let start = conditions_call c in
-      c.first-condition2.ensures ∙ laws.conditions_before _ _ start.pre.1.0 start.args.s start.pre.1.2
+      c.first_condition.ensures ∙ laws.conditions_before_lem _ _ start.requires.1.0 start.args.s start.requires.1.2
 
   -- what the code knows of the depth of a condition's result and of its pattern
-  result_is : (c : Result-known) → c.run-depth.result
+  result_is : (c : Result-known) → c.run_depth.result
       ≡ steps.run_within
       (condition_file (result_round c))
       (condition_result_at (condition_file (result_round c)) (condition_sentence (result_round c)) (condition_at (result_round c)))
       (condition_result_part (condition_file (result_round c)) (condition_sentence (result_round c)) (condition_at (result_round c)))
       (condition_call (result_round c)).args.depth
-  result_is c = rw (c.before.before.condition-result-at.ensures, c.before.condition-result.ensures) at c.run-depth.ensures
+  result_is c = rw (c.condition_result_at-at.ensures, c.condition_result.ensures) at c.run_depth.ensures
 
-  pattern_is : (c : Pattern-known) → c.run-depth2.result
+  pattern_is : (c : Pattern-known) → c.run_depth-in-loop-i.result
       ≡ steps.run_within
       (condition_file (pattern_round c))
       (condition_result_at (condition_file (pattern_round c)) (condition_sentence (pattern_round c)) (condition_at (pattern_round c))
@@ -276,13 +276,13 @@ module _ (t : ℕ) where
       (condition_pattern_part (condition_file (pattern_round c)) (condition_sentence (pattern_round c)) (condition_at (pattern_round c)))
       (condition_call (pattern_round c)).args.depth
   pattern_is c =
-      let the_condition_result_at = c.before.before.before.before.before.before.condition-result-at in
-      rw (the_condition_result_at.ensures, c.before.before.condition_result_size.ensures, c.before.condition-pattern.ensures)
-      at c.run-depth2.ensures
+      let the_condition_result_at = c.condition_result_at-at in
+      rw (the_condition_result_at.ensures, c.condition_result_size.ensures, c.condition_pattern.ensures)
+      at c.run_depth-in-loop-i.ensures
 
-pub +conditions-depth-run-depth-sentence-depth-sentences-depth-term-depth-spec :
+pub +conditions_depth_run_depth_sentence_depth_sentences_depth_term_depth_spec :
     {M : Type 1} → statement M
-+conditions-depth-run-depth-sentence-depth-sentences-depth-term-depth-spec =
++conditions_depth_run_depth_sentence_depth_sentences_depth_term_depth_spec =
     close
     μ-conditions-depth
     μ-run-depth
@@ -316,78 +316,78 @@ pub +conditions-depth-run-depth-sentence-depth-sentences-depth-term-depth-spec :
     (λ c. omega (arith, condition_limit t c))
     (λ c κs.
     let start = condition_call t c in
-    (start.pre.1.0, start.pre.1.2, condition_inside t c))
+    (start.requires.1.0, start.requires.1.2, condition_inside t c))
     (λ c. omega (arith, condition_limit t c.before))
     (λ c κs.
     let start = condition_call t c.before in
-    (start.pre.1.0, condition_owned t c.before))
+    (start.requires.1.0, condition_owned t c.before))
     (λ c κs.
     let round = c.before.before in
     let start = condition_call t round in
-    let part = parts.condition_result_part (condition_file t round) start.pre.1.1 start.args.s (condition_at t round) (condition_owned t round) in (
-      omega (arith, start.pre.0),
-      (start.pre.1.0, start.pre.1.1, rw (c.before.condition-result-at.ensures, c.condition-result.ensures) part, start.pre.1.3),
+    let part = parts.condition_result_part_lem (condition_file t round) start.requires.1.1 start.args.s (condition_at t round) (condition_owned t round) in (
+      omega (arith, start.requires.0),
+      (start.requires.1.0, start.requires.1.1, rw (c.condition_result_at-at.ensures, c.condition_result.ensures) part, start.requires.1.3),
     ))
     (λ c.
     let round = result_round t c.before in
     let start = condition_call t round in
-    let loop = round.before.loop in
-    let left = loop.inv.3 ∙ steps.conditions_next (condition_file t round) start.args.s _ _ loop.i start.args.depth round.loop-test.taken in
-    sym (rw (sym (result_is t c.before) ∙ not-true _ c.if1.true) at left))
+    let loop = round.loop-i in
+    let left = loop.inv.3 ∙ steps.conditions_next (condition_file t round) start.args.s _ _ loop.i start.args.depth round.loop-i-test.taken in
+    sym (rw (sym (result_is t c.before) ∙ c.if-not-run_depth.true) at left))
     (λ c. omega (arith, condition_limit t (result_round t c.before)))
     (λ c κs.
     let round = result_round t c.before in
     let start = condition_call t round in
-    (start.pre.1.0, condition_inside t round))
+    (start.requires.1.0, condition_inside t round))
     (λ c.
     let result = c.before.before in
     let round = result_round t result in
     let start = condition_call t round in
-    let fits = laws.condition_result_fits _ _ start.pre.1.0 _ _ (condition_owned t round) in
-    let limit = laws.terms_limit _ _ start.pre.1.0 in
-    omega (arith, fits, limit, result.before.before.condition-result-at.ensures, c.condition_result_size.ensures))
+    let fits = laws.condition_result_fits _ _ start.requires.1.0 _ _ (condition_owned t round) in
+    let limit = laws.terms_limit _ _ start.requires.1.0 in
+    omega (arith, fits, limit, result.condition_result_at-at.ensures, c.condition_result_size.ensures))
     (λ c. omega (arith, condition_limit t (result_round t c.before.before)))
     (λ c κs.
     let round = result_round t c.before.before in
     let start = condition_call t round in
-    (start.pre.1.0, condition_owned t round))
+    (start.requires.1.0, condition_owned t round))
     (λ c κs.
     let result = c.before.before.before in
     let round = result_round t result in
     let start = condition_call t round in
-    let part = parts.condition_pattern_part (condition_file t round) start.pre.1.1 start.args.s (condition_at t round) (condition_owned t round) in
-    let placed = result.before.before.condition-result-at.ensures in
-    let sized = c.before.condition_result_size.ensures in (
-      omega (arith, start.pre.0),
-      (start.pre.1.0, start.pre.1.1, rw (placed, sized, c.condition-pattern.ensures) part, start.pre.1.3),
+    let part = parts.condition_pattern_part_lem (condition_file t round) start.requires.1.1 start.args.s (condition_at t round) (condition_owned t round) in
+    let placed = result.condition_result_at-at.ensures in
+    let sized = c.condition_result_size.ensures in (
+      omega (arith, start.requires.0),
+      (start.requires.1.0, start.requires.1.1, rw (placed, sized, c.condition_pattern.ensures) part, start.requires.1.3),
     ))
     (λ c.
     let pattern = c.before in
     let round = pattern_round t pattern in
     let start = condition_call t round in
-    let loop = round.before.loop in
-    let the_if1 = pattern.before.before.before.if1 in
-    let left = loop.inv.3 ∙ steps.conditions_next (condition_file t round) start.args.s _ _ loop.i start.args.depth round.loop-test.taken in
+    let loop = round.loop-i in
+    let the_if1 = pattern.if-not-run_depth in
+    let left = loop.inv.3 ∙ steps.conditions_next (condition_file t round) start.args.s _ _ loop.i start.args.depth round.loop-i-test.taken in
     let result = sym (result_is t (pattern_result t pattern)) ∙ not-false _ the_if1.false in
-    sym (rw (result, sym (pattern_is t pattern) ∙ not-true _ c.if2.true) at left))
+    sym (rw (result, sym (pattern_is t pattern) ∙ c.if-not-run_depth-2.true) at left))
     (λ c. omega arith)
     (λ c. omega arith)
     (λ c.
     let pattern = c.before in
     let round = pattern_round t pattern in
     let start = condition_call t round in
-    let loop = round.before.loop in
-    let the_if1 = pattern.before.before.before.if1 in
-    let left = loop.inv.3 ∙ steps.conditions_next (condition_file t round) start.args.s _ _ loop.i start.args.depth round.loop-test.taken in
+    let loop = round.loop-i in
+    let the_if1 = pattern.if-not-run_depth in
+    let left = loop.inv.3 ∙ steps.conditions_next (condition_file t round) start.args.s _ _ loop.i start.args.depth round.loop-i-test.taken in
     let result = sym (result_is t (pattern_result t pattern)) ∙ not-false _ the_if1.false in
-    (loop.inv.0, loop.inv.1, omega arith, rw (result, sym (pattern_is t pattern) ∙ not-false _ c.if2.false) at left))
+    (loop.inv.0, loop.inv.1, omega arith, rw (result, sym (pattern_is t pattern) ∙ c.if-not-run_depth-2.false) at left))
     (λ c.
     let start = c.before.before.before.before.before in
-    let loop = c.before.loop in
-    let the_first_condition = c.before.before.before.first_condition in
+    let loop = c.loop-i in
+    let the_first_condition = c.first_condition-first in
     let file = file_of start.args.law.now in
     sym (loop.invariant.3
-    ∙ steps.conditions_same file start.args.s _ 0 _ (the_first_condition.result + loop.i) start.args.depth (omega (arith, c.loop-test.false)) refl
+    ∙ steps.conditions_same file start.args.s _ 0 _ (the_first_condition.result + loop.i) start.args.depth (omega (arith, c.loop-i-test.false)) refl
     ∙ steps.conditions_none file start.args.s _ start.args.depth)))
     (λ t. run-depth-lts.spec (
       word-at-reads.Asked,
@@ -401,78 +401,78 @@ pub +conditions-depth-run-depth-sentence-depth-sentences-depth-term-depth-spec :
     run-depth-μ-loop
     (λ c.
     let start = c.before.before.before in
-    sym (steps.run_none (file_of start.args.law.now) start.args.at start.args.depth start.args.part.now c.if1.true))
+    sym (steps.run_none (file_of start.args.law.now) start.args.at start.args.depth start.args.part.now c.if-not-run_depth.true))
     (λ c.
     let start = c.before.before.before.before in
     sym
     (steps.run_over (file_of start.args.law.now) start.args.at start.args.depth start.args.part.now
-    c.before.if1.false (omega (arith, c.if2.true))))
+    c.if-not-run_depth.false (omega (arith, c.if-not-run_depth-2.true))))
     (λ c.
     let start = c.before.before.before.before in
     steps.left_whole (file_of start.args.law.now) start.args.at start.args.depth start.args.part.now start.requires.1.2)
-    (λ c. omega (arith, c.loop.invariant.within))
-    (λ c. omega (arith, c.before.loop.invariant.within))
+    (λ c. omega (arith, c.loop-i.invariant.within))
+    (λ c. omega (arith, c.loop-i.invariant.within))
     (λ c κs.
     let start = c.before.before.before.before.before.before in
-    omega (arith, steps.left_room (file_of start.args.law.now) start.requires.1.1 c.before.loop.invariant c.loop-test.true))
+    omega (arith, steps.left_room (file_of start.args.law.now) start.requires.1.1 c.loop-i.invariant c.loop-i-test.true))
     (λ c.
-    let the_loop = c.before.before.before.loop in
+    let the_loop = c.loop-i in
     omega (arith, the_loop.invariant.within))
-    (λ c. omega (arith, c.before.before.loop-test.true))
+    (λ c. omega (arith, c.loop-i-test.true))
     (λ c.
-    let the_if2 = c.before.before.before.before.if2 in
-    let the_loop = c.before.before.before.loop in
+    let the_if2 = c.if-not-run_depth-2 in
+    let the_loop = c.loop-i in
     let start = c.before.before.before.before.before.before.before.before in
-    steps.left_leaf _ start.requires.1.1 the_loop.invariant c.before.before.loop-test.true
-    (omega (arith, the_if2.false)) c.before.word_at.ensures c.if3.true)
+    steps.left_leaf _ start.requires.1.1 the_loop.invariant c.loop-i-test.true
+    (omega (arith, the_if2.false)) c.word_at.ensures c.if-word_at-lt6.true)
     (λ c.
-    let the_loop = c.before.before.before.loop in
+    let the_loop = c.loop-i in
     omega (arith, the_loop.invariant.within))
     (λ c.
-    let the_loop = c.before.before.before.loop in
+    let the_loop = c.loop-i in
     the_loop.invariant.within)
     (λ c.
-    let the_loop = c.before.before.before.loop in
+    let the_loop = c.loop-i in
     omega (arith, the_loop.invariant.within))
     (λ c. search rules)
     (λ c.
-    let the_loop = c.before.before.before.before.loop in
+    let the_loop = c.loop-i in
     let start = c.before.before.before.before.before.before.before.before.before in
     omega (arith, the_loop.invariant.part.inside, laws.terms_limit _ _ start.requires.1.0))
     (λ c κs.
-    let the_loop_test = c.before.before.before.loop-test in
-    let the_if2 = c.before.before.before.before.before.if2 in
+    let the_loop_test = c.loop-i-test in
+    let the_if2 = c.if-not-run_depth-2 in
     let start = c.before.before.before.before.before.before.before.before.before in
-    let the_loop = c.before.before.before.before.loop in
+    let the_loop = c.loop-i in
     let some = steps.left_some _ start.requires.1.1 the_loop.invariant the_loop_test.true in (
       omega (arith, start.requires.0),
       (start.requires.1.0, start.requires.1.1, the_loop.invariant.part, some, omega (arith, the_if2.false)),
     ))
-    (λ c. let the_loop = c.before.before.before.before.before.before.loop in
-    let the_loop_test = c.before.before.before.before.before.loop-test in
+    (λ c. let the_loop = c.loop-i in
+    let the_loop_test = c.loop-i-test in
     let start = c.before.before.before.before.before.before.before.before.before.before.before in
-    let over = sym c.before.term-depth.ensures ∙ not-true _ c.if4.true in
+    let over = sym c.term_depth.ensures ∙ c.if-not-term_depth.true in
     steps.left_over _ start.requires.1.1 the_loop.invariant the_loop_test.true over)
-    (λ c κs. let the_loop = c.before.before.before.before.before.before.loop in
-    let the_loop_test = c.before.before.before.before.before.loop-test in
+    (λ c κs. let the_loop = c.loop-i in
+    let the_loop_test = c.loop-i-test in
     let start = c.before.before.before.before.before.before.before.before.before.before.before in
     omega (arith, steps.left_some (file_of start.args.law.now) start.requires.1.1 the_loop.invariant the_loop_test.true))
     (λ c. omega arith)
     (λ c. omega arith)
-    (λ c. let the_loop = c.before.before.before.before.before.before.before.loop in
-    let the_loop_test = c.before.before.before.before.before.before.loop-test in
+    (λ c. let the_loop = c.loop-i in
+    let the_loop_test = c.loop-i-test in
     let start = c.before.before.before.before.before.before.before.before.before.before.before.before in
-    omega (arith, steps.left_end (file_of start.args.law.now) start.requires.1.1 the_loop.invariant the_loop_test.true c.word-at2.ensures))
-    (λ c. let the_loop_test = c.before.before.before.before.before.before.loop-test in
+    omega (arith, steps.left_end (file_of start.args.law.now) start.requires.1.1 the_loop.invariant the_loop_test.true c.word_at-else-word_at-lt6.ensures))
+    (λ c. let the_loop_test = c.loop-i-test in
     omega (arith, the_loop_test.true))
-    (λ c. let the_loop = c.before.before.before.before.before.before.before.loop in
-    let the_loop_test = c.before.before.before.before.before.before.loop-test in
+    (λ c. let the_loop = c.loop-i in
+    let the_loop_test = c.loop-i-test in
     let start = c.before.before.before.before.before.before.before.before.before.before.before.before in
-    let within = sym c.before.before.term-depth.ensures ∙ not-false _ c.before.if4.false in
-    steps.left_after _ start.requires.1.1 the_loop.invariant the_loop_test.true c.word-at2.ensures within)
+    let within = sym c.term_depth.ensures ∙ c.if-not-term_depth.false in
+    steps.left_after_lem _ start.requires.1.1 the_loop.invariant the_loop_test.true c.word_at-else-word_at-lt6.ensures within)
     (λ c.
     let start = c.before.before.before.before.before.before in
-    steps.left_none (file_of start.args.law.now) start.requires.1.1 c.before.loop.invariant c.loop-test.false))
+    steps.left_none (file_of start.args.law.now) start.requires.1.1 c.loop-i.invariant c.loop-i-test.false))
     (λ t. sentence-depth-lts.spec (
       pattern_reads.Asked,
       pattern_reads.Learnt,
@@ -489,36 +489,36 @@ pub +conditions-depth-run-depth-sentence-depth-sentences-depth-term-depth-spec :
     )
     (sentence_depth_at t)
     sentence_depth.Post
-    (λ c κs. (c.before.requires.1.0, c.before.requires.1.2))
+    (λ c κs. (c.requires.1.0, c.requires.1.2))
     (λ c κs.
     let start = c.before.before in
     (start.requires.1.0, le_of_lt start.requires.1.2))
     (λ c κs.
     let start = c.before.before.before in
-    let part = parts.pattern_part (file_of start.args.law.now) start.requires.1.1 start.args.s start.requires.1.2 in (
+    let part = parts.pattern_part_lem (file_of start.args.law.now) start.requires.1.1 start.args.s start.requires.1.2 in (
       omega (arith, start.requires.0),
-      (start.requires.1.0, start.requires.1.1, rw (c.pattern_at.ensures, c.before.pattern.ensures) part, start.requires.1.3),
+      (start.requires.1.0, start.requires.1.1, rw (c.pattern_at.ensures, c.pattern.ensures) part, start.requires.1.3),
     ))
     (λ c.
     let start = c.before.before.before.before.before in
-    let the_pattern_at = c.before.before.pattern_at in
-    let the_pattern = c.before.before.before.pattern in
+    let the_pattern_at = c.pattern_at in
+    let the_pattern = c.pattern in
     let step = steps.sentence_step _ start.requires.1.1 start.args.s start.args.depth start.requires.1.2 in
-    let pattern = rw (the_pattern_at.ensures, the_pattern.ensures) at c.before.run-depth.ensures in
-    sym (rw (sym pattern ∙ not-true _ c.if1.true) at step))
+    let pattern = rw (the_pattern_at.ensures, the_pattern.ensures) at c.run_depth.ensures in
+    sym (rw (sym pattern ∙ c.if-not-run_depth.true) at step))
     (λ c κs.
     let start = c.before.before.before.before.before in
     (omega (arith, start.requires.0), (start.requires.1.0, start.requires.1.1, start.requires.1.2, start.requires.1.3)))
     (λ c.
     let start = c.before.before.before.before.before.before.before in
-    let the_pattern_at = c.before.before.before.before.pattern_at in
-    let the_pattern = c.before.before.before.before.before.pattern in
-    let the_run_depth = c.before.before.before.run-depth in
-    let the_if1 = c.before.before.if1 in
+    let the_pattern_at = c.pattern_at in
+    let the_pattern = c.pattern in
+    let the_run_depth = c.run_depth in
+    let the_if1 = c.if-not-run_depth in
     let step = steps.sentence_step _ start.requires.1.1 start.args.s start.args.depth start.requires.1.2 in
     let pattern = rw (the_pattern_at.ensures, the_pattern.ensures) at the_run_depth.ensures in
-    let conditions = c.before.conditions-depth.ensures in
-    sym (rw (sym pattern ∙ not-false _ the_if1.false, sym conditions ∙ not-true _ c.if2.true) at step))
+    let conditions = c.conditions_depth.ensures in
+    sym (rw (sym pattern ∙ not-false _ the_if1.false, sym conditions ∙ c.if-not-run_depth-2.true) at step))
     (λ c κs.
     let start = c.before.before.before.before.before.before.before in
     (start.requires.1.0, start.requires.1.2))
@@ -527,23 +527,23 @@ pub +conditions-depth-run-depth-sentence-depth-sentences-depth-term-depth-spec :
     (start.requires.1.0, start.requires.1.2))
     (λ c κs.
     let start = c.before.before.before.before.before.before.before.before.before in
-    let part = parts.result_part (file_of start.args.law.now) start.requires.1.1 start.args.s start.requires.1.2 in (
+    let part = parts.result_part_lem (file_of start.args.law.now) start.requires.1.1 start.args.s start.requires.1.2 in (
       omega (arith, start.requires.0),
-      (start.requires.1.0, start.requires.1.1, rw (c.result-at.ensures, c.before.result.ensures) part, start.requires.1.3),
+      (start.requires.1.0, start.requires.1.1, rw (c.result_at.ensures, c.result.ensures) part, start.requires.1.3),
     ))
     (λ c.
     let start = c.before.before.before.before.before.before.before.before.before.before in
-    let the_result = c.before.before.result in
-    let the_pattern_at = c.before.before.before.before.before.before.before.pattern_at in
-    let the_pattern = c.before.before.before.before.before.before.before.before.pattern in
-    let the_run_depth = c.before.before.before.before.before.before.run-depth in
-    let the_if1 = c.before.before.before.before.before.if1 in
-    let the_conditions_depth = c.before.before.before.before.conditions-depth in
-    let the_if2 = c.before.before.before.if2 in
+    let the_result = c.result in
+    let the_pattern_at = c.pattern_at in
+    let the_pattern = c.pattern in
+    let the_run_depth = c.run_depth in
+    let the_if1 = c.if-not-run_depth in
+    let the_conditions_depth = c.conditions_depth in
+    let the_if2 = c.if-not-run_depth-2 in
     let step = steps.sentence_step _ start.requires.1.1 start.args.s start.args.depth start.requires.1.2 in
     let pattern = rw (the_pattern_at.ensures, the_pattern.ensures) at the_run_depth.ensures in
     let conditions = the_conditions_depth.ensures in
-    let result = rw (c.before.result-at.ensures, the_result.ensures) at c.run-depth2.ensures in
+    let result = rw (c.result_at.ensures, the_result.ensures) at c.run_depth-in-loop-i.ensures in
     result ∙ sym (rw (sym pattern ∙ not-false _ the_if1.false, sym conditions ∙ not-false _ the_if2.false) at step)))
     (λ t. sentences-depth-lts.spec
     (sentence_depth_below t, sentence_depth.Post)
@@ -556,36 +556,36 @@ pub +conditions-depth-run-depth-sentence-depth-sentences-depth-term-depth-spec :
     (omega arith, steps.sentences_same (file_of start.args.law.now) _ _ _ _ start.args.depth (omega arith) (omega arith)))
     (λ c.
     let start = c.before.before.before in
-    omega (arith, laws.sentences_limit _ _ start.requires.1.0, start.requires.1.2, c.loop-test.true))
+    omega (arith, laws.sentences_limit _ _ start.requires.1.0, start.requires.1.2, c.loop-i-test.true))
     (λ c κs.
     let start = c.before.before.before in (
       omega (arith, start.requires.0),
-      (start.requires.1.0, start.requires.1.1, omega (arith, start.requires.1.2, c.loop-test.true), start.requires.1.3),
+      (start.requires.1.0, start.requires.1.1, omega (arith, start.requires.1.2, c.loop-i-test.true), start.requires.1.3),
     ))
     (λ c.
     let start = c.before.before.before.before.before in
-    let loop = c.before.before.before.loop in
-    let the_loop_test = c.before.before.loop-test in
+    let loop = c.loop-i in
+    let the_loop_test = c.loop-i-test in
     let next =
     steps.sentences_next _ start.requires.1.1 start.args.count start.args.first loop.i start.args.depth
     the_loop_test.true start.requires.1.2 in
-    sym (rw (sym c.before.sentence_depth.ensures ∙ not-true _ c.if1.true) at (loop.invariant.1 ∙ next)))
+    sym (rw (sym c.sentence_depth.ensures ∙ c.if-not-run_depth.true) at (loop.invariant.1 ∙ next)))
     (λ c. omega arith)
     (λ c. omega arith)
     (λ c.
     let start = c.before.before.before.before.before in
-    let loop = c.before.before.before.loop in
-    let the_loop_test = c.before.before.loop-test in
+    let loop = c.loop-i in
+    let the_loop_test = c.loop-i-test in
     let next =
     steps.sentences_next _ start.requires.1.1 start.args.count start.args.first loop.i start.args.depth
     the_loop_test.true start.requires.1.2 in
-    (omega arith, rw (sym c.before.sentence_depth.ensures ∙ not-false _ c.if1.false) at (loop.invariant.1 ∙ next)))
+    (omega arith, rw (sym c.sentence_depth.ensures ∙ c.if-not-run_depth.false) at (loop.invariant.1 ∙ next)))
     (λ c.
     let start = c.before.before.before in
-    let loop = c.before.loop in
+    let loop = c.loop-i in
     let file = file_of start.args.law.now in
     sym (loop.invariant.1
-    ∙ steps.sentences_same file _ 0 _ (start.args.first + loop.i) start.args.depth (omega (arith, c.loop-test.false)) refl
+    ∙ steps.sentences_same file _ 0 _ (start.args.first + loop.i) start.args.depth (omega (arith, c.loop-i-test.false)) refl
     ∙ steps.sentences_none file _ start.args.depth)))
     λ t. term-depth-lts.spec (
       end-of-reads.Asked,
@@ -604,7 +604,7 @@ pub +conditions-depth-run-depth-sentence-depth-sentences-depth-term-depth-spec :
     (term_depth_at t)
     term-depth.Post
     (λ c κs.
-    let the_pre = c.before.before.requires in
+    let the_pre = c.requires in
     the_pre.1.3)
     (λ c. omega arith)
     (λ c. omega arith)
@@ -620,27 +620,27 @@ pub +conditions-depth-run-depth-sentence-depth-sentences-depth-term-depth-spec :
     let start = c.before.before.before.before in
     let contents = parts.contents_part _ start.requires.1.1 start.args.at start.args.part.now start.requires.1.2 start.requires.1.3 in (
       omega (arith, start.requires.0, start.requires.1.4),
-      (start.requires.1.0, start.requires.1.1, rw c.before.end_of_lem.ensures.0 contents, omega (arith, start.requires.1.4)),
+      (start.requires.1.0, start.requires.1.1, rw c.end_of-end.ensures.0 contents, omega (arith, start.requires.1.4)),
     ))
     (λ c.
-    let the_end_of = c.before.before.before.end_of_lem in
+    let the_end_of = c.end_of-end in
     let start = c.before.before.before.before.before.before in
-    let over = not-true _ c.if1.true in
+    let over = c.if-not-run_depth.true in
     steps.term_over _ start.requires.1.1 start.requires.1.2 start.requires.1.3 start.requires.1.4 the_end_of.ensures.0
-    c.before.run-depth.ensures over)
+    c.run_depth.ensures over)
     (λ c κs.
     let start = c.before.before.before.before.before.before in
     omega (arith, start.requires.1.3))
     (λ c κs. search rules)
     (λ c.
-    let the_run_depth = c.before.before.before.before.run-depth in
-    let the_if1 = c.before.before.before.if1 in
-    let the_end_of = c.before.before.before.before.before.before.end_of_lem in
+    let the_run_depth = c.run_depth in
+    let the_if1 = c.if-not-run_depth in
+    let the_end_of = c.end_of-end in
     let start = c.before.before.before.before.before.before.before.before.before in
     let inside = not-false _ the_if1.false in
-    let counted = c.before.sentences-in.ensures ∙ ap sentences_in c.before.before.term-at.ensures in
+    let counted = c.sentences_in-count.ensures ∙ ap sentences_in c.term_at.ensures in
     steps.term_alone _ start.requires.1.1 start.requires.1.2 start.requires.1.3 start.requires.1.4 the_end_of.ensures.0
-    the_run_depth.ensures inside counted c.if2.true)
+    the_run_depth.ensures inside counted c.if-not-run_depth-2.true)
     (λ c κs.
     let start = c.before.before.before.before.before.before.before.before.before in
     let inside = parts.part_at _ start.requires.1.1 start.args.at start.args.part.now start.requires.1.2 start.requires.1.3 in
@@ -649,27 +649,27 @@ pub +conditions-depth-run-depth-sentence-depth-sentences-depth-term-depth-spec :
     let start = c.before.before.before.before.before.before.before.before.before.before in
     omega (arith, start.requires.1.4))
     (λ c κs.
-    let the_term_at = c.before.before.before.term-at in
+    let the_term_at = c.term_at in
     let start = c.before.before.before.before.before.before.before.before.before.before in
     let indexed = start.requires.1.0 in
     let stands = parts.part_at _ start.requires.1.1 start.args.at start.args.part.now start.requires.1.2 start.requires.1.3 in
-    let first = c.block-first.ensures ∙ indexed.words.blocks start.args.at stands in
-    let counted = c.before.before.sentences-in.ensures ∙ ap sentences_in the_term_at.ensures in
+    let first = c.block_first.ensures ∙ indexed.words.blocks start.args.at stands in
+    let counted = c.sentences_in-count.ensures ∙ ap sentences_in the_term_at.ensures in
     let inside = parts.part_sentences _ start.requires.1.1 start.args.at start.args.part.now start.requires.1.2 start.requires.1.3 in (
       omega (arith, start.requires.0, start.requires.1.4),
       (start.requires.1.0, start.requires.1.1, rw (first, counted) inside, omega (arith, start.requires.1.4)),
     ))
     (λ c.
-    let the_term_at = c.before.before.before.before.term-at in
-    let the_sentences_in = c.before.before.before.sentences-in in
-    let the_if1 = c.before.before.before.before.before.if1 in
-    let the_end_of = c.before.before.before.before.before.before.before.before.end_of_lem in
-    let the_run_depth = c.before.before.before.before.before.before.run-depth in
+    let the_term_at = c.term_at in
+    let the_sentences_in = c.sentences_in-count in
+    let the_if1 = c.if-not-run_depth in
+    let the_end_of = c.end_of-end in
+    let the_run_depth = c.run_depth in
     let start = c.before.before.before.before.before.before.before.before.before.before.before in
     let indexed = start.requires.1.0 in
     let stands = parts.part_at _ start.requires.1.1 start.args.at start.args.part.now start.requires.1.2 start.requires.1.3 in
-    let first = c.before.block-first.ensures ∙ indexed.words.blocks start.args.at stands in
+    let first = c.block_first.ensures ∙ indexed.words.blocks start.args.at stands in
     let inside = not-false _ the_if1.false in
     let counted = the_sentences_in.ensures ∙ ap sentences_in the_term_at.ensures in
     steps.term_sentences _ start.requires.1.1 start.requires.1.2 start.requires.1.3 start.requires.1.4 the_end_of.ensures.0
-    the_run_depth.ensures inside counted first c.sentences-depth.ensures)
+    the_run_depth.ensures inside counted first c.sentences_depth.ensures)

@@ -16,24 +16,24 @@ use Rattle.law.proofs.DepthSteps as steps
 use Rattle.law.proofs.depth.depth_allowed.Statement.{statement}
 use Rattle.law.proofs.depth.depth_allowed.Tie as tie
 
-abbrev invariant_loop : tie.invariant_loop
+abbrev invariant_loop : tie.invariant-loop-f
 invariant_loop law index count f₀ f =
     (count ≡ (file_of law).functions.count)
     × (f ≤ count)
     × (leb (depth_of (tree_of (file_of law))) 32 ≡ steps.functions_within (file_of law) f)
 
-abbrev decreases_loop : tie.decreases_loop
+abbrev decreases_loop : tie.decreases-loop-f
 decreases_loop law index count f₀ f = count - f
 
 -- the places of the code: a round of the loop, its function's sentences found, and their depth known
 abbrev Round : Type 0
-Round = tie.In-loop invariant_loop decreases_loop
+Round = tie.In-loop-f invariant_loop decreases_loop
 
 abbrev Found : Type 0
-Found = tie.After-first-sentence2 invariant_loop decreases_loop
+Found = tie.After-first_sentence invariant_loop decreases_loop
 
 abbrev Known : Type 0
-Known = tie.After-sentences-depth invariant_loop decreases_loop
+Known = tie.After-sentences_depth invariant_loop decreases_loop
 
 -- the call, from a round
 abbrev begun : Round → tie.Start invariant_loop decreases_loop
@@ -44,25 +44,25 @@ abbrev file : Round → File
 file c = file_of (begun c).args.law.now
 
 abbrev function : Round → ℕ
-function c = c.before.loop.f
+function c = c.loop-f.f
 
 is_function : (c : Round) → function c < (file c).functions.count
-is_function c = omega (arith, c.before.loop.invariant.0, c.loop-test.true)
+is_function c = omega (arith, c.loop-f.invariant.0, c.loop-f-test.true)
 
 -- the function's sentences, as the index has them
-first_is_lem : (c : Found) → c.before.first_sentence.result ≡ first_sentence (file c.before.before) (function c.before.before)
+first_is_lem : (c : Found) → c.first_sentence-first.result ≡ first_sentence (file c.before.before) (function c.before.before)
 first_is_lem c =
     let round = c.before.before in
-    c.before.first_sentence.ensures ∙ (begun round).requires.0.words.first_sentences (function round) (le_of_lt (is_function round))
+    c.first_sentence-first.ensures ∙ (begun round).requires.0.words.first_sentences (function round) (le_of_lt (is_function round))
 
-next_is : (c : Found) → c.first-sentence2.result
+next_is : (c : Found) → c.first_sentence.result
     ≡ first_sentence (file c.before.before) (function c.before.before) + sentences_of (file c.before.before) (function c.before.before)
 next_is c =
     let round = c.before.before in
-    c.first-sentence2.ensures ∙ laws.sentences_before _ _ (begun round).requires.0 (function round) (is_function round)
+    c.first_sentence.ensures ∙ laws.sentences_before _ _ (begun round).requires.0 (function round) (is_function round)
 
 -- what the code knows of their depth
-depth_is : (c : Known) → c.sentences-depth.result
+depth_is : (c : Known) → c.sentences_depth.result
     ≡ steps.sentences_within
     (file c.before.before.before)
     (sentences_of (file c.before.before.before) (function c.before.before.before))
@@ -70,7 +70,7 @@ depth_is : (c : Known) → c.sentences-depth.result
     0
 depth_is c =
     let round = c.before.before.before in
-    c.sentences-depth.ensures
+    c.sentences_depth.ensures
     ∙ steps.sentences_same (file round) _ _ _ _ 0 (omega (arith, first_is_lem c.before, next_is c.before)) (first_is_lem c.before)
 
 pub depth_allowed_spec : {M : Type 1} → statement M
@@ -82,7 +82,7 @@ depth_allowed_spec =
     (λ c κs. search rules)
     (λ c.
     let start = c.before.before in
-    (c.functions.ensures ∙ start.requires.0.words.functions, omega arith, steps.functions_start (file_of start.args.law.now)))
+    (c.functions-count.ensures ∙ start.requires.0.words.functions, omega arith, steps.functions_start_lem (file_of start.args.law.now)))
     (λ c κs. omega (arith, laws.functions_limit _ _ (begun c).requires.0, is_function c))
     (λ c. omega (arith, laws.functions_limit _ _ (begun c.before).pre.0, is_function c.before))
     (λ c κs. omega (arith, laws.functions_limit _ _ (begun c.before).pre.0, is_function c.before))
@@ -94,16 +94,16 @@ depth_allowed_spec =
     (asked.0, asked.1, omega (arith, inside, first_is_lem c, next_is c), omega arith))
     (λ c.
     let round = c.before.before.before.before in
-    let left = round.before.loop.invariant.2 ∙ steps.functions_next (file round) (function round) (is_function round) in
-    sym (rw (sym (depth_is c.before) ∙ not-true _ c.if1.true) at left))
+    let left = round.loop-f.invariant.2 ∙ steps.functions_next (file round) (function round) (is_function round) in
+    sym (rw (sym (depth_is c.before) ∙ c.if-not-sentences_depth.true) at left))
     (λ c. omega arith)
     (λ c. omega arith)
     (λ c.
     let round = c.before.before.before.before in
-    let inv = round.before.loop.invariant in
+    let inv = round.loop-f.invariant in
     let left = inv.2 ∙ steps.functions_next (file round) (function round) (is_function round) in
-    (inv.0, omega arith, rw (sym (depth_is c.before) ∙ not-false _ c.if1.false) at left))
+    (inv.0, omega arith, rw (sym (depth_is c.before) ∙ c.if-not-sentences_depth.false) at left))
     (λ c.
     let start = c.before.before.before.before in
-    let loop = c.before.loop in
-    sym (loop.invariant.2 ∙ steps.functions_none (file_of start.args.law.now) loop.f (omega (arith, loop.invariant.0, c.loop-test.false)))))
+    let loop = c.loop-f in
+    sym (loop.invariant.2 ∙ steps.functions_none (file_of start.args.law.now) loop.f (omega (arith, loop.invariant.0, c.loop-f-test.false)))))

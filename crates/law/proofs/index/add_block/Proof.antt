@@ -15,7 +15,7 @@ add_block_spec =
     (λ c.
     let start = c.before.before.before in
     let a = start.args in
-    let none = block_none a.terms.now a.t _ c.before.word_at.ensures c.if1.true in
+    let none = block_none a.terms.now a.t _ c.word_at.ensures c.if-word_at-ne8.true in
     let next = sum_next (block_word a.terms.now) a.t a.sum 0 start.requires.2 none in
     (omega (arith, next), omega (arith, start.requires.3)))
     (λ c. search rules)
@@ -27,5 +27,5 @@ add_block_spec =
     (λ c.
     let start = c.before.before.before.before in
     let a = start.args in
-    let word = block_word_lem a.terms.now a.t _ _ c.before.before.word_at.ensures c.word-at2.ensures c.before.if1.false in
+    let word = block_word_lem a.terms.now a.t _ _ c.word_at.ensures c.word_at-2.ensures c.if-word_at-ne8.false in
     (sum_next (block_word a.terms.now) a.t a.sum _ start.requires.2 word, omega (arith, start.requires.3))))

@@ -10,12 +10,12 @@ use Rattle.law.proofs.Tables.{table_none, table_next}
 use Rattle.law.proofs.index.fill_blocks.Statement.{statement}
 use Rattle.law.proofs.index.fill_blocks.Tie as tie
 
-abbrev invariant_loop : tie.invariant_loop
+abbrev invariant_loop : tie.invariant-loop-t
 invariant_loop index₀ from terms count first sum₀ t₀ index sum t =
     (t ≤ count) × (sum ≤ 4294967295 * t) × (length index ≡ 972) × (sum ≡ block_sum terms t)
     × Table index₀ index from t (λ n. as_word (first + block_sum terms n))
 
-abbrev decreases_loop : tie.decreases_loop
+abbrev decreases_loop : tie.decreases-loop-t
 decreases_loop index₀ from terms count first sum₀ t₀ index sum t = count - t
 
 pub fill_blocks_spec : {M : Type 1} → statement M
@@ -24,26 +24,26 @@ fill_blocks_spec =
     (tie.spec
     invariant_loop
     decreases_loop
-    (λ c. (omega arith, omega arith, c.before.requires.3, sym (total_none _), table_none _ _ _))
+    (λ c. (omega arith, omega arith, c.requires.3, sym (total_none _), table_none _ _ _))
     (λ c. search rules)
     (λ c. search rules)
     (λ c. search rules)
     (λ c. search rules)
     (λ c. omega arith)
-    (λ c κs. let l = c.before.loop in (omega arith, omega arith, l.invariant.3, l.invariant.1))
+    (λ c κs. let l = c.loop-t in (omega arith, omega arith, l.invariant.3, l.invariant.1))
     (λ c. search rules)
     (λ c. omega arith)
     (λ c.
-    let a = c.before.before.before.before.args in
-    let l = c.before.before.loop in (
+    let a = c.args in
+    let l = c.loop-t in (
       omega arith,
-      c.add-block.ensures.1,
+      c.add_block-sum.ensures.1,
       length-set l.index _ _ ∙ l.invariant.2,
-      c.add-block.ensures.0,
+      c.add_block-sum.ensures.0,
       table_next _ l.index a.from l.t _ _ l.invariant.4 (omega arith) (rw l.invariant.3),
     ))
     (λ c.
-    let the_args = c.before.before.before.args in
-    let l = c.before.loop in
+    let the_args = c.args in
+    let l = c.loop-t in
     let e : l.t ≡ the_args.count = omega arith in
     (rw e at l.invariant.3, omega arith, l.invariant.2, rw e at l.invariant.4)))

@@ -37,10 +37,10 @@ fill_header_spec =
     (λ c. search rules)
     (λ c. search rules)
     (λ c. search rules)
-    (λ c. let the_pre = c.before.before.before.before.before.before.before.before.before.before.before.before.before.requires in
+    (λ c. let the_pre = c.requires in
     omega (arith, the_pre.0))
     (λ c. search rules)
-    (λ c. let the_pre = c.before.before.before.before.before.before.before.before.before.before.before.before.before.before.requires in
+    (λ c. let the_pre = c.requires in
     omega (arith, the_pre.0))
     (λ c. search rules)
     (λ c.

@@ -11,17 +11,17 @@ use Rattle.law.proofs.Tables.{record_fits, sum_next, table_first, table_next, ta
 use Rattle.law.proofs.index.fill_sums.Statement.{statement}
 use Rattle.law.proofs.index.fill_sums.Tie as tie
 
-abbrev invariant_loop : tie.invariant_loop
+abbrev invariant_loop : tie.invariant-loop-i
 invariant_loop index₀ from records count size at sum₀ i₀ index sum i =
     (i ≤ count) × (sum ≤ 4294967295 * i) × (length index ≡ 972) × (sum ≡ word_sum records size at i)
     × Table index₀ index from (i + 1) (λ n. as_word (word_sum records size at n))
 
-abbrev decreases_loop : tie.decreases_loop
+abbrev decreases_loop : tie.decreases-loop-i
 decreases_loop index₀ from records count size at sum₀ i₀ index sum i = count - i
 
 -- the record that is looked at
-inside : (c : tie.In-loop invariant_loop decreases_loop) → (let a = c.before.before.before.args in a.size * c.before.loop.i + a.size ≤ length a.records.now)
-inside c = let start = c.before.before.before in record_fits _ _ start.args.count _ c.loop-test.true start.requires.0
+inside : (c : tie.In-loop-i invariant_loop decreases_loop) → (let a = c.args in a.size * c.loop-i.i + a.size ≤ length a.records.now)
+inside c = let start = c.before.before.before in record_fits _ _ start.args.count _ c.loop-i-test.true start.requires.0
 
 pub fill_sums_spec : {M : Type 1} → statement M
 fill_sums_spec =
@@ -32,10 +32,10 @@ fill_sums_spec =
     (λ c. search rules)
     (λ c. omega arith)
     (λ c.
-    let a = c.before.args in (
+    let a = c.args in (
       omega arith,
       omega arith,
-      length-set a.index.now a.from 0 ∙ c.before.requires.3,
+      length-set a.index.now a.from 0 ∙ c.requires.3,
       sym (total_none _),
       table_first a.index.now a.from _ 0 (omega arith) (ap as_word (sym (total_none _))),
     ))
@@ -51,8 +51,8 @@ fill_sums_spec =
     (λ c. omega arith)
     (λ c. omega arith)
     (λ c.
-    let a = c.before.before.before.before.args in
-    let l = c.before.before.loop in
+    let a = c.args in
+    let l = c.loop-i in
     let e = sum_next (λ k. word_at a.records.now (a.size * k + a.at)) l.i l.sum c.word_at.result l.invariant.3 c.word_at.ensures in (
       omega arith,
       omega arith,
@@ -61,7 +61,7 @@ fill_sums_spec =
       table_next _ l.index a.from (l.i + 1) _ _ l.invariant.4 (omega arith) (ap as_word e),
     ))
     (λ c.
-    let the_args = c.before.before.before.args in
-    let l = c.before.loop in
+    let the_args = c.args in
+    let l = c.loop-i in
     let e : l.i ≡ the_args.count = omega arith in
     (rw e at l.invariant.3, omega arith, l.invariant.2, table_over _ _ _ _ _ _ (rw e at l.invariant.4))))

@@ -9,13 +9,13 @@ use Rattle.law.proofs.index.used_exactly.Statement.{statement}
 use Rattle.law.proofs.index.used_exactly.Tie as tie
 
 -- the first two tests, where their ways meet
-first_two : (c : tie.Joined1) → (let a = c.before.before.args in
-    c.if1.if2 ≡ eqb a.sentences a.sections.sentences && eqb a.conditions a.sections.conditions)
-first_two c = ⊎_elim (λ w. and_held _ _ _ (eq-eqb _ _ w.0.taken) w.2) (λ w. and_failed _ _ _ (ne_eqb _ _ w.0.left) w.1) c.if1.branch
+first_two : (c : tie.Joined-sentences-sections) → (let a = c.args in
+    c.if-sentences-sections.if-conditions-sections ≡ eqb a.sentences a.sections.sentences && eqb a.conditions a.sections.conditions)
+first_two c = ⊎_elim (λ w. and_held _ _ _ (eq-eqb _ _ w.0.taken) w.2) (λ w. and_failed _ _ _ (ne_eqb _ _ w.0.left) w.1) c.if-sentences-sections.branch
 
 pub used_exactly_spec : {M : Type 1} → statement M
 used_exactly_spec =
     tie.close
     (tie.spec
-    (λ c. and_held _ _ _ (sym (first_two c.before.before) ∙ c.before.if2.true) refl)
-    (λ c. and_failed _ _ _ (sym (first_two c.before) ∙ c.if2.false) (first_two c.before)))
+    (λ c. and_held _ _ _ (sym (first_two c.before.before) ∙ c.if-conditions-sections.true) refl)
+    (λ c. and_failed _ _ _ (sym (first_two c.before) ∙ c.if-conditions-sections.false) (first_two c.before)))

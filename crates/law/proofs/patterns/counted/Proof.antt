@@ -12,30 +12,30 @@ counted_spec =
     (λ c. search rules)
     (λ c κs. search rules)
     (λ c.
-    let the_pre = c.before.before.before.before.requires in
-    let a = c.before.before.before.before.args in
-    let none = variable_below a.text.now a.pattern.now a.i _ c.before.word_at.ensures c.if1.true in
+    let the_pre = c.requires in
+    let a = c.args in
+    let none = variable_below a.text.now a.pattern.now a.i _ c.word_at-kind.ensures c.if-kind-lt3.true in
     (distinct_skip a.text.now a.pattern.now a.count a.i the_pre.2 none, omega arith))
-    (λ c. let the_pre = c.before.before.before.before.before.requires in
-    let a = c.before.before.before.before.before.args in
-    let none = variable_above a.text.now a.pattern.now a.i _ c.before.before.word_at.ensures c.if2.true in
+    (λ c. let the_pre = c.requires in
+    let a = c.args in
+    let none = variable_above a.text.now a.pattern.now a.i _ c.word_at-kind.ensures c.if-kind-gt5.true in
     (distinct_skip a.text.now a.pattern.now a.count a.i the_pre.2 none, omega arith))
     (λ c κs. search rules)
     (λ c.
-    let the_word_at = c.before.before.before.before.word_at in
-    let the_if1 = c.before.before.before.if1 in
-    let the_pre = c.before.before.before.before.before.before.before.requires in
-    let a = c.before.before.before.before.before.before.before.args in
+    let the_word_at = c.word_at-kind in
+    let the_if1 = c.if-kind-lt3 in
+    let the_pre = c.requires in
+    let a = c.args in
     let told =
     distinct_repeated a.text.now a.pattern.now a.count a.i _ _ the_pre.2 the_word_at.ensures the_if1.false
-    c.before.before.if2.false c.before.repeated.ensures c.if3.true in
+    c.if-kind-gt5.false c.repeated.ensures c.if-repeated.true in
     (told, omega arith))
     (λ c.
-    let the_word_at = c.before.before.before.before.word_at in
-    let the_if1 = c.before.before.before.if1 in
-    let the_pre = c.before.before.before.before.before.before.before.requires in
-    let a = c.before.before.before.before.before.before.before.args in
+    let the_word_at = c.word_at-kind in
+    let the_if1 = c.if-kind-lt3 in
+    let the_pre = c.requires in
+    let a = c.args in
     let told =
     distinct_new a.text.now a.pattern.now a.count a.i _ _ the_pre.2 the_word_at.ensures the_if1.false
-    c.before.before.if2.false c.before.repeated.ensures c.if3.false in
+    c.if-kind-gt5.false c.repeated.ensures c.if-repeated.false in
     (told, omega arith)))

@@ -17,4 +17,4 @@ index_at_spec =
     (λ c κs. search rules)
     (λ c. search rules)
     (λ c κs. search rules)
-    (λ c. c.name_in.ensures ∙ rw (c.before.before.word_at.ensures, c.before.word-at2.ensures)))
+    (λ c. c.name_in.ensures ∙ rw (c.word_at-start.ensures, c.word_at-len.ensures)))

@@ -9,13 +9,13 @@ use Rattle.law.proofs.PatternLaws.{few_records, distinct_start, distinct_end}
 use Rattle.law.proofs.patterns.pattern_allowed.Statement.{statement}
 use Rattle.law.proofs.patterns.pattern_allowed.Tie as tie
 
-abbrev invariant_loop : tie.invariant_loop
+abbrev invariant_loop : tie.invariant-loop-i
 invariant_loop text pattern count found₀ i₀ found i =
     (i ≤ count)
     × (found ≤ 32)
     × (distinct (variables_from text pattern count 0) ≡ found + distinct (variables_from text pattern (count - i) i))
 
-abbrev decreases_loop : tie.decreases_loop
+abbrev decreases_loop : tie.decreases-loop-i
 decreases_loop text pattern count found₀ i₀ found i = count - i
 
 pub pattern_allowed_spec : {M : Type 1} → statement M
@@ -24,19 +24,19 @@ pattern_allowed_spec =
     (tie.spec
     invariant_loop
     decreases_loop
-    (λ c. let a = c.before.before.before.args in
-    sym (few_records a.text.now a.pattern.now a.count 0 c.if1.true))
-    (λ c. let a = c.before.before.before.args in
+    (λ c. let a = c.args in
+    sym (few_records a.text.now a.pattern.now a.count 0 c.if-count-le32.true))
+    (λ c. let a = c.args in
     (omega arith, omega arith, distinct_start a.text.now a.pattern.now a.count))
-    (λ c κs. let p = c.before.before.before.before.before.requires in (p.0, p.1, c.loop-test.true))
+    (λ c κs. let p = c.requires in (p.0, p.1, c.loop-i-test.true))
     (λ c. omega arith)
     (λ c.
-    let a = c.before.before.before.before.before.before.before.args in
+    let a = c.args in
     sym (lt-leb (distinct (variables_from a.text.now a.pattern.now a.count 0)) 32 (omega arith)))
     (λ c. omega arith)
     (λ c. omega arith)
     (λ c. (omega arith, omega arith, omega arith))
-    (λ c. let a = c.before.before.before.before.before.args in
-    let loop = c.before.loop in
-    let all = distinct_end a.text.now a.pattern.now a.count loop.i loop.found _ c.loop-test.false loop.invariant.2 in
+    (λ c. let a = c.args in
+    let loop = c.loop-i in
+    let all = distinct_end a.text.now a.pattern.now a.count loop.i loop.found _ c.loop-i-test.false loop.invariant.2 in
     sym (rw all (le-leb _ _ loop.invariant.1))))

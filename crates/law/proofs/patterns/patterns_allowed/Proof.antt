@@ -13,10 +13,10 @@ use Rattle.law.proofs.BlockLaws.{sentences_fail, sentences_hold}
 use Rattle.law.proofs.patterns.patterns_allowed.Statement.{statement}
 use Rattle.law.proofs.patterns.patterns_allowed.Tie as tie
 
-abbrev invariant_loop : tie.invariant_loop
+abbrev invariant_loop : tie.invariant-loop-s
 invariant_loop law index count s₀ s = (s ≤ count) × (every s (λ i. leb (distinct (pattern_variables (file_of law) i)) 32) ≡ true)
 
-abbrev decreases_loop : tie.decreases_loop
+abbrev decreases_loop : tie.decreases-loop-s
 decreases_loop law index count s₀ s = count - s
 
 pub patterns_allowed_spec : {M : Type 1} → statement M
@@ -28,17 +28,17 @@ patterns_allowed_spec =
     decreases_loop
     (λ c κs. tt)
     (λ c. (omega arith, every_none _))
-    (λ c κs. let p = c.before.before.before.before.requires in (p.0, p.1, omega (arith, p.0.words.sentences, c.before.before.sentences.ensures)))
+    (λ c κs. let p = c.requires in (p.0, p.1, omega (arith, p.0.words.sentences, c.sentences-count.ensures)))
     (λ c.
-    let the_sentences = c.before.before.before.before.sentences in
+    let the_sentences = c.sentences-count in
     let start = c.before.before.before.before.before.before in
     sentences_fail _ _ start.requires.0 (λ s. leb (distinct (pattern_variables (file_of start.args.law.now) s)) 32) _ _ _
-    the_sentences.ensures c.before.before.loop-test.true c.before.sentence-pattern.ensures (not-true _ c.if1.true))
+    the_sentences.ensures c.loop-s-test.true c.sentence_pattern.ensures c.if-not-sentence_pattern.true)
     (λ c. omega arith)
     (λ c. omega arith)
     (λ c.
-    let the_loop = c.before.before.before.loop in
-    (omega arith, every_next the_loop.s _ the_loop.invariant.1 (sym c.before.sentence-pattern.ensures ∙ not-false _ c.if1.false)))
+    let the_loop = c.loop-s in
+    (omega arith, every_next the_loop.s _ the_loop.invariant.1 (sym c.sentence_pattern.ensures ∙ c.if-not-sentence_pattern.false)))
     (λ c.
-    let the_pre = c.before.before.before.before.requires in
-    sentences_hold _ _ the_pre.0 _ _ _ c.before.before.sentences.ensures c.before.loop.invariant.0 c.loop-test.false c.before.loop.invariant.1))
+    let the_pre = c.requires in
+    sentences_hold _ _ the_pre.0 _ _ _ c.sentences-count.ensures c.loop-s.invariant.0 c.loop-s-test.false c.loop-s.invariant.1))

@@ -9,13 +9,13 @@ use Rattle.law.proofs.PatternLaws.{occurs_here, occurs_next, occurs_end}
 use Rattle.law.proofs.patterns.repeated.Statement.{statement}
 use Rattle.law.proofs.patterns.repeated.Tie as tie
 
-abbrev invariant_loop : tie.invariant_loop
+abbrev invariant_loop : tie.invariant-loop-j
 invariant_loop text pattern count i j₀ j =
     (j ≤ count)
     × ((v : Variable) → variable_of text (term_at pattern (24 * i)) ≡ v ∷ []
     → occurs v (variables_from text pattern (count - (i + 1)) (i + 1)) ≡ occurs v (variables_from text pattern (count - j) j))
 
-abbrev decreases_loop : tie.decreases_loop
+abbrev decreases_loop : tie.decreases-loop-j
 decreases_loop text pattern count i j₀ j = count - j
 
 pub repeated_spec : {M : Type 1} → statement M
@@ -26,22 +26,22 @@ repeated_spec =
     decreases_loop
     (λ c. omega arith)
     (λ c. (omega arith, λ v e. refl))
-    (λ c κs. let p = c.before.before.before.before.requires in (p.0, (p.1.0, p.1.1, p.1.2, c.loop-test.true)))
+    (λ c κs. let p = c.requires in (p.0, (p.1.0, p.1.1, p.1.2, c.loop-j-test.true)))
     (λ c.
-    let the_loop = c.before.before.before.loop in
-    let a = c.before.before.before.before.before.before.args in
+    let the_loop = c.loop-j in
+    let a = c.args in
     λ v e.
-    let same = sym (c.before.same-variable.ensures v e) ∙ c.if1.true in
-    sym (the_loop.invariant.1 v e ∙ occurs_here a.text.now a.pattern.now a.count v the_loop.j c.before.before.loop-test.true same))
+    let same = sym (c.same_variable.ensures v e) ∙ c.if-same_variable.true in
+    sym (the_loop.invariant.1 v e ∙ occurs_here a.text.now a.pattern.now a.count v the_loop.j c.loop-j-test.true same))
     (λ c. omega arith)
     (λ c. omega arith)
     (λ c.
-    let the_loop = c.before.before.before.loop in
-    let a = c.before.before.before.before.before.before.args in (
+    let the_loop = c.loop-j in
+    let a = c.args in (
       omega arith,
       λ v e.
-          let other = sym (c.before.same-variable.ensures v e) ∙ c.if1.false in
-          the_loop.invariant.1 v e ∙ occurs_next a.text.now a.pattern.now a.count v the_loop.j c.before.before.loop-test.true other,
+          let other = sym (c.same_variable.ensures v e) ∙ c.if-same_variable.false in
+          the_loop.invariant.1 v e ∙ occurs_next a.text.now a.pattern.now a.count v the_loop.j c.loop-j-test.true other,
     ))
-    (λ c. let a = c.before.before.before.before.args in
-    λ v e. sym (c.before.loop.invariant.1 v e ∙ occurs_end a.text.now a.pattern.now a.count v c.before.loop.j c.loop-test.false)))
+    (λ c. let a = c.args in
+    λ v e. sym (c.loop-j.invariant.1 v e ∙ occurs_end a.text.now a.pattern.now a.count v c.loop-j.j c.loop-j-test.false)))

@@ -14,24 +14,24 @@ same_variable_spec =
     (λ c κs. search rules)
     (λ c. search rules)
     (λ c κs. search rules)
-    (λ c. let a = c.before.before.before.before.before.args in
-    let p = c.before.before.before.before.before.requires.1 in
-    other_kind a.text.now a.pattern.now a.i a.j _ _ c.before.before.word_at.ensures c.before.word-at2.ensures
-    p.1 p.2 c.if1.true)
-    (λ c κs. let a = c.before.before.before.before.before.args in
-    let p = c.before.before.before.before.before.requires in
+    (λ c. let a = c.args in
+    let p = c.requires.1 in
+    other_kind a.text.now a.pattern.now a.i a.j _ _ c.word_at.ensures c.word_at-2.ensures
+    p.1 p.2 c.if-word_at.true)
+    (λ c κs. let a = c.args in
+    let p = c.requires in
     (omega arith, index_inside a.text.now a.pattern.now a.count a.i _ p.0.1 p.1.0 refl p.1.1 p.1.2))
-    (λ c κs. let a = c.before.before.before.before.before.before.args in
-    let p = c.before.before.before.before.before.before.requires in
-    let word = c.before.before.word-at2.ensures in
+    (λ c κs. let a = c.args in
+    let p = c.requires in
+    let word = c.word_at-2.ensures in
     (omega arith, index_inside a.text.now a.pattern.now a.count a.j _ p.0.1 p.1.3 word (omega arith) (omega arith)))
     (λ c κs. search rules)
     (λ c.
-    let the_word_at2 = c.before.before.before.before.word-at2 in
-    let the_if1 = c.before.before.before.if1 in
-    let the_word_at = c.before.before.before.before.before.word_at in
-    let a = c.before.before.before.before.before.before.before.before.args in
-    let p = c.before.before.before.before.before.before.before.before.requires.1 in
+    let the_word_at2 = c.word_at-2 in
+    let the_if1 = c.if-word_at in
+    let the_word_at = c.word_at in
+    let a = c.args in
+    let p = c.requires.1 in
     λ v e. (search rules)
     ∙ one_kind a.text.now a.pattern.now a.i a.j _ _ _ _ the_word_at.ensures the_word_at2.ensures
-    p.1 p.2 the_if1.false c.before.before.index_at.ensures c.before.index-at2.ensures v e))
+    p.1 p.2 the_if1.false c.index_at.ensures c.index_at-2.ensures v e))

@@ -12,13 +12,13 @@ sentence_pattern_spec =
     (λ c κs. search rules)
     (λ c κs. search rules)
     (λ c κs. search rules)
-    (λ c κs. let p = c.before.before.before.before.requires in
-    let size = c.before.before.pattern_size.ensures in (
+    (λ c κs. let p = c.requires in
+    let size = c.pattern_size-count.ensures in (
       rw (size, c.pattern.ensures) (pattern_length _ _ p.0 _ p.2),
-      rw (c.before.text.ensures, c.pattern.ensures, size) (pattern_allowed _ _ p.0 _ p.2 p.1),
+      rw (c.text.ensures, c.pattern.ensures, size) (pattern_allowed _ _ p.0 _ p.2 p.1),
     ))
     (λ c.
-    let the_pattern_size = c.before.before.before.pattern_size in
-    let p = c.before.before.before.before.before.requires in
+    let the_pattern_size = c.pattern_size-count in
+    let p = c.requires in
     c.pattern_allowed.ensures
-    ∙ rw (c.before.before.text.ensures, c.before.pattern.ensures, the_pattern_size.ensures, pattern_variables_lem _ _ p.0 _ p.2)))
+    ∙ rw (c.text.ensures, c.pattern.ensures, the_pattern_size.ensures, pattern_variables_lem _ _ p.0 _ p.2)))

@@ -20,17 +20,17 @@ condition_pattern_spec =
     (λ c.
     let start = c.before.before.before in
     let fits = laws.condition_result_fits _ _ start.requires.0 start.args.s start.args.c start.requires.1 in
-    omega (arith, fits, laws.terms_limit _ _ start.requires.0, c.before.condition-result-at.ensures, c.condition_result_size.ensures))
+    omega (arith, fits, laws.terms_limit _ _ start.requires.0, c.condition_result_at.ensures, c.condition_result_size.ensures))
     (λ c κs.
     let start = c.before.before.before in
     (start.requires.0, laws.owned _ _ start.requires.0 start.args.s start.args.c start.requires.1, omega arith))
     (λ c κs.
     let start = c.before.before.before.before in
-    let the_condition_result_at = c.before.before.condition-result-at in
+    let the_condition_result_at = c.condition_result_at in
     let fits = laws.condition_result_fits _ _ start.requires.0 start.args.s start.args.c start.requires.1 in
-    let size = c.before.condition_result_size.ensures in
+    let size = c.condition_result_size.ensures in
     (start.requires.0, omega (arith, fits, size, the_condition_result_at.ensures, c.condition_word.ensures)))
     (λ c.
-    let the_condition_result_at = c.before.before.before.condition-result-at in
-    let the_condition_result_size = c.before.before.condition_result_size in
-    c.records.ensures ∙ rw (the_condition_result_at.ensures, the_condition_result_size.ensures, c.before.condition_word.ensures)))
+    let the_condition_result_at = c.condition_result_at in
+    let the_condition_result_size = c.condition_result_size in
+    c.records.ensures ∙ rw (the_condition_result_at.ensures, the_condition_result_size.ensures, c.condition_word.ensures)))

@@ -18,5 +18,5 @@ condition_result_spec = tie.close (tie.spec
     (λ c κs.
     let start = c.before.before.before in
     let fits = laws.condition_result_fits _ _ start.requires.0 start.args.s start.args.c start.requires.1 in
-    (start.requires.0, omega (arith, fits, c.before.condition-result-at.ensures, c.condition_result_size.ensures)))
-    (λ c. c.records.ensures ∙ rw (c.before.before.condition-result-at.ensures, c.before.condition_result_size.ensures)))
+    (start.requires.0, omega (arith, fits, c.condition_result_at-at.ensures, c.condition_result_size.ensures)))
+    (λ c. c.records.ensures ∙ rw (c.condition_result_at-at.ensures, c.condition_result_size.ensures)))

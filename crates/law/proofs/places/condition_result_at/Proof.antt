@@ -18,7 +18,7 @@ condition_result_at_spec =
     (λ c κs. search rules)
     (λ c.
     let start = c.before.before.before in
-    omega (arith, laws.pattern_small _ _ start.requires.0 start.args.s start.requires.1, c.before.word.ensures.1, c.pattern_size.ensures))
+    omega (arith, laws.pattern_small _ _ start.requires.0 start.args.s start.requires.1, c.word.ensures.1, c.pattern_size.ensures))
     (λ c.
     let start = c.before.before.before in
     omega (arith, laws.conditions_limit _ _ start.requires.0, start.requires.2))
@@ -27,11 +27,11 @@ condition_result_at_spec =
     omega (arith, laws.conditions_limit _ _ start.requires.0, start.requires.2))
     (λ c.
     let start = c.before.before.before.before in
-    let the_word = c.before.before.word in
+    let the_word = c.word in
     let small = laws.pattern_small _ _ start.requires.0 start.args.s start.requires.1 in
-    omega (arith, small, the_word.ensures.1, c.word2.ensures.1, c.before.pattern_size.ensures))
+    omega (arith, small, the_word.ensures.1, c.word-2.ensures.1, c.pattern_size.ensures))
     (λ c.
     let start = c.before.before.before.before in
-    let the_word = c.before.before.word in
-    rw (the_word.ensures.0, c.word2.ensures.0, c.before.pattern_size.ensures)
+    let the_word = c.word in
+    rw (the_word.ensures.0, c.word-2.ensures.0, c.pattern_size.ensures)
     (laws.condition_result_is _ _ start.requires.0 start.args.s start.args.c start.requires.1 (omega arith))))

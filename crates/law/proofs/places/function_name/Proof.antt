@@ -15,12 +15,12 @@ function_name_spec =
     (λ c κs. search rules)
     (λ c κs.
     let start = c.before.before.before.before in
-    let the_function_word = c.before.before.function_word in
+    let the_function_word = c.function_word-start in
     let file = file_of start.args.law.now in
     let fields = fields_functions file start.requires.2 in
-    rw (the_function_word.ensures ∙ laws.zero_offset _ _, c.before.function-word2.ensures, c.text.ensures)
+    rw (the_function_word.ensures ∙ laws.zero_offset _ _, c.function_word-len.ensures, c.text.ensures)
     (function_inside file.text.records file.functions.records file.functions.count start.args.f fields start.requires.1))
     (λ c.
-    let the_function_word = c.before.before.before.function_word in
-    let the_function_word2 = c.before.before.function-word2 in
-    c.name_in.ensures ∙ rw (the_function_word.ensures ∙ laws.zero_offset _ _, the_function_word2.ensures, c.before.text.ensures)))
+    let the_function_word = c.function_word-start in
+    let the_function_word2 = c.function_word-len in
+    c.name_in.ensures ∙ rw (the_function_word.ensures ∙ laws.zero_offset _ _, the_function_word2.ensures, c.text.ensures)))

@@ -13,18 +13,18 @@ function_word_spec =
     (λ c κs. search rules)
     (λ c.
     let start = c.before.before in
-    omega (arith, laws.function_word_inside _ _ start.requires.0 start.args.f start.args.at start.requires.1 start.requires.2, c.word.ensures))
+    omega (arith, laws.function_word_inside _ _ start.requires.0 start.args.f start.args.at start.requires.1 start.requires.2, c.word-start.ensures))
     (λ c.
     let start = c.before.before in
-    omega (arith, laws.function_word_inside _ _ start.requires.0 start.args.f start.args.at start.requires.1 start.requires.2, c.word.ensures))
+    omega (arith, laws.function_word_inside _ _ start.requires.0 start.args.f start.args.at start.requires.1 start.requires.2, c.word-start.ensures))
     (λ c.
     let start = c.before.before in
-    omega (arith, laws.function_word_inside _ _ start.requires.0 start.args.f start.args.at start.requires.1 start.requires.2, c.word.ensures))
+    omega (arith, laws.function_word_inside _ _ start.requires.0 start.args.f start.args.at start.requires.1 start.requires.2, c.word-start.ensures))
     (λ c κs.
     let start = c.before.before in
-    omega (arith, laws.function_word_inside _ _ start.requires.0 start.args.f start.args.at start.requires.1 start.requires.2, c.word.ensures))
+    omega (arith, laws.function_word_inside _ _ start.requires.0 start.args.f start.args.at start.requires.1 start.requires.2, c.word-start.ensures))
     (λ c. search rules)
     (λ c.
     let start = c.before.before.before in
     c.word_at.ensures
-    ∙ rw c.before.word.ensures.0 (laws.function_word _ _ start.requires.0 start.args.f start.args.at start.requires.1 start.requires.2)))
+    ∙ rw c.word-start.ensures.0 (laws.function_word _ _ start.requires.0 start.args.f start.args.at start.requires.1 start.requires.2)))

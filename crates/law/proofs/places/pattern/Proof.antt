@@ -16,5 +16,5 @@ pattern_spec =
     (λ c κs.
     let start = c.before.before.before in
     let fits = laws.pattern_fits _ _ start.requires.0 start.args.s start.requires.1 in
-    (start.requires.0, omega (arith, fits, c.before.pattern_at.ensures, c.pattern_size.ensures)))
-    (λ c. c.records.ensures ∙ rw (c.before.before.pattern_at.ensures, c.before.pattern_size.ensures)))
+    (start.requires.0, omega (arith, fits, c.pattern_at-at.ensures, c.pattern_size.ensures)))
+    (λ c. c.records.ensures ∙ rw (c.pattern_at-at.ensures, c.pattern_size.ensures)))

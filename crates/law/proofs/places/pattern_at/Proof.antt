@@ -24,9 +24,9 @@ pattern_at_spec =
     (λ c. search rules)
     (λ c κs.
     let start = c.before.before.before in
-    omega (arith, laws.condition_place _ _ start.requires.0 start.args.s start.requires.1, c.before.word.ensures.0))
+    omega (arith, laws.condition_place _ _ start.requires.0 start.args.s start.requires.1, c.word-c.ensures.0))
     (λ c. search rules)
     (λ c.
     let start = c.before.before.before.before in
-    let the_word = c.before.before.word in
-    rw (c.before.word2.ensures.0, c.word3.ensures.0, the_word.ensures.0) (laws.pattern_is _ _ start.requires.0 start.args.s start.requires.1)))
+    let the_word = c.word-c in
+    rw (c.word.ensures.0, c.word-2.ensures.0, the_word.ensures.0) (laws.pattern_is _ _ start.requires.0 start.args.s start.requires.1)))

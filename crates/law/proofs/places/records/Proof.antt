@@ -29,4 +29,4 @@ records_spec =
     omega (arith, laws.records_inside _ _ start.requires.0 start.args.at start.args.count start.requires.1, c.word.ensures))
     (λ c.
     let start = c.before.before.before in
-    rw c.before.word.ensures.0 (laws.records_are _ _ start.requires.0 start.args.at start.args.count start.requires.1)))
+    rw c.word.ensures.0 (laws.records_are _ _ start.requires.0 start.args.at start.args.count start.requires.1)))

@@ -16,5 +16,5 @@ result_spec =
     (λ c κs.
     let start = c.before.before.before in
     let fits = laws.result_fits _ _ start.requires.0 start.args.s start.requires.1 in
-    (start.requires.0, omega (arith, fits, c.before.result-at.ensures, c.sentence_word.ensures)))
-    (λ c. c.records.ensures ∙ rw (c.before.before.result-at.ensures, c.before.sentence_word.ensures)))
+    (start.requires.0, omega (arith, fits, c.result_at-at.ensures, c.sentence_word.ensures)))
+    (λ c. c.records.ensures ∙ rw (c.result_at-at.ensures, c.sentence_word.ensures)))

@@ -24,20 +24,20 @@ result_at_spec =
     (λ c κs. search rules)
     (λ c.
     let start = c.before.before.before.before in
-    omega (arith, laws.pattern_small _ _ start.requires.0 start.args.s start.requires.1, c.before.word2.ensures.1, c.pattern_size.ensures))
+    omega (arith, laws.pattern_small _ _ start.requires.0 start.args.s start.requires.1, c.word.ensures.1, c.pattern_size.ensures))
     (λ c. search rules)
     (λ c κs.
     let start = c.before.before.before.before in
-    let the_word = c.before.before.word in
+    let the_word = c.word-c in
     omega (arith, laws.next_condition_place _ _ start.requires.0 start.args.s start.requires.1, the_word.ensures.0))
     (λ c.
     let start = c.before.before.before.before.before in
-    let the_word2 = c.before.before.word2 in
+    let the_word2 = c.word in
     let small = laws.pattern_small _ _ start.requires.0 start.args.s start.requires.1 in
-    omega (arith, small, the_word2.ensures.1, c.word3.ensures.1, c.before.pattern_size.ensures))
+    omega (arith, small, the_word2.ensures.1, c.word-2.ensures.1, c.pattern_size.ensures))
     (λ c.
     let start = c.before.before.before.before.before in
-    let the_word2 = c.before.before.word2 in
-    let the_word = c.before.before.before.word in
-    rw (the_word2.ensures.0, c.word3.ensures.0, the_word.ensures.0, c.before.pattern_size.ensures)
+    let the_word2 = c.word in
+    let the_word = c.word-c in
+    rw (the_word2.ensures.0, c.word-2.ensures.0, the_word.ensures.0, c.pattern_size.ensures)
     (laws.result_is _ _ start.requires.0 start.args.s start.requires.1)))

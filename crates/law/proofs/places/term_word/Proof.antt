@@ -11,11 +11,11 @@ term_word_spec =
     tie.close
     (tie.spec
     (λ c κs. search rules)
-    (λ c. let p = c.before.before.requires in omega (arith, term_word_inside _ _ p.0 _ _ p.1 p.2, c.word.ensures))
-    (λ c. let p = c.before.before.requires in omega (arith, term_word_inside _ _ p.0 _ _ p.1 p.2, c.word.ensures))
-    (λ c. let p = c.before.before.requires in omega (arith, term_word_inside _ _ p.0 _ _ p.1 p.2, c.word.ensures))
-    (λ c κs. let p = c.before.before.requires in omega (arith, term_word_inside _ _ p.0 _ _ p.1 p.2, c.word.ensures))
+    (λ c. let p = c.requires in omega (arith, term_word_inside _ _ p.0 _ _ p.1 p.2, c.word-start.ensures))
+    (λ c. let p = c.requires in omega (arith, term_word_inside _ _ p.0 _ _ p.1 p.2, c.word-start.ensures))
+    (λ c. let p = c.requires in omega (arith, term_word_inside _ _ p.0 _ _ p.1 p.2, c.word-start.ensures))
+    (λ c κs. let p = c.requires in omega (arith, term_word_inside _ _ p.0 _ _ p.1 p.2, c.word-start.ensures))
     (λ c. search rules)
     (λ c.
     let start = c.before.before.before in
-    let p = start.requires in c.word_at.ensures ∙ rw c.before.word.ensures.0 (term_word _ _ p.0 _ _ p.1 p.2)))
+    let p = start.requires in c.word_at.ensures ∙ rw c.word-start.ensures.0 (term_word _ _ p.0 _ _ p.1 p.2)))

@@ -14,7 +14,7 @@ text_spec =
     (λ c. search rules)
     (λ c.
     let start = c.before.before in
-    omega (arith, laws.text_inside _ _ start.requires, c.word.ensures.0))
+    omega (arith, laws.text_inside _ _ start.requires, c.word-end.ensures.0))
     (λ c.
     let start = c.before.before.before in
-    rw c.before.word.ensures.0 (laws.text_is _ _ start.requires)))
+    rw c.word-end.ensures.0 (laws.text_is _ _ start.requires)))

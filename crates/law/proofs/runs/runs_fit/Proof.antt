@@ -12,11 +12,11 @@ use Rattle.law.specs.Runs.{sentence_fits}
 use Rattle.law.proofs.runs.runs_fit.Statement.{statement}
 use Rattle.law.proofs.runs.runs_fit.Tie as tie
 
-abbrev invariant_loop : tie.invariant_loop
+abbrev invariant_loop : tie.invariant-loop-s
 invariant_loop law index count s₀ s =
     (count ≡ (file_of law).sentences.count) × (s ≤ count) × (every s (sentence_fits (file_of law)) ≡ true)
 
-abbrev decreases_loop : tie.decreases_loop
+abbrev decreases_loop : tie.decreases-loop-s
 decreases_loop law index count s₀ s = count - s
 
 pub runs_fit_spec : {M : Type 1} → statement M
@@ -27,25 +27,25 @@ runs_fit_spec =
     decreases_loop
     (λ c κs. search rules)
     (λ c.
-    let the_pre = c.before.before.requires in
-    (c.sentences.ensures ∙ the_pre.words.sentences, omega arith, every_none _))
+    let the_pre = c.requires in
+    (c.sentences-count.ensures ∙ the_pre.words.sentences, omega arith, every_none _))
     (λ c κs.
-    let the_pre = c.before.before.before.before.requires in
-    (the_pre, omega (arith, c.before.loop.invariant.0)))
+    let the_pre = c.requires in
+    (the_pre, omega (arith, c.loop-s.invariant.0)))
     (λ c.
     let start = c.before.before.before.before.before.before in
-    let loop = c.before.before.before.loop in
-    let unfit = sym c.before.sentence_fits.ensures ∙ not-true _ c.if1.true in
+    let loop = c.loop-s in
+    let unfit = sym c.sentence_fits.ensures ∙ c.if-not-sentence_fits.true in
     sym (every_fails _ (sentence_fits (file_of start.args.law.now)) loop.s (omega (arith, loop.invariant.0)) unfit))
     (λ c. omega arith)
     (λ c. omega arith)
     (λ c.
     let start = c.before.before.before.before.before.before in
-    let loop = c.before.before.before.loop in
-    let fit = sym c.before.sentence_fits.ensures ∙ not-false _ c.if1.false in
+    let loop = c.loop-s in
+    let fit = sym c.sentence_fits.ensures ∙ c.if-not-sentence_fits.false in
     (loop.invariant.0, omega arith, every_next loop.s (sentence_fits (file_of start.args.law.now)) loop.invariant.2 fit))
     (λ c.
     let start = c.before.before.before.before in
-    let loop = c.before.loop in
+    let loop = c.loop-s in
     let e : loop.s ≡ (file_of start.args.law.now).sentences.count = omega (arith, loop.invariant.0) in
     sym (rw e at loop.invariant.2)))

@@ -27,8 +27,8 @@ abbrev all_digits_below : ℕ → In 1 all-digits-kinds.ps
 all_digits_below t =
     and 1 all-digits-kinds.ps (falls 1 all-digits-kinds.ps ◌<◌ μ-all-digits t) all-digits.Pre
 
-pub +all-digits-spec : {M : Type 1} → statement M
-+all-digits-spec = close μ-all-digits λ t. all-digits-lts.spec (
+pub +all_digits_spec : {M : Type 1} → statement M
++all_digits_spec = close μ-all-digits λ t. all-digits-lts.spec (
   term-at-reads.Asked,
   term-at-reads.Learnt,
   digit-of-reads.Asked,
@@ -42,22 +42,22 @@ pub +all-digits-spec : {M : Type 1} → statement M
 )
     (all_digits_at t)
     all-digits.Post
-    (λ c. digits_none _ c.if1.true)
+    (λ c. digits_none _ c.if-part-lt24.true)
     (λ c κs. search rules)
     (λ c κs. tt)
     (λ c κs. search rules)
-    (λ c. c.end_of_lem.ensures.2)
+    (λ c. c.end_of-end.ensures.2)
     (λ c. search rules)
     (λ c. search rules)
     (λ c κs.
     let start = c.before.before.before.before.before.before in
-    let the_end = c.before.end_of_lem in
-    let some = c.before.before.before.before.if1.false in
+    let the_end = c.end_of-end in
+    let some = c.if-part-lt24.false in
     (after_falls start.args.part.now the_end.result t some the_end.ensures.0 start.requires.0, tt))
     (λ c κs. tt)
     (λ c.
-    let some = c.before.before.before.before.before.before.if1.false in
-    let term = c.before.before.before.before.before.term-at in
-    let first = c.before.before.before.before.digit-of in
-    let the_end = c.before.before.before.end_of_lem in
-    digits_node _ some the_end.ensures.0 term.ensures first.ensures c.before.all-digits.ensures c.both-all.ensures)
+    let some = c.if-part-lt24.false in
+    let term = c.term_at in
+    let first = c.digit_of-first in
+    let the_end = c.end_of-end in
+    digits_node _ some the_end.ensures.0 term.ensures first.ensures c.all_digits.ensures c.both_all.ensures)

@@ -26,8 +26,8 @@ zeros_at t = and 2 zeros-kinds.ps (is 2 zeros-kinds.ps μ-zeros t) zeros.Pre
 abbrev zeros_below : ℕ → In 2 zeros-kinds.ps
 zeros_below t = and 2 zeros-kinds.ps (falls 2 zeros-kinds.ps ◌<◌ μ-zeros t) zeros.Pre
 
-pub +zeros-spec : {M : Type 1} → statement M
-+zeros-spec = close μ-zeros λ t. zeros-lts.spec (
+pub +zeros_spec : {M : Type 1} → statement M
++zeros_spec = close μ-zeros λ t. zeros-lts.spec (
   term-at-reads.Asked,
   term-at-reads.Learnt,
   operand-of-reads.Asked,
@@ -43,27 +43,27 @@ pub +zeros-spec : {M : Type 1} → statement M
 )
     (zeros_at t)
     zeros.Post
-    (λ c. zeros_none _ _ c.if1.true)
+    (λ c. zeros_none _ _ c.if-part-lt24.true)
     (λ c κs. search rules)
     (λ c κs. tt)
     (λ c κs. tt)
     (λ c κs. search rules)
-    (λ c. c.end_of_lem.ensures.2)
+    (λ c. c.end_of-end.ensures.2)
     (λ c. search rules)
     (λ c. search rules)
     (λ c κs.
     let start = c.before.before.before.before.before.before.before.before in
-    let the_end = c.before.end_of_lem in
-    let some = c.before.before.before.before.before.if1.false in
+    let the_end = c.end_of-end in
+    let some = c.if-part-lt24.false in
     (after_falls start.args.part.now the_end.result t some the_end.ensures.0 start.requires.0, tt))
     (λ c κs. tt)
     (λ c.
     let start = c.before.before.before.before.before.before.before.before.before.before in
-    let some = c.before.before.before.before.before.before.before.if1.false in
-    let term = c.before.before.before.before.before.before.term-at in
-    let operand = c.before.before.before.before.before.operand-of in
-    let first = c.before.before.before.before.zero_of in
-    let the_end = c.before.before.before.end_of_lem in
-    let after = c.before.zeros in
+    let some = c.if-part-lt24.false in
+    let term = c.term_at in
+    let operand = c.operand_of in
+    let first = c.zero_of-first in
+    let the_end = c.end_of-end in
+    let after = c.zeros in
     zeros_node _ start.args.part.now some the_end.ensures.0 term.ensures operand.ensures
-    first.ensures after.ensures c.both-all.ensures)
+    first.ensures after.ensures c.both_all.ensures)

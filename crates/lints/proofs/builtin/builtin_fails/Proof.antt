@@ -15,11 +15,11 @@ builtin_fails_spec =
     (λ c κs. search rules)
     (λ c. search rules)
     (λ c.
-    let the_domain_of = c.before.before.before.before.domain-of in
-    let the_divides = c.before.before.divides in
-    c.integers-fail.ensures ∙ rw (← the_domain_of.ensures, the_divides.given.1))
+    let the_domain_of = c.domain_of in
+    let the_divides = c.divides-1 in
+    c.integers_fail.ensures ∙ rw (← the_domain_of.ensures, the_divides.given.1))
     (λ c.
-    let the_domain_of = c.before.before.before.domain-of in
-    let text = c.before.before.before.before.before.before.before.args.text.now in
-    c.digits-fail.ensures text ∙ rw (← the_domain_of.ensures, c.before.enum_told.given.1))
-    (λ c. rw (← c.before.before.domain-of.ensures, c.enum-told2.given.1)))
+    let the_domain_of = c.domain_of in
+    let text = c.args.text.now in
+    c.digits_fail.ensures text ∙ rw (← the_domain_of.ensures, c.enum_told-1.given.1))
+    (λ c. rw (← c.domain_of.ensures, c.enum_told-in-Anything-1.given.1)))

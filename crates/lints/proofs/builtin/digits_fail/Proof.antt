@@ -8,17 +8,17 @@ pub digits_fail_spec : {M : Type 1} → statement M
 digits_fail_spec =
     tie.close
     (tie.spec
-    (λ c. no_digits _ c.if1.true)
+    (λ c. no_digits _ c.if-part-lt24.true)
     (λ c κs. search rules)
     (λ c. search rules)
     (λ c. search rules)
     (λ c. search rules)
     (λ c.
-    let the_if1 = c.before.before.before.if1 in
-    digits_long _ the_if1.false c.before.before.all_digits.ensures c.enum_told.given.1)
+    let the_if1 = c.if-part-lt24 in
+    digits_long _ the_if1.false c.all_digits.ensures c.enum_told-1.given.1)
     (λ c.
-    let the_if1 = c.before.before.before.if1 in
-    digits_long _ the_if1.false c.before.before.all_digits.ensures c.enum-told2.given.1)
+    let the_if1 = c.if-part-lt24 in
+    digits_long _ the_if1.false c.all_digits.ensures c.enum_told-in-Yes-1.given.1)
     (λ c.
-    let the_if1 = c.before.before.before.if1 in
-    digits_long _ the_if1.false c.before.before.all_digits.ensures c.enum-told3.given.1))
+    let the_if1 = c.if-part-lt24 in
+    digits_long _ the_if1.false c.all_digits.ensures c.enum_told-in-No-1.given.1))

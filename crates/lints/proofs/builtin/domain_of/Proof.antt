@@ -13,31 +13,31 @@ domain_of_spec =
     (tie.spec
     (λ c. search rules)
     (λ c κs. search rules)
-    (λ c. sym (named _ _ _ _ c.before.names-equal.ensures c.if1.true))
+    (λ c. sym (named _ _ _ _ c.names_equal.ensures c.if-names_equal.true))
     (λ c. search rules)
     (λ c κs. search rules)
     (λ c.
     let c1 = c.before.before.before in
-    sym (passed _ _ _ _ c1.before.names-equal.ensures c1.if1.false
-    ∙ named _ _ _ _ c.before.names-equal2.ensures c.if2.true))
+    sym (passed _ _ _ _ c1.names_equal.ensures c1.if-names_equal.false
+    ∙ named _ _ _ _ c.names_equal-2.ensures c.if-names_equal-2.true))
     (λ c. search rules)
     (λ c κs. search rules)
     (λ c.
     let c2 = c.before.before.before in
     let c1 = c2.before.before.before in
-    sym (passed _ _ _ _ c1.before.names-equal.ensures c1.if1.false
-    ∙ passed _ _ _ _ c2.before.names-equal2.ensures c2.if2.false
-    ∙ named _ _ _ _ c.before.names-equal3.ensures c.if3.true))
+    sym (passed _ _ _ _ c1.names_equal.ensures c1.if-names_equal.false
+    ∙ passed _ _ _ _ c2.names_equal-2.ensures c2.if-names_equal-2.false
+    ∙ named _ _ _ _ c.names_equal-3.ensures c.if-names_equal-3.true))
     (λ c. search rules)
     (λ c κs. search rules)
     (λ c.
     let c3 = c.before.before.before in
     let c2 = c3.before.before.before in
     let c1 = c2.before.before.before in
-    sym (passed _ _ _ _ c1.before.names-equal.ensures c1.if1.false
-    ∙ passed _ _ _ _ c2.before.names-equal2.ensures c2.if2.false
-    ∙ passed _ _ _ _ c3.before.names-equal3.ensures c3.if3.false
-    ∙ named _ _ _ _ c.before.names-equal4.ensures c.if4.true))
+    sym (passed _ _ _ _ c1.names_equal.ensures c1.if-names_equal.false
+    ∙ passed _ _ _ _ c2.names_equal-2.ensures c2.if-names_equal-2.false
+    ∙ passed _ _ _ _ c3.names_equal-3.ensures c3.if-names_equal-3.false
+    ∙ named _ _ _ _ c.names_equal-4.ensures c.if-names_equal-4.true))
     (λ c. search rules)
     (λ c κs. search rules)
     (λ c.
@@ -45,11 +45,11 @@ domain_of_spec =
     let c3 = c4.before.before.before in
     let c2 = c3.before.before.before in
     let c1 = c2.before.before.before in
-    sym (passed _ _ _ _ c1.before.names-equal.ensures c1.if1.false
-    ∙ passed _ _ _ _ c2.before.names-equal2.ensures c2.if2.false
-    ∙ passed _ _ _ _ c3.before.names-equal3.ensures c3.if3.false
-    ∙ passed _ _ _ _ c4.before.names-equal4.ensures c4.if4.false
-    ∙ named _ _ _ _ c.before.names-equal5.ensures c.if5.true))
+    sym (passed _ _ _ _ c1.names_equal.ensures c1.if-names_equal.false
+    ∙ passed _ _ _ _ c2.names_equal-2.ensures c2.if-names_equal-2.false
+    ∙ passed _ _ _ _ c3.names_equal-3.ensures c3.if-names_equal-3.false
+    ∙ passed _ _ _ _ c4.names_equal-4.ensures c4.if-names_equal-4.false
+    ∙ named _ _ _ _ c.names_equal-5.ensures c.if-names_equal-5.true))
     (λ c. search rules)
     (λ c κs. search rules)
     (λ c.
@@ -58,12 +58,12 @@ domain_of_spec =
     let c3 = c4.before.before.before in
     let c2 = c3.before.before.before in
     let c1 = c2.before.before.before in
-    sym (passed _ _ _ _ c1.before.names-equal.ensures c1.if1.false
-    ∙ passed _ _ _ _ c2.before.names-equal2.ensures c2.if2.false
-    ∙ passed _ _ _ _ c3.before.names-equal3.ensures c3.if3.false
-    ∙ passed _ _ _ _ c4.before.names-equal4.ensures c4.if4.false
-    ∙ passed _ _ _ _ c5.before.names-equal5.ensures c5.if5.false
-    ∙ named _ _ _ _ c.before.names-equal6.ensures c.if6.true))
+    sym (passed _ _ _ _ c1.names_equal.ensures c1.if-names_equal.false
+    ∙ passed _ _ _ _ c2.names_equal-2.ensures c2.if-names_equal-2.false
+    ∙ passed _ _ _ _ c3.names_equal-3.ensures c3.if-names_equal-3.false
+    ∙ passed _ _ _ _ c4.names_equal-4.ensures c4.if-names_equal-4.false
+    ∙ passed _ _ _ _ c5.names_equal-5.ensures c5.if-names_equal-5.false
+    ∙ named _ _ _ _ c.names_equal-6.ensures c.if-names_equal-6.true))
     (λ c. search rules)
     (λ c κs. search rules)
     (λ c.
@@ -73,13 +73,13 @@ domain_of_spec =
     let c3 = c4.before.before.before in
     let c2 = c3.before.before.before in
     let c1 = c2.before.before.before in
-    sym (passed _ _ _ _ c1.before.names-equal.ensures c1.if1.false
-    ∙ passed _ _ _ _ c2.before.names-equal2.ensures c2.if2.false
-    ∙ passed _ _ _ _ c3.before.names-equal3.ensures c3.if3.false
-    ∙ passed _ _ _ _ c4.before.names-equal4.ensures c4.if4.false
-    ∙ passed _ _ _ _ c5.before.names-equal5.ensures c5.if5.false
-    ∙ passed _ _ _ _ c6.before.names-equal6.ensures c6.if6.false
-    ∙ named _ _ _ _ c.before.names-equal7.ensures c.if7.true))
+    sym (passed _ _ _ _ c1.names_equal.ensures c1.if-names_equal.false
+    ∙ passed _ _ _ _ c2.names_equal-2.ensures c2.if-names_equal-2.false
+    ∙ passed _ _ _ _ c3.names_equal-3.ensures c3.if-names_equal-3.false
+    ∙ passed _ _ _ _ c4.names_equal-4.ensures c4.if-names_equal-4.false
+    ∙ passed _ _ _ _ c5.names_equal-5.ensures c5.if-names_equal-5.false
+    ∙ passed _ _ _ _ c6.names_equal-6.ensures c6.if-names_equal-6.false
+    ∙ named _ _ _ _ c.names_equal-7.ensures c.if-names_equal-7.true))
     (λ c. search rules)
     (λ c κs. search rules)
     (λ c.
@@ -90,14 +90,14 @@ domain_of_spec =
     let c3 = c4.before.before.before in
     let c2 = c3.before.before.before in
     let c1 = c2.before.before.before in
-    sym (passed _ _ _ _ c1.before.names-equal.ensures c1.if1.false
-    ∙ passed _ _ _ _ c2.before.names-equal2.ensures c2.if2.false
-    ∙ passed _ _ _ _ c3.before.names-equal3.ensures c3.if3.false
-    ∙ passed _ _ _ _ c4.before.names-equal4.ensures c4.if4.false
-    ∙ passed _ _ _ _ c5.before.names-equal5.ensures c5.if5.false
-    ∙ passed _ _ _ _ c6.before.names-equal6.ensures c6.if6.false
-    ∙ passed _ _ _ _ c7.before.names-equal7.ensures c7.if7.false
-    ∙ named _ _ _ _ c.before.names-equal8.ensures c.if8.true))
+    sym (passed _ _ _ _ c1.names_equal.ensures c1.if-names_equal.false
+    ∙ passed _ _ _ _ c2.names_equal-2.ensures c2.if-names_equal-2.false
+    ∙ passed _ _ _ _ c3.names_equal-3.ensures c3.if-names_equal-3.false
+    ∙ passed _ _ _ _ c4.names_equal-4.ensures c4.if-names_equal-4.false
+    ∙ passed _ _ _ _ c5.names_equal-5.ensures c5.if-names_equal-5.false
+    ∙ passed _ _ _ _ c6.names_equal-6.ensures c6.if-names_equal-6.false
+    ∙ passed _ _ _ _ c7.names_equal-7.ensures c7.if-names_equal-7.false
+    ∙ named _ _ _ _ c.names_equal-8.ensures c.if-names_equal-8.true))
     (λ c.
     let c7 = c.before.before.before in
     let c6 = c7.before.before.before in
@@ -106,12 +106,12 @@ domain_of_spec =
     let c3 = c4.before.before.before in
     let c2 = c3.before.before.before in
     let c1 = c2.before.before.before in
-    sym (passed _ _ _ _ c1.before.names-equal.ensures c1.if1.false
-    ∙ passed _ _ _ _ c2.before.names-equal2.ensures c2.if2.false
-    ∙ passed _ _ _ _ c3.before.names-equal3.ensures c3.if3.false
-    ∙ passed _ _ _ _ c4.before.names-equal4.ensures c4.if4.false
-    ∙ passed _ _ _ _ c5.before.names-equal5.ensures c5.if5.false
-    ∙ passed _ _ _ _ c6.before.names-equal6.ensures c6.if6.false
-    ∙ passed _ _ _ _ c7.before.names-equal7.ensures c7.if7.false
-    ∙ passed _ _ _ _ c.before.names-equal8.ensures c.if8.false
+    sym (passed _ _ _ _ c1.names_equal.ensures c1.if-names_equal.false
+    ∙ passed _ _ _ _ c2.names_equal-2.ensures c2.if-names_equal-2.false
+    ∙ passed _ _ _ _ c3.names_equal-3.ensures c3.if-names_equal-3.false
+    ∙ passed _ _ _ _ c4.names_equal-4.ensures c4.if-names_equal-4.false
+    ∙ passed _ _ _ _ c5.names_equal-5.ensures c5.if-names_equal-5.false
+    ∙ passed _ _ _ _ c6.names_equal-6.ensures c6.if-names_equal-6.false
+    ∙ passed _ _ _ _ c7.names_equal-7.ensures c7.if-names_equal-7.false
+    ∙ passed _ _ _ _ c.names_equal-8.ensures c.if-names_equal-8.false
     ∙ unknown _)))

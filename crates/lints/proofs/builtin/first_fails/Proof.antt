@@ -8,7 +8,7 @@ pub first_fails_spec : {M : Type 1} → statement M
 first_fails_spec =
     tie.close
     (tie.spec
-    (λ c. first_none _ _ _ c.if1.true)
+    (λ c. first_none _ _ _ c.if-part-lt24.true)
     (λ c κs. search rules)
     (λ c κs. search rules)
     (λ c κs. search rules)
@@ -22,22 +22,22 @@ first_fails_spec =
     (λ c. search rules)
     (λ c.
     let start = c.before.before.before.before.before.before.before.before in
-    let some = c.before.before.before.before.before.if1.false in
-    let the_end = c.before.before.before.before.end_of_lem in
-    let term = c.before.before.before.term-at in
-    first_sign _ start.args.part.now some the_end.ensures.0 term.ensures c.before.before.operand-of.ensures _ c.enum_told.given.1)
+    let some = c.if-part-lt24.false in
+    let the_end = c.end_of-end in
+    let term = c.term_at in
+    first_sign _ start.args.part.now some the_end.ensures.0 term.ensures c.operand_of.ensures _ c.enum_told-1.given.1)
     (λ c.
     let start = c.before.before.before.before.before.before.before.before.before.before.before in
-    let some = c.before.before.before.before.before.before.before.before.if1.false in
-    let the_end = c.before.before.before.before.before.before.before.end_of_lem in
-    let term = c.before.before.before.before.before.before.term-at in
-    let first = c.before.before.before.before.before.operand-of in
-    let told = c.before.before.before.enum-told2.given.1 in
+    let some = c.if-part-lt24.false in
+    let the_end = c.end_of-end in
+    let term = c.term_at in
+    let first = c.operand_of in
+    let told = c.enum_told-in-Macrodigit-1.given.1 in
     first_macrodigit _ start.args.part.now some the_end.ensures.0 term.ensures first.ensures
-    _ _ told c.before.without_sign.ensures c.second_fails.ensures)
+    _ _ told c.without_sign.ensures c.second_fails.ensures)
     (λ c.
     let start = c.before.before.before.before.before.before.before.before in
-    let some = c.before.before.before.before.before.if1.false in
-    let the_end = c.before.before.before.before.end_of_lem in
-    let term = c.before.before.before.term-at in
-    first_other _ start.args.part.now some the_end.ensures.0 term.ensures c.before.before.operand-of.ensures _ c.enum-told3.given.1))
+    let some = c.if-part-lt24.false in
+    let the_end = c.end_of-end in
+    let term = c.term_at in
+    first_other _ start.args.part.now some the_end.ensures.0 term.ensures c.operand_of.ensures _ c.enum_told-in-Other-1.given.1))

@@ -8,4 +8,4 @@ pub integers_fail_spec : {M : Type 1} → statement M
 integers_fail_spec = tie.close (tie.spec
     (λ c κs. search rules)
     (λ c κs. search rules)
-    (λ c. c.first_fails.ensures ∙ c.before.without_sign.ensures.0 _))
+    (λ c. c.first_fails.ensures ∙ c.without_sign.ensures.0 _))

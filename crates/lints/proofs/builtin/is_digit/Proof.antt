@@ -7,5 +7,5 @@ pub is_digit_spec : {M : Type 1} → statement M
 is_digit_spec =
     tie.close
     (tie.spec
-    (λ c. simp (le-leb _ _ c.if1.true))
-    (λ c. simp (lt-leb _ _ c.if1.false)))
+    (λ c. simp (le-leb _ _ c.if-c-ge48.true))
+    (λ c. simp (lt-leb _ _ c.if-c-ge48.false)))

@@ -11,8 +11,8 @@ number_operand_spec =
     (λ c κs. search rules)
     (λ c κs. search rules)
     (λ c.
-    let the_args = c.before.before.before.before.args in
-    number_macrodigit the_args.digits.now c.before.before.capped-value.ensures c.before.is-macrodigit.ensures c.if1.true)
+    let the_args = c.args in
+    number_macrodigit the_args.digits.now c.capped_value-value.ensures c.is_macrodigit.ensures c.if-is_macrodigit.true)
     (λ c.
-    let the_args = c.before.before.before.before.args in
-    number_past the_args.digits.now c.before.before.capped-value.ensures c.before.is-macrodigit.ensures c.if1.false))
+    let the_args = c.args in
+    number_past the_args.digits.now c.capped_value-value.ensures c.is_macrodigit.ensures c.if-is_macrodigit.false))

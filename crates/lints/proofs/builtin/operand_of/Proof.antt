@@ -17,8 +17,8 @@ operand_of_spec =
     (λ c. search rules)
     (λ c. search rules)
     (λ c.
-    let the_term = c.before.before.term in
-    c.symbol-operand.ensures ∙ rw the_term.given.1)
+    let the_term = c.term-1 in
+    c.symbol_operand.ensures ∙ rw the_term.given.1)
     (λ c. search rules)
     (λ c. search rules)
     (λ c. search rules)

@@ -9,29 +9,29 @@ pub second_fails_spec : {M : Type 1} → statement M
 second_fails_spec =
     tie.close
     (tie.spec
-    (λ c. second_none _ _ _ c.if1.true)
+    (λ c. second_none _ _ _ c.if-part-lt24.true)
     (λ c.
-    let the_args = c.before.before.before.before.args in
-    second_decides _ the_args.part.now c.before.if1.false (not-true _ c.if2.true))
+    let the_args = c.args in
+    second_decides _ the_args.part.now c.if-part-lt24.false c.if-not-divides.true)
     (λ c κs. search rules)
     (λ c. search rules)
     (λ c. search rules)
     (λ c. search rules)
     (λ c.
-    let the_if2 = c.before.before.before.if2 in
+    let the_if2 = c.if-not-divides in
     let start = c.before.before.before.before.before.before.before in
-    let some = c.before.before.before.before.if1.false in
+    let some = c.if-part-lt24.false in
     let divides = not-false _ the_if2.false in
-    second_zeros _ start.args.part.now some divides c.before.before.zeros.ensures c.enum_told.given.1)
+    second_zeros _ start.args.part.now some divides c.zeros.ensures c.enum_told-1.given.1)
     (λ c.
-    let the_if2 = c.before.before.before.if2 in
+    let the_if2 = c.if-not-divides in
     let start = c.before.before.before.before.before.before.before in
-    let some = c.before.before.before.before.if1.false in
+    let some = c.if-part-lt24.false in
     let divides = not-false _ the_if2.false in
-    second_zeros _ start.args.part.now some divides c.before.before.zeros.ensures c.enum-told2.given.1)
+    second_zeros _ start.args.part.now some divides c.zeros.ensures c.enum_told-in-Yes-1.given.1)
     (λ c.
-    let the_if2 = c.before.before.before.if2 in
+    let the_if2 = c.if-not-divides in
     let start = c.before.before.before.before.before.before.before in
-    let some = c.before.before.before.before.if1.false in
+    let some = c.if-part-lt24.false in
     let divides = not-false _ the_if2.false in
-    second_zeros _ start.args.part.now some divides c.before.before.zeros.ensures c.enum-told3.given.1))
+    second_zeros _ start.args.part.now some divides c.zeros.ensures c.enum_told-in-No-1.given.1))

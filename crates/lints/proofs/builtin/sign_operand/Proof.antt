@@ -7,6 +7,6 @@ pub sign_operand_spec : {M : Type 1} → statement M
 sign_operand_spec =
     tie.close
     (tie.spec
-    (λ c. simp (eq-eqb _ _ c.if1.true))
-    (λ c. simp (ne_eqb _ _ c.before.if1.false, eq-eqb _ _ c.if2.true))
-    (λ c. simp (ne_eqb _ _ c.before.if1.false, ne_eqb _ _ c.if2.false)))
+    (λ c. simp (eq-eqb _ _ c.if-c-eq45.true))
+    (λ c. simp (ne_eqb _ _ c.if-c-eq45.false, eq-eqb _ _ c.if-c-eq43.true))
+    (λ c. simp (ne_eqb _ _ c.if-c-eq45.false, ne_eqb _ _ c.if-c-eq43.false)))

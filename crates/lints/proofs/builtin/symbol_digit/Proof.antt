@@ -13,7 +13,7 @@ symbol_digit_spec =
     (λ c. search rules)
     (λ c. search rules)
     (λ c.
-    let the_symbol = c.before.before.before.symbol in
-    c.decided-by.ensures ∙ rw (c.before.is_digit.ensures, the_symbol.given.1))
+    let the_symbol = c.symbol-1 in
+    c.decided_by.ensures ∙ rw (c.is_digit.ensures, the_symbol.given.1))
     (λ c. search rules)
     (λ c. search rules))

@@ -15,9 +15,9 @@ symbol_operand_spec =
     (λ c κs. search rules)
     (λ c κs. search rules)
     (λ c.
-    let the_symbol = c.before.before.symbol in
-    c.sign-operand.ensures ∙ rw the_symbol.given.1)
+    let the_symbol = c.symbol-1 in
+    c.sign_operand.ensures ∙ rw the_symbol.given.1)
     (λ c. search rules)
     (λ c.
-    let the_symbol2 = c.before.before.before.symbol2 in
-    c.number-operand.ensures ∙ rw (c.before.spelled.ensures, the_symbol2.given.1)))
+    let the_symbol2 = c.symbol-in-Number-1 in
+    c.number_operand.ensures ∙ rw (c.spelled.ensures, the_symbol2.given.1)))

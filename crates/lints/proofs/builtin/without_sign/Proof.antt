@@ -9,7 +9,7 @@ pub without_sign_spec : {M : Type 1} → statement M
 without_sign_spec =
     tie.close
     (tie.spec
-    (λ c. sign_none _ _ c.if1.true)
+    (λ c. sign_none _ _ c.if-part-lt24.true)
     (λ c κs. search rules)
     (λ c κs. search rules)
     (λ c. search rules)
@@ -20,19 +20,19 @@ without_sign_spec =
     (λ c. search rules)
     (λ c. search rules)
     (λ c.
-    let the_enum_told = c.before.before.enum_told in
+    let the_enum_told = c.enum_told-1 in
     let start = c.before.before.before.before.before.before.before.before.before in
-    let some = c.before.before.before.before.before.before.if1.false in
-    let term = c.before.before.before.before.before.term-at in
-    let first = c.before.before.before.before.operand-of in
-    sign_taken _ start.args.part.now some c.before.end_of_lem.ensures.0 term.ensures first.ensures the_enum_told.given.1)
+    let some = c.if-part-lt24.false in
+    let term = c.term_at in
+    let first = c.operand_of in
+    sign_taken _ start.args.part.now some c.end_of-end.ensures.0 term.ensures first.ensures the_enum_told.given.1)
     (λ c.
     let start = c.before.before.before.before.before.before.before in
-    let some = c.before.before.before.before.if1.false in
-    let term = c.before.before.before.term-at in
-    macrodigit_kept _ start.args.part.now some refl term.ensures c.before.before.operand-of.ensures c.enum-told2.given.1)
+    let some = c.if-part-lt24.false in
+    let term = c.term_at in
+    macrodigit_kept _ start.args.part.now some refl term.ensures c.operand_of.ensures c.enum_told-in-Macrodigit-1.given.1)
     (λ c.
     let start = c.before.before.before.before.before.before.before in
-    let some = c.before.before.before.before.if1.false in
-    let term = c.before.before.before.term-at in
-    other_kept _ start.args.part.now some refl term.ensures c.before.before.operand-of.ensures c.enum-told3.given.1))
+    let some = c.if-part-lt24.false in
+    let term = c.term_at in
+    other_kept _ start.args.part.now some refl term.ensures c.operand_of.ensures c.enum_told-in-Other-1.given.1))

@@ -13,6 +13,6 @@ zero_of_spec =
     (λ c. search rules)
     (λ c. search rules)
     (λ c.
-    let the_operand = c.before.before.operand in
-    c.decided-by.ensures ∙ rw the_operand.given.1)
+    let the_operand = c.operand-1 in
+    c.decided_by.ensures ∙ rw the_operand.given.1)
     (λ c. search rules))

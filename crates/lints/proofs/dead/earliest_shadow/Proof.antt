@@ -13,11 +13,11 @@ use Rattle.lints.proofs.DeadLaws as laws
 use Rattle.lints.proofs.dead.earliest_shadow.Statement.{statement}
 use Rattle.lints.proofs.dead.earliest_shadow.Tie as tie
 
-abbrev invariant_loop : tie.invariant_loop
+abbrev invariant_loop : tie.invariant-loop-i
 invariant_loop law index first later i₀ i =
     (i ≤ later) × (earliest [] (earlier_at (file_of law) first i) (pattern_in (file_of law) (first + later)) ≡ none)
 
-abbrev decreases_loop : tie.decreases_loop
+abbrev decreases_loop : tie.decreases-loop-i
 decreases_loop law index first later i₀ i = later - i
 
 pub earliest_shadow_spec : {M : Type 1} → statement M
@@ -31,64 +31,64 @@ earliest_shadow_spec =
     (omega arith, laws.search_starts (file_of start.args.law.now) start.args.first _))
     (λ c.
     let start = c.before.before.before in
-    omega (arith, c.before.loop.invariant.0, start.requires.2, c.if1.false, sentences_limit _ _ start.requires.0))
+    omega (arith, c.loop-i.invariant.0, start.requires.2, c.if-later-i.false, sentences_limit _ _ start.requires.0))
     (λ c.
     let start = c.before.before.before in
-    omega (arith, c.before.loop.invariant.0, start.requires.2, c.if1.false, sentences_limit _ _ start.requires.0))
+    omega (arith, c.loop-i.invariant.0, start.requires.2, c.if-later-i.false, sentences_limit _ _ start.requires.0))
     (λ c κs.
     let start = c.before.before.before in
-    omega (arith, c.before.loop.invariant.0, start.requires.2, c.if1.false, sentences_limit _ _ start.requires.0))
+    omega (arith, c.loop-i.invariant.0, start.requires.2, c.if-later-i.false, sentences_limit _ _ start.requires.0))
     (λ c κs.
-    let the_loop = c.before.before.loop in
+    let the_loop = c.loop-i in
     let start = c.before.before.before.before in
-    omega (arith, the_loop.invariant.0, start.requires.2, c.before.if1.false, sentences_limit _ _ start.requires.0))
+    omega (arith, the_loop.invariant.0, start.requires.2, c.if-later-i.false, sentences_limit _ _ start.requires.0))
     (λ c.
-    let the_loop = c.before.before.before.loop in
+    let the_loop = c.loop-i in
     let start = c.before.before.before.before.before in
-    laws.conditions_grow start.requires.0 _ _ the_loop.i _ _ start.requires.2 (omega (arith, c.before.before.if1.false))
-    c.before.first_condition.ensures c.first-condition2.ensures)
+    laws.conditions_grow start.requires.0 _ _ the_loop.i _ _ start.requires.2 (omega (arith, c.if-later-i.false))
+    c.first_condition.ensures c.first_condition-in-loop-i.ensures)
     (λ c.
     let start = c.before.before.before.before.before.before in
     omega (arith, start.requires.2, sentences_limit _ _ start.requires.0))
     (λ c κs.
-    let the_if1 = c.before.before.before.if1 in
+    let the_if1 = c.if-later-i in
     let start = c.before.before.before.before.before.before in
     ((start.requires.0, start.requires.1), (omega (arith, the_if1.false, start.requires.2), start.requires.2)))
-    (λ c. let the_if1 = c.before.before.before.before.before.if1 in
+    (λ c. let the_if1 = c.if-later-i in
     let start = c.before.before.before.before.before.before.before.before in
     omega (arith, the_if1.false, start.requires.2, sentences_limit _ _ start.requires.0))
     (λ c.
-    let the_if1 = c.before.before.before.if1 in
+    let the_if1 = c.if-later-i in
     let start = c.before.before.before.before.before.before in
     omega (arith, the_if1.false, start.requires.2, sentences_limit _ _ start.requires.0))
     (λ c.
-    let the_if1 = c.before.before.before.if1 in
+    let the_if1 = c.if-later-i in
     omega (arith, the_if1.false))
     (λ c.
-    let the_loop = c.before.before.before.before.loop in
-    let the_if1 = c.before.before.before.if1 in
+    let the_loop = c.loop-i in
+    let the_if1 = c.if-later-i in
     let start = c.before.before.before.before.before.before in (
       omega (arith, the_if1.false),
       ⊎_elim
           (λ w. laws.again_pattern start.requires.0 _ _ the_loop.i _ _ start.requires.2 (omega (arith, the_if1.false))
-          c.before.before.first_condition.ensures c.before.first-condition2.ensures w.0.taken w.1.ensures w.2.left the_loop.invariant.1)
+          c.first_condition.ensures c.first_condition-in-loop-i.ensures w.0.taken w.1.ensures w.2.left the_loop.invariant.1)
           (λ w. laws.again_conditions start.requires.0 _ _ the_loop.i _ _ start.requires.2 (omega (arith, the_if1.false))
-          c.before.before.first_condition.ensures c.before.first-condition2.ensures w.left the_loop.invariant.1)
-          c.if2.branch,
+          c.first_condition.ensures c.first_condition-in-loop-i.ensures w.left the_loop.invariant.1)
+          c.if-conditions-eq0.branch,
     ))
     (λ c.
     let start = c.before.before.before in (
-      laws.search_ends (file_of start.args.law.now) start.args.first start.args.later c.before.loop.i _ c.if1.true
-          c.before.loop.invariant.0 c.before.loop.invariant.1,
+      laws.search_ends (file_of start.args.law.now) start.args.first start.args.later c.loop-i.i _ c.if-later-i.true
+          c.loop-i.invariant.0 c.loop-i.invariant.1,
       omega arith,
     ))
     (λ c.
-    let the_first_condition = c.before.before.before.before.first_condition in
-    let the_first_condition2 = c.before.before.before.first-condition2 in
-    let the_loop = c.before.before.before.before.before.before.loop in
-    let the_if1 = c.before.before.before.before.before.if1 in
+    let the_first_condition = c.first_condition in
+    let the_first_condition2 = c.first_condition-in-loop-i in
+    let the_loop = c.loop-i in
+    let the_if1 = c.if-later-i in
     let start = c.before.before.before.before.before.before.before.before in (
       laws.shadow_found start.requires.0 _ _ the_loop.i _ _ start.requires.2 (omega (arith, the_if1.false)) the_first_condition.ensures
-          the_first_condition2.ensures c.before.before.if2.true c.before.shadow-sentences.ensures c.if3.true the_loop.invariant.1,
+          the_first_condition2.ensures c.if-conditions-eq0.true c.shadow_sentences.ensures c.if-shadow_sentences.true the_loop.invariant.1,
       omega (arith, the_if1.false),
     )))

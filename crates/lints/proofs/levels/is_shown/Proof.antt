@@ -12,10 +12,10 @@ is_shown_spec =
     (λ c κs. search rules)
     (λ c. search rules)
     (λ c.
-    let the_level_of = c.before.before.before.level-of in
+    let the_level_of = c.level_of in
     let start = c.before.before.before.before.before in
-    shown_own start.args.overrides.now the_level_of.ensures start.args.mode c.before.enum_told.given.1 c.is-shown-itself.ensures)
+    shown_own start.args.overrides.now the_level_of.ensures start.args.mode c.enum_told-1.given.1 c.is_shown_itself.ensures)
     (λ c.
-    let the_level_of = c.before.before.before.level-of in
+    let the_level_of = c.level_of in
     let start = c.before.before.before.before.before in
-    shown_said start.args.overrides.now the_level_of.ensures start.args.mode c.before.severity.given.1))
+    shown_said start.args.overrides.now the_level_of.ensures start.args.mode c.severity-1.given.1))

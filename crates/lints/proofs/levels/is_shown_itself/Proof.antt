@@ -11,5 +11,5 @@ is_shown_itself_spec =
     tie.close
     (tie.spec
     (λ c κs. search rules)
-    (λ c. λ l e. ap (λ s. not (eqb s 3)) (c.own-severity.ensures l e) ∙ sym (rw (eq-eqb _ _ c.before.if1.true) refl))
-    (λ c. λ l e. sym (rw (ne_eqb _ _ c.if1.false) refl)))
+    (λ c. λ l e. ap (λ s. not (eqb s 3)) (c.own_severity.ensures l e) ∙ sym (rw (eq-eqb _ _ c.if-mode-eq0.true) refl))
+    (λ c. λ l e. sym (rw (ne_eqb _ _ c.if-mode-eq0.false) refl)))

@@ -7,10 +7,10 @@ use Rattle.lints.proofs.LevelLaws.{LevelFrom, level_start, level_next, level_fou
 use Rattle.lints.proofs.levels.level_of.Statement.{statement}
 use Rattle.lints.proofs.levels.level_of.Tie as tie
 
-abbrev invariant_loop : tie.invariant_loop
+abbrev invariant_loop : tie.invariant-loop-i
 invariant_loop overrides lint i₀ i = LevelFrom overrides lint i
 
-abbrev decreases_loop : tie.decreases_loop
+abbrev decreases_loop : tie.decreases-loop-i
 decreases_loop overrides lint i₀ i = length overrides - i
 
 pub level_of_spec : {M : Type 1} → statement M
@@ -23,11 +23,11 @@ level_of_spec =
     (λ c. search rules)
     (λ c. omega arith)
     (λ c.
-    let the_loop = c.before.before.before.loop in
-    level_found the_loop.invariant c.before.before.loop-test.true refl c.if1.true)
+    let the_loop = c.loop-i in
+    level_found the_loop.invariant c.loop-i-test.true refl c.if-word-lint.true)
     (λ c. omega arith)
     (λ c. omega arith)
     (λ c.
-    let the_loop = c.before.before.before.loop in
-    level_next the_loop.invariant c.before.before.loop-test.true refl c.if1.false)
-    (λ c. level_end c.before.loop.invariant c.loop-test.false))
+    let the_loop = c.loop-i in
+    level_next the_loop.invariant c.loop-i-test.true refl c.if-word-lint.false)
+    (λ c. level_end c.loop-i.invariant c.loop-i-test.false))

@@ -7,10 +7,10 @@ use Rattle.lints.proofs.LevelLaws.{AllowedFrom, allowed_start, allowed_next, all
 use Rattle.lints.proofs.levels.overrides_allowed.Statement.{statement}
 use Rattle.lints.proofs.levels.overrides_allowed.Tie as tie
 
-abbrev invariant_loop : tie.invariant_loop
+abbrev invariant_loop : tie.invariant-loop-i
 invariant_loop overrides i₀ i = AllowedFrom overrides i
 
-abbrev decreases_loop : tie.decreases_loop
+abbrev decreases_loop : tie.decreases-loop-i
 decreases_loop overrides i₀ i = length overrides - i
 
 pub overrides_allowed_spec : {M : Type 1} → statement M
@@ -19,18 +19,18 @@ overrides_allowed_spec =
     (tie.spec
     invariant_loop
     decreases_loop
-    (λ c. allowed_start c.before.args.overrides.now)
+    (λ c. allowed_start c.args.overrides.now)
     (λ c. search rules)
     (λ c. omega arith)
     (λ c κs. search rules)
     (λ c.
-    let the_loop = c.before.before.before.before.loop in
-    let the_loop_test = c.before.before.before.loop-test in
-    allowed_fails the_loop.invariant the_loop_test.true c.before.override-allowed.ensures (not-true _ c.if1.true))
+    let the_loop = c.loop-i in
+    let the_loop_test = c.loop-i-test in
+    allowed_fails the_loop.invariant the_loop_test.true c.override_allowed.ensures c.if-not-override_allowed.true)
     (λ c. omega arith)
     (λ c. omega arith)
     (λ c.
-    let the_loop = c.before.before.before.before.loop in
-    let the_loop_test = c.before.before.before.loop-test in
-    allowed_next the_loop.invariant the_loop_test.true c.before.override-allowed.ensures (not-false _ c.if1.false))
-    (λ c. allowed_end c.before.loop.invariant c.loop-test.false))
+    let the_loop = c.loop-i in
+    let the_loop_test = c.loop-i-test in
+    allowed_next the_loop.invariant the_loop_test.true c.override_allowed.ensures c.if-not-override_allowed.false)
+    (λ c. allowed_end c.loop-i.invariant c.loop-i-test.false))

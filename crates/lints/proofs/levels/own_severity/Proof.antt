@@ -6,5 +6,5 @@ pub own_severity_spec : {M : Type 1} → statement M
 own_severity_spec =
     tie.close
     (tie.spec
-    (λ c. own_four c.if1.true)
-    (λ c. own_other c.if1.false))
+    (λ c. own_four c.if-lint-eq4.true)
+    (λ c. own_other c.if-lint-eq4.false))

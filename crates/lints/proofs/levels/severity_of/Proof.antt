@@ -12,10 +12,10 @@ severity_of_spec =
     (λ c κs. search rules)
     (λ c. search rules)
     (λ c.
-    let the_level_of = c.before.before.before.level-of in
-    let the_args = c.before.before.before.before.before.args in
-    severity_own the_args.overrides.now the_level_of.ensures c.before.enum_told.given.1 c.own-severity.ensures)
+    let the_level_of = c.level_of in
+    let the_args = c.args in
+    severity_own the_args.overrides.now the_level_of.ensures c.enum_told-1.given.1 c.own_severity.ensures)
     (λ c.
-    let the_level_of = c.before.before.before.level-of in
-    let the_args = c.before.before.before.before.before.args in
-    severity_said the_args.overrides.now the_level_of.ensures c.before.severity.given.1))
+    let the_level_of = c.level_of in
+    let the_args = c.args in
+    severity_said the_args.overrides.now the_level_of.ensures c.severity-1.given.1))

@@ -20,86 +20,86 @@ compare_call_spec =
     (λ c. search rules)
     (λ c κs. search rules)
     (λ c.
-    let p = c.before.before.before.before.before.requires in
-    let a = c.before.before.before.before.before.args in
+    let p = c.requires in
+    let a = c.args in
     omega (arith, p.0.1, terms_limit a.law.now a.index.now p.0.0.asked.indexed))
     (λ c. search rules)
     (λ c.
-    let p = c.before.before.before.before.before.before.requires in
-    let a = c.before.before.before.before.before.before.args in
+    let p = c.requires in
+    let a = c.args in
     sym (lent_length a.limit p.0.0.asked.small))
     (λ c κs.
-    let the_argument = c.before.before.before.argument in
-    let p = c.before.before.before.before.before.before.requires in
-    let a = c.before.before.before.before.before.before.args in
+    let the_argument = c.argument-part in
+    let p = c.requires in
+    let a = c.args in
     let long = lent_length a.limit p.0.0.asked.small in
-    (argument_asked p.0.0 a.t p.0.1 refl the_argument.ensures c.before.wide.ensures.0 long refl, long, p.0.0.asked.places))
+    (argument_asked p.0.0 a.t p.0.1 refl the_argument.ensures c.wide-all.ensures.0 long refl, long, p.0.0.asked.places))
     (λ c.
-    let the_wide = c.before.before.before.before.wide in
-    let the_argument = c.before.before.before.before.before.before.argument in
-    let p = c.before.before.before.before.before.before.before.before.before.requires in
-    let a = c.before.before.before.before.before.before.before.before.before.args in
-    let made = argument_made p.0.0 a.t refl the_argument.ensures the_wide.ensures.0 c.before.before.row_format.ensures in
-    compared_wide p.0.0 a.t made (not-true _ c.if1.true))
+    let the_wide = c.wide-all in
+    let the_argument = c.argument-part in
+    let p = c.requires in
+    let a = c.args in
+    let made = argument_made p.0.0 a.t refl the_argument.ensures the_wide.ensures.0 c.row_format.ensures in
+    compared_wide p.0.0 a.t made c.if-not-row_format.true)
     (λ c. search rules)
     (λ c.
-    let p = c.before.before.before.before.before.before.before.before.before.requires in
-    let a = c.before.before.before.before.before.before.before.before.before.args in
+    let p = c.requires in
+    let a = c.args in
     omega (arith, accepted_few p.0.0 a.t p.1.0 p.1.1))
     (λ c.
-    let p = c.before.before.before.before.before.before.before.before.before.requires in
-    let a = c.before.before.before.before.before.before.before.before.before.args in
+    let p = c.requires in
+    let a = c.args in
     omega (arith, accepted_few p.0.0 a.t p.1.0 p.1.1))
     (λ c.
-    let the_row_format = c.before.before.row_format in
+    let the_row_format = c.row_format in
     let out-kept = the_row_format.auto.1.1.1.1.1.1.1.0 in
     let out-after = the_row_format.new.1.1.1.1.1.1.1.0 in
-    let p = c.before.before.before.before.before.before.before.before.before.requires in
-    let a = c.before.before.before.before.before.before.before.before.before.args in
+    let p = c.requires in
+    let a = c.args in
     back_inside p.0.0.asked.small out-after _ out-kept)
     (λ c.
-    let the_row_format = c.before.before.before.row_format in
+    let the_row_format = c.row_format in
     let out-kept = the_row_format.auto.1.1.1.1.1.1.1.0 in
     let out-after = the_row_format.new.1.1.1.1.1.1.1.0 in
-    let p = c.before.before.before.before.before.before.before.before.before.before.requires in
-    let a = c.before.before.before.before.before.before.before.before.before.before.args in
+    let p = c.requires in
+    let a = c.args in
     sym (back_length p.0.0.asked.small out-after _ out-kept))
     (λ c.
-    let p = c.before.before.before.before.before.before.before.before.before.before.requires in
-    let a = c.before.before.before.before.before.before.before.before.before.before.args in
+    let p = c.requires in
+    let a = c.args in
     omega (arith, accepted_few p.0.0 a.t p.1.0 p.1.1))
     (λ c. search rules)
     (λ c. search rules)
     (λ c.
-    let p = c.before.before.before.before.before.before.before.before.before.before.requires in
-    let a = c.before.before.before.before.before.before.before.before.before.before.args in
+    let p = c.requires in
+    let a = c.args in
     accepted_inside p.0.0 a.t p.1.0 p.1.1)
     (λ c κs. search rules)
     (λ c.
-    let the_if1 = c.before.before.before.before.if1 in
-    let the_argument = c.before.before.before.before.before.before.before.before.before.before.argument in
-    let the_wide = c.before.before.before.before.before.before.before.before.wide in
-    let the_row_format = c.before.before.before.before.before.before.row_format in
-    let p = c.before.before.before.before.before.before.before.before.before.before.before.before.before.requires in
-    let a = c.before.before.before.before.before.before.before.before.before.before.before.before.before.args in
+    let the_if1 = c.if-not-row_format in
+    let the_argument = c.argument-part in
+    let the_wide = c.wide-all in
+    let the_row_format = c.row_format in
+    let p = c.requires in
+    let a = c.args in
     let made = argument_made p.0.0 a.t refl the_argument.ensures the_wide.ensures.0 the_row_format.ensures in
     compared_apart p.0.0 a.t p.1.0 p.1.1 (drop (a.limit + 1) (replicate 65 0)) made (not-false _ the_if1.false)
-    c.before.disjoint-formats.ensures p.0.2 c.if2.true)
-    (λ c. let the_argument = c.before.before.before.before.before.before.before.before.before.before.before.argument in
-    let the_wide = c.before.before.before.before.before.before.before.before.before.wide in
-    let the_row_format = c.before.before.before.before.before.before.before.row_format in
-    let the_if1 = c.before.before.before.before.before.if1 in
-    let p = c.before.before.before.before.before.before.before.before.before.before.before.before.before.before.requires in
-    let a = c.before.before.before.before.before.before.before.before.before.before.before.before.before.before.args in
+    c.disjoint_formats.ensures p.0.2 c.if-disjoint_formats.true)
+    (λ c. let the_argument = c.argument-part in
+    let the_wide = c.wide-all in
+    let the_row_format = c.row_format in
+    let the_if1 = c.if-not-row_format in
+    let p = c.requires in
+    let a = c.args in
     let made = argument_made p.0.0 a.t refl the_argument.ensures the_wide.ensures.0 the_row_format.ensures in
     compared_literal p.0.0 a.t p.1.0 p.1.1 (drop (a.limit + 1) (replicate 65 0)) made (not-false _ the_if1.false)
-    c.before.before.disjoint-formats.ensures p.0.2 c.before.if2.false c.if3.true)
-    (λ c. let the_argument = c.before.before.before.before.before.before.before.before.before.before.before.argument in
-    let the_wide = c.before.before.before.before.before.before.before.before.before.wide in
-    let the_row_format = c.before.before.before.before.before.before.before.row_format in
-    let the_if1 = c.before.before.before.before.before.if1 in
-    let p = c.before.before.before.before.before.before.before.before.before.before.before.before.before.before.requires in
-    let a = c.before.before.before.before.before.before.before.before.before.before.before.before.before.before.args in
+    c.disjoint_formats.ensures p.0.2 c.if-disjoint_formats.false c.if-literal.true)
+    (λ c. let the_argument = c.argument-part in
+    let the_wide = c.wide-all in
+    let the_row_format = c.row_format in
+    let the_if1 = c.if-not-row_format in
+    let p = c.requires in
+    let a = c.args in
     let made = argument_made p.0.0 a.t refl the_argument.ensures the_wide.ensures.0 the_row_format.ensures in
     compared_silent p.0.0 a.t p.1.0 p.1.1 (drop (a.limit + 1) (replicate 65 0)) made (not-false _ the_if1.false)
-    c.before.before.disjoint-formats.ensures p.0.2 c.before.if2.false c.if3.false))
+    c.disjoint_formats.ensures p.0.2 c.if-disjoint_formats.false c.if-literal.false))

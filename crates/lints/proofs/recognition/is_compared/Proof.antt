@@ -10,11 +10,11 @@ is_compared_spec =
     tie.close
     (tie.spec
     (λ c κs.
-    let p = c.before.before.requires in
-    let a = c.before.before.args in
-    (p.0, (p.1.0, p.1.1, literal_known (file_of a.law.now) a.f a.t p.1.2 c.if1.true)))
+    let p = c.requires in
+    let a = c.args in
+    (p.0, (p.1.0, p.1.1, literal_known (file_of a.law.now) a.f a.t p.1.2 c.if-literal.true)))
     (λ c.
-    let p = c.before.before.before.requires in
-    let a = c.before.before.before.args in
-    compared_matched (file_of a.law.now) a.f a.t p.1.2 c.before.if1.true c.some-matches.ensures)
+    let p = c.requires in
+    let a = c.args in
+    compared_matched (file_of a.law.now) a.f a.t p.1.2 c.if-literal.true c.some_matches.ensures)
     (λ c. search rules))

@@ -13,69 +13,69 @@ judge_call_spec =
     tie.close
     (tie.spec
     (λ c.
-    let p = c.before.before.requires in
-    let a = c.before.before.args in
+    let p = c.requires in
+    let a = c.args in
     omega (arith, p.1, terms_limit a.law.now a.index.now p.0.asked.indexed))
     (λ c.
-    let p = c.before.before.requires in
-    let a = c.before.before.args in
+    let p = c.requires in
+    let a = c.args in
     omega (arith, p.1, terms_limit a.law.now a.index.now p.0.asked.indexed))
     (λ c κs. search rules)
     (λ c κs. search rules)
     (λ c κs.
-    let p = c.before.before.before.before.before.requires in
-    let a = c.before.before.before.before.before.args in
+    let p = c.requires in
+    let a = c.args in
     let indexed = p.0.asked.indexed in
-    omega (arith, c.functions.ensures, indexed.words.functions, functions_limit a.law.now a.index.now indexed))
+    omega (arith, c.functions-count.ensures, indexed.words.functions, functions_limit a.law.now a.index.now indexed))
     (λ c.
-    let the_wide = c.before.before.before.wide in
-    let p = c.before.before.before.before.before.before.before.requires in
-    let a = c.before.before.before.before.before.before.before.args in
-    verdict_undefined p.0 a.t p.1 p.2 the_wide.ensures.0 c.before.before.functions.ensures
-    c.before.last-placed.ensures c.if1.true)
+    let the_wide = c.wide-place in
+    let p = c.requires in
+    let a = c.args in
+    verdict_undefined p.0 a.t p.1 p.2 the_wide.ensures.0 c.functions-count.ensures
+    c.last_placed-f.ensures c.if-count-f.true)
     (λ c κs. search rules)
     (λ c κs. search rules)
     (λ c κs.
-    let the_functions = c.before.before.before.before.functions in
-    let the_last_placed = c.before.before.before.last-placed in
-    let the_wide = c.before.before.before.before.before.wide in
-    let p = c.before.before.before.before.before.before.before.before.before.requires in
-    let a = c.before.before.before.before.before.before.before.before.before.args in (
+    let the_functions = c.functions-count in
+    let the_last_placed = c.last_placed-f in
+    let the_wide = c.wide-place in
+    let p = c.requires in
+    let a = c.args in (
       (p.0.asked.indexed, p.0.accepted),
       (
-        function_here_lem p.0 a.t p.1 p.2 the_wide.ensures.0 the_functions.ensures the_last_placed.ensures c.before.before.if1.false,
+        function_here_lem p.0 a.t p.1 p.2 the_wide.ensures.0 the_functions.ensures the_last_placed.ensures c.if-count-f.false,
         p.1,
-        (literal_read (file_of a.law.now) a.t c.before.argument.ensures c.is-literal.ensures),
+        (literal_read (file_of a.law.now) a.t c.argument.ensures c.is_literal-literal.ensures),
       ),
     ))
     (λ c.
-    let the_if1 = c.before.before.before.before.if1 in
-    let the_wide = c.before.before.before.before.before.before.before.wide in
-    let the_functions = c.before.before.before.before.before.before.functions in
-    let the_last_placed = c.before.before.before.before.before.last-placed in
-    let p = c.before.before.before.before.before.before.before.before.before.before.before.requires in
-    let a = c.before.before.before.before.before.before.before.before.before.before.before.args in
+    let the_if1 = c.if-count-f in
+    let the_wide = c.wide-place in
+    let the_functions = c.functions-count in
+    let the_last_placed = c.last_placed-f in
+    let p = c.requires in
+    let a = c.args in
     verdict_silent p.0 a.t p.1 p.2 the_wide.ensures.0 the_functions.ensures the_last_placed.ensures the_if1.false
-    c.before.is_compared.ensures (not-true _ c.if2.true))
+    c.is_compared.ensures c.if-not-is_compared.true)
     (λ c κs.
-    let the_if1 = c.before.before.before.before.if1 in
-    let the_argument = c.before.before.before.argument in
-    let the_wide = c.before.before.before.before.before.before.before.wide in
-    let the_functions = c.before.before.before.before.before.before.functions in
-    let the_last_placed = c.before.before.before.before.before.last-placed in
-    let p = c.before.before.before.before.before.before.before.before.before.before.before.requires in
-    let a = c.before.before.before.before.before.before.before.before.before.before.before.args in (
-      (p.0, p.1, (literal_read (file_of a.law.now) a.t the_argument.ensures c.before.before.is-literal.ensures)),
+    let the_if1 = c.if-count-f in
+    let the_argument = c.argument in
+    let the_wide = c.wide-place in
+    let the_functions = c.functions-count in
+    let the_last_placed = c.last_placed-f in
+    let p = c.requires in
+    let a = c.args in (
+      (p.0, p.1, (literal_read (file_of a.law.now) a.t the_argument.ensures c.is_literal-literal.ensures)),
       (
         place_is p.0 a.t p.1 p.2 the_wide.ensures.0 the_functions.ensures the_last_placed.ensures,
         place_inside p.0 a.t p.1 p.2 the_wide.ensures.0 the_functions.ensures the_last_placed.ensures the_if1.false,
       ),
     ))
-    (λ c. let the_wide = c.before.before.before.before.before.before.before.before.wide in
-    let the_functions = c.before.before.before.before.before.before.before.functions in
-    let the_last_placed = c.before.before.before.before.before.before.last-placed in
-    let the_if1 = c.before.before.before.before.before.if1 in
-    let p = c.before.before.before.before.before.before.before.before.before.before.before.before.requires in
-    let a = c.before.before.before.before.before.before.before.before.before.before.before.before.args in
+    (λ c. let the_wide = c.wide-place in
+    let the_functions = c.functions-count in
+    let the_last_placed = c.last_placed-f in
+    let the_if1 = c.if-count-f in
+    let p = c.requires in
+    let a = c.args in
     verdict_compared p.0 a.t p.1 p.2 the_wide.ensures.0 the_functions.ensures the_last_placed.ensures the_if1.false
-    c.before.before.is_compared.ensures (not-false _ c.before.if2.false) c.compare-call.ensures))
+    c.is_compared.ensures c.if-not-is_compared.false c.compare_call.ensures))

@@ -7,10 +7,10 @@ use Rattle.lints.proofs.RecognitionLaws.{last_here, last_next, last_none}
 use Rattle.lints.proofs.recognition.last_placed.Statement.{statement}
 use Rattle.lints.proofs.recognition.last_placed.Tie as tie
 
-abbrev invariant_loop : tie.invariant_loop
+abbrev invariant_loop : tie.invariant-loop-f
 invariant_loop slots count place f₀ f = (f ≤ count) × (last_placed slots place count count ≡ last_placed slots place count f)
 
-abbrev decreases_loop : tie.decreases_loop
+abbrev decreases_loop : tie.decreases-loop-f
 decreases_loop slots count place f₀ f = f
 
 pub last_placed_spec : {M : Type 1} → statement M
@@ -20,26 +20,26 @@ last_placed_spec =
     invariant_loop
     decreases_loop
     (λ c. (omega arith, refl))
-    (λ c. omega (arith, c.loop-test.true))
-    (λ c. omega (arith, c.before.loop.invariant.0, c.before.before.requires))
+    (λ c. omega (arith, c.loop-f-test.true))
+    (λ c. omega (arith, c.loop-f.invariant.0, c.requires))
     (λ c κs. tt)
     (λ c.
-    let the_loop = c.before.before.before.before.loop in
-    let the_loop_test = c.before.before.before.loop-test in
-    let a = c.before.before.before.before.before.args in
-    last_here a.slots.now a.place a.count the_loop.f _ (omega (arith, the_loop_test.true)) (sym c.before.wide.ensures.0 ∙ c.if1.true)
+    let the_loop = c.loop-f in
+    let the_loop_test = c.loop-f-test in
+    let a = c.args in
+    last_here a.slots.now a.place a.count the_loop.f _ (omega (arith, the_loop_test.true)) (sym c.wide.ensures.0 ∙ c.if-wide-place.true)
     ∙ sym the_loop.invariant.1)
     (λ c.
-    let the_loop_test = c.before.before.before.loop-test in
+    let the_loop_test = c.loop-f-test in
     omega (arith, the_loop_test.true))
     (λ c.
-    let the_loop = c.before.before.before.before.loop in
-    let the_loop_test = c.before.before.before.loop-test in
-    let a = c.before.before.before.before.before.args in (
+    let the_loop = c.loop-f in
+    let the_loop_test = c.loop-f-test in
+    let a = c.args in (
       omega (arith, the_loop.invariant.0),
       the_loop.invariant.1 ∙ last_next a.slots.now a.place a.count the_loop.f _ (omega (arith, the_loop_test.true))
-          (λ e. c.if1.false (c.before.wide.ensures.0 ∙ e)),
+          (λ e. c.if-wide-place.false (c.wide.ensures.0 ∙ e)),
     ))
     (λ c.
-    let a = c.before.before.args in
-    last_none a.slots.now a.place a.count c.before.loop.f (omega (arith, c.loop-test.false)) ∙ sym c.before.loop.invariant.1))
+    let a = c.args in
+    last_none a.slots.now a.place a.count c.loop-f.f (omega (arith, c.loop-f-test.false)) ∙ sym c.loop-f.invariant.1))

@@ -11,10 +11,10 @@ use Rattle.lints.proofs.RecognitionLaws.{argument_literal, MatchesLeft, function
 use Rattle.lints.proofs.recognition.some_matches.Statement.{statement}
 use Rattle.lints.proofs.recognition.some_matches.Tie as tie
 
-abbrev invariant_loop : tie.invariant_loop
+abbrev invariant_loop : tie.invariant-loop-s
 invariant_loop law index f t end s₀ s = MatchesLeft (file_of law) f (literal_terms (argument_in (file_of law) t)) s end
 
-abbrev decreases_loop : tie.decreases_loop
+abbrev decreases_loop : tie.decreases-loop-s
 decreases_loop law index f t end s₀ s = end - s
 
 pub some_matches_spec : {M : Type 1} → statement M
@@ -24,45 +24,45 @@ some_matches_spec =
     invariant_loop
     decreases_loop
     (λ c.
-    let p = c.before.requires in
-    omega (arith, function_few p.0.0 c.before.args.f p.1.0))
+    let p = c.requires in
+    omega (arith, function_few p.0.0 c.args.f p.1.0))
     (λ c κs.
-    let p = c.before.requires in
-    function_few p.0.0 c.before.args.f p.1.0)
+    let p = c.requires in
+    function_few p.0.0 c.args.f p.1.0)
     (λ c κs.
-    let p = c.before.before.requires in
-    omega (arith, function_few p.0.0 c.before.before.args.f p.1.0))
+    let p = c.requires in
+    omega (arith, function_few p.0.0 c.args.f p.1.0))
     (λ c.
-    let the_args = c.before.before.before.args in
-    let p = c.before.before.before.requires in
-    matches_start p.0.0 the_args.f p.1.0 _ _ c.first-sentence2.ensures c.before.first_sentence.ensures)
-    (λ c κs. let the_args = c.before.before.before.before.before.args in
-    let p = c.before.before.before.before.before.requires in (
+    let the_args = c.args in
+    let p = c.requires in
+    matches_start p.0.0 the_args.f p.1.0 _ _ c.first_sentence-s.ensures c.first_sentence-end.ensures)
+    (λ c κs. let the_args = c.args in
+    let p = c.requires in (
       p.0,
       (
-        omega (arith, c.loop-test.true, c.before.loop.invariant.few),
+        omega (arith, c.loop-s-test.true, c.loop-s.invariant.few),
         p.1.1,
         sym (argument_literal (file_of the_args.law.now) the_args.t) ∙ p.1.2,
       ),
     ))
     (λ c.
-    let the_loop = c.before.before.before.loop in
-    let the_args = c.before.before.before.before.before.before.before.args in
-    let p = c.before.before.before.before.before.before.before.requires in
-    matches_here the_args.t the_loop.invariant (accepted_readable the_args.law.now p.0.1) c.before.before.loop-test.true
-    c.before.literal-sentence.ensures c.if1.true)
+    let the_loop = c.loop-s in
+    let the_args = c.args in
+    let p = c.requires in
+    matches_here the_args.t the_loop.invariant (accepted_readable the_args.law.now p.0.1) c.loop-s-test.true
+    c.literal_sentence.ensures c.if-literal_sentence.true)
     (λ c.
-    let the_loop = c.before.before.before.loop in
-    let the_args = c.before.before.before.before.before.before.before.args in
-    let p = c.before.before.before.before.before.before.before.requires in
-    omega (arith, c.before.before.loop-test.true, the_loop.invariant.few, sentences_limit the_args.law.now the_args.index.now p.0.0))
-    (λ c. omega (arith, c.before.before.loop-test.true))
+    let the_loop = c.loop-s in
+    let the_args = c.args in
+    let p = c.requires in
+    omega (arith, c.loop-s-test.true, the_loop.invariant.few, sentences_limit the_args.law.now the_args.index.now p.0.0))
+    (λ c. omega (arith, c.loop-s-test.true))
     (λ c.
-    let the_loop = c.before.before.before.loop in
-    let the_args = c.before.before.before.before.before.before.before.args in
-    let p = c.before.before.before.before.before.before.before.requires in
-    matches_next the_args.t the_loop.invariant (accepted_readable the_args.law.now p.0.1) c.before.before.loop-test.true
-    c.before.literal-sentence.ensures c.if1.false)
-    (λ c. let the_args = c.before.before.before.before.before.args in
-    let p = c.before.before.before.before.before.requires in
-    matches_end the_args.t c.before.loop.invariant (accepted_readable the_args.law.now p.0.1) c.loop-test.false))
+    let the_loop = c.loop-s in
+    let the_args = c.args in
+    let p = c.requires in
+    matches_next the_args.t the_loop.invariant (accepted_readable the_args.law.now p.0.1) c.loop-s-test.true
+    c.literal_sentence.ensures c.if-literal_sentence.false)
+    (λ c. let the_args = c.args in
+    let p = c.requires in
+    matches_end the_args.t c.loop-s.invariant (accepted_readable the_args.law.now p.0.1) c.loop-s-test.false))

@@ -9,7 +9,7 @@ tell_spec =
     (tie.spec
     (λ c.
     let start = c.before.before.before.before.before in
-    λ settings held. tell_none settings held start.args.position start.args.text.now c.if1.true)
+    λ settings held. tell_none settings held start.args.position start.args.text.now c.if-count-position.true)
     (λ c. search rules)
     (λ c. search rules)
     (λ c. search rules)
@@ -20,24 +20,24 @@ tell_spec =
     (λ c. search rules)
     (λ c κs.
     let start = c.before.before.before.before.before.before.before in
-    (start.requires.0.1.prepared, spoken start.requires.0.0 start.requires.0.1 start.requires.1 start.args.position c.before.before.if1.false))
+    (start.requires.0.1.prepared, spoken start.requires.0.0 start.requires.0.1 start.requires.1 start.args.position c.if-count-position.false))
     (λ c. search rules)
     (λ c.
-    let the_put_message = c.before.before.before.put-message in
+    let the_put_message = c.put_message-length in
     let out-kept = the_put_message.auto.1.1.1.1.1.1.0 in
-    let the_if1 = c.before.before.before.before.before.before.if1 in
+    let the_if1 = c.if-count-position in
     let start = c.before.before.before.before.before.before.before.before.before.before.before in
     λ settings held. tell_short settings held start.requires.1 start.args.position the_if1.false start.args.text.now out-kept
-    the_put_message.ensures c.if2.true)
-    (λ c κs. let the_if1 = c.before.before.before.before.before.before.before.if1 in
+    the_put_message.ensures c.if-room-length.true)
+    (λ c κs. let the_if1 = c.if-count-position in
     let start = c.before.before.before.before.before.before.before.before.before.before.before.before in
     (start.requires.0.1.prepared, spoken start.requires.0.0 start.requires.0.1 start.requires.1 start.args.position the_if1.false))
     (λ c. search rules)
     (λ c.
-    let the_if2 = c.before.before.before.before.if2 in
-    let the_if1 = c.before.before.before.before.before.before.before.before.before.before.if1 in
-    let the_put_message = c.before.before.before.before.before.before.before.put-message in
+    let the_if2 = c.if-room-length in
+    let the_if1 = c.if-count-position in
+    let the_put_message = c.put_message-length in
     let out-kept = the_put_message.auto.1.1.1.1.1.1.0 in
     let start = c.before.before.before.before.before.before.before.before.before.before.before.before.before.before.before in
     λ settings held. tell_written settings held start.requires.1 start.args.position the_if1.false start.args.text.now _ out-kept
-    the_put_message.ensures the_if2.false c.before.before.put-message2.ensures))
+    the_put_message.ensures the_if2.false c.put_message.ensures))

@@ -18,35 +18,35 @@ write_spec =
     (λ c. search rules)
     (λ c. search rules)
     (λ c.
-    let the_none = c.before.before.before.before.write-none in
+    let the_none = c.write_none in
     let tested = c.before.before.before.before.before.before.before in
     let asked = tested.before in
     let start = asked.before.before.before.before.before in
-    the_none.ensures start.args.law.now (empty_law start.args.law.now (sym asked.is-empty.ensures ∙ tested.if1.true)))
+    the_none.ensures start.args.law.now (empty_law start.args.law.now (sym asked.is_empty.ensures ∙ tested.if-is_empty.true)))
     (λ c κs. search rules)
     (λ c. search rules)
     (λ c. search rules)
     (λ c κs.
-    let the_enum_told = c.before.before.before.enum_told in
+    let the_enum_told = c.enum_told-1 in
     let start = c.before.before.before.before.before.before.before.before.before.before.before.before.before in
     let settings = settings_from start.args.mode start.args.overrides.now in
-    let front = c.before.before.before.before.before.check-front in
+    let front = c.check_front in
     front_ready 64 settings start.args.law.now start.args.store.now _ _ (front.ensures.0 _ refl) the_enum_told.given.1)
     (λ c.
     let start = c.before.before.before.before.before.before.before.before.before.before.before in
     let settings = settings_from start.args.mode start.args.overrides.now in
-    let front = c.before.before.before.check-front in
+    let front = c.check_front in
     let wanted = start.args.wanted in
     bytes_turned 64 settings start.args.law.now start.args.store.now _ _ (front.ensures.0 _ refl)
-    (wanted_number wanted) (own_bytes (wanted_bytes wanted settings)) start.args.buffer.now _ c.before.why.given.1)
+    (wanted_number wanted) (own_bytes (wanted_bytes wanted settings)) start.args.buffer-1.now _ c.why-1.given.1)
     (λ c. search rules)
     (λ c. search rules)
-    (λ c. let the_enum_told = c.before.before.before.before.before.before.before.before.enum_told in
+    (λ c. let the_enum_told = c.enum_told-1 in
     let start = c.before.before.before.before.before.before.before.before.before.before.before.before.before.before.before.before.before.before in
     let settings = settings_from start.args.mode start.args.overrides.now in
-    let front = c.before.before.before.before.before.before.before.before.before.before.check-front in
-    let ready = c.before.before.before.before.write-ready in
+    let front = c.check_front in
+    let ready = c.write_ready in
     let wanted = start.args.wanted in
     bytes_goes 64 settings start.args.law.now start.args.store.now _ _ (front.ensures.0 _ refl)
-    (wanted_number wanted) (own_bytes (wanted_bytes wanted settings)) start.args.buffer.now _ _ ready.result
+    (wanted_number wanted) (own_bytes (wanted_bytes wanted settings)) start.args.buffer-1.now _ _ ready.result
     the_enum_told.given.1 ready.ensures))

@@ -5,7 +5,7 @@ use Rattle.listing.proofs.bytes.write_own.Statement.{statement}
 use Rattle.listing.proofs.bytes.write_own.Tie as tie
 
 -- the start, from where it is known what is wanted
-abbrev start : tie.After-enum-told → tie.Start
+abbrev start : tie.In-Page → tie.Start
 start c = c.before.before.before.before.before.before
 
 pub write_own_spec : {M : Type 1} → statement M
@@ -13,7 +13,7 @@ write_own_spec =
     tie.close
     (tie.spec
     (λ c. search rules)
-    (λ c κs. let p = c.before.before.before.before.before.before.before.before.requires in (p.0, p.1))
+    (λ c κs. let p = c.requires in (p.0, p.1))
     (λ c. search rules)
     (λ c κs.
     let p = (start c.before).requires in
@@ -23,11 +23,11 @@ write_own_spec =
     (λ c.
     let at-wanted = c.before.before.before.before.before in
     let x = at-wanted.before.before.before.before.before.before in
-    let the_tell = c.before.before.tell in
-    λ settings held. text_wanted settings held x.requires.1 x.args.wanted _ the_tell.result _ _ at-wanted.wanted.given.1 (the_tell.ensures settings held))
+    let the_tell = c.tell in
+    λ settings held. text_wanted settings held x.requires.1 x.args.wanted-1 _ the_tell.result _ _ at-wanted.wanted-1.given.1 (the_tell.ensures settings held))
     (λ c. search rules)
     (λ c.
     let known = c.before.before.before.before in
     let x = start known in
-    let the_print = c.before.before.print in
-    λ settings held. page_wanted settings held x.pre.1 x.args.wanted _ the_print.result _ known.enum_told.given.1 the_print.ensures))
+    let the_print = c.print in
+    λ settings held. page_wanted settings held x.requires.1 x.args.wanted-1 _ the_print.result _ known.enum_told-1.given.1 the_print.ensures))

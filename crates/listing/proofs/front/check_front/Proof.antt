@@ -14,37 +14,37 @@ check_front_spec =
     (λ c κs. search rules)
     (λ c. let start = c.before.before.before.before in
     let settings = settings_from start.args.mode start.args.overrides.now in
-    turned_settings start.args.limit settings start.args.law.now start.args.words start.args.index.now c.before.settings-allowed.ensures
-    (not-true _ c.if1.true))
+    turned_settings start.args.limit settings start.args.law.now start.args.words start.args.index.now c.settings_allowed.ensures
+    c.if-not-settings_allowed.true)
     (λ c κs. search rules)
     (λ c. search rules)
     (λ c. search rules)
     (λ c κs. search rules)
     (λ c.
-    let the_enum_told = c.before.before.enum_told in
+    let the_enum_told = c.enum_told-1 in
     let start = c.before.before.before.before.before.before.before.before.before.before in
     let settings = settings_from start.args.mode start.args.overrides.now in
-    let allowed = c.before.before.before.before.before.before.before.settings-allowed in
-    let the_if1 = c.before.before.before.before.before.before.if1 in
-    let read = c.before.before.before.before.read-law in
+    let allowed = c.settings_allowed in
+    let the_if1 = c.if-not-settings_allowed in
+    let read = c.read_law in
     turned_store start.args.limit settings start.args.law.now start.args.words start.args.index.now allowed.ensures
     (not-false _ the_if1.false) _ read.ensures.0 read.ensures.1
-    the_enum_told.given.1 (omega (arith, c.if2.true, c.before.store_words_lem.ensures)))
+    the_enum_told.given.1 (omega (arith, c.if-words-store_words.true, c.store_words.ensures)))
     (λ c. let start = c.before.before.before.before.before.before.before.before.before in
     let settings = settings_from start.args.mode start.args.overrides.now in
-    let allowed = c.before.before.before.before.before.before.settings-allowed in
-    let the_if1 = c.before.before.before.before.before.if1 in
-    let read = c.before.before.before.read-law in
+    let allowed = c.settings_allowed in
+    let the_if1 = c.if-not-settings_allowed in
+    let read = c.read_law in
     turned_file start.args.limit settings start.args.law.now start.args.words start.args.index.now allowed.ensures
     (not-false _ the_if1.false) _ read.ensures.0 read.ensures.1 _
-    c.before.why.given.1)
+    c.why-1.given.1)
     (λ c.
-    let the_enum_told = c.before.before.enum_told in
+    let the_enum_told = c.enum_told-1 in
     let start = c.before.before.before.before.before.before.before.before.before.before in
     let settings = settings_from start.args.mode start.args.overrides.now in
-    let allowed = c.before.before.before.before.before.before.before.settings-allowed in
-    let the_if1 = c.before.before.before.before.before.before.if1 in
-    let read = c.before.before.before.before.read-law in
+    let allowed = c.settings_allowed in
+    let the_if1 = c.if-not-settings_allowed in
+    let read = c.read_law in
     goes_on_lem start.args.limit settings start.args.law.now start.args.words start.args.index.now allowed.ensures
     (not-false _ the_if1.false) _ read.ensures.0 read.ensures.1
-    the_enum_told.given.1 start.requires.1 (omega (arith, c.if2.false, c.before.store_words_lem.ensures))))
+    the_enum_told.given.1 start.requires.1 (omega (arith, c.if-words-store_words.false, c.store_words.ensures))))

@@ -14,11 +14,11 @@ is_empty_spec =
     (λ c. search rules)
     (λ c κs. search rules)
     (λ c.
-    let the_args = c.before.before.before.before.args in
-    refused_empty the_args.law.now _ (cut_refused _ _ _ c.before.before.sections-of.ensures c.enum_told.given.1))
+    let the_args = c.args in
+    refused_empty the_args.law.now _ (cut_refused _ _ _ c.sections_of.ensures c.enum_told-1.given.1))
     (λ c.
-    let the_sections = c.before.before.sections in
+    let the_sections = c.sections-1 in
     let start = c.before.before.before.before.before.before in
-    let the_sections_of = c.before.before.before.before.sections-of in
+    let the_sections_of = c.sections_of in
     counts_empty start.args.law.now _ _ (cut_whole start.args.law.now _ _ the_sections_of.ensures the_sections.given.1)
     c.no_records.ensures))

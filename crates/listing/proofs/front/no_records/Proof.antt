@@ -6,12 +6,12 @@ use Rattle.listing.proofs.front.no_records.Tie as tie
 
 pub no_records_spec : {M : Type 1} → statement M
 no_records_spec = tie.close (tie.spec
-    (λ c. rw (ne_eqb _ 0 c.if1.true) refl)
-    (λ c. rw (eq-eqb _ 0 c.before.before.if1.false, ne_eqb _ 0 c.if2.true) refl)
+    (λ c. rw (ne_eqb _ 0 c.if-sections-ne0.true) refl)
+    (λ c. rw (eq-eqb _ 0 c.if-sections-ne0.false, ne_eqb _ 0 c.if-sections-ne0-2.true) refl)
     (λ c.
-    let the_if1 = c.before.before.before.before.if1 in
-    rw (eq-eqb _ 0 the_if1.false, eq-eqb _ 0 c.before.before.if2.false, ne_eqb _ 0 c.if3.true) refl)
+    let the_if1 = c.if-sections-ne0 in
+    rw (eq-eqb _ 0 the_if1.false, eq-eqb _ 0 c.if-sections-ne0-2.false, ne_eqb _ 0 c.if-sections-ne0-3.true) refl)
     (λ c.
-    let the_if2 = c.before.before.before.if2 in
-    let the_if1 = c.before.before.before.before.before.if1 in
-    rw (eq-eqb _ 0 the_if1.false, eq-eqb _ 0 the_if2.false, eq-eqb _ 0 c.before.if3.false) refl))
+    let the_if2 = c.if-sections-ne0-2 in
+    let the_if1 = c.if-sections-ne0 in
+    rw (eq-eqb _ 0 the_if1.false, eq-eqb _ 0 the_if2.false, eq-eqb _ 0 c.if-sections-ne0-3.false) refl))

@@ -15,8 +15,8 @@ gather_spec =
     (λ c. search rules)
     (λ c. search rules)
     (λ c κs.
-    let the_rounds = c.before.before.before.rounds in
-    let the_infer_store = c.before.before.before.before.before.before.before.infer-store in
+    let the_rounds = c.rounds-1 in
+    let the_infer_store = c.infer_store in
     let start = c.before.before.before.before.before.before.before.before.before.before.before.before.before in
     let settings = settings_from start.args.mode start.args.overrides.now in (
       filled_prepares start.args.room settings _ the_infer_store.result start.requires.0 start.requires.1 the_infer_store.ensures _ _
@@ -27,16 +27,16 @@ gather_spec =
     ))
     (λ c. search rules)
     (λ c.
-    let the_infer_store = c.before.before.before.before.infer-store in
+    let the_infer_store = c.infer_store in
     let start = c.before.before.before.before.before.before.before.before.before.before in
     let settings = settings_from start.args.mode start.args.overrides.now in
-    infer_wide start.args.room settings _ the_infer_store.result start.requires.0 start.requires.1 the_infer_store.ensures _ c.enum_told.given.1)
+    infer_wide start.args.room settings _ the_infer_store.result start.requires.0 start.requires.1 the_infer_store.ensures _ c.enum_told-1.given.1)
     (λ c. search rules)
     (λ c. search rules)
     (λ c.
-    let the_gather_findings = c.before.before.before.before.gather-findings in
-    let the_infer_store = c.before.before.before.before.before.before.before.before.before.before.before.before.infer-store in
-    let the_rounds = c.before.before.before.before.before.before.before.before.rounds in
+    let the_gather_findings = c.gather_findings in
+    let the_infer_store = c.infer_store in
+    let the_rounds = c.rounds-1 in
     let start = c.before.before.before.before.before.before.before.before.before.before.before.before.before.before.before.before.before.before in
     let settings = settings_from start.args.mode start.args.overrides.now in
     gather_both start.args.room settings _ the_infer_store.result start.requires.0 start.requires.1 the_infer_store.ensures _ _ the_rounds.given.1 _

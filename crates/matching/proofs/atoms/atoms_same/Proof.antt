@@ -12,4 +12,4 @@ atoms_same_spec =
     (λ c κs. search rules)
     (λ c. search rules)
     (λ c κs. search rules)
-    (λ c. c.variables_same.ensures (omega (arith, c.before.before.word_at.ensures, c.before.if1.false))))
+    (λ c. c.variables_same.ensures (omega (arith, c.word_at.ensures, c.if-word_at-lt3.false))))

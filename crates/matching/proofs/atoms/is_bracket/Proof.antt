@@ -8,5 +8,5 @@ pub is_bracket_spec : {M : Type 1} → statement M
 is_bracket_spec = tie.close (tie.spec
     (λ c κs. search rules)
     (λ c.
-    let the_args = c.before.before.args in
+    let the_args = c.args in
     laws.bracket_kind the_args.part.now c.word_at.ensures))

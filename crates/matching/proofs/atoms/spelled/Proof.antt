@@ -15,5 +15,5 @@ spelled_spec =
     (λ c. search rules)
     (λ c. search rules)
     (λ c. let start = c.before.before.before.before in
-    laws.spelled_part start.args.text.now start.args.start start.args.len c.before.before.lesser.ensures
-    c.before.lesser2.ensures))
+    laws.spelled_part start.args.text.now start.args.start start.args.len c.lesser-from.ensures
+    c.lesser-end.ensures))

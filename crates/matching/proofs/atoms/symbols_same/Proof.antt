@@ -19,8 +19,8 @@ symbols_same_spec =
     (λ c.
     let at-kind = c.before.before.before in
     let start = at-kind.before.before.before.before in
-    laws.kinds_differ start.args.text.now start.args.x.now start.args.y.now at-kind.word_at.ensures c.before.word-at2.ensures
-    c.if2.true)
+    laws.kinds_differ start.args.text.now start.args.x.now start.args.y.now at-kind.word_at-kind.ensures c.word_at.ensures
+    c.if-kind-word_at.true)
     (λ c κs. search rules)
     (λ c κs. search rules)
     (λ c κs. search rules)
@@ -34,12 +34,12 @@ symbols_same_spec =
     let at-kinds = at_first.before.before.before in
     let at-kind = at-kinds.before.before.before in
     let start = at-kind.before.before.before.before in
-    laws.names_same start.args.text.now start.args.x.now start.args.y.now at-kind.word_at.ensures at-kinds.before.word-at2.ensures
-    at-kinds.if2.false
-    (laws.words_spelled start.args.text.now at_first.spelled.ensures at_first.before.before.word-at3.ensures at_first.before.word-at4.ensures)
-    (laws.words_spelled start.args.text.now at_second.spelled2.ensures at_second.before.before.word-at5.ensures
-    at_second.before.word-at6.ensures)
-    c.before.if3.true c.names-equal.ensures)
+    laws.names_same start.args.text.now start.args.x.now start.args.y.now at-kind.word_at-kind.ensures at-kinds.word_at.ensures
+    at-kinds.if-kind-word_at.false
+    (laws.words_spelled start.args.text.now at_first.spelled-a.ensures at_first.word_at-2.ensures at_first.word_at-3.ensures)
+    (laws.words_spelled start.args.text.now at_second.spelled-b.ensures at_second.word_at-4.ensures
+    at_second.word_at-5.ensures)
+    c.if-kind-eq1.true c.names_equal.ensures)
     (λ c κs. search rules)
     (λ c.
     let at_second = c.before.before in
@@ -47,9 +47,9 @@ symbols_same_spec =
     let at-kinds = at_first.before.before.before in
     let at-kind = at-kinds.before.before.before in
     let start = at-kind.before.before.before.before in
-    laws.numbers_same start.args.text.now start.args.x.now start.args.y.now at-kind.word_at.ensures at-kinds.before.word-at2.ensures
-    at-kinds.if2.false
-    (laws.words_spelled start.args.text.now at_first.spelled.ensures at_first.before.before.word-at3.ensures at_first.before.word-at4.ensures)
-    (laws.words_spelled start.args.text.now at_second.spelled2.ensures at_second.before.before.word-at5.ensures
-    at_second.before.word-at6.ensures)
-    (omega (arith, at-kind.word_at.ensures, at-kinds.before.before.if1.false, c.before.if3.false, start.requires.2)) c.numbers-equal.ensures))
+    laws.numbers_same start.args.text.now start.args.x.now start.args.y.now at-kind.word_at-kind.ensures at-kinds.word_at.ensures
+    at-kinds.if-kind-word_at.false
+    (laws.words_spelled start.args.text.now at_first.spelled-a.ensures at_first.word_at-2.ensures at_first.word_at-3.ensures)
+    (laws.words_spelled start.args.text.now at_second.spelled-b.ensures at_second.word_at-4.ensures
+    at_second.word_at-5.ensures)
+    (omega (arith, at-kind.word_at-kind.ensures, at-kinds.if-kind-eq0.false, c.if-kind-eq1.false, start.requires.2)) c.numbers_equal.ensures))

@@ -13,8 +13,8 @@ variables_same_spec =
     (λ c.
     let at-kind = c.before.before in
     let start = at-kind.before.before.before.before in
-    λ k. laws.kinds_differ start.args.text.now start.args.x.now start.args.y.now at-kind.word_at.ensures c.before.word-at2.ensures
-    c.if1.true)
+    λ k. laws.kinds_differ start.args.text.now start.args.x.now start.args.y.now at-kind.word_at-kind.ensures c.word_at.ensures
+    c.if-kind-word_at.true)
     (λ c κs. search rules)
     (λ c κs. search rules)
     (λ c κs. search rules)
@@ -28,15 +28,15 @@ variables_same_spec =
     let at-kinds = at_first.before.before.before in
     let at-kind = at-kinds.before.before in
     let start = at-kind.before.before.before.before in
-    laws.variables_same start.args.text.now start.args.x.now start.args.y.now at-kind.word_at.ensures at-kinds.before.word-at2.ensures
-    at-kinds.if1.false
-    (laws.words_spelled start.args.text.now at_first.spelled.ensures at_first.before.before.word-at3.ensures at_first.before.word-at4.ensures)
-    (laws.words_spelled start.args.text.now at_second.spelled2.ensures at_second.before.before.word-at5.ensures
-    at_second.before.word-at6.ensures)
-    c.before.if2.true c.indices-equal.ensures)
+    laws.variables_same start.args.text.now start.args.x.now start.args.y.now at-kind.word_at-kind.ensures at-kinds.word_at.ensures
+    at-kinds.if-kind-word_at.false
+    (laws.words_spelled start.args.text.now at_first.spelled-a.ensures at_first.word_at-2.ensures at_first.word_at-3.ensures)
+    (laws.words_spelled start.args.text.now at_second.spelled-b.ensures at_second.word_at-4.ensures
+    at_second.word_at-5.ensures)
+    c.if-kind-lt6.true c.indices_equal.ensures)
     (λ c.
     let at-kinds = c.before.before.before.before.before.before.before in
     let at-kind = at-kinds.before.before in
     let start = at-kind.before.before.before.before in
-    λ k. laws.others_differ start.args.text.now start.args.x.now start.args.y.now at-kind.word_at.ensures at-kinds.before.word-at2.ensures
-    at-kinds.if1.false c.if2.false))
+    λ k. laws.others_differ start.args.text.now start.args.x.now start.args.y.now at-kind.word_at-kind.ensures at-kinds.word_at.ensures
+    at-kinds.if-kind-word_at.false c.if-kind-lt6.false))

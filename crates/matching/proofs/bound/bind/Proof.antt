@@ -23,9 +23,9 @@ bind_spec =
     (λ c. let start = c.before.before.before in
     record {
       more = omega arith;
-      keys = ap (set start.args.b.keys start.args.b.count) c.before.before.narrow.ensures;
+      keys = ap (set start.args.b.keys start.args.b.count) c.narrow.ensures;
       starts = ap
-          (set start.args.b.starts start.args.b.count) c.before.narrow2.ensures;
+          (set start.args.b.starts start.args.b.count) c.narrow-2.ensures;
       sizes = ap
-          (set start.args.b.sizes start.args.b.count) c.narrow3.ensures;
+          (set start.args.b.sizes start.args.b.count) c.narrow-3.ensures;
     }))

@@ -10,10 +10,10 @@ use Rattle.matching.proofs.KnownLaws as laws
 use Rattle.matching.proofs.front.known_front.Statement.{statement}
 use Rattle.matching.proofs.front.known_front.Tie as tie
 
-abbrev invariant_loop : tie.invariant_loop
+abbrev invariant_loop : tie.invariant-loop-left
 invariant_loop text terms pattern row keys starts sizes count i₀ j₀ i j = Passed text pattern row (values_of text terms (places keys starts sizes count)) i j
 
-abbrev decreases_loop : tie.decreases_loop
+abbrev decreases_loop : tie.decreases-loop-left
 decreases_loop text terms pattern row keys starts sizes count i₀ j₀ i j = length pattern - i
 
 pub known_front_spec : {M : Type 1} → statement M
@@ -22,53 +22,53 @@ known_front_spec =
     (tie.spec
     invariant_loop
     decreases_loop
-    (λ c. let a = c.before.before.before.before.args in
+    (λ c. let a = c.args in
     laws.passed_none a.text.now a.pattern.now a.row.now
     (values_of a.text.now a.terms.now (places a.keys.now a.starts.now a.sizes.now a.count)))
-    (λ c. begin_inside c.loop.invariant.begins)
-    (λ c. begin_inside c.loop.invariant.begins)
+    (λ c. begin_inside c.loop-left.invariant.begins)
+    (λ c. begin_inside c.loop-left.invariant.begins)
     (λ c. search rules)
-    (λ c. c.before.loop.invariant.within)
-    (λ c. c.before.loop.invariant.within)
+    (λ c. c.loop-left.invariant.within)
+    (λ c. c.loop-left.invariant.within)
     (λ c. search rules)
-    (λ c κs. let the_pre = c.before.before.before.before.before.before.before.before.requires in
-    (the_pre, c.if1.false))
-    (λ c. search rules)
-    (λ c.
-    let the_first_of = c.before.before.before.first_of in
-    let the_loop = c.before.before.before.before.before.before.before.loop in
-    omega (arith, (laws.passed_falls the_loop.invariant the_first_of.ensures _ _ c.before.m.given.1).1))
-    (λ c.
-    let the_first_of = c.before.before.before.first_of in
-    let the_loop = c.before.before.before.before.before.before.before.loop in
-    omega (arith, (laws.passed_falls the_loop.invariant the_first_of.ensures _ _ c.before.m.given.1).2))
-    (λ c.
-    let the_first_of = c.before.before.before.first_of in
-    let the_loop = c.before.before.before.before.before.before.before.loop in
-    (laws.passed_falls the_loop.invariant the_first_of.ensures _ _ c.before.m.given.1).0)
-    (λ c.
-    let the_first_of = c.before.before.before.first_of in
-    let the_loop = c.before.before.before.before.before.before.before.loop in
-    laws.passed_more the_loop.invariant the_first_of.ensures _ _ c.before.m.given.1)
-    (λ c. search rules)
-    (λ c. search rules)
-    (λ c. search rules)
+    (λ c κs. let the_pre = c.requires in
+    (the_pre, c.if-left-lt24.false))
     (λ c. search rules)
     (λ c.
-    let the_loop = c.before.before.before.loop in
-    record { front = (the_loop.invariant, c.if1.true) })
-    (λ c. let the_loop = c.before.before.before.before.before.before.loop in
-    record { front = laws.passed_fails the_loop.invariant c.before.before.first_of.ensures c.enum_told.given.1 })
+    let the_first_of = c.first_of in
+    let the_loop = c.loop-left in
+    omega (arith, (laws.passed_falls the_loop.invariant the_first_of.ensures _ _ c.m-1.given.1).1))
     (λ c.
-    let the_if1 = c.before.before.before.before.if1 in
-    let the_first_of = c.before.before.before.first_of in
-    let the_loop = c.before.before.before.before.before.before.before.loop in
-    laws.passed_stop the_loop.invariant the_first_of.ensures the_if1.false _ c.before.n.given.1 tt)
+    let the_first_of = c.first_of in
+    let the_loop = c.loop-left in
+    omega (arith, (laws.passed_falls the_loop.invariant the_first_of.ensures _ _ c.m-1.given.1).2))
     (λ c.
-    let the_if1 = c.before.before.before.if1 in
-    let the_loop = c.before.before.before.before.before.before.loop in
-    laws.passed_stop the_loop.invariant c.before.before.first_of.ensures the_if1.false _ c.enum-told2.given.1 tt)
+    let the_first_of = c.first_of in
+    let the_loop = c.loop-left in
+    (laws.passed_falls the_loop.invariant the_first_of.ensures _ _ c.m-1.given.1).0)
     (λ c.
-    let the_if1 = c.before.before.before.if1 in
-    let the_loop = c.before.before.before.before.before.before.loop in
-    laws.passed_stop the_loop.invariant c.before.before.first_of.ensures the_if1.false _ c.enum-told3.given.1 tt))
+    let the_first_of = c.first_of in
+    let the_loop = c.loop-left in
+    laws.passed_more the_loop.invariant the_first_of.ensures _ _ c.m-1.given.1)
+    (λ c. search rules)
+    (λ c. search rules)
+    (λ c. search rules)
+    (λ c. search rules)
+    (λ c.
+    let the_loop = c.loop-left in
+    record { front = (the_loop.invariant, c.if-left-lt24.true) })
+    (λ c. let the_loop = c.loop-left in
+    record { front = laws.passed_fails the_loop.invariant c.first_of.ensures c.enum_told-1.given.1 })
+    (λ c.
+    let the_if1 = c.if-left-lt24 in
+    let the_first_of = c.first_of in
+    let the_loop = c.loop-left in
+    laws.passed_stop the_loop.invariant the_first_of.ensures the_if1.false _ c.n-1.given.1 tt)
+    (λ c.
+    let the_if1 = c.if-left-lt24 in
+    let the_loop = c.loop-left in
+    laws.passed_stop the_loop.invariant c.first_of.ensures the_if1.false _ c.enum_told-in-Tries-1.given.1 tt)
+    (λ c.
+    let the_if1 = c.if-left-lt24 in
+    let the_loop = c.loop-left in
+    laws.passed_stop the_loop.invariant c.first_of.ensures the_if1.false _ c.enum_told-in-Inside-1.given.1 tt))

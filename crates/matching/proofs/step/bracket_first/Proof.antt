@@ -8,12 +8,12 @@ use Rattle.matching.proofs.step.bracket_first.Tie as tie
 pub bracket_first_spec : {M : Type 1} → statement M
 bracket_first_spec = tie.close (tie.spec
     (λ c.
-    let the_args = c.before.before.args in
-    λ text pattern vs some e. laws.bracket_short text pattern the_args.row.now vs some e c.if1.true)
+    let the_args = c.args in
+    λ text pattern vs some e. laws.bracket_short text pattern the_args.row.now vs some e c.if-row-lt24.true)
     (λ c κs. search rules)
     (λ c. let start = c.before.before.before.before in
-    λ text pattern vs some e. laws.bracket_differs text pattern start.args.row.now vs some e c.before.before.if1.false
-    c.before.is_bracket.ensures (not-true c.before.is_bracket.result c.if2.true))
+    λ text pattern vs some e. laws.bracket_differs text pattern start.args.row.now vs some e c.if-row-lt24.false
+    c.is_bracket.ensures (not-true c.is_bracket.result c.if-not-is_bracket.true))
     (λ c. let start = c.before.before.before.before in
-    λ text pattern vs some e. laws.bracket_inside text pattern start.args.row.now vs some e c.before.before.if1.false
-    c.before.is_bracket.ensures (not-false c.before.is_bracket.result c.if2.false)))
+    λ text pattern vs some e. laws.bracket_inside text pattern start.args.row.now vs some e c.if-row-lt24.false
+    c.is_bracket.ensures (not-false c.is_bracket.result c.if-not-is_bracket.false)))

@@ -24,28 +24,28 @@ first_of_spec =
     (λ c. search rules)
     (λ c. search rules)
     (λ c. let start = c.before.before.before.before.before.before.before.before in
-    let term-at = c.before.before.before.term-at in
-    c.symbols-first.ensures _ _
-    (sym term-at.ensures ∙ c.before.enum_told.given.1))
+    let term-at = c.term_at in
+    c.symbols_first.ensures _ _
+    (sym term-at.ensures ∙ c.enum_told-1.given.1))
     (λ c. let start = c.before.before.before.before.before.before.before.before in
-    let term-at = c.before.before.before.term-at in
-    c.variable-first.ensures _ (ap (atom_of start.args.text.now) (sym term-at.ensures ∙ c.before.enum-told2.given.1)))
+    let term-at = c.term_at in
+    c.variable_first.ensures _ (ap (atom_of start.args.text.now) (sym term-at.ensures ∙ c.enum_told-in-SVariable-1.given.1)))
     (λ c. let start = c.before.before.before.before.before.before.before.before in
-    let term-at = c.before.before.before.term-at in
-    c.variable-first2.ensures _ (ap (atom_of start.args.text.now) (sym term-at.ensures ∙ c.before.enum-told3.given.1)))
+    let term-at = c.term_at in
+    c.variable_first-in-TVariable.ensures _ (ap (atom_of start.args.text.now) (sym term-at.ensures ∙ c.enum_told-in-TVariable-1.given.1)))
     (λ c. let start = c.before.before.before.before.before.before.before.before in
-    let term-at = c.before.before.before.term-at in
-    c.variable-first3.ensures _ (ap (atom_of start.args.text.now) (sym term-at.ensures ∙ c.before.enum-told4.given.1)))
+    let term-at = c.term_at in
+    c.variable_first-in-EVariable.ensures _ (ap (atom_of start.args.text.now) (sym term-at.ensures ∙ c.enum_told-in-EVariable-1.given.1)))
     (λ c. let start = c.before.before.before.before.before.before.before.before in
-    let term-at = c.before.before.before.term-at in
-    c.bracket-first.ensures start.args.text.now start.args.pattern.now
+    let term-at = c.term_at in
+    c.bracket_first.ensures start.args.text.now start.args.pattern.now
     _ start.requires.1
-    (sym term-at.ensures ∙ c.before.enum-told5.given.1))
+    (sym term-at.ensures ∙ c.enum_told-in-Bracket-1.given.1))
     (λ c. let start = c.before.before.before.before.before.before.before in
     laws.call_fails start.args.text.now start.args.pattern.now start.args.row.now
     _ start.requires.1
-    (sym c.before.before.term-at.ensures ∙ c.enum-told6.given.1))
+    (sym c.term_at.ensures ∙ c.enum_told-in-Call-1.given.1))
     (λ c. let start = c.before.before.before.before.before.before.before in
     laws.block_fails start.args.text.now start.args.pattern.now start.args.row.now
     _ start.requires.1
-    (sym c.before.before.term-at.ensures ∙ c.enum-told7.given.1)))
+    (sym c.term_at.ensures ∙ c.enum_told-in-Block-1.given.1)))

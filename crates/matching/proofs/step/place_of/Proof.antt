@@ -8,12 +8,12 @@ use Rattle.matching.proofs.BoundLaws as laws
 use Rattle.matching.proofs.step.place_of.Statement.{statement}
 use Rattle.matching.proofs.step.place_of.Tie as tie
 
-abbrev invariant_loop : tie.invariant_loop
+abbrev invariant_loop : tie.invariant-loop-i
 invariant_loop text terms pattern keys count i₀ i =
     (i ≤ count) × ((starts sizes : List ℕ) → Kept text terms (places keys starts sizes count)
     → laws.NotFrom text terms pattern (places keys starts sizes count) i)
 
-abbrev decreases_loop : tie.decreases_loop
+abbrev decreases_loop : tie.decreases-loop-i
 decreases_loop text terms pattern keys count i₀ i = i
 
 pub place_of_spec : {M : Type 1} → statement M
@@ -24,57 +24,57 @@ place_of_spec =
     decreases_loop
     (λ c. (omega arith, λ starts sizes kept. laws.not_from_end))
     (λ c. omega arith)
-    (λ c. let the_pre = c.before.before.before.before.before.requires in
-    omega (arith, c.before.loop.invariant.0, the_pre.0))
-    (λ c. let the_pre = c.before.before.before.before.before.requires in
-    omega (arith, c.before.loop.invariant.0, the_pre.0))
+    (λ c. let the_pre = c.requires in
+    omega (arith, c.loop-i.invariant.0, the_pre.0))
+    (λ c. let the_pre = c.requires in
+    omega (arith, c.loop-i.invariant.0, the_pre.0))
     (λ c κs. search rules)
     (λ c.
-    let the_loop = c.before.before.before.loop in
-    let the_args = c.before.before.before.before.before.before.before.args in
-    let the_pre = c.before.before.before.before.before.before.before.requires in
+    let the_loop = c.loop-i in
+    let the_args = c.args in
+    let the_pre = c.requires in
     omega (
       arith,
       laws.key_inside the_args.terms.now the_args.keys.now the_pre.1 the_loop.invariant.0
-          c.before.before.if1.false c.wide.ensures.0,
+          c.if-i-eq0.false c.wide-key.ensures.0,
     ))
     (λ c.
-    let the_loop = c.before.before.before.loop in
-    let the_args = c.before.before.before.before.before.before.before.args in
-    let the_pre = c.before.before.before.before.before.before.before.requires in
+    let the_loop = c.loop-i in
+    let the_args = c.args in
+    let the_pre = c.requires in
     omega (
       arith,
       laws.key_inside the_args.terms.now the_args.keys.now the_pre.1 the_loop.invariant.0
-          c.before.before.if1.false c.wide.ensures.0,
+          c.if-i-eq0.false c.wide-key.ensures.0,
     ))
     (λ c.
-    let the_loop = c.before.before.before.loop in
-    let the_args = c.before.before.before.before.before.before.before.args in
-    let the_pre = c.before.before.before.before.before.before.before.requires in
+    let the_loop = c.loop-i in
+    let the_args = c.args in
+    let the_pre = c.requires in
     omega (
       arith,
       laws.key_inside the_args.terms.now the_args.keys.now the_pre.1 the_loop.invariant.0
-          c.before.before.if1.false c.wide.ensures.0,
+          c.if-i-eq0.false c.wide-key.ensures.0,
     ))
     (λ c κs.
-    let the_loop = c.before.before.before.before.loop in
-    let the_if1 = c.before.before.before.if1 in
-    let the_args = c.before.before.before.before.before.before.before.before.args in
-    let the_pre = c.before.before.before.before.before.before.before.before.requires in
-    (laws.key_record the_args.terms.now the_args.keys.now the_pre.1 the_loop.invariant.0 the_if1.false c.before.wide.ensures.0, the_pre.2))
+    let the_loop = c.loop-i in
+    let the_if1 = c.if-i-eq0 in
+    let the_args = c.args in
+    let the_pre = c.requires in
+    (laws.key_record the_args.terms.now the_args.keys.now the_pre.1 the_loop.invariant.0 the_if1.false c.wide-key.ensures.0, the_pre.2))
     (λ c. omega arith)
     (λ c.
-    let the_wide = c.before.before.before.wide in
-    let the_if1 = c.before.before.before.before.before.if1 in
-    let so_far = c.before.before.before.before.before.before.loop.invariant in (
+    let the_wide = c.wide-key in
+    let the_if1 = c.if-i-eq0 in
+    let so_far = c.loop-i.invariant in (
       omega (arith, so_far.0),
       λ starts sizes kept. laws.place_next (so_far.1 starts sizes kept) kept the_if1.false the_wide.ensures.0
-          c.before.variables_same.ensures c.if2.false,
+          c.variables_same.ensures c.if-variables_same.false,
     ))
-    (λ c. λ starts sizes kept. laws.place_free (c.before.loop.invariant.1 starts sizes kept) c.if1.true)
+    (λ c. λ starts sizes kept. laws.place_free (c.loop-i.invariant.1 starts sizes kept) c.if-i-eq0.true)
     (λ c.
-    let the_wide = c.before.before.before.wide in
-    let the_loop = c.before.before.before.before.before.before.loop in
-    let the_if1 = c.before.before.before.before.before.if1 in
+    let the_wide = c.wide-key in
+    let the_loop = c.loop-i in
+    let the_if1 = c.if-i-eq0 in
     λ starts sizes kept. laws.place_here (the_loop.invariant.1 starts sizes kept) kept the_if1.false the_wide.ensures.0
-    c.before.variables_same.ensures c.if2.true))
+    c.variables_same.ensures c.if-variables_same.true))

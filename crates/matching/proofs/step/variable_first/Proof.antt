@@ -11,31 +11,31 @@ variable_first_spec =
     tie.close
     (tie.spec
     (λ c κs.
-    let the_pre = c.before.before.before.before.requires in
+    let the_pre = c.requires in
     (the_pre.0.few, the_pre.0.keyed, the_pre.1))
     (λ c. search rules)
     (λ c.
-    let the_place_of = c.before.before.before.place_of in
+    let the_place_of = c.place_of in
     let start = c.before.before.before.before.before.before.before.before in
     omega (
       arith,
       start.requires.0.few,
-      (places.place_is start.args.pattern.now start.requires.0 c.before.i.given.1 (the_place_of.ensures
+      (places.place_is start.args.pattern.now start.requires.0 c.i-1.given.1 (the_place_of.ensures
           _ _ start.requires.0)).0,
     ))
     (λ c.
-    let the_place_of = c.before.before.before.place_of in
+    let the_place_of = c.place_of in
     let start = c.before.before.before.before.before.before.before.before in
     omega (
       arith,
       start.requires.0.few,
-      (places.place_is start.args.pattern.now start.requires.0 c.before.i.given.1 (the_place_of.ensures
+      (places.place_is start.args.pattern.now start.requires.0 c.i-1.given.1 (the_place_of.ensures
           _ _ start.requires.0)).0,
     ))
     (λ c κs. search rules)
     (λ c.
-    let the_i = c.before.before.before.i in
-    let the_place_of = c.before.before.before.before.before.place_of in
+    let the_i = c.i-1 in
+    let the_place_of = c.place_of in
     let start = c.before.before.before.before.before.before.before.before.before.before in
     omega (
       arith,
@@ -44,8 +44,8 @@ variable_first_spec =
           _ _ start.requires.0)).0,
     ))
     (λ c.
-    let the_i = c.before.before.before.i in
-    let the_place_of = c.before.before.before.before.before.place_of in
+    let the_i = c.i-1 in
+    let the_place_of = c.place_of in
     let start = c.before.before.before.before.before.before.before.before.before.before in
     omega (
       arith,
@@ -55,25 +55,25 @@ variable_first_spec =
     ))
     (λ c κs. search rules)
     (λ c κs.
-    let the_wide = c.before.before.wide in
-    let the_i = c.before.before.before.before.before.i in
-    let the_place_of = c.before.before.before.before.before.before.before.place_of in
+    let the_wide = c.wide-start in
+    let the_i = c.i-1 in
+    let the_place_of = c.place_of in
     let start = c.before.before.before.before.before.before.before.before.before.before.before.before in
     let inside = start.requires.0.inside the_i.given.0.0
     (places.place_is start.args.pattern.now start.requires.0 the_i.given.1 (the_place_of.ensures _ _ start.requires.0)).0 in
-    (omega (arith, the_wide.ensures.0, c.wide2.ensures.0, inside), start.requires.1))
+    (omega (arith, the_wide.ensures.0, c.wide.ensures.0, inside), start.requires.1))
     (λ c. search rules)
     (λ c κs. search rules)
     (λ c.
-    let the_wide = c.before.before.before.wide in
-    let the_i = c.before.before.before.before.before.before.i in
-    let the_place_of = c.before.before.before.before.before.before.before.before.place_of in
+    let the_wide = c.wide-start in
+    let the_i = c.i-1 in
+    let the_place_of = c.place_of in
     let start = c.before.before.before.before.before.before.before.before.before.before.before.before.before in
-    λ v first. c.value-first.ensures v _ first (rw (the_wide.ensures.0, c.before.wide2.ensures.0)
+    λ v first. c.value_first.ensures v _ first (rw (the_wide.ensures.0, c.wide.ensures.0)
     ((places.place_is start.args.pattern.now start.requires.0 the_i.given.1 (the_place_of.ensures _ _ start.requires.0)).1 v first)))
     (λ c.
-    let the_place_of = c.before.before.before.place_of in
+    let the_place_of = c.place_of in
     let start = c.before.before.before.before.before.before.before.before in
-    λ v first. c.free-first.ensures _ v _ first
-    (sym ((places.place_is start.args.pattern.now start.requires.0 c.before.enum_told.given.1
+    λ v first. c.free_first.ensures _ v _ first
+    (sym ((places.place_is start.args.pattern.now start.requires.0 c.enum_told-1.given.1
     (the_place_of.ensures _ _ start.requires.0)).1 v first))))

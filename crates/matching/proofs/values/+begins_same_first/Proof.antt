@@ -49,8 +49,8 @@ begins-Inv-loop text value row i₀ j₀ i j = laws.Begun text value row i j
 abbrev begins-μ-loop : begins-lts.decreases_loop
 begins-μ-loop text value row i₀ j₀ i j = length value - i
 
-pub +begins-same-first-spec : {M : Type 1} → statement M
-+begins-same-first-spec = close μ-begins μ-same-first (λ t. begins-lts.spec (
+pub +begins_same_first_spec : {M : Type 1} → statement M
++begins_same_first_spec = close μ-begins μ-same-first (λ t. begins-lts.spec (
   same_first_below t,
   same_first_lem.Post,
   end-of-reads.Asked,
@@ -62,47 +62,47 @@ pub +begins-same-first-spec : {M : Type 1} → statement M
     begins-μ-loop
     (λ c. let start = c.before.before.before in
     laws.begun start.args.text.now start.args.value.now start.args.row.now)
-    (λ c. c.loop.invariant.value_within)
-    (λ c. c.loop.invariant.value_within)
+    (λ c. c.loop-left.invariant.value_within)
+    (λ c. c.loop-left.invariant.value_within)
     (λ c. search rules)
-    (λ c. c.before.loop.invariant.row_within)
-    (λ c. c.before.loop.invariant.row_within)
+    (λ c. c.loop-left.invariant.row_within)
+    (λ c. c.loop-left.invariant.row_within)
     (λ c. search rules)
     (λ c κs. let start = c.before.before.before.before.before.before.before.before in
-    let at-loop = c.before.before.before.before.loop in
-    (omega (arith, from_length at-loop.i start.args.value.now, start.requires.0), (c.before.if1.false, c.if2.false)))
+    let at-loop = c.loop-left in
+    (omega (arith, from_length at-loop.i start.args.value.now, start.requires.0), (c.if-left-lt24.false, c.if-right-lt24.false)))
     (λ c κs.
-    let the_if1 = c.before.before.before.if1 in
+    let the_if1 = c.if-left-lt24 in
     the_if1.false)
     (λ c. let start = c.before.before.before.before.before.before.before.before.before.before.before in
-    let at-loop = c.before.before.before.before.before.before.before.loop in
-    omega (arith, from_length at-loop.i start.args.value.now, c.end_of_lem.ensures.2))
+    let at-loop = c.loop-left in
+    omega (arith, from_length at-loop.i start.args.value.now, c.end_of-i.ensures.2))
     (λ c κs.
-    let the_if2 = c.before.before.before.if2 in
+    let the_if2 = c.if-right-lt24 in
     the_if2.false)
     (λ c. let start = c.before.before.before.before.before.before.before.before.before.before.before.before in
-    let at-loop = c.before.before.before.before.before.before.before.before.loop in
-    omega (arith, from_length at-loop.j start.args.row.now, c.end-of2.ensures.2))
+    let at-loop = c.loop-left in
+    omega (arith, from_length at-loop.j start.args.row.now, c.end_of-j.ensures.2))
     (λ c. let start = c.before.before.before.before.before.before.before.before.before.before.before.before in
-    let at-loop = c.before.before.before.before.before.before.before.before.loop in
-    let if1 = c.before.before.before.before.before.if1 in
-    omega (arith, from_length at-loop.i start.args.value.now, if1.false, c.before.end_of_lem.ensures.1))
-    (λ c. let at-loop = c.before.before.before.before.before.before.before.before.loop in
-    let if1 = c.before.before.before.before.before.if1 in
-    let if2 = c.before.before.before.before.if2 in
-    let same_first_lem = c.before.before.before.same_first in
-    laws.begins_next at-loop.invariant if1.false if2.false same_first_lem.ensures (not-false same_first_lem.result c.before.before.if3.false)
-    c.before.end_of_lem.ensures.0 c.before.end_of_lem.ensures.2 c.end-of2.ensures.0 c.end-of2.ensures.2)
+    let at-loop = c.loop-left in
+    let if1 = c.if-left-lt24 in
+    omega (arith, from_length at-loop.i start.args.value.now, if1.false, c.end_of-i.ensures.1))
+    (λ c. let at-loop = c.loop-left in
+    let if1 = c.if-left-lt24 in
+    let if2 = c.if-right-lt24 in
+    let same_first_lem = c.same_first in
+    laws.begins_next at-loop.invariant if1.false if2.false same_first_lem.ensures (not-false same_first_lem.result c.if-not-same_first.false)
+    c.end_of-i.ensures.0 c.end_of-i.ensures.2 c.end_of-j.ensures.0 c.end_of-j.ensures.2)
     (λ c.
-    let the_loop = c.before.before.before.loop in
-    laws.begins_after the_loop.invariant c.if1.true)
+    let the_loop = c.loop-left in
+    laws.begins_after the_loop.invariant c.if-left-lt24.true)
     (λ c.
-    let the_loop = c.before.before.before.before.loop in
-    laws.begins_short the_loop.invariant c.before.if1.false c.if2.true)
-    (λ c. let at-loop = c.before.before.before.before.before.before.loop in
-    let if1 = c.before.before.before.if1 in
-    laws.begins_differs at-loop.invariant if1.false c.before.before.if2.false c.before.same_first.ensures
-    (not-true c.before.same_first.result c.if3.true)))
+    let the_loop = c.loop-left in
+    laws.begins_short the_loop.invariant c.if-left-lt24.false c.if-right-lt24.true)
+    (λ c. let at-loop = c.loop-left in
+    let if1 = c.if-left-lt24 in
+    laws.begins_differs at-loop.invariant if1.false c.if-right-lt24.false c.same_first.ensures
+    (not-true c.same_first.result c.if-not-same_first.true)))
     λ t. same-first-lts.spec (
       is-bracket-reads.Asked,
       is-bracket-reads.Learnt,
@@ -116,23 +116,23 @@ pub +begins-same-first-spec : {M : Type 1} → statement M
     (same_first_at t)
     same_first_lem.Post
     (λ c κs.
-    let the_pre = c.before.before.before.requires in
+    let the_pre = c.requires in
     the_pre.1.0)
-    (λ c κs. let the_pre = c.before.before.before.before.before.requires in
+    (λ c κs. let the_pre = c.requires in
     the_pre.1)
     (λ c. let start = c.before.before.before.before.before.before in
-    laws.first_atoms start.args.text.now start.args.value.now start.args.row.now c.before.before.is_bracket.ensures
-    (not-true c.before.before.is_bracket.result c.before.if1.true) c.atoms-same.ensures)
-    (λ c κs. let the_pre = c.before.before.before.before.before.requires in
+    laws.first_atoms start.args.text.now start.args.value.now start.args.row.now c.is_bracket.ensures
+    (not-true c.is_bracket.result c.if-left-lt24.true) c.atoms_same.ensures)
+    (λ c κs. let the_pre = c.requires in
     the_pre.1.1)
     (λ c. let start = c.before.before.before.before.before.before.before in
-    let is_bracket_lem = c.before.before.before.is_bracket in
+    let is_bracket_lem = c.is_bracket in
     laws.first_differ start.args.text.now start.args.value.now start.args.row.now is_bracket_lem.ensures
-    c.before.is-bracket2.ensures (not-false is_bracket_lem.result c.before.before.if1.false)
-    (not-true c.before.is-bracket2.result c.if2.true))
-    (λ c κs. let the_pre = c.before.before.before.before.before.before.before.requires in
+    c.is_bracket-2.ensures (not-false is_bracket_lem.result c.if-left-lt24.false)
+    (not-true c.is_bracket-2.result c.if-right-lt24.true))
+    (λ c κs. let the_pre = c.requires in
     the_pre.1.0)
-    (λ c κs. let the_pre = c.before.before.before.before.before.before.before.before.requires in
+    (λ c κs. let the_pre = c.requires in
     the_pre.1.1)
     (λ c. search rules)
     (λ c. search rules)
@@ -141,7 +141,7 @@ pub +begins-same-first-spec : {M : Type 1} → statement M
     (λ c. search rules)
     (λ c. search rules)
     (λ c κs. let start = c.before.before.before.before.before.before.before.before.before.before.before in
-    let end_of_lem = c.before.before.before.end_of_lem in (
+    let end_of_lem = c.end_of-i in (
       omega (
         arith,
         inside_falls start.args.value.now end_of_lem.result (length start.args.value.now) start.requires.1.0
@@ -152,28 +152,28 @@ pub +begins-same-first-spec : {M : Type 1} → statement M
     ))
     (λ c. search rules)
     (λ c. let start = c.before.before.before.before.before.before.before.before.before.before.before.before.before.before.before in
-    let end-of2 = c.before.before.before.before.before.before.end-of2 in
-    let begins = c.before.before.before.begins in
-    omega (arith, laws.begins_within (take (end-of2.result - 24) (drop 24 start.args.row.now)) c.before.k.given.1 begins.ensures.0))
+    let end-of2 = c.end_of-j in
+    let begins = c.begins in
+    omega (arith, laws.begins_within (take (end-of2.result - 24) (drop 24 start.args.row.now)) c.k-1.given.1 begins.ensures.0))
     (λ c. search rules)
     (λ c. let start = c.before.before.before.before.before.before.before.before.before.before.before.before.before.before.before in
-    let is_bracket_lem = c.before.before.before.before.before.before.before.before.before.before.before.is_bracket in
-    let is-bracket2 = c.before.before.before.before.before.before.before.before.before.is-bracket2 in
-    let if1 = c.before.before.before.before.before.before.before.before.before.before.if1 in
-    let if2 = c.before.before.before.before.before.before.before.before.if2 in
-    let end_of_lem = c.before.before.before.before.before.before.before.end_of_lem in
-    let end-of2 = c.before.before.before.before.before.before.end-of2 in
-    let begins = c.before.before.before.begins in
+    let is_bracket_lem = c.is_bracket in
+    let is-bracket2 = c.is_bracket-2 in
+    let if1 = c.if-left-lt24 in
+    let if2 = c.if-right-lt24 in
+    let end_of_lem = c.end_of-i in
+    let end-of2 = c.end_of-j in
+    let begins = c.begins in
     laws.inside_begins start.args.text.now start.args.value.now start.args.row.now is_bracket_lem.ensures is-bracket2.ensures
     (not-false is_bracket_lem.result if1.false) (not-false is-bracket2.result if2.false) end_of_lem.ensures.0 end-of2.ensures.0
-    c.before.k.given.1 begins.ensures)
+    c.k-1.given.1 begins.ensures)
     (λ c. let start = c.before.before.before.before.before.before.before.before.before.before.before.before.before.before in
-    let is_bracket_lem = c.before.before.before.before.before.before.before.before.before.before.is_bracket in
-    let is-bracket2 = c.before.before.before.before.before.before.before.before.is-bracket2 in
-    let if1 = c.before.before.before.before.before.before.before.before.before.if1 in
-    let if2 = c.before.before.before.before.before.before.before.if2 in
-    let end_of_lem = c.before.before.before.before.before.before.end_of_lem in
-    let end-of2 = c.before.before.before.before.before.end-of2 in
+    let is_bracket_lem = c.is_bracket in
+    let is-bracket2 = c.is_bracket-2 in
+    let if1 = c.if-left-lt24 in
+    let if2 = c.if-right-lt24 in
+    let end_of_lem = c.end_of-i in
+    let end-of2 = c.end_of-j in
     laws.inside_differs start.args.text.now start.args.value.now start.args.row.now is_bracket_lem.ensures is-bracket2.ensures
     (not-false is_bracket_lem.result if1.false) (not-false is-bracket2.result if2.false) end_of_lem.ensures.0 end-of2.ensures.0
-    c.enum_told.given.1 c.before.before.begins.ensures)
+    c.enum_told-1.given.1 c.begins.ensures)

@@ -20,10 +20,10 @@ put_by_literals_spec =
     (λ c κs. search rules)
     (λ c. search rules)
     (λ c.
-    let x = c.before.before.before.before.before.before.before.before.before.before.before.before.before.before.before.before.before.before.before.before.args in
-    let call = c.before.before.before.before.before.before.before.before.before.before.before.before.before.before.before.before.put-call in
-    let first = c.before.before.before.before.before.before.before.before.before.before.before.put in
-    let name = c.before.before.before.before.before.before.before.put2 in
-    let last = c.before.before.put3 in
+    let x = c.args in
+    let call = c.put_call-no in
+    let first = c.put-name in
+    let name = c.put-last in
+    let last = c.put in
     λ owner f e. rw e (call.ensures.1 (record { start = 0; spelled = x.callee.now }) refl
     then first.ensures then name.ensures then last.ensures)))

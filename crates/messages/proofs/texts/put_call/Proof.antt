@@ -18,9 +18,9 @@ put_call_spec =
     (λ c κs. search rules)
     (λ c. search rules)
     (λ c.
-    let first = c.before.before.before.before.before.before.before.before.before.before.before.put in
-    let second = c.before.before.before.before.before.before.before.put2 in
-    let third = c.before.before.put3 in (
+    let first = c.put-start in
+    let second = c.put-next in
+    let third = c.put in (
       omega (arith, first.ensures.end, second.ensures.end, third.ensures.end),
       λ f e. rw e (first.ensures then second.ensures then third.ensures),
     )))

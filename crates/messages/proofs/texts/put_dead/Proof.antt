@@ -25,12 +25,12 @@ put_dead_spec =
     (λ c. search rules)
     (λ c.
     let at-put2 = c.before.before.before.before.before.before.before.before.before.before.before.before.before.before.before.before.before.before.before.before in
-    let first = at-put2.before.before.before.before.before.before.before.before.before.put in
-    let later = at-put2.before.before.before.before.before.put-decimal in
-    let second = at-put2.put2 in
-    let owner = c.before.before.before.before.before.before.before.before.before.before.before.before.before.before.before.before.put-owner in
-    let third = c.before.before.before.before.before.before.before.before.before.before.before.put3 in
-    let earlier = c.before.before.before.before.before.before.before.put-decimal2 in
-    let last = c.before.before.put4 in
+    let first = at-put2.put-number in
+    let later = at-put2.put_decimal-of in
+    let second = at-put2.put-name in
+    let owner = c.put_owner-why in
+    let third = c.put-second in
+    let earlier = c.put_decimal-last in
+    let last = c.put in
     λ f e. first.ensures then later.ensures.1 then second.ensures then owner.ensures.1 f e then third.ensures then earlier.ensures.1
     then last.ensures))

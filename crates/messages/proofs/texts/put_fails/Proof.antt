@@ -12,6 +12,6 @@ put_fails_spec = tie.close (tie.spec
     (λ c κs. search rules)
     (λ c. search rules)
     (λ c.
-    let call = c.before.before.before.before.before.before.put-call in
-    let why = c.before.before.put-failure in
+    let call = c.put_call-next in
+    let why = c.put_failure in
     λ owner f e. call.ensures.1 f e then why.ensures))

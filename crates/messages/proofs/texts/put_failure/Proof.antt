@@ -19,11 +19,11 @@ put_failure_spec =
     (λ c. search rules)
     (λ c κs. search rules)
     (λ c. search rules)
-    (λ c. let the_enum_told = c.before.before.before.before.before.enum_told in
-    rw the_enum_told.given.1 c.before.before.put.ensures)
+    (λ c. let the_enum_told = c.enum_told-1 in
+    rw the_enum_told.given.1 c.put.ensures)
     (λ c. search rules)
-    (λ c. let the_enum_told2 = c.before.before.before.before.before.enum-told2 in
-    rw the_enum_told2.given.1 c.before.before.put2.ensures)
+    (λ c. let the_enum_told2 = c.enum_told-in-DivisionByZero-1 in
+    rw the_enum_told2.given.1 c.put-in-DivisionByZero.ensures)
     (λ c. search rules)
-    (λ c. let the_enum_told3 = c.before.before.before.before.before.enum-told3 in
-    rw the_enum_told3.given.1 c.before.before.put3.ensures))
+    (λ c. let the_enum_told3 = c.enum_told-in-DigitsWanted-1 in
+    rw the_enum_told3.given.1 c.put-in-DigitsWanted.ensures))

@@ -23,10 +23,10 @@ put_open_spec =
     (λ c. search rules)
     (λ c.
     let at-put2 = c.before.before.before.before.before.before.before.before.before.before.before.before.before.before.before.before.before.before.before.before in
-    let first = at-put2.before.before.before.before.put in
-    let owner = at-put2.put2 in
-    let second = c.before.before.before.before.before.before.before.before.before.before.before.before.before.before.before.put3 in
-    let count = c.before.before.before.before.before.before.before.before.before.before.before.put-decimal in
-    let third = c.before.before.before.before.before.before.put4 in
-    let again = c.before.before.put-decimal2 in
+    let first = at-put2.put-name in
+    let owner = at-put2.put-has in
+    let second = c.put-number in
+    let count = c.put_decimal-power in
+    let third = c.put-again in
+    let again = c.put_decimal in
     λ f e. rw e (first.ensures then owner.ensures then second.ensures then count.ensures.1 then third.ensures then again.ensures.1)))

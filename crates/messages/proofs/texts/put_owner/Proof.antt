@@ -18,16 +18,16 @@ put_owner_spec =
     (λ c κs. search rules)
     (λ c. search rules)
     (λ c.
-    let in_block = c.before.before.before.before.before.before.before.before.before.before.before.before.before.before.if1.true in
-    let first = c.before.before.before.before.before.before.before.before.before.before.before.put in
-    let second = c.before.before.before.before.before.before.before.put2 in
-    let third = c.before.before.put3 in (
+    let in_block = c.if-in_block.true in
+    let first = c.put-start in
+    let second = c.put-next in
+    let third = c.put in (
       omega (arith, first.ensures.end, second.ensures.end, third.ensures.end),
       λ f e. rw (in_block, e) (first.ensures then second.ensures then third.ensures),
     ))
     (λ c κs. search rules)
     (λ c. search rules)
     (λ c.
-    let the_if1 = c.before.before.before.before.if1 in
-    let only = c.before.before.put4 in
+    let the_if1 = c.if-in_block in
+    let only = c.put-2 in
     (omega (arith, only.ensures.end), λ f e. rw (the_if1.false, e) only.ensures)))

@@ -12,4 +12,4 @@ put_left_spec =
     (λ c. search rules)
     (λ c κs. search rules)
     (λ c. search rules)
-    (λ c. rw (left_whole c.before.before.before.before.before.before.before.before.before.before.args.columns c.before.before.before.before.before.before.before.before.before.before.args.word.now c.before.before.before.before.before.before.before.before.before.before.requires.0) (c.before.before.before.before.before.before.put.ensures then c.before.before.put-spaces.ensures)))
+    (λ c. rw (left_whole c.args.columns c.args.word.now c.requires.0) (c.put-end.ensures then c.put_spaces.ensures)))

@@ -14,7 +14,7 @@ put_spaces_spec =
     tie.close
     (tie.spec
     (λ c. search rules)
-    (λ c. sym (length-take-le c.before.before.args.count (replicate 72 space) c.before.before.requires.0))
-    (λ c κs. omega (arith, c.before.before.before.requires.0, c.before.before.before.requires.1, length-take-le c.before.before.before.args.count (replicate 72 space) c.before.before.before.requires.0))
+    (λ c. sym (length-take-le c.args.count (replicate 72 space) c.requires.0))
+    (λ c κs. omega (arith, c.requires.0, c.requires.1, length-take-le c.args.count (replicate 72 space) c.requires.0))
     (λ c. search rules)
-    (λ c. rw (take_equal c.before.before.before.before.before.before.args.count 72 space c.before.before.before.before.before.before.requires.0) at c.before.before.put.ensures))
+    (λ c. rw (take_equal c.args.count 72 space c.requires.0) at c.put.ensures))

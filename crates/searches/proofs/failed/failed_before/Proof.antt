@@ -30,12 +30,12 @@ failed_before_spec =
     (λ c. search rules)
     (λ c κs. search rules)
     (λ c.
-    let the_wide3 = c.before.before.before.wide3 in
-    let the_args = c.before.before.before.before.before.before.before.before.before.before.before.before.args in
-    let the_slot = c.before.before.before.before.before.before.before.before.before.before.before.slot in
-    let the_wide = c.before.before.before.before.before.before.before.before.before.wide in
-    let the_if1 = c.before.before.before.before.before.before.before.before.if1 in
-    let the_wide2 = c.before.before.before.before.before.before.wide2 in
-    let the_if2 = c.before.before.before.before.before.if2 in
+    let the_wide3 = c.wide-3 in
+    let the_args = c.args in
+    let the_slot = c.slot-i in
+    let the_wide = c.wide in
+    let the_if1 = c.if-wide-at in
+    let the_wide2 = c.wide-2 in
+    let the_if2 = c.if-wide-end in
     λ e. rest_within the_args.failed.now the_slot.result the_wide.ensures.0 the_if1.false the_wide2.ensures.0 the_if2.false
-    the_wide3.ensures.0 c.before.before.if3.false c.wide4.ensures.0 e))
+    the_wide3.ensures.0 c.if-wide-start.false c.wide-4.ensures.0 e))

@@ -26,9 +26,9 @@ note_failed_spec =
     (λ c. search rules)
     (λ c. search rules)
     (λ c.
-    let the_slot = c.before.before.before.before.slot in
-    let the_narrow = c.before.before.before.narrow in
-    let the_args = c.before.before.before.before.before.args in
-    let the_pre = c.before.before.before.before.before.requires in
-    rw (the_narrow.ensures, c.before.before.narrow2.ensures, c.before.narrow3.ensures, c.narrow4.ensures)
+    let the_slot = c.slot-i in
+    let the_narrow = c.narrow in
+    let the_args = c.args in
+    let the_pre = c.requires in
+    rw (the_narrow.ensures, c.narrow-2.ensures, c.narrow-3.ensures, c.narrow-4.ensures)
     (rest_noted the_args.failed.now the_slot.ensures the_pre.4 the_args.at the_args.end the_args.start the_args.row_end)))

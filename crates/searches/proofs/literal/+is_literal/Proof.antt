@@ -38,8 +38,8 @@ is-literal-Inv-loop part i₀ i = laws.SoFar part i
 abbrev is-literal-μ-loop : is-literal-lts.decreases_loop
 is-literal-μ-loop part i₀ i = length part - i
 
-pub +is-literal-spec : {M : Type 1} → statement M
-+is-literal-spec = close μ-is-literal λ t. is-literal-lts.spec (
+pub +is_literal_spec : {M : Type 1} → statement M
++is_literal_spec = close μ-is-literal λ t. is-literal-lts.spec (
   word-at-reads.Asked,
   word-at-reads.Learnt,
   end-of-reads.Asked,
@@ -51,26 +51,26 @@ pub +is-literal-spec : {M : Type 1} → statement M
     is-literal.Post
     is-literal-Inv-loop
     is-literal-μ-loop
-    (λ c. laws.literal_begun c.before.args.part.now)
-    (λ c. c.loop.invariant.within)
-    (λ c. c.loop.invariant.within)
+    (λ c. laws.literal_begun c.args.part.now)
+    (λ c. c.loop-rest.invariant.within)
+    (λ c. c.loop-rest.invariant.within)
     (λ c. search rules)
-    (λ c κs. omega (arith, c.if1.false))
-    (λ c κs. c.before.if1.false)
+    (λ c κs. omega (arith, c.if-rest-lt24.false))
+    (λ c κs. c.if-rest-lt24.false)
     (λ c.
-    let the_end_of = c.before.before.end_of_lem in
+    let the_end_of = c.end_of-end in
     the_end_of.ensures.1)
     (λ c.
-    let the_end_of = c.before.before.end_of_lem in
+    let the_end_of = c.end_of-end in
     the_end_of.ensures.1)
     (λ c.
-    let the_end_of = c.before.before.end_of_lem in
+    let the_end_of = c.end_of-end in
     the_end_of.ensures.2)
-    (λ c κs. let the_loop = c.before.before.before.before.before.before.before.loop in
-    let the_if1 = c.before.before.before.before.before.if1 in
+    (λ c κs. let the_loop = c.loop-rest in
+    let the_if1 = c.if-rest-lt24 in
     let start = c.before.before.before.before.before.before.before.before.before in
     let rest = from the_loop.i start.args.part.now in
-    let the_end = c.before.before.before.end_of_lem in (
+    let the_end = c.end_of-end in (
       omega (
         arith,
         inside_falls rest the_end.result (length rest) the_if1.false the_end.ensures.0 refl,
@@ -79,33 +79,33 @@ pub +is-literal-spec : {M : Type 1} → statement M
       ),
       tt,
     ))
-    (λ c. let the_args = c.before.before.before.before.before.before.before.args in
-    let the_loop = c.before.before.before.before.before.loop in
-    omega (arith, from_length the_loop.i the_args.part.now, c.before.end_of_lem.ensures.2, the_loop.invariant.within))
-    (λ c. let the_loop = c.before.before.before.before.before.loop in
-    let the_args = c.before.before.before.before.before.before.before.args in
-    let ends = c.before.end_of_lem.ensures in
+    (λ c. let the_args = c.args in
+    let the_loop = c.loop-rest in
+    omega (arith, from_length the_loop.i the_args.part.now, c.end_of-end.ensures.2, the_loop.invariant.within))
+    (λ c. let the_loop = c.loop-rest in
+    let the_args = c.args in
+    let ends = c.end_of-end.ensures in
     omega (arith, from_length the_loop.i the_args.part.now, ends.1, ends.2))
-    (λ c. let so_far = c.before.before.before.before.before.loop.invariant in
-    let some = c.before.before.before.if1.false in
-    let kind = c.before.before.word_at.ensures in
-    let ends = c.before.end_of_lem.ensures.0 in
+    (λ c. let so_far = c.loop-rest.invariant in
+    let some = c.if-rest-lt24.false in
+    let kind = c.word_at-kind.ensures in
+    let ends = c.end_of-end.ensures.0 in
     ⊎_elim
     (λ w. laws.after_bracket so_far some kind ends w.1.left w.3.ensures (not-false w.3.result w.4.left))
     (λ w. laws.after_symbol so_far some kind ends w.left)
-    c.if2.branch)
-    (λ c. laws.literal_all c.before.before.loop.invariant c.if1.true)
+    c.if-kind-gt2.branch)
+    (λ c. laws.literal_all c.loop-rest.invariant c.if-rest-lt24.true)
     (λ c.
-    let the_if1 = c.before.before.before.before.if1 in
-    let the_word_at = c.before.before.before.word_at in
-    let the_end_of = c.before.before.end_of_lem in
-    let the_loop = c.before.before.before.before.before.before.loop in
-    laws.literal_no the_loop.invariant the_if1.false the_word_at.ensures the_end_of.ensures.0 c.before.if2.true c.if3.true)
+    let the_if1 = c.if-rest-lt24 in
+    let the_word_at = c.word_at-kind in
+    let the_end_of = c.end_of-end in
+    let the_loop = c.loop-rest in
+    laws.literal_no the_loop.invariant the_if1.false the_word_at.ensures the_end_of.ensures.0 c.if-kind-gt2.true c.if-kind-ne6.true)
     (λ c.
-    let the_if3 = c.before.before.before.if3 in
-    let the_loop = c.before.before.before.before.before.before.before.before.before.loop in
-    let the_if1 = c.before.before.before.before.before.before.before.if1 in
-    let the_word_at = c.before.before.before.before.before.before.word_at in
-    let the_end_of = c.before.before.before.before.before.end_of_lem in
+    let the_if3 = c.if-kind-ne6 in
+    let the_loop = c.loop-rest in
+    let the_if1 = c.if-rest-lt24 in
+    let the_word_at = c.word_at-kind in
+    let the_end_of = c.end_of-end in
     laws.inside_no the_loop.invariant the_if1.false the_word_at.ensures the_end_of.ensures.0
-    the_if3.false c.before.is-literal.ensures (not-true c.before.is-literal.result c.if4.true))
+    the_if3.false c.is_literal.ensures (not-true c.is_literal.result c.if-not-is_literal.true))

@@ -240,9 +240,9 @@ literal-lengths-Inv-loop text terms pattern at row start outer b sure failed₀ 
 abbrev literal-lengths-μ-loop : literal-lengths-lts.decreases_loop
 literal-lengths-μ-loop text terms pattern at row start outer b sure failed₀ end rest next n₀ failed n = length row - n
 
-pub +literal-anew-literal-apart-literal-bracket-literal-end-literal-first-literal-inside-literal-lengths-literal-out-literal-run-literal-tries-spec :
+pub +literal_anew_literal_apart_literal_bracket_literal_end_literal_first_literal_inside_literal_lengths_literal_out_literal_run_literal_tries_spec :
     {M : Type 1} → statement M
-+literal-anew-literal-apart-literal-bracket-literal-end-literal-first-literal-inside-literal-lengths-literal-out-literal-run-literal-tries-spec =
++literal_anew_literal_apart_literal_bracket_literal_end_literal_first_literal_inside_literal_lengths_literal_out_literal_run_literal_tries_spec =
     close
     μ-literal-anew
     μ-literal-apart
@@ -258,9 +258,9 @@ pub +literal-anew-literal-apart-literal-bracket-literal-end-literal-first-litera
     (literal_lengths_below t, literal-lengths.Post)
     (literal_anew_at t)
     literal-anew.Post
-    (λ c κs. let start = c.before.before.before.before.before.requires in
+    (λ c κs. let start = c.requires in
     (omega (arith, start.0), ((start.1.0.0, start.1.0.1, around.remembering_none _ _ _ _ (omega arith)), start.1.1)))
-    (λ c. c.literal-lengths.ensures.0))
+    (λ c. c.literal_lengths.ensures.0))
     (λ t. literal-apart-lts.spec (
       end-of-reads.Asked,
       end-of-reads.Learnt,
@@ -270,61 +270,61 @@ pub +literal-anew-literal-apart-literal-bracket-literal-end-literal-first-litera
     (literal_apart_at t)
     literal-apart.Post
     (λ c κs.
-    let the_pre = c.before.before.before.before.requires in
+    let the_pre = c.requires in
     the_pre.1.0.1)
-    (λ c κs. let the_pre = c.before.before.before.before.before.requires in
+    (λ c κs. let the_pre = c.requires in
     the_pre.1.0.2.some)
-    (λ c. c.before.end_of_lem.ensures.1)
+    (λ c. c.end_of-m.ensures.1)
     (λ c. search rules)
     (λ c. search rules)
-    (λ c. c.before.end-of2.ensures.1)
+    (λ c. c.end_of-n.ensures.1)
     (λ c. search rules)
     (λ c. search rules)
-    (λ c. let start = c.before.before.before.before.before.before.before.before.requires.1.0 in
-    omega (arith, start.0.asked.pattern_stands.inside, start.0.asked.small, start.1))
-    (λ c. let start = c.before.before.before.before.before.before.before.before.requires.1.0 in
-    omega (arith, start.0.asked.row_stands.inside, start.0.asked.small, start.2.some))
+    (λ c. let start = c.requires.1.0 in
+    omega (arith, start.0.asked.pattern_stands.inside-1, start.0.asked.small, start.1))
+    (λ c. let start = c.requires.1.0 in
+    omega (arith, start.0.asked.row_stands.inside-1, start.0.asked.small, start.2.some))
     (λ c κs.
-    let the_end_of = c.before.before.before.before.end_of_lem in
-    let the_end_of2 = c.before.before.before.end-of2 in
-    let the_pre = c.before.before.before.before.before.before.before.before.before.requires in
-    let start = c.before.before.before.before.before.before.before.before.before.requires.1.0 in (
-      omega (arith, the_pre.0, start.0.asked.pattern_stands.inside, start.1),
+    let the_end_of = c.end_of-m in
+    let the_end_of2 = c.end_of-n in
+    let the_pre = c.requires in
+    let start = c.requires.1.0 in (
+      omega (arith, the_pre.0, start.0.asked.pattern_stands.inside-1, start.1),
       (
         alone.contents_alone start.0 the_pre.1.1.0 start.1 start.2 _ _ the_end_of.ensures.0 the_end_of2.ensures.0,
         alone.remembering_inside start.0 the_pre.1.1.0 start.1 start.2 _ the_end_of2.result the_end_of.ensures.0 start.3,
       ),
     ))
-    (λ c. let the_pre = c.before.before.before.before.before.before.before.before.before.before.before.requires in
-    let the_end_of = c.before.before.before.before.before.before.end_of_lem in
-    let the_end_of2 = c.before.before.before.before.before.end-of2 in
+    (λ c. let the_pre = c.requires in
+    let the_end_of = c.end_of-m in
+    let the_end_of2 = c.end_of-n in
     let start = the_pre.1.0 in (
-      alone.bracket_none _ _ _ the_pre.1.1.0 _ _ _ _ _ the_end_of.ensures.0 the_end_of2.ensures.0 _ _ _ _ c.before.literal-run.ensures.0
-          (not-true _ c.if1.true),
-      alone.remembered_inside start.0 the_pre.1.1.0 start.1 start.2 _ _ c.before.literal-run.ensures.1,
+      alone.bracket_none _ _ _ the_pre.1.1.0 _ _ _ _ _ the_end_of.ensures.0 the_end_of2.ensures.0 _ _ _ _ c.literal_run.ensures.0
+          c.if-not-literal_run.true,
+      alone.remembered_inside start.0 the_pre.1.1.0 start.1 start.2 _ _ c.literal_run.ensures.1,
     ))
-    (λ c. let the_end_of = c.before.before.before.before.before.before.end_of_lem in
+    (λ c. let the_end_of = c.end_of-m in
     the_end_of.ensures.2)
     (λ c. search rules)
     (λ c. search rules)
-    (λ c. let the_end_of2 = c.before.before.before.before.before.before.end-of2 in
+    (λ c. let the_end_of2 = c.end_of-n in
     the_end_of2.ensures.2)
     (λ c. search rules)
     (λ c. search rules)
-    (λ c. let the_end_of = c.before.before.before.before.before.before.before.before.end_of_lem in
-    let asked = c.before.before.before.before.before.before.before.before.before.before.before.before.before.requires.1.0.0.asked in
-    omega (arith, asked.pattern_stands.inside, asked.small, the_end_of.ensures.2))
-    (λ c. let the_end_of2 = c.before.before.before.before.before.before.before.end-of2 in
-    let asked = c.before.before.before.before.before.before.before.before.before.before.before.before.before.requires.1.0.0.asked in
-    omega (arith, asked.row_stands.inside, asked.small, the_end_of2.ensures.2))
+    (λ c. let the_end_of = c.end_of-m in
+    let asked = c.requires.1.0.0.asked in
+    omega (arith, asked.pattern_stands.inside-1, asked.small, the_end_of.ensures.2))
+    (λ c. let the_end_of2 = c.end_of-n in
+    let asked = c.requires.1.0.0.asked in
+    omega (arith, asked.row_stands.inside-1, asked.small, the_end_of2.ensures.2))
     (λ c κs.
-    let the_literal_run = c.before.before.before.before.literal-run in
-    let the_pre = c.before.before.before.before.before.before.before.before.before.before.before.before.before.before.requires in
-    let the_end_of2 = c.before.before.before.before.before.before.before.before.end-of2 in
-    let start = c.before.before.before.before.before.before.before.before.before.before.before.before.before.before.requires.1.0 in
-    let ends = c.before.before.before.before.before.before.before.before.before.end_of_lem.ensures in
+    let the_literal_run = c.literal_run in
+    let the_pre = c.requires in
+    let the_end_of2 = c.end_of-n in
+    let start = c.requires.1.0 in
+    let ends = c.end_of-m.ensures in
     let begins = sure.begin_second start.1 ends.0 in (
-      omega (arith, the_pre.0, start.0.asked.pattern_stands.inside, ends.1, ends.2),
+      omega (arith, the_pre.0, start.0.asked.pattern_stands.inside-1, ends.1, ends.2),
       (
         level.literal_later start.0 _ _ begins the_end_of2.ensures.2,
         around.remembering_later start.0 _ _ ends.2 the_end_of2.ensures.2 begins
@@ -333,16 +333,16 @@ pub +literal-anew-literal-apart-literal-bracket-literal-end-literal-first-litera
       ),
     ))
     (λ c.
-    let the_if1 = c.before.before.before.before.if1 in
-    let the_pre = c.before.before.before.before.before.before.before.before.before.before.before.before.before.before.before.requires in
-    let the_end_of = c.before.before.before.before.before.before.before.before.before.before.end_of_lem in
-    let the_end_of2 = c.before.before.before.before.before.before.before.before.before.end-of2 in
-    let the_literal_run = c.before.before.before.before.before.literal-run in
+    let the_if1 = c.if-not-literal_run in
+    let the_pre = c.requires in
+    let the_end_of = c.end_of-m in
+    let the_end_of2 = c.end_of-n in
+    let the_literal_run = c.literal_run in
     let start = the_pre.1.0 in (
       alone.bracket_some _ _ _ the_pre.1.1.0 _ _ _ _ _ the_end_of.ensures.0 the_end_of2.ensures.0 the_pre.1.1.1
-          _ _ _ _ _ _ the_literal_run.ensures.0 (not-false _ the_if1.false) c.literal-run2.ensures.0,
+          _ _ _ _ _ _ the_literal_run.ensures.0 (not-false _ the_if1.false) c.literal_run-2.ensures.0,
       around.remembered_then (alone.remembered_inside start.0 the_pre.1.1.0 start.1 start.2 _ _ the_literal_run.ensures.1)
-          (around.remembered_later start.0 _ _ the_end_of.ensures.2 the_end_of2.ensures.2 c.literal-run2.ensures.1),
+          (around.remembered_later start.0 _ _ the_end_of.ensures.2 the_end_of2.ensures.2 c.literal_run-2.ensures.1),
     )))
     (λ t. literal-bracket-lts.spec (
       end-of-reads.Asked,
@@ -357,23 +357,23 @@ pub +literal-anew-literal-apart-literal-bracket-literal-end-literal-first-litera
     (literal_bracket_at t)
     literal_bracket.Post
     (λ c κs.
-    let the_pre = c.before.before.before.before.requires in
+    let the_pre = c.requires in
     the_pre.1.1)
-    (λ c. c.end_of_lem.ensures.1)
+    (λ c. c.end_of-m.ensures.1)
     (λ c. search rules)
     (λ c. search rules)
-    (λ c. c.before.end_of_lem.ensures.2)
-    (λ c. c.before.end_of_lem.ensures.2)
+    (λ c. c.end_of-m.ensures.2)
+    (λ c. c.end_of-m.ensures.2)
     (λ c. search rules)
     (λ c κs. tt)
-    (λ c κs. let the_end_of = c.before.before.before.before.before.end_of_lem in
-    let start = c.before.before.before.before.before.before.before.before.before.before.requires in
-    let apart = c.before.before.stands-apart.ensures c.before.if1.true in
+    (λ c κs. let the_end_of = c.end_of-m in
+    let start = c.requires in
+    let apart = c.stands_apart.ensures c.if-not-literal_run.true in
     (omega (arith, start.0), (start.1, (apart.0, rw the_end_of.ensures.0 at apart.1))))
-    (λ c. c.literal-apart.ensures)
-    (λ c κs. let start = c.before.before.before.before.before.before.before.before.before.before.requires in
+    (λ c. c.literal_apart.ensures)
+    (λ c κs. let start = c.requires in
     (omega (arith, start.0), (start.1.0, start.1.1, start.1.2)))
-    (λ c. let start = c.before.before.before.before.before.before.before.before.before.before.before.requires in
+    (λ c. let start = c.requires in
     (c.literal_inside.ensures.0, around.remembered_same start.1.3 c.literal_inside.ensures.1)))
     (λ t. literal-end-lts.spec (
       holds-here-reads.Asked,
@@ -389,36 +389,36 @@ pub +literal-anew-literal-apart-literal-bracket-literal-end-literal-first-litera
     literal-end.Post
     (λ c. omega arith)
     (λ c. omega arith)
-    (λ c. let start = c.before.before.requires.1 in omega (arith, start.0.3))
-    (λ c κs. let start = c.before.before.before.before.before.before.before.requires.1 in (start.1.1.0.few, start.0.2.few, start.0.2.keyed, (_, (_, start.0.1))))
+    (λ c. let start = c.requires.1 in omega (arith, start.0.3))
+    (λ c κs. let start = c.requires.1 in (start.1.1.0.few, start.0.2.few, start.0.2.keyed, (_, (_, start.0.1))))
     (λ c κs.
     let at-around = c.before.before in
-    let start = at-around.before.before.before.before.before.before.before.before.requires in
+    let start = at-around.requires in
     (omega (arith, start.0), ((start.1.0.0, start.1.0.1, start.1.0.2), start.1.1.0)))
     (λ c.
     let at-around = c.before.before.before in
-    let start = at-around.before.before.before.before.before.before.before.before.requires.1 in
+    let start = at-around.requires.1 in
     (c.literal_out.ensures.0, around.remembered_unchanged start.1.1.1 c.literal_out.ensures.1))
     (λ c κs. tt)
     (λ c.
     let at-around = c.before.before.before.before in
     let at_start = at-around.before.before.before.before.before.before.before.before in
     let start = at_start.requires.1 in
-    let (known, closed) = at-around.holds-here.ensures (not-false _ c.before.before.before.if1.false) in (
+    let (known, closed) = at-around.holds_here.ensures c.if-not-literal_run.false in (
       around.out_known _ _ _ _ _ (around.closed_levels at_start.args.at (closed _ _ _ _ start.0.2) start.1.1.0) (start.1.1.1 known) _ _
-          (c.before.failed-before.ensures c.if2.true),
+          (c.failed_before.ensures c.if-failed_before.true),
       around.remembered_unchanged start.1.1.1 refl,
     ))
     (λ c κs.
     let at-around = c.before.before.before.before.before in
-    let start = at-around.before.before.before.before.before.before.before.before.requires in
+    let start = at-around.requires in
     (omega (arith, start.0), ((start.1.0.0, start.1.0.1, start.1.0.2), start.1.1.0)))
     (λ c κs.
-    let the_literal_out2 = c.before.before.literal-out2 in
+    let the_literal_out2 = c.literal_out-found in
     let at-if1 = c.before.before.before.before.before.before.before in
     let at-around = at-if1.before in
-    let start = at-around.before.before.before.before.before.before.before.before.requires.1 in
-    let (known, closed) = at-around.holds-here.ensures (not-false _ at-if1.if1.false) in (
+    let start = at-around.requires.1 in
+    let (known, closed) = at-around.holds_here.ensures at-if1.if-not-literal_run.false in (
       omega arith,
       omega arith,
       omega (arith, start.0.0, start.0.3),
@@ -430,18 +430,18 @@ pub +literal-anew-literal-apart-literal-bracket-literal-end-literal-first-litera
     let at-around = at-if1.before in
     let at_start = at-around.before.before.before.before.before.before.before.before in
     let start = at_start.requires.1 in
-    let out = c.before.before.before.literal-out2.ensures in
-    let (known, closed) = at-around.holds-here.ensures (not-false _ at-if1.if1.false) in (
+    let out = c.literal_out-found.ensures in
+    let (known, closed) = at-around.holds_here.ensures at-if1.if-not-literal_run.false in (
       out.0,
       around.remembered_here known
           (around.out_noted _ _ _ _ _ (around.closed_levels at_start.args.at (closed _ _ _ _ start.0.2) start.1.1.0) out.0
-          (not-true _ c.before.before.if3.true)
-          (remembers_same (start.1.1.1 known) out.1) _ _ c.note-failed.ensures),
+          c.if-not-found.true
+          (remembers_same (start.1.1.1 known) out.1) _ _ c.note_failed.ensures),
     ))
     (λ c.
     let at-around = c.before.before.before.before.before.before.before in
-    let start = at-around.before.before.before.before.before.before.before.before.requires.1 in
-    let out = c.before.literal-out2.ensures in
+    let start = at-around.requires.1 in
+    let out = c.literal_out-found.ensures in
     (out.0, around.remembered_unchanged start.1.1.1 out.1)))
     (λ t. literal-first-lts.spec (
       end-of-reads.Asked,
@@ -460,59 +460,59 @@ pub +literal-anew-literal-apart-literal-bracket-literal-end-literal-first-litera
     (λ c. search rules)
     (λ c. search rules)
     (λ c. search rules)
-    (λ c κs. let the_pre = c.before.before.before.before.before.before.before.requires in
+    (λ c κs. let the_pre = c.requires in
     the_pre.1.1.some)
-    (λ c. c.end_of_lem.ensures.2)
+    (λ c. c.end_of-m.ensures.2)
     (λ c. search rules)
     (λ c. search rules)
     (λ c.
-    let the_first = c.before.before.before.first in
-    let the_pre = c.before.before.before.before.before.before.before.before.before.requires in
+    let the_first = c.first-1 in
+    let the_pre = c.requires in
     (first-record.binds_within the_pre.1.1.leaves true _ the_first.given.1).0)
     (λ c.
-    let the_first = c.before.before.before.first in
-    let the_pre = c.before.before.before.before.before.before.before.before.before.requires in
+    let the_first = c.first-1 in
+    let the_pre = c.requires in
     (first-record.binds_within the_pre.1.1.leaves true _ the_first.given.1).0)
     (λ c. search rules)
     (λ c.
-    let the_end_of = c.before.before.end_of_lem in
-    let asked = c.before.before.before.before.before.before.before.before.before.before.requires.1.0.0.asked in
-    omega (arith, asked.pattern_stands.inside, asked.small, the_end_of.ensures.2))
+    let the_end_of = c.end_of-m in
+    let asked = c.requires.1.0.0.asked in
+    omega (arith, asked.pattern_stands.inside-1, asked.small, the_end_of.ensures.2))
     (λ c κs.
-    let the_first = c.before.before.before.before.first in
-    let start = c.before.before.before.before.before.before.before.before.before.before.requires in
+    let the_first = c.first-1 in
+    let start = c.requires in
     let asked = start.1.0.0.asked in
     let binds = first-record.binds_within start.1.1.leaves true _ the_first.given.1 in (
       (
-        omega (arith, asked.pattern_stands.inside, asked.small, start.1.1.some),
-        omega (arith, asked.row_stands.inside, asked.small),
-        omega (arith, asked.row_stands.inside, asked.small, binds.0),
+        omega (arith, asked.pattern_stands.inside-1, asked.small, start.1.1.some),
+        omega (arith, asked.row_stands.inside-1, asked.small),
+        omega (arith, asked.row_stands.inside-1, asked.small, binds.0),
         calls.place_ready asked start.1.1.some binds.1,
       ),
-      (asked.kept.keys, asked.kept.starts, asked.kept.sizes),
+      (asked.kept.keys-1, asked.kept.starts, asked.kept.sizes),
     ))
-    (λ c. let the_first = c.before.before.before.before.before.first in
-    let start = c.before.before.before.before.before.before.before.before.before.before.before.requires in
+    (λ c. let the_first = c.first-1 in
+    let start = c.requires in
     let asked = start.1.0.0.asked in
-    omega (arith, asked.row_stands.inside, asked.small, (first-record.binds_within start.1.1.leaves true _ the_first.given.1).0))
-    (λ c κs. let the_first = c.before.before.before.before.before.before.first in
-    let start = c.before.before.before.before.before.before.before.before.before.before.before.before.requires in
+    omega (arith, asked.row_stands.inside-1, asked.small, (first-record.binds_within start.1.1.leaves true _ the_first.given.1).0))
+    (λ c κs. let the_first = c.first-1 in
+    let start = c.requires in
     let stopped = start.1.1 in
     let asked = start.1.0.0.asked in
-    let ends = c.before.before.before.before.end_of_lem in
+    let ends = c.end_of-m in
     let binds = first-record.binds_within start.1.1.leaves true _ the_first.given.1 in (
-      omega (arith, start.0, ends.ensures.1, ends.ensures.2, asked.pattern_stands.inside),
+      omega (arith, start.0, ends.ensures.1, ends.ensures.2, asked.pattern_stands.inside-1),
       (
-        level.literal_more start.1.0.0 stopped.some binds.1 binds.0 c.before.bind.ensures ends.result the_first.given.0.0
+        level.literal_more start.1.0.0 stopped.some binds.1 binds.0 c.bind-more.ensures ends.result the_first.given.0.0
             ends.ensures.0 binds.0,
         around.remembering_later start.1.0.0 _ _ ends.ensures.2 binds.0 (sure.begin_second stopped.some ends.ensures.0)
-            (around.remembering_bound start.1.0.1 c.before.bind.ensures),
+            (around.remembering_bound start.1.0.1 c.bind-more.ensures),
       ),
     ))
     (λ c. search rules)
-    (λ c κs. let start = c.before.before.before.before.before.before.before.requires in
+    (λ c κs. let start = c.requires in
     let stopped = start.1.1 in
-    let told = c.before.enum-told3.given.1 in (
+    let told = c.enum_told-in-Tries-1.given.1 in (
       omega (arith, start.0),
       (
         (start.1.0.0, stopped.some, start.1.0.1),
@@ -520,42 +520,42 @@ pub +literal-anew-literal-apart-literal-bracket-literal-end-literal-first-litera
       ),
     ))
     (λ c. search rules)
-    (λ c κs. let start = c.before.before.before.before.before.before.before.requires in
+    (λ c κs. let start = c.requires in
     let stopped = start.1.1 in (
       omega (arith, start.0),
       (
         start.1.0.0,
         stopped.some,
-        first-record.inside_facing stopped.leaves true c.before.enum-told4.given.1,
+        first-record.inside_facing stopped.leaves true c.enum_told-in-Inside-1.given.1,
         start.1.0.1,
       ),
     ))
-    (λ c. let the_pre = c.before.before.before.before.before.before.requires in
-    absurd (known.stops_fails the_pre.1.1 c.enum_told.given.1))
-    (λ c. let the_pre = c.before.before.before.before.before.before.requires in
-    absurd (known.stops_not the_pre.1.1 _ _ c.enum-told2.given.1))
-    (λ c. let the_first = c.before.before.before.before.before.before.before.first in
-    let start = c.before.before.before.before.before.before.before.before.before.before.before.before.before.requires in
+    (λ c. let the_pre = c.requires in
+    absurd (known.stops_fails the_pre.1.1 c.enum_told-1.given.1))
+    (λ c. let the_pre = c.requires in
+    absurd (known.stops_not the_pre.1.1 _ _ c.enum_told-in-Goes-1.given.1))
+    (λ c. let the_first = c.first-1 in
+    let start = c.requires in
     let stopped = start.1.1 in
-    let ends = c.before.before.before.before.before.end_of_lem in
+    let ends = c.end_of-m in
     let binds = first-record.binds_within start.1.1.leaves true _ the_first.given.1 in
-    let values = calls.values_more start.1.0.0.asked stopped.some binds.1 binds.0 c.before.before.bind.ensures in (
-      level.run_rest start.1.0.0 c.literal-run.result ends.result the_first.given.0.0 c.before.before.bind.result
+    let values = calls.values_more start.1.0.0.asked stopped.some binds.1 binds.0 c.bind-more.ensures in (
+      level.run_rest start.1.0.0 c.literal_run.result ends.result the_first.given.0.0 c.bind-more.result
           ends.ensures.2 binds.0
-          (first-record.step_binds stopped.leaves true _ _ _ the_first.given.1 ends.ensures.0 values) c.literal-run.ensures.0,
-      around.remembered_bound start.1.0.1 c.before.before.bind.ensures (around.remembered_later start.1.0.0 _ _ ends.ensures.2 binds.0
-          c.literal-run.ensures.1),
+          (first-record.step_binds stopped.leaves true _ _ _ the_first.given.1 ends.ensures.0 values) c.literal_run.ensures.0,
+      around.remembered_bound start.1.0.1 c.bind-more.ensures (around.remembered_later start.1.0.0 _ _ ends.ensures.2 binds.0
+          c.literal_run.ensures.1),
     ))
     (λ c.
-    let the_enum_told3 = c.before.before.enum-told3 in
-    let the_pre = c.before.before.before.before.before.before.before.before.requires in (
-      level.run_same the_pre.1.0.0 c.literal-tries.result _ c.literal-tries.ensures.0 (first-record.step_tries the_pre.1.1.leaves true
+    let the_enum_told3 = c.enum_told-in-Tries-1 in
+    let the_pre = c.requires in (
+      level.run_same the_pre.1.0.0 c.literal_tries.result _ c.literal_tries.ensures.0 (first-record.step_tries the_pre.1.1.leaves true
           the_enum_told3.given.1),
-      c.literal-tries.ensures.1,
+      c.literal_tries.ensures.1,
     ))
     (λ c.
-    let the_enum_told4 = c.before.before.enum-told4 in
-    let the_pre = c.before.before.before.before.before.before.before.before.requires in (
+    let the_enum_told4 = c.enum_told-in-Inside-1 in
+    let the_pre = c.requires in (
       level.run_same the_pre.1.0.0 c.literal_bracket.result _ c.literal_bracket.ensures.0 (first-record.step_inside the_pre.1.1.leaves true
           the_enum_told4.given.1),
       c.literal_bracket.ensures.1,
@@ -573,48 +573,48 @@ pub +literal-anew-literal-apart-literal-bracket-literal-end-literal-first-litera
     (literal_inside_at t)
     literal_inside.Post
     (λ c κs.
-    let the_pre = c.before.before.before.before.requires in
+    let the_pre = c.requires in
     the_pre.1.1)
-    (λ c κs. let the_pre = c.before.before.before.before.before.requires in
+    (λ c κs. let the_pre = c.requires in
     the_pre.1.2.some)
-    (λ c. let asked = c.before.before.before.before.before.before.requires.1.0.asked in
-    omega (arith, asked.pattern_stands.inside, asked.small))
-    (λ c. let asked = c.before.before.before.before.before.before.requires.1.0.asked in
-    omega (arith, asked.row_stands.inside, asked.small))
-    (λ c κs. let start = c.before.before.before.before.before.before.requires in
+    (λ c. let asked = c.requires.1.0.asked in
+    omega (arith, asked.pattern_stands.inside-1, asked.small))
+    (λ c. let asked = c.requires.1.0.asked in
+    omega (arith, asked.row_stands.inside-1, asked.small))
+    (λ c κs. let start = c.requires in
     let asked = start.1.0.asked in (
-      omega (arith, asked.pattern_stands.inside, asked.small),
-      omega (arith, asked.row_stands.inside, asked.small),
-      level.level_ready start.1.0 start.1.1 start.1.2 _ _ c.before.end_of_lem.ensures.0 c.end-of2.ensures.0,
+      omega (arith, asked.pattern_stands.inside-1, asked.small),
+      omega (arith, asked.row_stands.inside-1, asked.small),
+      level.level_ready start.1.0 start.1.1 start.1.2 _ _ c.end_of-m.ensures.0 c.end_of-n.ensures.0,
       start.1.0.around.patterns,
       start.1.0.around.rows,
     ))
     (λ c.
-    let the_end_of = c.before.before.end_of_lem in
+    let the_end_of = c.end_of-m in
     the_end_of.ensures.1)
     (λ c. search rules)
     (λ c. search rules)
     (λ c.
-    let the_end_of2 = c.before.before.end-of2 in
+    let the_end_of2 = c.end_of-n in
     the_end_of2.ensures.1)
     (λ c. search rules)
     (λ c. search rules)
-    (λ c. let start = c.before.before.before.before.before.before.before.before.before.requires in
+    (λ c. let start = c.requires in
     let asked = start.1.0.asked in
-    omega (arith, asked.pattern_stands.inside, asked.small, start.1.1))
-    (λ c. let start = c.before.before.before.before.before.before.before.before.before.requires in
+    omega (arith, asked.pattern_stands.inside-1, asked.small, start.1.1))
+    (λ c. let start = c.requires in
     let asked = start.1.0.asked in
-    omega (arith, asked.row_stands.inside, asked.small, start.1.2.some))
+    omega (arith, asked.row_stands.inside-1, asked.small, start.1.2.some))
     (λ c κs. tt)
     (λ c κs.
-    let the_push = c.before.before.before.before.push in
-    let the_end_of = c.before.before.before.before.before.before.end_of_lem in
-    let the_end_of2 = c.before.before.before.before.before.end-of2 in
-    let start = c.before.before.before.before.before.before.before.before.before.before.before.requires in
+    let the_push = c.push-around in
+    let the_end_of = c.end_of-m in
+    let the_end_of2 = c.end_of-n in
+    let start = c.requires in
     let asked = start.1.0.asked in
-    let more = c.before.before.before.before.push.ensures in
-    let unsure = c.before.unsure.ensures in (
-      omega (arith, start.0, more.0, asked.pattern_stands.inside, start.1.1),
+    let more = c.push-around.ensures in
+    let unsure = c.unsure-sure.ensures in (
+      omega (arith, start.0, more.0, asked.pattern_stands.inside-1, start.1.1),
       (
         level.literal_inside start.1.0 start.1.1 start.1.2 _ _ the_end_of.ensures.0 the_end_of2.ensures.0 the_push.result more.0
             more.1 more.2,
@@ -622,16 +622,16 @@ pub +literal-anew-literal-apart-literal-bracket-literal-end-literal-first-litera
       ),
     ))
     (λ c.
-    let the_unsure = c.before.before.unsure in
-    let the_end_of = c.before.before.before.before.before.before.before.end_of_lem in
-    let the_end_of2 = c.before.before.before.before.before.before.end-of2 in
-    let start = c.before.before.before.before.before.before.before.before.before.before.before.before.requires in
-    let the_push = c.before.before.before.before.before.push in
+    let the_unsure = c.unsure-sure in
+    let the_end_of = c.end_of-m in
+    let the_end_of2 = c.end_of-n in
+    let start = c.requires in
+    let the_push = c.push-around in
     let more = the_push.ensures in (
       level.inside_answer start.1.0 start.1.1 start.1.2 _ _ the_end_of.ensures.0 the_end_of2.ensures.0 the_push.result
           more.0 more.1 more.2
-          c.literal-run.result c.literal-run.ensures.0,
-      c.literal-run.ensures.1.elsewhere the_unsure.ensures.2,
+          c.literal_run.result c.literal_run.ensures.0,
+      c.literal_run.ensures.1.elsewhere the_unsure.ensures.2,
     )))
     (λ t. literal-lengths-lts.spec (
       end-of-reads.Asked,
@@ -646,94 +646,94 @@ pub +literal-anew-literal-apart-literal-bracket-literal-end-literal-first-litera
     literal-lengths-Inv-loop
     literal-lengths-μ-loop
     (λ c κs.
-    let the_pre = c.before.before.before.before.requires in
+    let the_pre = c.requires in
     the_pre.1.0.1)
-    (λ c. c.end_of_lem.ensures.2)
+    (λ c. c.end_of-m.ensures.2)
     (λ c. search rules)
     (λ c. search rules)
-    (λ c. let asked = c.before.before.before.before.before.before.requires.1.0.0.asked in
-    omega (arith, asked.pattern_stands.inside, asked.small, c.before.end_of_lem.ensures.2))
-    (λ c. let start = c.before.before.before.before.before.before.requires in
+    (λ c. let asked = c.requires.1.0.0.asked in
+    omega (arith, asked.pattern_stands.inside-1, asked.small, c.end_of-m.ensures.2))
+    (λ c. let start = c.requires in
     (at_start, level.lengths_start start.1.0.0 start.1.0.1 start.1.1, around.remembered_same start.1.0.2 refl))
-    (λ c. begin_inside c.loop.invariant.0)
-    (λ c. begin_inside c.loop.invariant.0)
+    (λ c. begin_inside c.loop-rest.invariant.0)
+    (λ c. begin_inside c.loop-rest.invariant.0)
     (λ c. search rules)
-    (λ c κs. let start = c.before.before.before.before.before.before.before.before.requires in
+    (λ c κs. let start = c.requires in
     let asked = start.1.0.0.asked in (
       (
-        omega (arith, asked.pattern_stands.inside, asked.small, start.1.0.1),
-        omega (arith, asked.row_stands.inside, asked.small),
-        omega (arith, asked.row_stands.inside, asked.small, begin_inside c.before.loop.invariant.0),
+        omega (arith, asked.pattern_stands.inside-1, asked.small, start.1.0.1),
+        omega (arith, asked.row_stands.inside-1, asked.small),
+        omega (arith, asked.row_stands.inside-1, asked.small, begin_inside c.loop-rest.invariant.0),
         calls.place_ready asked start.1.0.1 start.1.1,
       ),
-      (asked.kept.keys, asked.kept.starts, asked.kept.sizes),
+      (asked.kept.keys-1, asked.kept.starts, asked.kept.sizes),
     ))
     (λ c.
-    let the_loop = c.before.before.loop in
-    let asked = c.before.before.before.before.before.before.before.before.before.requires.1.0.0.asked in
-    omega (arith, asked.row_stands.inside, asked.small, begin_inside the_loop.invariant.0))
+    let the_loop = c.loop-rest in
+    let asked = c.requires.1.0.0.asked in
+    omega (arith, asked.row_stands.inside-1, asked.small, begin_inside the_loop.invariant.0))
     (λ c κs.
-    let the_loop = c.before.before.before.loop in
-    let start = c.before.before.before.before.before.before.before.before.before.before.requires in
+    let the_loop = c.loop-rest in
+    let start = c.requires in
     let asked = start.1.0.0.asked in
-    let ends = c.before.before.before.before.before.end_of_lem in
+    let ends = c.end_of-m in
     let inside = begin_inside the_loop.invariant.0 in (
-      omega (arith, start.0, ends.ensures.1, ends.ensures.2, asked.pattern_stands.inside),
+      omega (arith, start.0, ends.ensures.1, ends.ensures.2, asked.pattern_stands.inside-1),
       (
-        level.literal_more start.1.0.0 start.1.0.1 start.1.1 inside c.before.bind.ensures ends.result the_loop.n ends.ensures.0
+        level.literal_more start.1.0.0 start.1.0.1 start.1.1 inside c.bind-more.ensures ends.result the_loop.n ends.ensures.0
             inside,
         around.remembering_later start.1.0.0 _ _ ends.ensures.2 inside (sure.begin_second start.1.0.1 ends.ensures.0)
-            (around.remembering_bound (around.remembering_then start.1.0.2 the_loop.invariant.2) c.before.bind.ensures),
+            (around.remembering_bound (around.remembering_then start.1.0.2 the_loop.invariant.2) c.bind-more.ensures),
       ),
     ))
-    (λ c κs. c.if2.false)
-    (λ c. let the_loop = c.before.before.before.before.before.before.before.loop in
-    let the_args = c.before.before.before.before.before.before.before.before.before.before.before.before.before.before.args in
-    let asked = c.before.before.before.before.before.before.before.before.before.before.before.before.before.before.requires.1.0.0.asked in
+    (λ c κs. c.if-failed_before.false)
+    (λ c. let the_loop = c.loop-rest in
+    let the_args = c.args in
+    let asked = c.requires.1.0.0.asked in
     omega (
       arith,
-      asked.row_stands.inside,
+      asked.row_stands.inside-1,
       asked.small,
-      c.end-of2.ensures.2,
+      c.end_of-n.ensures.2,
       from_length the_loop.n the_args.row.now,
       begin_inside the_loop.invariant.0,
     ))
-    (λ c. let the_args = c.before.before.before.before.before.before.before.before.before.before.before.before.before.before.args in
-    let the_loop = c.before.before.before.before.before.before.before.loop in
-    omega (arith, c.end-of2.ensures.1, c.end-of2.ensures.2, from_length the_loop.n the_args.row.now, begin_inside the_loop.invariant.0))
+    (λ c. let the_args = c.args in
+    let the_loop = c.loop-rest in
+    omega (arith, c.end_of-n.ensures.1, c.end_of-n.ensures.2, from_length the_loop.n the_args.row.now, begin_inside the_loop.invariant.0))
     (λ c.
-    let the_literal_run = c.before.before.before.literal-run in
-    let the_loop = c.before.before.before.before.before.before.before.loop in
-    let the_end_of = c.before.before.before.before.before.before.before.before.before.end_of_lem in
-    let the_bind = c.before.before.before.before.before.bind in
-    let start = c.before.before.before.before.before.before.before.before.before.before.before.before.before.before.requires in (
-      rw c.end-of2.ensures.0 (one_on c.before.if2.false the_loop.invariant.0),
-      rw c.end-of2.ensures.0 (level.length_next start.1.0.0 start.1.0.1 start.1.1 the_end_of.ensures.0
+    let the_literal_run = c.literal_run in
+    let the_loop = c.loop-rest in
+    let the_end_of = c.end_of-m in
+    let the_bind = c.bind-more in
+    let start = c.requires in (
+      rw c.end_of-n.ensures.0 (one_on c.if-failed_before.false the_loop.invariant.0),
+      rw c.end_of-n.ensures.0 (level.length_next start.1.0.0 start.1.0.1 start.1.1 the_end_of.ensures.0
           the_loop.invariant.0 the_bind.ensures
-          the_literal_run.result the_literal_run.ensures.0 the_loop.invariant.1 c.before.before.if1.false c.before.if2.false),
+          the_literal_run.result the_literal_run.ensures.0 the_loop.invariant.1 c.if-not-literal_run.false c.if-failed_before.false),
       around.remembered_then the_loop.invariant.2 (around.remembered_bound (around.remembering_then start.1.0.2 the_loop.invariant.2) the_bind.ensures
           (around.remembered_later start.1.0.0 _ _ the_end_of.ensures.2 (begin_inside the_loop.invariant.0) the_literal_run.ensures.1)),
     ))
     (λ c.
-    let the_bind = c.before.before.before.bind in
-    let the_end_of = c.before.before.before.before.before.before.before.end_of_lem in
-    let the_loop = c.before.before.before.before.before.loop in
-    let start = c.before.before.before.before.before.before.before.before.before.before.before.before.requires in (
+    let the_bind = c.bind-more in
+    let the_end_of = c.end_of-m in
+    let the_loop = c.loop-rest in
+    let start = c.requires in (
       level.length_found start.1.0.0 start.1.0.1 start.1.1 the_end_of.ensures.0 the_loop.invariant.0 the_bind.ensures
-          c.before.literal-run.result
-          c.before.literal-run.ensures.0 the_loop.invariant.1 c.if1.true,
+          c.literal_run.result
+          c.literal_run.ensures.0 the_loop.invariant.1 c.if-not-literal_run.true,
       around.remembered_then the_loop.invariant.2 (around.remembered_bound (around.remembering_then start.1.0.2 the_loop.invariant.2) the_bind.ensures
-          (around.remembered_later start.1.0.0 _ _ the_end_of.ensures.2 (begin_inside the_loop.invariant.0) c.before.literal-run.ensures.1)),
+          (around.remembered_later start.1.0.0 _ _ the_end_of.ensures.2 (begin_inside the_loop.invariant.0) c.literal_run.ensures.1)),
     ))
     (λ c.
-    let the_bind = c.before.before.before.before.bind in
-    let the_literal_run = c.before.before.literal-run in
-    let the_end_of = c.before.before.before.before.before.before.before.before.end_of_lem in
-    let the_loop = c.before.before.before.before.before.before.loop in
-    let start = c.before.before.before.before.before.before.before.before.before.before.before.before.before.requires in (
+    let the_bind = c.bind-more in
+    let the_literal_run = c.literal_run in
+    let the_end_of = c.end_of-m in
+    let the_loop = c.loop-rest in
+    let start = c.requires in (
       level.length_none start.1.0.0 start.1.0.1 start.1.1 the_end_of.ensures.0 the_loop.invariant.0 the_bind.ensures
-          c.before.before.literal-run.result
-          the_literal_run.ensures.0 the_loop.invariant.1 c.before.if1.false c.if2.true,
+          c.literal_run.result
+          the_literal_run.ensures.0 the_loop.invariant.1 c.if-not-literal_run.false c.if-failed_before.true,
       around.remembered_then the_loop.invariant.2 (around.remembered_bound (around.remembering_then start.1.0.2 the_loop.invariant.2) the_bind.ensures
           (around.remembered_later start.1.0.0 _ _ the_end_of.ensures.2 (begin_inside the_loop.invariant.0) the_literal_run.ensures.1)),
     )))
@@ -747,63 +747,63 @@ pub +literal-anew-literal-apart-literal-bracket-literal-end-literal-first-litera
     )
     (literal_out_at t)
     literal_out.Post
-    (λ c. (level.out_none _ _ _ _ _ _ c.if1.true, refl))
-    (λ c. omega (arith, c.if1.false))
+    (λ c. (level.out_none _ _ _ _ _ _ c.if-not-literal_run.true, refl))
+    (λ c. omega (arith, c.if-not-literal_run.false))
     (λ c.
-    let the_pre = c.before.before.before.requires in
+    let the_pre = c.requires in
     omega (arith, the_pre.1.0.1.few))
     (λ c.
-    let the_pre = c.before.before.before.requires in
-    omega (arith, the_pre.1.0.1.few, c.if1.false))
+    let the_pre = c.requires in
+    omega (arith, the_pre.1.0.1.few, c.if-not-literal_run.false))
     (λ c κs. tt)
-    (λ c. let the_pre = c.before.before.before.before.before.requires in
+    (λ c. let the_pre = c.requires in
     omega (arith, the_pre.1.0.1.few))
-    (λ c. let the_pre = c.before.before.before.before.before.requires in
-    omega (arith, the_pre.1.0.1.few, c.before.before.if1.false))
+    (λ c. let the_pre = c.requires in
+    omega (arith, the_pre.1.0.1.few, c.if-not-literal_run.false))
     (λ c κs. tt)
     (λ c.
-    let the_if1 = c.before.before.before.before.if1 in
-    let the_wide = c.before.before.wide in
-    let start = c.before.before.before.before.before.before.before.requires in
+    let the_if1 = c.if-not-literal_run in
+    let the_wide = c.wide-end in
+    let start = c.requires in
     (level.out_pattern start.1.0.0 start.1.0.1 start.1.0.2 start.1.1 (omega (arith, the_if1.false)) the_wide.ensures.0
-    c.wide2.ensures.0).0)
+    c.wide-row_end.ensures.0).0)
     (λ c.
-    let the_if1 = c.before.before.before.before.if1 in
-    let the_wide = c.before.before.wide in
-    let start = c.before.before.before.before.before.before.before.requires in
+    let the_if1 = c.if-not-literal_run in
+    let the_wide = c.wide-end in
+    let start = c.requires in
     (level.out_pattern start.1.0.0 start.1.0.1 start.1.0.2 start.1.1 (omega (arith, the_if1.false)) the_wide.ensures.0
-    c.wide2.ensures.0).0)
+    c.wide-row_end.ensures.0).0)
     (λ c.
-    let the_if1 = c.before.before.before.before.if1 in
-    let the_wide = c.before.before.wide in
-    let start = c.before.before.before.before.before.before.before.requires in
+    let the_if1 = c.if-not-literal_run in
+    let the_wide = c.wide-end in
+    let start = c.requires in
     (level.out_pattern start.1.0.0 start.1.0.1 start.1.0.2 start.1.1 (omega (arith, the_if1.false)) the_wide.ensures.0
-    c.wide2.ensures.0).1)
+    c.wide-row_end.ensures.0).1)
     (λ c.
-    let the_wide = c.before.before.before.wide in
-    let the_if1 = c.before.before.before.before.before.if1 in
-    let start = c.before.before.before.before.before.before.before.before.requires in
+    let the_wide = c.wide-end in
+    let the_if1 = c.if-not-literal_run in
+    let start = c.requires in
     (level.out_row start.1.0.0 start.1.0.1 start.1.0.2 start.1.1 (omega (arith, the_if1.false)) the_wide.ensures.0
-    c.before.wide2.ensures.0).0)
+    c.wide-row_end.ensures.0).0)
     (λ c.
-    let the_wide = c.before.before.before.wide in
-    let the_if1 = c.before.before.before.before.before.if1 in
-    let start = c.before.before.before.before.before.before.before.before.requires in
+    let the_wide = c.wide-end in
+    let the_if1 = c.if-not-literal_run in
+    let start = c.requires in
     (level.out_row start.1.0.0 start.1.0.1 start.1.0.2 start.1.1 (omega (arith, the_if1.false)) the_wide.ensures.0
-    c.before.wide2.ensures.0).0)
+    c.wide-row_end.ensures.0).0)
     (λ c.
-    let the_wide = c.before.before.before.wide in
-    let the_if1 = c.before.before.before.before.before.if1 in
-    let start = c.before.before.before.before.before.before.before.before.requires in
+    let the_wide = c.wide-end in
+    let the_if1 = c.if-not-literal_run in
+    let start = c.requires in
     (level.out_row start.1.0.0 start.1.0.1 start.1.0.2 start.1.1 (omega (arith, the_if1.false)) the_wide.ensures.0
-    c.before.wide2.ensures.0).1)
+    c.wide-row_end.ensures.0).1)
     (λ c κs. tt)
     (λ c κs.
-    let the_wide2 = c.before.before.before.before.wide2 in
-    let the_if1 = c.before.before.before.before.before.before.before.before.if1 in
-    let the_wide = c.before.before.before.before.before.before.wide in
-    let start = c.before.before.before.before.before.before.before.before.before.before.before.requires in
-    let unsure = c.before.unsure.ensures in (
+    let the_wide2 = c.wide-row_end in
+    let the_if1 = c.if-not-literal_run in
+    let the_wide = c.wide-end in
+    let start = c.requires in
+    let unsure = c.unsure-sure.ensures in (
       omega (arith, start.0, the_if1.false),
       (
         level.literal_out start.1.0.0 start.1.0.1 start.1.0.2 start.1.1 (omega (arith, the_if1.false)) the_wide.ensures.0
@@ -812,15 +812,15 @@ pub +literal-anew-literal-apart-literal-bracket-literal-end-literal-first-litera
       ),
     ))
     (λ c.
-    let the_unsure = c.before.before.unsure in
-    let the_if1 = c.before.before.before.before.before.before.before.before.before.if1 in
-    let the_wide = c.before.before.before.before.before.before.before.wide in
-    let the_wide2 = c.before.before.before.before.before.wide2 in
-    let start = c.before.before.before.before.before.before.before.before.before.before.before.before.requires in (
+    let the_unsure = c.unsure-sure in
+    let the_if1 = c.if-not-literal_run in
+    let the_wide = c.wide-end in
+    let the_wide2 = c.wide-row_end in
+    let start = c.requires in (
       level.out_answer start.1.0.0 start.1.0.1 start.1.0.2 start.1.1 (omega (arith, the_if1.false))
           the_wide.ensures.0 the_wide2.ensures.0
-          c.literal-run.result c.literal-run.ensures.0,
-      c.literal-run.ensures.1.elsewhere the_unsure.ensures.2,
+          c.literal_run.result c.literal_run.ensures.0,
+      c.literal_run.ensures.1.elsewhere the_unsure.ensures.2,
     )))
     (λ t. literal-run-lts.spec (
       known-front-reads.Asked,
@@ -832,71 +832,71 @@ pub +literal-anew-literal-apart-literal-bracket-literal-end-literal-first-litera
     )
     (literal_run_at t)
     literal-run.Post
-    (λ c κs. let the_pre = c.before.before.before.before.before.before.before.before.requires in
+    (λ c κs. let the_pre = c.requires in
     the_pre.1.0.asked.kept)
     (λ c. search rules)
     (λ c. search rules)
     (λ c.
-    let the_known_front = c.before.before.before.known-front in
-    (known.known_end the_known_front.ensures _ _ c.before.n.given.1).0.within)
+    let the_known_front = c.known_front in
+    (known.known_end the_known_front.ensures _ _ c.n-1.given.1).0.within)
     (λ c.
-    let the_known_front = c.before.before.before.known-front in
-    (known.known_end the_known_front.ensures _ _ c.before.n.given.1).0.within)
+    let the_known_front = c.known_front in
+    (known.known_end the_known_front.ensures _ _ c.n-1.given.1).0.within)
     (λ c. search rules)
-    (λ c. let asked = c.before.before.before.before.before.before.before.before.before.before.before.before.before.before.requires.1.0.asked in
-    omega (arith, asked.pattern_stands.inside, asked.small))
-    (λ c. let asked = c.before.before.before.before.before.before.before.before.before.before.before.before.before.before.requires.1.0.asked in
-    omega (arith, asked.row_stands.inside, asked.small))
-    (λ c κs. let start = c.before.before.before.before.before.before.before.before.before.before.before.before.before.before.before.requires in
+    (λ c. let asked = c.requires.1.0.asked in
+    omega (arith, asked.pattern_stands.inside-1, asked.small))
+    (λ c. let asked = c.requires.1.0.asked in
+    omega (arith, asked.row_stands.inside-1, asked.small))
+    (λ c κs. let start = c.requires in
     let asked = start.1.0 in (
       omega (arith, start.0),
       (
-        (asked.asked.small, asked.around, asked.asked.kept, asked.asked.pattern_stands.inside),
+        (asked.asked.small, asked.around, asked.asked.kept, asked.asked.pattern_stands.inside-1),
         (level.out_capacity asked, (around.settled_around start.1.1, start.1.1.here)),
       ),
     ))
-    (λ c. let the_known_front = c.before.before.before.before.before.before.before.known-front in
-    let the_n = c.before.before.before.before.before.n in
-    let the_pre = c.before.before.before.before.before.before.before.before.before.before.before.before.before.before.before.before.requires in
+    (λ c. let the_known_front = c.known_front in
+    let the_n = c.n-1 in
+    let the_pre = c.requires in
     let (passed, short) = known.known_end the_known_front.ensures _ _ the_n.given.1 in (
-      level.run_one the_pre.1.0 c.literal-end.result (passed.search true ∙ step.end_both _ _ _ true _ short c.before.before.if1.true)
-          c.literal-end.ensures.0,
-      c.literal-end.ensures.1,
+      level.run_one the_pre.1.0 c.literal_end.result (passed.search true ∙ step.end_both _ _ _ true _ short c.if-not-literal_run.true)
+          c.literal_end.ensures.0,
+      c.literal_end.ensures.1,
     ))
     (λ c. search rules)
     (λ c.
-    let the_known_front = c.before.before.before.known-front in
-    begin_inside (known.known_stop the_known_front.ensures _ _ _ c.before.m.given.1).0.begins)
+    let the_known_front = c.known_front in
+    begin_inside (known.known_stop the_known_front.ensures _ _ _ c.m-1.given.1).0.begins)
     (λ c.
-    let the_known_front = c.before.before.before.known-front in
-    begin_inside (known.known_stop the_known_front.ensures _ _ _ c.before.m.given.1).0.begins)
+    let the_known_front = c.known_front in
+    begin_inside (known.known_stop the_known_front.ensures _ _ _ c.m-1.given.1).0.begins)
     (λ c. search rules)
     (λ c.
-    let the_known_front = c.before.before.before.before.known-front in
-    let the_m = c.before.before.m in
+    let the_known_front = c.known_front in
+    let the_m = c.m-1 in
     (known.known_stop the_known_front.ensures _ _ _ the_m.given.1).0.within)
     (λ c.
-    let the_known_front = c.before.before.before.before.known-front in
-    let the_m = c.before.before.m in
+    let the_known_front = c.known_front in
+    let the_m = c.m-1 in
     (known.known_stop the_known_front.ensures _ _ _ the_m.given.1).0.within)
     (λ c. search rules)
     (λ c.
-    let the_m = c.before.before.before.m in
-    let the_known_front = c.before.before.before.before.before.known-front in
-    let asked = c.before.before.before.before.before.before.before.before.before.before.before.before.before.before.requires.1.0.asked in
-    omega (arith, asked.pattern_stands.inside, asked.small, begin_inside (known.known_stop the_known_front.ensures _ _ _ the_m.given.1).0.begins))
+    let the_m = c.m-1 in
+    let the_known_front = c.known_front in
+    let asked = c.requires.1.0.asked in
+    omega (arith, asked.pattern_stands.inside-1, asked.small, begin_inside (known.known_stop the_known_front.ensures _ _ _ the_m.given.1).0.begins))
     (λ c.
-    let the_m = c.before.before.before.m in
-    let the_known_front = c.before.before.before.before.before.known-front in
-    let asked = c.before.before.before.before.before.before.before.before.before.before.before.before.before.before.requires.1.0.asked in
-    omega (arith, asked.row_stands.inside, asked.small, (known.known_stop the_known_front.ensures _ _ _ the_m.given.1).0.within))
+    let the_m = c.m-1 in
+    let the_known_front = c.known_front in
+    let asked = c.requires.1.0.asked in
+    omega (arith, asked.row_stands.inside-1, asked.small, (known.known_stop the_known_front.ensures _ _ _ the_m.given.1).0.within))
     (λ c κs.
-    let the_m = c.before.before.before.before.m in
-    let the_known_front = c.before.before.before.before.before.before.known-front in
-    let start = c.before.before.before.before.before.before.before.before.before.before.before.before.before.before.before.requires in
+    let the_m = c.m-1 in
+    let the_known_front = c.known_front in
+    let start = c.requires in
     let asked = start.1.0.asked in
     let (passed, stopped) = known.known_stop the_known_front.ensures _ _ _ the_m.given.1 in (
-      omega (arith, start.0, begin_inside passed.begins, asked.pattern_stands.inside),
+      omega (arith, start.0, begin_inside passed.begins, asked.pattern_stands.inside-1),
       (
         (
           level.literal_later start.1.0 _ _ passed.begins passed.within,
@@ -905,24 +905,24 @@ pub +literal-anew-literal-apart-literal-bracket-literal-end-literal-first-litera
         stopped,
       ),
     ))
-    (λ c. let the_pre = c.before.before.before.before.before.before.before.before.before.before.before.requires in (
-      level.run_none the_pre.1.0 (known.known_fails c.before.before.known-front.ensures c.enum_told.given.1 true),
+    (λ c. let the_pre = c.requires in (
+      level.run_none the_pre.1.0 (known.known_fails c.known_front.ensures c.enum_told-1.given.1 true),
       around.remembered_same the_pre.1.1 refl,
     ))
     (λ c.
-    let the_n = c.before.before.before.n in
-    let the_known_front = c.before.before.before.before.before.known-front in
-    let the_pre = c.before.before.before.before.before.before.before.before.before.before.before.before.before.before.requires in
+    let the_n = c.n-1 in
+    let the_known_front = c.known_front in
+    let the_pre = c.requires in
     let (passed, short) = known.known_end the_known_front.ensures _ _ the_n.given.1 in
-    (level.run_none the_pre.1.0 (passed.search true ∙ step.end_one _ _ _ true _ short c.if1.false), around.remembered_same the_pre.1.1 refl))
-    (λ c. let the_known_front = c.before.before.before.before.before.before.before.known-front in
-    let the_m = c.before.before.before.before.before.m in
-    let the_pre = c.before.before.before.before.before.before.before.before.before.before.before.before.before.before.before.before.requires in
+    (level.run_none the_pre.1.0 (passed.search true ∙ step.end_one _ _ _ true _ short c.if-not-literal_run.false), around.remembered_same the_pre.1.1 refl))
+    (λ c. let the_known_front = c.known_front in
+    let the_m = c.m-1 in
+    let the_pre = c.requires in
     let passed = (known.known_stop the_known_front.ensures _ _ _ the_m.given.1).0 in (
-      level.run_rest the_pre.1.0 c.literal-first.result _ _ _ (begin_inside passed.begins) passed.within (passed.search true)
-          c.literal-first.ensures.0,
+      level.run_rest the_pre.1.0 c.literal_first.result _ _ _ (begin_inside passed.begins) passed.within (passed.search true)
+          c.literal_first.ensures.0,
       around.remembered_later the_pre.1.0 _ _ (begin_inside passed.begins) passed.within
-          c.literal-first.ensures.1,
+          c.literal_first.ensures.1,
     )))
     λ t. literal-tries-lts.spec (
       holds-here-reads.Asked,
@@ -938,61 +938,61 @@ pub +literal-anew-literal-apart-literal-bracket-literal-end-literal-first-litera
     )
     (literal_tries_at t)
     literal-tries.Post
-    (λ c. let asked = c.before.before.before.before.requires.1.0.0.asked in omega (arith, asked.pattern_stands.inside, asked.small))
-    (λ c. let asked = c.before.before.before.before.requires.1.0.0.asked in omega (arith, asked.row_stands.inside, asked.small))
-    (λ c κs. let start = c.before.before.before.before.before.before.before.before.requires.1.0 in
+    (λ c. let asked = c.requires.1.0.0.asked in omega (arith, asked.pattern_stands.inside-1, asked.small))
+    (λ c. let asked = c.requires.1.0.0.asked in omega (arith, asked.row_stands.inside-1, asked.small))
+    (λ c κs. let start = c.requires.1.0 in
     (start.2.settled.few, start.0.asked.kept.few, start.0.asked.kept.keyed, (_, (_, start.0.around))))
     (λ c κs.
     let at_here = c.before.before in
-    let start = at_here.before.before.before.before.before.before.before.before.requires in
+    let start = at_here.requires in
     (omega (arith, start.0), ((start.1.0.0, start.1.0.1), start.1.1.0)))
     (λ c.
     let at_here = c.before.before.before in
-    let start = at_here.before.before.before.before.before.before.before.before.requires.1 in
-    (c.literal-anew.ensures, around.remembered_same start.0.2 refl))
+    let start = at_here.requires.1 in
+    (c.literal_anew.ensures, around.remembered_same start.0.2 refl))
     (λ c κs. tt)
     (λ c.
     let at_here = c.before.before.before.before in
-    let start = at_here.before.before.before.before.before.before.before.before.before.requires.1 in
-    let (known, closed) = at_here.holds-here.ensures (not-false _ c.before.before.before.if1.false) in
+    let start = at_here.requires.1 in
+    let (known, closed) = at_here.holds_here.ensures c.if-not-literal_run.false in
     let settled = around.closed_fixed (closed _ _ _ _ start.0.0.asked.kept) start.0.2.settled in (
       around.lengths_known start.0.0.asked _ _ settled start.1.1 start.0.1 (start.0.2.here known)
-          (c.before.failed-before.ensures c.if2.true),
+          (c.failed_before.ensures c.if-failed_before.true),
       around.remembered_same start.0.2 refl,
     ))
     (λ c κs.
     let at_here = c.before.before.before.before.before in
-    let start = at_here.before.before.before.before.before.before.before.before.before.requires in
-    let (known, closed) = at_here.holds-here.ensures (not-false _ c.before.before.before.before.if1.false) in
+    let start = at_here.requires in
+    let (known, closed) = at_here.holds_here.ensures c.if-not-literal_run.false in
     let settled = around.closed_fixed (closed _ _ _ _ start.1.0.0.asked.kept) start.1.0.2.settled in (
       omega (arith, start.0),
       ((start.1.0.0, start.1.0.1, around.remembering_all start.1.0.2 known settled), start.1.1.0),
     ))
     (λ c κs.
-    let the_literal_lengths = c.before.before.literal-lengths in
+    let the_literal_lengths = c.literal_lengths in
     let at_here = c.before.before.before.before.before.before.before.before in
-    let start = at_here.before.before.before.before.before.before.before.before.before.requires.1.0 in
+    let start = at_here.requires.1.0 in
     let asked = start.0.asked in (
-      omega (arith, asked.pattern_stands.inside, asked.small, start.1),
-      omega (arith, asked.pattern_stands.inside, asked.small),
-      omega (arith, asked.row_stands.inside, asked.small),
-      omega (arith, asked.row_stands.inside, asked.small),
+      omega (arith, asked.pattern_stands.inside-1, asked.small, start.1),
+      omega (arith, asked.pattern_stands.inside-1, asked.small),
+      omega (arith, asked.row_stands.inside-1, asked.small),
+      omega (arith, asked.row_stands.inside-1, asked.small),
       (the_literal_lengths.ensures.1.here refl).long,
     ))
     (λ c.
     let at-if1 = c.before.before.before.before.before.before.before.before in
     let at_here = at-if1.before in
-    let start = at_here.before.before.before.before.before.before.before.before.before.requires.1 in
-    let (known, closed) = at_here.holds-here.ensures (not-false _ at-if1.if1.false) in
+    let start = at_here.requires.1 in
+    let (known, closed) = at_here.holds_here.ensures at-if1.if-not-literal_run.false in
     let settled = around.closed_fixed (closed _ _ _ _ start.0.0.asked.kept) start.0.2.settled in
-    let lengths = c.before.before.before.literal-lengths in (
+    let lengths = c.literal_lengths in (
       lengths.ensures.0,
       around.remembered_here known
           (around.lengths_noted start.0.0.asked _ _ settled start.1.1 lengths.ensures.0
-          (not-true _ c.before.before.if3.true) (lengths.ensures.1.here refl) c.note-failed.ensures),
+          c.if-not-found.true (lengths.ensures.1.here refl) c.note_failed.ensures),
     ))
     (λ c.
-    let the_literal_lengths = c.before.literal-lengths in
+    let the_literal_lengths = c.literal_lengths in
     let at-if1 = c.before.before.before.before.before.before in
-    let (known, closed) = at-if1.before.holds-here.ensures (not-false _ at-if1.if1.false) in
+    let (known, closed) = at-if1.holds_here.ensures at-if1.if-not-literal_run.false in
     (the_literal_lengths.ensures.0, around.remembered_here known (the_literal_lengths.ensures.1.here refl)))

@@ -10,11 +10,11 @@ use Rattle.searches.proofs.AroundLaws.{Looked}
 use Rattle.searches.proofs.literal.closed_around.Statement.{statement}
 use Rattle.searches.proofs.literal.closed_around.Tie as tie
 
-abbrev invariant_loop : tie.invariant_loop
+abbrev invariant_loop : tie.invariant-loop-n
 invariant_loop text terms patterns levels at keys sure count n₀ from₀ n from =
     (rows : List ℕ) × Looked text terms (pending patterns rows levels) at keys sure count from n
 
-abbrev decreases_loop : tie.decreases_loop
+abbrev decreases_loop : tie.decreases-loop-n
 decreases_loop text terms patterns levels at keys sure count n₀ from₀ n from = n
 
 pub closed_around_spec : {M : Type 1} → statement M
@@ -24,27 +24,27 @@ closed_around_spec =
     invariant_loop
     decreases_loop
     (λ c.
-    let the_pre = c.before.before.requires in
+    let the_pre = c.requires in
     (the_pre.3.0, around.looked_start _ _ _ _ the_pre.3.1.1))
-    (λ c. omega (arith, c.if1.false))
-    (λ c. omega (arith, c.before.loop.invariant.1.few))
-    (λ c. omega (arith, c.before.loop.invariant.1.few, c.if1.false))
+    (λ c. omega (arith, c.if-n-eq0.false))
+    (λ c. omega (arith, c.loop-n.invariant.1.few))
+    (λ c. omega (arith, c.loop-n.invariant.1.few, c.if-n-eq0.false))
     (λ c κs. tt)
     (λ c.
-    let the_loop = c.before.before.before.loop in
-    (around.looked_level the_loop.invariant.1 c.before.before.if1.false c.wide.ensures.0).0)
+    let the_loop = c.loop-n in
+    (around.looked_level the_loop.invariant.1 c.if-n-eq0.false c.wide-end.ensures.0).0)
     (λ c.
-    let the_loop = c.before.before.before.loop in
-    (around.looked_level the_loop.invariant.1 c.before.before.if1.false c.wide.ensures.0).0)
+    let the_loop = c.loop-n in
+    (around.looked_level the_loop.invariant.1 c.if-n-eq0.false c.wide-end.ensures.0).0)
     (λ c.
-    let the_loop = c.before.before.before.loop in
-    (around.looked_level the_loop.invariant.1 c.before.before.if1.false c.wide.ensures.0).1)
-    (λ c κs. let the_pre = c.before.before.before.before.before.before.before.requires in (the_pre.0, the_pre.1, the_pre.2))
-    (λ c. let the_if1 = c.before.before.before.before.before.if1 in omega (arith, the_if1.false))
+    let the_loop = c.loop-n in
+    (around.looked_level the_loop.invariant.1 c.if-n-eq0.false c.wide-end.ensures.0).1)
+    (λ c κs. let the_pre = c.requires in (the_pre.0, the_pre.1, the_pre.2))
+    (λ c. let the_if1 = c.if-n-eq0 in omega (arith, the_if1.false))
     (λ c.
-    let the_wide = c.before.before.before.wide in
-    let the_if1 = c.before.before.before.before.before.if1 in
-    let the_loop = c.before.before.before.before.before.before.loop in
-    (the_loop.invariant.0, around.looked_next the_loop.invariant.1 the_if1.false the_wide.ensures.0 (c.before.closed.ensures (not-false _ c.if2.false))))
-    (λ c. λ e. around.looked_all c.before.loop.invariant.1 c.if1.true)
+    let the_wide = c.wide-end in
+    let the_if1 = c.if-n-eq0 in
+    let the_loop = c.loop-n in
+    (the_loop.invariant.0, around.looked_next the_loop.invariant.1 the_if1.false the_wide.ensures.0 (c.closed.ensures c.if-not-closed.false)))
+    (λ c. λ e. around.looked_all c.loop-n.invariant.1 c.if-n-eq0.true)
     (λ c. λ e. absurd (false_not_true e)))

@@ -11,13 +11,13 @@ holds_here_spec =
     tie.close
     (tie.spec
     (λ c. λ e. absurd (false_not_true e))
-    (λ c κs. c.before.before.before.before.before.requires)
+    (λ c κs. c.requires)
     (λ c. λ e. absurd (false_not_true e))
-    (λ c κs. let start = c.before.before.before.before.before.before.before.requires in (start.0, start.1, start.2))
+    (λ c κs. let start = c.requires in (start.0, start.1, start.2))
     (λ c.
     let at-around = c.before.before in
     λ e. (
-      not-false _ at-around.before.if1.false,
+      at-around.if-not-sure.false,
       λ rows start starts sizes kept. around.closed_both _ _ _ _ (λ vs. c.closed.ensures e starts sizes vs kept)
-          (λ vs. at-around.closed-around.ensures (not-false _ c.before.if2.false) rows start starts sizes vs kept),
+          (λ vs. at-around.closed_around.ensures c.if-not-closed_around.false rows start starts sizes vs kept),
     )))

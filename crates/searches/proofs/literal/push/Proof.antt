@@ -19,6 +19,6 @@ push_spec =
     (λ c.
     let start = c.before.before in (
       omega arith,
-      ap (set start.args.pending.patterns start.args.pending.count) c.before.narrow.ensures,
-      ap (set start.args.pending.rows start.args.pending.count) c.narrow2.ensures,
+      ap (set start.args.pending.patterns start.args.pending.count) c.narrow.ensures,
+      ap (set start.args.pending.rows start.args.pending.count) c.narrow-2.ensures,
     )))

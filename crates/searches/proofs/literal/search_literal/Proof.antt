@@ -14,15 +14,15 @@ search_literal_spec =
     (λ c κs. search rules)
     (λ c κs. let start = c.before.before.before.before.before.before.before in
     let a = start.args in
-    let around = c.before.before.alone.ensures in
-    let (kept, unbound) = c.before.none.ensures a.text.now a.terms.now in (
+    let around = c.alone-outer.ensures in
+    let (kept, unbound) = c.none.ensures a.text.now a.terms.now in (
       literal_start a.text.now a.terms.now _ around.0 _ unbound a.pattern.now a.at a.row.now a.start
           start.requires.0.0 start.requires.0.1 start.requires.0.2 start.requires.1.0 start.requires.1.1 around.1 around.2 kept,
       remembering_none _ _ _ 0 (omega arith),
     ))
     (λ c. let start = c.before.before.before.before.before.before.before.before in
     let a = start.args in
-    let around = c.before.before.before.alone.ensures in
-    let (kept, unbound) = c.before.before.none.ensures a.text.now a.terms.now in
+    let around = c.alone-outer.ensures in
+    let (kept, unbound) = c.none.ensures a.text.now a.terms.now in
     literal_answer a.text.now a.terms.now _ around.0 _ unbound a.pattern.now a.at a.row.now a.start _
-    start.requires.1.2 c.literal-run.ensures.0))
+    start.requires.1.2 c.literal_run.ensures.0))

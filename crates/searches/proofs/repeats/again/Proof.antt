@@ -10,10 +10,10 @@ use Rattle.searches.proofs.RecordLaws as laws
 use Rattle.searches.proofs.repeats.again.Statement.{statement}
 use Rattle.searches.proofs.repeats.again.Tie as tie
 
-abbrev invariant_loop : tie.invariant_loop
+abbrev invariant_loop : tie.invariant-loop-left
 invariant_loop text first part i₀ i = laws.Past text first part i
 
-abbrev decreases_loop : tie.decreases_loop
+abbrev decreases_loop : tie.decreases-loop-left
 decreases_loop text first part i₀ i = length part - i
 
 pub again_spec : {M : Type 1} → statement M
@@ -22,25 +22,25 @@ again_spec =
     (tie.spec
     invariant_loop
     decreases_loop
-    (λ c. let a = c.before.before.before.args in laws.past_none a.text.now a.first.now a.part.now)
-    (λ c. c.loop.invariant.within)
-    (λ c. c.loop.invariant.within)
+    (λ c. let a = c.args in laws.past_none a.text.now a.first.now a.part.now)
+    (λ c. c.loop-left.invariant.within)
+    (λ c. c.loop-left.invariant.within)
     (λ c. search rules)
-    (λ c κs. let the_pre = c.before.before.before.before.before.before.requires in
-    (the_pre, c.if1.false))
-    (λ c. let the_args = c.before.before.before.before.before.before.before.before.args in
-    let at-loop = c.before.before.before.before.loop in
-    omega (arith, from_length at-loop.i the_args.part.now, c.before.before.if1.false, at-loop.invariant.within))
-    (λ c. let the_args = c.before.before.before.before.before.before.before.before.args in
-    let at-loop = c.before.before.before.before.loop in
-    omega (arith, from_length at-loop.i the_args.part.now, c.before.before.if1.false))
+    (λ c κs. let the_pre = c.requires in
+    (the_pre, c.if-left-lt24.false))
+    (λ c. let the_args = c.args in
+    let at-loop = c.loop-left in
+    omega (arith, from_length at-loop.i the_args.part.now, c.if-left-lt24.false, at-loop.invariant.within))
+    (λ c. let the_args = c.args in
+    let at-loop = c.loop-left in
+    omega (arith, from_length at-loop.i the_args.part.now, c.if-left-lt24.false))
     (λ c.
-    let the_loop = c.before.before.before.before.loop in
-    laws.past_next the_loop.invariant c.before.before.if1.false c.before.variables_same.ensures c.if2.false)
-    (λ c. λ k. (λ e. laws.past_all c.before.before.loop.invariant c.if1.true k, λ e. absurd (false_not_true e)))
+    let the_loop = c.loop-left in
+    laws.past_next the_loop.invariant c.if-left-lt24.false c.variables_same.ensures c.if-variables_same.false)
+    (λ c. λ k. (λ e. laws.past_all c.loop-left.invariant c.if-left-lt24.true k, λ e. absurd (false_not_true e)))
     (λ c.
-    let so_far = c.before.before.before.before.loop in
+    let so_far = c.loop-left in
     λ k. (
       λ e. absurd (false_not_true (sym e)),
-      λ e. laws.past_found so_far.invariant c.before.before.if1.false c.before.variables_same.ensures c.if2.true k,
+      λ e. laws.past_found so_far.invariant c.if-left-lt24.false c.variables_same.ensures c.if-variables_same.true k,
     )))

@@ -15,13 +15,13 @@ use Rattle.searches.proofs.RecordLaws as laws
 use Rattle.searches.proofs.repeats.closed.Statement.{statement}
 use Rattle.searches.proofs.repeats.closed.Tie as tie
 
-abbrev invariant_loop : tie.invariant_loop
+abbrev invariant_loop : tie.invariant-loop-i
 invariant_loop text terms pattern keys sure count i₀ i =
     (i ≤ count) × ((starts sizes : List ℕ) (vs : Values Atom) → Kept text terms (places keys starts sizes count)
     → AgreeUpTo text terms pattern keys starts sizes sure vs
     → AgreeUpTo text terms pattern keys starts sizes i vs)
 
-abbrev decreases_loop : tie.decreases_loop
+abbrev decreases_loop : tie.decreases-loop-i
 decreases_loop text terms pattern keys sure count i₀ i = count - i
 
 -- a place is left, and its key stands among the term records
@@ -40,51 +40,51 @@ closed_spec =
     invariant_loop
     decreases_loop
     (λ c. let start = c.before.before.before in (start.requires.0, λ starts sizes vs kept known. known))
-    (λ c. let the_pre = c.before.before.before.before.before.requires in
-    omega (arith, c.before.loop.invariant.0, the_pre.1))
-    (λ c. let the_args = c.before.before.before.before.before.args in
-    let the_pre = c.before.before.before.before.before.requires in
-    let low : c.before.loop.i < the_args.count = strict c.before.loop.invariant.0 c.if1.false in
+    (λ c. let the_pre = c.requires in
+    omega (arith, c.loop-i.invariant.0, the_pre.1))
+    (λ c. let the_args = c.args in
+    let the_pre = c.requires in
+    let low : c.loop-i.i < the_args.count = strict c.loop-i.invariant.0 c.if-i-count.false in
     omega (arith, low, the_pre.1))
     (λ c κs. tt)
     (λ c.
-    let the_loop = c.before.before.before.loop in
-    let the_args = c.before.before.before.before.before.before.before.args in
-    let the_pre = c.before.before.before.before.before.before.before.requires in
-    omega (arith, keyed the_args.keys.now the_args.terms.now the_pre.2 the_loop.invariant.0 c.before.before.if1.false c.wide.ensures.0))
+    let the_loop = c.loop-i in
+    let the_args = c.args in
+    let the_pre = c.requires in
+    omega (arith, keyed the_args.keys.now the_args.terms.now the_pre.2 the_loop.invariant.0 c.if-i-count.false c.wide-key.ensures.0))
     (λ c.
-    let the_loop = c.before.before.before.loop in
-    let the_args = c.before.before.before.before.before.before.before.args in
-    let the_pre = c.before.before.before.before.before.before.before.requires in
-    omega (arith, keyed the_args.keys.now the_args.terms.now the_pre.2 the_loop.invariant.0 c.before.before.if1.false c.wide.ensures.0))
+    let the_loop = c.loop-i in
+    let the_args = c.args in
+    let the_pre = c.requires in
+    omega (arith, keyed the_args.keys.now the_args.terms.now the_pre.2 the_loop.invariant.0 c.if-i-count.false c.wide-key.ensures.0))
     (λ c. search rules)
     (λ c κs.
-    let the_loop = c.before.before.before.before.loop in
-    let the_if1 = c.before.before.before.if1 in
-    let the_args = c.before.before.before.before.before.before.before.before.args in
-    let the_pre = c.before.before.before.before.before.before.before.before.requires in
+    let the_loop = c.loop-i in
+    let the_if1 = c.if-i-count in
+    let the_args = c.args in
+    let the_pre = c.requires in
     omega (
       arith,
-      keyed the_args.keys.now the_args.terms.now the_pre.2 the_loop.invariant.0 the_if1.false c.before.wide.ensures.0,
-      from_length c.before.wide.result the_args.terms.now,
+      keyed the_args.keys.now the_args.terms.now the_pre.2 the_loop.invariant.0 the_if1.false c.wide-key.ensures.0,
+      from_length c.wide-key.result the_args.terms.now,
     ))
-    (λ c. let the_loop = c.before.before.before.before.before.before.loop in
-    let the_pre = c.before.before.before.before.before.before.before.before.before.before.requires in
+    (λ c. let the_loop = c.loop-i in
+    let the_pre = c.requires in
     omega (arith, the_loop.invariant.0, the_pre.1))
-    (λ c. let the_loop = c.before.before.before.before.before.before.loop in
-    let the_args = c.before.before.before.before.before.before.before.before.before.before.args in
-    let the_if1 = c.before.before.before.before.before.if1 in
+    (λ c. let the_loop = c.loop-i in
+    let the_args = c.args in
+    let the_if1 = c.if-i-count in
     let low : the_loop.i < the_args.count = strict the_loop.invariant.0 the_if1.false in
     omega (arith, low))
     (λ c.
-    let the_wide = c.before.before.before.wide in
-    let the_loop = c.before.before.before.before.before.before.loop in
-    let the_args = c.before.before.before.before.before.before.before.before.before.before.args in
-    let the_if1 = c.before.before.before.before.before.if1 in
+    let the_wide = c.wide-key in
+    let the_loop = c.loop-i in
+    let the_args = c.args in
+    let the_if1 = c.if-i-count in
     let low : the_loop.i < the_args.count = strict the_loop.invariant.0 the_if1.false in (
       omega (arith, low),
-      λ starts sizes vs kept known. laws.closed_next the_args.pattern.now kept low the_wide.ensures.0 (λ k. (c.before.again.ensures k).0 c.if2.false) vs
+      λ starts sizes vs kept known. laws.closed_next the_args.pattern.now kept low the_wide.ensures.0 (λ k. (c.again.ensures k).0 c.if-again.false) vs
           (the_loop.invariant.1 starts sizes vs kept known),
     ))
-    (λ c. λ e starts sizes vs kept known. rw c.if1.true at (c.before.loop.invariant.1 starts sizes vs kept known))
+    (λ c. λ e starts sizes vs kept known. rw c.if-i-count.true at (c.loop-i.invariant.1 starts sizes vs kept known))
     (λ c. λ e. absurd (false_not_true e)))

@@ -10,10 +10,10 @@ use Rattle.searches.proofs.RecordLaws as laws
 use Rattle.searches.proofs.repeats.disjoint_variables.Statement.{statement}
 use Rattle.searches.proofs.repeats.disjoint_variables.Tie as tie
 
-abbrev invariant_loop : tie.invariant_loop
+abbrev invariant_loop : tie.invariant-loop-left
 invariant_loop text part behind i₀ i = laws.Across text part behind i
 
-abbrev decreases_loop : tie.decreases_loop
+abbrev decreases_loop : tie.decreases-loop-left
 decreases_loop text part behind i₀ i = length part - i
 
 pub disjoint_variables_spec : {M : Type 1} → statement M
@@ -22,23 +22,23 @@ disjoint_variables_spec =
     (tie.spec
     invariant_loop
     decreases_loop
-    (λ c. let a = c.before.before.before.args in laws.across_none a.text.now a.part.now a.behind.now)
-    (λ c. c.loop.invariant.within)
-    (λ c. c.loop.invariant.within)
+    (λ c. let a = c.args in laws.across_none a.text.now a.part.now a.behind.now)
+    (λ c. c.loop-left.invariant.within)
+    (λ c. c.loop-left.invariant.within)
     (λ c. search rules)
-    (λ c κs. omega (arith, c.if1.false))
-    (λ c κs. c.before.before.if1.false)
-    (λ c. let the_args = c.before.before.before.before.before.before.before.before.args in
-    let at-loop = c.before.before.before.before.loop in
-    omega (arith, from_length at-loop.i the_args.part.now, c.before.before.if1.false, at-loop.invariant.within))
-    (λ c. let the_args = c.before.before.before.before.before.before.before.before.args in
-    let at-loop = c.before.before.before.before.loop in
-    omega (arith, from_length at-loop.i the_args.part.now, c.before.before.if1.false))
-    (λ c. let so_far = c.before.before.before.before.loop.invariant in
-    let long = c.before.before.if1.false in
+    (λ c κs. omega (arith, c.if-left-lt24.false))
+    (λ c κs. c.if-left-lt24.false)
+    (λ c. let the_args = c.args in
+    let at-loop = c.loop-left in
+    omega (arith, from_length at-loop.i the_args.part.now, c.if-left-lt24.false, at-loop.invariant.within))
+    (λ c. let the_args = c.args in
+    let at-loop = c.loop-left in
+    omega (arith, from_length at-loop.i the_args.part.now, c.if-left-lt24.false))
+    (λ c. let so_far = c.loop-left.invariant in
+    let long = c.if-left-lt24.false in
     ⊎_elim
-    (λ w. laws.across_alone so_far long ((w.1.ensures (omega (arith, c.before.word_at.ensures, w.0.taken))).0 w.2.left))
-    (λ w. laws.across_symbol so_far long c.before.word_at.ensures (omega (arith, w.left)))
-    c.if2.branch)
-    (λ c. λ e. laws.across_all c.before.before.loop.invariant c.if1.true)
+    (λ w. laws.across_alone so_far long ((w.1.ensures (omega (arith, c.word_at.ensures, w.0.taken))).0 w.2.left))
+    (λ w. laws.across_symbol so_far long c.word_at.ensures (omega (arith, w.left-1)))
+    c.if-word_at-gt2.branch)
+    (λ c. λ e. laws.across_all c.loop-left.invariant c.if-left-lt24.true)
     (λ c. λ e. absurd (false_not_true e)))

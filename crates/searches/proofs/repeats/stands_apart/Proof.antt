@@ -9,4 +9,4 @@ stands_apart_spec =
     tie.close (tie.spec
     (λ c. λ e. absurd (false_not_true e))
     (λ c κs. search rules)
-    (λ c. λ e. (c.before.if1.false, c.disjoint-variables.ensures e)))
+    (λ c. λ e. (c.if-around-ne0.false, c.disjoint_variables.ensures e)))

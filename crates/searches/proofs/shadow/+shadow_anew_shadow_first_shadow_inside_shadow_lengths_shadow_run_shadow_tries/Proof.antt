@@ -149,9 +149,9 @@ shadow-lengths-Inv-loop text terms pattern at row start b sure failed₀ end res
 abbrev shadow-lengths-μ-loop : shadow-lengths-lts.decreases_loop
 shadow-lengths-μ-loop text terms pattern at row start b sure failed₀ end rest next n₀ failed n = length row - n
 
-pub +shadow-anew-shadow-first-shadow-inside-shadow-lengths-shadow-run-shadow-tries-spec :
+pub +shadow_anew_shadow_first_shadow_inside_shadow_lengths_shadow_run_shadow_tries_spec :
     {M : Type 1} → statement M
-+shadow-anew-shadow-first-shadow-inside-shadow-lengths-shadow-run-shadow-tries-spec =
++shadow_anew_shadow_first_shadow_inside_shadow_lengths_shadow_run_shadow_tries_spec =
     close
     μ-shadow-anew
     μ-shadow-first
@@ -163,15 +163,15 @@ pub +shadow-anew-shadow-first-shadow-inside-shadow-lengths-shadow-run-shadow-tri
     (shadow_lengths_below t, shadow-lengths.Post)
     (shadow_anew_at t)
     shadow-anew.Post
-    (λ c κs. let start = c.before.before.before.before.before.requires in
-    let a = c.before.before.before.before.before.args in (
+    (λ c κs. let start = c.requires in
+    let a = c.args in (
       omega (arith, start.0),
       (
         (start.1.0.0, start.1.0.1, sure.settled_fixed _ _ _ _ (omega arith), failed.shadow_none a.text.now a.terms.now _),
         start.1.1,
       ),
     ))
-    (λ c. let lengths = c.shadow-lengths.ensures in (lengths.0, lengths.1, lengths.3)))
+    (λ c. let lengths = c.shadow_lengths.ensures in (lengths.0, lengths.1, lengths.3)))
     (λ t. shadow-first-lts.spec (
       end-of-reads.Asked,
       end-of-reads.Learnt,
@@ -189,45 +189,45 @@ pub +shadow-anew-shadow-first-shadow-inside-shadow-lengths-shadow-run-shadow-tri
     (λ c. search rules)
     (λ c. search rules)
     (λ c. search rules)
-    (λ c κs. let the_pre = c.before.before.before.before.before.before.before.requires in
+    (λ c κs. let the_pre = c.requires in
     the_pre.1.1.some)
-    (λ c. c.end_of_lem.ensures.2)
+    (λ c. c.end_of-end.ensures.2)
     (λ c. search rules)
     (λ c. search rules)
     (λ c.
-    let the_first = c.before.before.before.first in
-    let the_pre = c.before.before.before.before.before.before.before.before.before.requires in
+    let the_first = c.first-1 in
+    let the_pre = c.requires in
     (first-record.binds_within the_pre.1.1.leaves false _ the_first.given.1).0)
     (λ c.
-    let the_first = c.before.before.before.first in
-    let the_pre = c.before.before.before.before.before.before.before.before.before.requires in
+    let the_first = c.first-1 in
+    let the_pre = c.requires in
     (first-record.binds_within the_pre.1.1.leaves false _ the_first.given.1).0)
     (λ c. search rules)
     (λ c κs.
-    let the_first = c.before.before.before.before.first in
-    let start = c.before.before.before.before.before.before.before.before.before.before.requires in
+    let the_first = c.first-1 in
+    let start = c.requires in
     let asked = start.1.0.0 in
     let binds = first-record.binds_within start.1.1.leaves false _ the_first.given.1 in (
       (
-        omega (arith, asked.pattern_stands.inside, asked.small, start.1.1.some),
-        omega (arith, asked.row_stands.inside, asked.small),
-        omega (arith, asked.row_stands.inside, asked.small, binds.0),
+        omega (arith, asked.pattern_stands.inside-1, asked.small, start.1.1.some),
+        omega (arith, asked.row_stands.inside-1, asked.small),
+        omega (arith, asked.row_stands.inside-1, asked.small, binds.0),
         calls.place_ready asked start.1.1.some binds.1,
       ),
       (asked.kept.keys, asked.kept.starts, asked.kept.sizes),
     ))
     (λ c.
-    let the_end_of = c.before.before.before.end_of_lem in
-    let asked = c.before.before.before.before.before.before.before.before.before.before.before.requires.1.0.0 in
-    omega (arith, asked.pattern_stands.inside, asked.small, the_end_of.ensures.2))
-    (λ c. let the_first = c.before.before.before.before.before.first in
-    let start = c.before.before.before.before.before.before.before.before.before.before.before.requires in
+    let the_end_of = c.end_of-end in
+    let asked = c.requires.1.0.0 in
+    omega (arith, asked.pattern_stands.inside-1, asked.small, the_end_of.ensures.2))
+    (λ c. let the_first = c.first-1 in
+    let start = c.requires in
     let asked = start.1.0.0 in
-    omega (arith, asked.row_stands.inside, asked.small, (first-record.binds_within start.1.1.leaves false _ the_first.given.1).0))
-    (λ c κs. let the_first = c.before.before.before.before.before.before.first in
+    omega (arith, asked.row_stands.inside-1, asked.small, (first-record.binds_within start.1.1.leaves false _ the_first.given.1).0))
+    (λ c κs. let the_first = c.first-1 in
     let start = c.before.before.before.before.before.before.before.before.before.before.before.before in
     let stopped = start.requires.1.1 in
-    let ends = c.before.before.before.before.end_of_lem in
+    let ends = c.end_of-end in
     let binds = first-record.binds_within start.requires.1.1.leaves false _ the_first.given.1 in (
       omega (
         arith,
@@ -235,16 +235,16 @@ pub +shadow-anew-shadow-first-shadow-inside-shadow-lengths-shadow-run-shadow-tri
         start.requires.0,
       ),
       (
-        calls.asked_more start.requires.1.0.0 stopped.some binds.1 binds.0 c.before.bind.ensures ends.result the_first.given.0.0
+        calls.asked_more start.requires.1.0.0 stopped.some binds.1 binds.0 c.bind-more.ensures ends.result the_first.given.0.0
             ends.ensures.0 binds.0,
-        sure.settled_later _ (sure.settled_more start.requires.1.0.1 c.before.bind.ensures) (sure.begin_second stopped.some ends.ensures.0),
-        sure.remembers_fixed (sure.fixed_bound c.before.bind.ensures _ (sure.settled_low start.requires.1.0.1)) start.requires.1.0.2,
+        sure.settled_later _ (sure.settled_more start.requires.1.0.1 c.bind-more.ensures) (sure.begin_second stopped.some ends.ensures.0),
+        sure.remembers_fixed (sure.fixed_bound c.bind-more.ensures _ (sure.settled_low start.requires.1.0.1)) start.requires.1.0.2,
       ),
     ))
     (λ c. search rules)
-    (λ c κs. let start = c.before.before.before.before.before.before.before.requires in
+    (λ c κs. let start = c.requires in
     let stopped = start.1.1 in
-    let told = c.before.enum-told3.given.1 in (
+    let told = c.enum_told-in-Tries-1.given.1 in (
       omega (arith, start.0),
       (
         (start.1.0.0, stopped.some, start.1.0.1, start.1.0.2),
@@ -252,50 +252,50 @@ pub +shadow-anew-shadow-first-shadow-inside-shadow-lengths-shadow-run-shadow-tri
       ),
     ))
     (λ c. search rules)
-    (λ c κs. let start = c.before.before.before.before.before.before.before.requires in
+    (λ c κs. let start = c.requires in
     let stopped = start.1.1 in (
       omega (arith, start.0),
       (
         start.1.0.0,
         stopped.some,
-        first-record.inside_facing stopped.leaves false c.before.enum-told4.given.1,
+        first-record.inside_facing stopped.leaves false c.enum_told-in-Inside-1.given.1,
         start.1.0.1,
         start.1.0.2,
       ),
     ))
-    (λ c. let the_pre = c.before.before.before.before.before.before.requires in
-    absurd (known.stops_fails the_pre.1.1 c.enum_told.given.1))
-    (λ c. let the_pre = c.before.before.before.before.before.before.requires in
-    absurd (known.stops_not the_pre.1.1 _ _ c.enum-told2.given.1))
-    (λ c. let the_first = c.before.before.before.before.before.before.before.first in
-    let the_end_of = c.before.before.before.before.before.end_of_lem in
-    let start = c.before.before.before.before.before.before.before.before.before.before.before.before.before.requires in
+    (λ c. let the_pre = c.requires in
+    absurd (known.stops_fails the_pre.1.1 c.enum_told-1.given.1))
+    (λ c. let the_pre = c.requires in
+    absurd (known.stops_not the_pre.1.1 _ _ c.enum_told-in-Goes-1.given.1))
+    (λ c. let the_first = c.first-1 in
+    let the_end_of = c.end_of-end in
+    let start = c.requires in
     let stopped = start.1.1 in
     let binds = first-record.binds_within start.1.1.leaves false _ the_first.given.1 in
-    let values = calls.values_more start.1.0.0 stopped.some binds.1 binds.0 c.before.before.bind.ensures in (
-      c.shadow-run.ensures.0,
-      c.shadow-run.ensures.1 ∙ sym (ap first_in
+    let values = calls.values_more start.1.0.0 stopped.some binds.1 binds.0 c.bind-more.ensures in (
+      c.shadow_run.ensures.0,
+      c.shadow_run.ensures.1 ∙ sym (ap first_in
           (first-record.step_binds stopped.leaves false _ _ _ the_first.given.1 the_end_of.ensures.0 values)),
-      sure.remembers_back (sure.fixed_bound c.before.before.bind.ensures _ (sure.settled_low start.1.0.1)) c.shadow-run.ensures.2,
-      sure.fixed_more c.before.before.bind.ensures (sure.settled_low start.1.0.1) c.shadow-run.ensures.3,
+      sure.remembers_back (sure.fixed_bound c.bind-more.ensures _ (sure.settled_low start.1.0.1)) c.shadow_run.ensures.2,
+      sure.fixed_more c.bind-more.ensures (sure.settled_low start.1.0.1) c.shadow_run.ensures.3,
     ))
     (λ c.
-    let the_enum_told3 = c.before.before.enum-told3 in
-    let the_pre = c.before.before.before.before.before.before.before.before.requires in (
-      c.shadow-tries.ensures.0,
-      c.shadow-tries.ensures.1
+    let the_enum_told3 = c.enum_told-in-Tries-1 in
+    let the_pre = c.requires in (
+      c.shadow_tries.ensures.0,
+      c.shadow_tries.ensures.1
           ∙ sym (ap first_in (first-record.step_tries the_pre.1.1.leaves false the_enum_told3.given.1)),
-      c.shadow-tries.ensures.2,
-      c.shadow-tries.ensures.3,
+      c.shadow_tries.ensures.2,
+      c.shadow_tries.ensures.3,
     ))
     (λ c.
-    let the_enum_told4 = c.before.before.enum-told4 in
-    let the_pre = c.before.before.before.before.before.before.before.before.requires in (
-      c.shadow-inside.ensures.0,
-      c.shadow-inside.ensures.1
+    let the_enum_told4 = c.enum_told-in-Inside-1 in
+    let the_pre = c.requires in (
+      c.shadow_inside.ensures.0,
+      c.shadow_inside.ensures.1
           ∙ sym (ap first_in (first-record.step_inside the_pre.1.1.leaves false the_enum_told4.given.1)),
-      c.shadow-inside.ensures.2,
-      c.shadow-inside.ensures.3,
+      c.shadow_inside.ensures.2,
+      c.shadow_inside.ensures.3,
     )))
     (λ t. shadow-inside-lts.spec (
       end-of-reads.Asked,
@@ -306,25 +306,25 @@ pub +shadow-anew-shadow-first-shadow-inside-shadow-lengths-shadow-run-shadow-tri
     (shadow_inside_at t)
     shadow-inside.Post
     (λ c κs.
-    let the_pre = c.before.before.before.before.requires in
+    let the_pre = c.requires in
     the_pre.1.1)
-    (λ c κs. let the_pre = c.before.before.before.before.before.requires in
+    (λ c κs. let the_pre = c.requires in
     the_pre.1.2.some)
-    (λ c. c.before.end_of_lem.ensures.1)
+    (λ c. c.end_of-end.ensures.1)
     (λ c. search rules)
     (λ c. search rules)
-    (λ c. c.before.end-of2.ensures.1)
+    (λ c. c.end_of-n.ensures.1)
     (λ c. search rules)
     (λ c. search rules)
-    (λ c. let start = c.before.before.before.before.before.before.before.before.requires in
-    omega (arith, start.1.0.pattern_stands.inside, start.1.0.small, start.1.1))
-    (λ c. let start = c.before.before.before.before.before.before.before.before.requires in
-    omega (arith, start.1.0.row_stands.inside, start.1.0.small, start.1.2.some))
+    (λ c. let start = c.requires in
+    omega (arith, start.1.0.pattern_stands.inside-1, start.1.0.small, start.1.1))
+    (λ c. let start = c.requires in
+    omega (arith, start.1.0.row_stands.inside-1, start.1.0.small, start.1.2.some))
     (λ c κs.
-    let the_end_of2 = c.before.before.before.end-of2 in
-    let the_args = c.before.before.before.before.before.before.before.before.before.args in
-    let start = c.before.before.before.before.before.before.before.before.before.requires in
-    let ends = c.before.before.before.before.end_of_lem in (
+    let the_end_of2 = c.end_of-n in
+    let the_args = c.args in
+    let start = c.requires in
+    let ends = c.end_of-end in (
       omega (arith, inside_falls the_args.pattern.now ends.result (length the_args.pattern.now) start.1.1 ends.ensures.0 refl, start.0),
       (
         calls.asked_alone (calls.asked_inside start.1.0 start.1.1 start.1.2 ends.result the_end_of2.result ends.ensures.0
@@ -333,36 +333,36 @@ pub +shadow-anew-shadow-first-shadow-inside-shadow-lengths-shadow-run-shadow-tri
         start.1.4,
       ),
     ))
-    (λ c. let the_end_of = c.before.before.before.before.before.before.before.end_of_lem in
-    let the_end_of2 = c.before.before.before.before.before.before.end-of2 in
-    let start = c.before.before.before.before.before.before.before.before.before.before.before.before.requires in
-    let inner = c.before.before.shadow-run in (
+    (λ c. let the_end_of = c.end_of-end in
+    let the_end_of2 = c.end_of-n in
+    let start = c.requires in
+    let inner = c.shadow_run in (
       inner.ensures.0,
-      returns.inside_none start.1.0 the_end_of.ensures.0 the_end_of2.ensures.0 inner.result inner.ensures.1 (not-true _ c.if1.true),
+      returns.inside_none start.1.0 the_end_of.ensures.0 the_end_of2.ensures.0 inner.result inner.ensures.1 c.if-not-first.true,
       inner.ensures.2,
       inner.ensures.3,
     ))
-    (λ c. let the_end_of = c.before.before.before.before.before.before.before.before.end_of_lem in
+    (λ c. let the_end_of = c.end_of-end in
     the_end_of.ensures.2)
     (λ c. search rules)
     (λ c. search rules)
-    (λ c. let the_end_of2 = c.before.before.before.before.before.before.before.before.end-of2 in
+    (λ c. let the_end_of2 = c.end_of-n in
     the_end_of2.ensures.2)
     (λ c. search rules)
     (λ c. search rules)
-    (λ c. let the_end_of = c.before.before.before.before.before.before.before.before.before.before.end_of_lem in
-    let start = c.before.before.before.before.before.before.before.before.before.before.before.before.before.before.before.requires in
-    omega (arith, start.1.0.pattern_stands.inside, start.1.0.small, the_end_of.ensures.2))
-    (λ c. let the_end_of2 = c.before.before.before.before.before.before.before.before.before.end-of2 in
-    let start = c.before.before.before.before.before.before.before.before.before.before.before.before.before.before.before.requires in
-    omega (arith, start.1.0.row_stands.inside, start.1.0.small, the_end_of2.ensures.2))
+    (λ c. let the_end_of = c.end_of-end in
+    let start = c.requires in
+    omega (arith, start.1.0.pattern_stands.inside-1, start.1.0.small, the_end_of.ensures.2))
+    (λ c. let the_end_of2 = c.end_of-n in
+    let start = c.requires in
+    omega (arith, start.1.0.row_stands.inside-1, start.1.0.small, the_end_of2.ensures.2))
     (λ c κs.
-    let the_if1 = c.before.before.before.before.if1 in
-    let the_args = c.before.before.before.before.before.before.before.before.before.before.before.before.before.before.before.before.args in
-    let the_end_of2 = c.before.before.before.before.before.before.before.before.before.before.end-of2 in
-    let start = c.before.before.before.before.before.before.before.before.before.before.before.before.before.before.before.before.requires in
-    let ends = c.before.before.before.before.before.before.before.before.before.before.before.end_of_lem in
-    let inner = c.before.before.before.before.before.before.shadow-run in (
+    let the_if1 = c.if-not-first in
+    let the_args = c.args in
+    let the_end_of2 = c.end_of-n in
+    let start = c.requires in
+    let ends = c.end_of-end in
+    let inner = c.shadow_run in (
       omega (arith, after_falls the_args.pattern.now ends.result (length the_args.pattern.now) start.1.1 ends.ensures.0 refl, start.0),
       (
         calls.asked_after start.1.0 start.1.1 start.1.2 inner.result.bindings inner.ensures.0
@@ -372,16 +372,16 @@ pub +shadow-anew-shadow-first-shadow-inside-shadow-lengths-shadow-run-shadow-tri
         sure.remembers_fixed inner.ensures.3 inner.ensures.2,
       ),
     ))
-    (λ c. let the_end_of = c.before.before.before.before.before.before.before.before.before.before.before.before.end_of_lem in
-    let the_end_of2 = c.before.before.before.before.before.before.before.before.before.before.before.end-of2 in
-    let the_if1 = c.before.before.before.before.before.if1 in
-    let start = c.before.before.before.before.before.before.before.before.before.before.before.before.before.before.before.before.before.requires in
-    let inner = c.before.before.before.before.before.before.before.shadow-run in (
-      c.shadow-run2.ensures.0,
+    (λ c. let the_end_of = c.end_of-end in
+    let the_end_of2 = c.end_of-n in
+    let the_if1 = c.if-not-first in
+    let start = c.requires in
+    let inner = c.shadow_run in (
+      c.shadow_run.ensures.0,
       returns.inside_some start.1.0 the_end_of.ensures.0 the_end_of2.ensures.0 inner.result inner.ensures.1 _ (not-false _ the_if1.false)
-          c.shadow-run2.ensures.1,
-      sure.remembers_back inner.ensures.3 c.shadow-run2.ensures.2,
-      sure.fixed_after inner.ensures.3 c.shadow-run2.ensures.3,
+          c.shadow_run.ensures.1,
+      sure.remembers_back inner.ensures.3 c.shadow_run.ensures.2,
+      sure.fixed_after inner.ensures.3 c.shadow_run.ensures.3,
     )))
     (λ t. shadow-lengths-lts.spec (
       end-of-reads.Asked,
@@ -396,93 +396,93 @@ pub +shadow-anew-shadow-first-shadow-inside-shadow-lengths-shadow-run-shadow-tri
     shadow-lengths-Inv-loop
     shadow-lengths-μ-loop
     (λ c κs.
-    let the_pre = c.before.before.before.before.requires in
+    let the_pre = c.requires in
     the_pre.1.0.1)
-    (λ c. c.end_of_lem.ensures.2)
+    (λ c. c.end_of-end.ensures.2)
     (λ c. search rules)
     (λ c. search rules)
-    (λ c. let asked = c.before.before.before.before.before.before.requires.1.0.0 in
-    omega (arith, asked.pattern_stands.inside, asked.small, c.before.end_of_lem.ensures.2))
-    (λ c. let start = c.before.before.before.before.before.before.requires in
+    (λ c. let asked = c.requires.1.0.0 in
+    omega (arith, asked.pattern_stands.inside-1, asked.small, c.end_of-end.ensures.2))
+    (λ c. let start = c.requires in
     (at_start, returns.lengths_start start.1.0.0 start.1.0.1 start.1.1, start.1.0.3))
-    (λ c. begin_inside c.loop.invariant.0)
-    (λ c. begin_inside c.loop.invariant.0)
+    (λ c. begin_inside c.loop-rest.invariant.0)
+    (λ c. begin_inside c.loop-rest.invariant.0)
     (λ c. search rules)
-    (λ c κs. let start = c.before.before.before.before.before.before.before.before.requires in
+    (λ c κs. let start = c.requires in
     let asked = start.1.0.0 in (
       (
-        omega (arith, asked.pattern_stands.inside, asked.small, start.1.0.1),
-        omega (arith, asked.row_stands.inside, asked.small),
-        omega (arith, asked.row_stands.inside, asked.small, begin_inside c.before.loop.invariant.0),
+        omega (arith, asked.pattern_stands.inside-1, asked.small, start.1.0.1),
+        omega (arith, asked.row_stands.inside-1, asked.small),
+        omega (arith, asked.row_stands.inside-1, asked.small, begin_inside c.loop-rest.invariant.0),
         calls.place_ready asked start.1.0.1 start.1.1,
       ),
       (asked.kept.keys, asked.kept.starts, asked.kept.sizes),
     ))
     (λ c.
-    let the_loop = c.before.before.loop in
-    let asked = c.before.before.before.before.before.before.before.before.before.requires.1.0.0 in
-    omega (arith, asked.row_stands.inside, asked.small, begin_inside the_loop.invariant.0))
+    let the_loop = c.loop-rest in
+    let asked = c.requires.1.0.0 in
+    omega (arith, asked.row_stands.inside-1, asked.small, begin_inside the_loop.invariant.0))
     (λ c κs.
-    let the_loop = c.before.before.before.loop in
-    let the_args = c.before.before.before.before.before.before.before.before.before.before.args in
-    let start = c.before.before.before.before.before.before.before.before.before.before.requires in
-    let ends = c.before.before.before.before.before.end_of_lem in
+    let the_loop = c.loop-rest in
+    let the_args = c.args in
+    let start = c.requires in
+    let ends = c.end_of-end in
     let inside = begin_inside the_loop.invariant.0 in (
       omega (arith, after_falls the_args.pattern.now ends.result (length the_args.pattern.now) start.1.0.1 ends.ensures.0 refl, start.0),
       (
-        calls.asked_more start.1.0.0 start.1.0.1 start.1.1 inside c.before.bind.ensures ends.result the_loop.n
+        calls.asked_more start.1.0.0 start.1.0.1 start.1.1 inside c.bind-more.ensures ends.result the_loop.n
             ends.ensures.0 inside,
-        sure.settled_later _ (sure.settled_more start.1.0.2 c.before.bind.ensures) (sure.begin_second start.1.0.1 ends.ensures.0),
-        sure.remembers_fixed (sure.fixed_bound c.before.bind.ensures _ (sure.settled_low start.1.0.2)) the_loop.invariant.2,
+        sure.settled_later _ (sure.settled_more start.1.0.2 c.bind-more.ensures) (sure.begin_second start.1.0.1 ends.ensures.0),
+        sure.remembers_fixed (sure.fixed_bound c.bind-more.ensures _ (sure.settled_low start.1.0.2)) the_loop.invariant.2,
       ),
     ))
-    (λ c κs. c.if2.false)
-    (λ c. let the_loop = c.before.before.before.before.before.before.before.loop in
-    let the_args = c.before.before.before.before.before.before.before.before.before.before.before.before.before.before.args in
-    let asked = c.before.before.before.before.before.before.before.before.before.before.before.before.before.before.requires.1.0.0 in
+    (λ c κs. c.if-left-lt24.false)
+    (λ c. let the_loop = c.loop-rest in
+    let the_args = c.args in
+    let asked = c.requires.1.0.0 in
     omega (
       arith,
-      asked.row_stands.inside,
+      asked.row_stands.inside-1,
       asked.small,
-      c.end-of2.ensures.2,
+      c.end_of-n.ensures.2,
       from_length the_loop.n the_args.row.now,
       begin_inside the_loop.invariant.0,
     ))
-    (λ c. let the_args = c.before.before.before.before.before.before.before.before.before.before.before.before.before.before.args in
-    let the_loop = c.before.before.before.before.before.before.before.loop in
-    omega (arith, c.end-of2.ensures.1, c.end-of2.ensures.2, from_length the_loop.n the_args.row.now, begin_inside the_loop.invariant.0))
+    (λ c. let the_args = c.args in
+    let the_loop = c.loop-rest in
+    omega (arith, c.end_of-n.ensures.1, c.end_of-n.ensures.2, from_length the_loop.n the_args.row.now, begin_inside the_loop.invariant.0))
     (λ c.
-    let the_shadow_run = c.before.before.before.shadow-run in
-    let the_loop = c.before.before.before.before.before.before.before.loop in
-    let the_end_of = c.before.before.before.before.before.before.before.before.before.end_of_lem in
-    let the_bind = c.before.before.before.before.before.bind in
-    let start = c.before.before.before.before.before.before.before.before.before.before.before.before.before.before.requires in (
-      rw c.end-of2.ensures.0 (one_on c.before.if2.false the_loop.invariant.0),
-      rw c.end-of2.ensures.0 (returns.length_next start.1.0.0 start.1.0.1 start.1.1 the_end_of.ensures.0
+    let the_shadow_run = c.shadow_run in
+    let the_loop = c.loop-rest in
+    let the_end_of = c.end_of-end in
+    let the_bind = c.bind-more in
+    let start = c.requires in (
+      rw c.end_of-n.ensures.0 (one_on c.if-left-lt24.false the_loop.invariant.0),
+      rw c.end_of-n.ensures.0 (returns.length_next start.1.0.0 start.1.0.1 start.1.1 the_end_of.ensures.0
           the_loop.invariant.0 the_bind.ensures
-          the_shadow_run.result the_shadow_run.ensures.1 the_loop.invariant.1 c.before.before.if1.false c.before.if2.false),
+          the_shadow_run.result the_shadow_run.ensures.1 the_loop.invariant.1 c.if-not-first.false c.if-left-lt24.false),
       sure.remembers_back (sure.fixed_bound the_bind.ensures _ (sure.settled_low start.1.0.2)) the_shadow_run.ensures.2,
     ))
     (λ c.
-    let the_bind = c.before.before.before.bind in
-    let the_end_of = c.before.before.before.before.before.before.before.end_of_lem in
-    let the_loop = c.before.before.before.before.before.loop in
-    let start = c.before.before.before.before.before.before.before.before.before.before.before.before.requires in (
-      c.before.shadow-run.ensures.0,
+    let the_bind = c.bind-more in
+    let the_end_of = c.end_of-end in
+    let the_loop = c.loop-rest in
+    let start = c.requires in (
+      c.shadow_run.ensures.0,
       returns.length_found start.1.0.0 start.1.0.1 start.1.1 the_end_of.ensures.0 the_loop.invariant.0 the_bind.ensures
-          c.before.shadow-run.result c.before.shadow-run.ensures.1 the_loop.invariant.1 c.if1.true,
-      sure.remembers_back (sure.fixed_bound the_bind.ensures _ (sure.settled_low start.1.0.2)) c.before.shadow-run.ensures.2,
-      sure.fixed_more the_bind.ensures (sure.settled_low start.1.0.2) c.before.shadow-run.ensures.3,
+          c.shadow_run.result c.shadow_run.ensures.1 the_loop.invariant.1 c.if-not-first.true,
+      sure.remembers_back (sure.fixed_bound the_bind.ensures _ (sure.settled_low start.1.0.2)) c.shadow_run.ensures.2,
+      sure.fixed_more the_bind.ensures (sure.settled_low start.1.0.2) c.shadow_run.ensures.3,
     ))
     (λ c.
-    let the_bind = c.before.before.before.before.bind in
-    let the_shadow_run = c.before.before.shadow-run in
-    let the_end_of = c.before.before.before.before.before.before.before.before.end_of_lem in
-    let the_loop = c.before.before.before.before.before.before.loop in
-    let start = c.before.before.before.before.before.before.before.before.before.before.before.before.before.requires in (
+    let the_bind = c.bind-more in
+    let the_shadow_run = c.shadow_run in
+    let the_end_of = c.end_of-end in
+    let the_loop = c.loop-rest in
+    let start = c.requires in (
       the_shadow_run.ensures.0,
       returns.length_none start.1.0.0 start.1.0.1 start.1.1 the_end_of.ensures.0 the_loop.invariant.0 the_bind.ensures
-          c.before.before.shadow-run.result the_shadow_run.ensures.1 the_loop.invariant.1 c.before.if1.false c.if2.true,
+          c.shadow_run.result the_shadow_run.ensures.1 the_loop.invariant.1 c.if-not-first.false c.if-left-lt24.true,
       sure.remembers_back (sure.fixed_bound the_bind.ensures _ (sure.settled_low start.1.0.2)) the_shadow_run.ensures.2,
       sure.fixed_more the_bind.ensures (sure.settled_low start.1.0.2) the_shadow_run.ensures.3,
     )))
@@ -494,76 +494,76 @@ pub +shadow-anew-shadow-first-shadow-inside-shadow-lengths-shadow-run-shadow-tri
     )
     (shadow_run_at t)
     shadow-run.Post
-    (λ c κs. let the_pre = c.before.before.before.before.before.before.before.before.requires in
+    (λ c κs. let the_pre = c.requires in
     the_pre.1.0.kept)
     (λ c. search rules)
     (λ c. search rules)
     (λ c.
-    let the_known_front = c.before.before.before.known-front in
-    (known.known_end the_known_front.ensures _ _ c.before.n.given.1).0.within)
+    let the_known_front = c.known_front in
+    (known.known_end the_known_front.ensures _ _ c.n-1.given.1).0.within)
     (λ c.
-    let the_known_front = c.before.before.before.known-front in
-    (known.known_end the_known_front.ensures _ _ c.before.n.given.1).0.within)
+    let the_known_front = c.known_front in
+    (known.known_end the_known_front.ensures _ _ c.n-1.given.1).0.within)
     (λ c. search rules)
     (λ c. search rules)
     (λ c.
-    let the_known_front = c.before.before.before.known-front in
-    begin_inside (known.known_stop the_known_front.ensures _ _ _ c.before.m.given.1).0.begins)
+    let the_known_front = c.known_front in
+    begin_inside (known.known_stop the_known_front.ensures _ _ _ c.m-1.given.1).0.begins)
     (λ c.
-    let the_known_front = c.before.before.before.known-front in
-    begin_inside (known.known_stop the_known_front.ensures _ _ _ c.before.m.given.1).0.begins)
+    let the_known_front = c.known_front in
+    begin_inside (known.known_stop the_known_front.ensures _ _ _ c.m-1.given.1).0.begins)
     (λ c. search rules)
     (λ c.
-    let the_known_front = c.before.before.before.before.known-front in
-    let the_m = c.before.before.m in
+    let the_known_front = c.known_front in
+    let the_m = c.m-1 in
     (known.known_stop the_known_front.ensures _ _ _ the_m.given.1).0.within)
     (λ c.
-    let the_known_front = c.before.before.before.before.known-front in
-    let the_m = c.before.before.m in
+    let the_known_front = c.known_front in
+    let the_m = c.m-1 in
     (known.known_stop the_known_front.ensures _ _ _ the_m.given.1).0.within)
     (λ c. search rules)
     (λ c.
-    let the_m = c.before.before.before.m in
-    let the_known_front = c.before.before.before.before.before.known-front in
-    let asked = c.before.before.before.before.before.before.before.before.before.before.before.before.before.before.requires.1.0 in
-    omega (arith, asked.pattern_stands.inside, asked.small, begin_inside (known.known_stop the_known_front.ensures _ _ _ the_m.given.1).0.begins))
+    let the_m = c.m-1 in
+    let the_known_front = c.known_front in
+    let asked = c.requires.1.0 in
+    omega (arith, asked.pattern_stands.inside-1, asked.small, begin_inside (known.known_stop the_known_front.ensures _ _ _ the_m.given.1).0.begins))
     (λ c.
-    let the_m = c.before.before.before.m in
-    let the_known_front = c.before.before.before.before.before.known-front in
-    let asked = c.before.before.before.before.before.before.before.before.before.before.before.before.before.before.requires.1.0 in
-    omega (arith, asked.row_stands.inside, asked.small, (known.known_stop the_known_front.ensures _ _ _ the_m.given.1).0.within))
+    let the_m = c.m-1 in
+    let the_known_front = c.known_front in
+    let asked = c.requires.1.0 in
+    omega (arith, asked.row_stands.inside-1, asked.small, (known.known_stop the_known_front.ensures _ _ _ the_m.given.1).0.within))
     (λ c κs.
-    let the_m = c.before.before.before.before.m in
-    let the_known_front = c.before.before.before.before.before.before.known-front in
-    let the_args = c.before.before.before.before.before.before.before.before.before.before.before.before.before.before.before.args in
-    let start = c.before.before.before.before.before.before.before.before.before.before.before.before.before.before.before.requires in
+    let the_m = c.m-1 in
+    let the_known_front = c.known_front in
+    let the_args = c.args in
+    let start = c.requires in
     let (passed, stopped) = known.known_stop the_known_front.ensures _ _ _ the_m.given.1 in (
       omega (arith, start.0, begin_inside passed.begins, from_length the_m.given.0.0 the_args.pattern.now),
       ((calls.asked_later start.1.0 _ _ passed.begins passed.within, sure.settled_later _ start.1.1 passed.begins, start.1.2), stopped),
     ))
-    (λ c. let the_pre = c.before.before.before.before.before.before.before.before.before.before.before.requires in (
+    (λ c. let the_pre = c.requires in (
       the_pre.1.0.kept,
-      sym (ap first_in (known.known_fails c.before.before.known-front.ensures c.enum_told.given.1 false)),
+      sym (ap first_in (known.known_fails c.known_front.ensures c.enum_told-1.given.1 false)),
       the_pre.1.2,
       sure.fixed_same _ _ (sure.settled_low the_pre.1.1),
     ))
     (λ c.
-    let the_known_front = c.before.before.before.before.known-front in
-    let the_n = c.before.before.n in
-    let the_pre = c.before.before.before.before.before.before.before.before.before.before.before.before.before.requires in
+    let the_known_front = c.known_front in
+    let the_n = c.n-1 in
+    let the_pre = c.requires in
     let (passed, short) = known.known_end the_known_front.ensures _ _ the_n.given.1 in (
       the_pre.1.0.kept,
       returns.run_end _ _ _ _ _ short ∙ sym (ap first_in (passed.search false)),
       the_pre.1.2,
       sure.fixed_same _ _ (sure.settled_low the_pre.1.1),
     ))
-    (λ c. let the_known_front = c.before.before.before.before.before.before.before.known-front in
-    let the_m = c.before.before.before.before.before.m in
+    (λ c. let the_known_front = c.known_front in
+    let the_m = c.m-1 in
     let passed = (known.known_stop the_known_front.ensures _ _ _ the_m.given.1).0 in (
-      c.shadow-first.ensures.0,
-      c.shadow-first.ensures.1 ∙ sym (ap first_in (passed.search false)),
-      c.shadow-first.ensures.2,
-      c.shadow-first.ensures.3,
+      c.shadow_first.ensures.0,
+      c.shadow_first.ensures.1 ∙ sym (ap first_in (passed.search false)),
+      c.shadow_first.ensures.2,
+      c.shadow_first.ensures.3,
     )))
     λ t. shadow-tries-lts.spec (
       closed-reads.Asked,
@@ -579,55 +579,55 @@ pub +shadow-anew-shadow-first-shadow-inside-shadow-lengths-shadow-run-shadow-tri
     )
     (shadow_tries_at t)
     shadow-tries.Post
-    (λ c κs. let start = c.before.before.before.before.before.before.requires.1.0 in
+    (λ c κs. let start = c.requires.1.0 in
     (omega (arith, start.2.few), start.0.kept.few, start.0.kept.keyed))
-    (λ c κs. let start = c.before.before.before.before.before.before.before.before.requires in
+    (λ c κs. let start = c.requires in
     (omega (arith, start.0), ((start.1.0.0, start.1.0.1), start.1.1.0)))
-    (λ c. let start = c.before.before.before.before.before.before.before.before.before.requires.1.0 in
-    (c.shadow-anew.ensures.0, c.shadow-anew.ensures.1, start.3, sure.fixed_fewer c.shadow-anew.ensures.2 _ (sure.settled_low start.2)))
-    (λ c. let asked = c.before.before.before.before.before.before.before.before.requires.1.0.0 in
-    omega (arith, asked.pattern_stands.inside, asked.small))
-    (λ c. let asked = c.before.before.before.before.before.before.before.before.requires.1.0.0 in
-    omega (arith, asked.row_stands.inside, asked.small))
+    (λ c. let start = c.requires.1.0 in
+    (c.shadow_anew.ensures.0, c.shadow_anew.ensures.1, start.3, sure.fixed_fewer c.shadow_anew.ensures.2 _ (sure.settled_low start.2)))
+    (λ c. let asked = c.requires.1.0.0 in
+    omega (arith, asked.pattern_stands.inside-1, asked.small))
+    (λ c. let asked = c.requires.1.0.0 in
+    omega (arith, asked.row_stands.inside-1, asked.small))
     (λ c κs. tt)
     (λ c.
-    let the_closed = c.before.before.before.before.closed in
-    let the_if1 = c.before.before.before.if1 in
-    let start = c.before.before.before.before.before.before.before.before.before.before.before.requires.1 in
+    let the_closed = c.closed in
+    let the_if1 = c.if-not-first in
+    let start = c.requires.1 in
     let asked = start.0.0 in
     let free = the_closed.ensures (not-false _ the_if1.false) _ _ _ asked.kept start.0.2.same in (
       asked.kept,
-      sym (ap first_in (failed.lengths_known asked _ free start.1.1 start.0.1 start.0.3 (c.before.failed-before.ensures c.if2.true))),
+      sym (ap first_in (failed.lengths_known asked _ free start.1.1 start.0.1 start.0.3 (c.failed_before.ensures c.if-left-lt24.true))),
       start.0.3,
       sure.fixed_same _ _ (sure.settled_low start.0.2),
     ))
     (λ c κs.
-    let the_if1 = c.before.before.before.before.if1 in
-    let the_closed = c.before.before.before.before.before.closed in
-    let start = c.before.before.before.before.before.before.before.before.before.before.before.before.requires in
+    let the_if1 = c.if-not-first in
+    let the_closed = c.closed in
+    let start = c.requires in
     let asked = start.1.0.0 in
     let free = the_closed.ensures (not-false _ the_if1.false) _ _ _ asked.kept start.1.0.2.same in
     (omega (arith, start.0), ((asked, start.1.0.1, sure.settled_all start.1.0.2 _ free, start.1.0.3), start.1.1.0)))
     (λ c κs.
-    let the_shadow_lengths = c.before.before.before.shadow-lengths in
-    let start = c.before.before.before.before.before.before.before.before.before.before.before.before.before.before.before.before.requires.1.0 in
+    let the_shadow_lengths = c.shadow_lengths in
+    let start = c.requires.1.0 in
     let asked = start.0 in (
-      omega (arith, asked.pattern_stands.inside, asked.small, start.1),
-      omega (arith, asked.pattern_stands.inside, asked.small),
-      omega (arith, asked.row_stands.inside, asked.small),
-      omega (arith, asked.row_stands.inside, asked.small),
+      omega (arith, asked.pattern_stands.inside-1, asked.small, start.1),
+      omega (arith, asked.pattern_stands.inside-1, asked.small),
+      omega (arith, asked.row_stands.inside-1, asked.small),
+      omega (arith, asked.row_stands.inside-1, asked.small),
       the_shadow_lengths.ensures.2.long,
     ))
-    (λ c. let the_closed = c.before.before.before.before.before.before.before.before.before.before.closed in
-    let the_if1 = c.before.before.before.before.before.before.before.before.before.if1 in
-    let start = c.before.before.before.before.before.before.before.before.before.before.before.before.before.before.before.before.before.requires.1 in
+    (λ c. let the_closed = c.closed in
+    let the_if1 = c.if-not-first in
+    let start = c.requires.1 in
     let asked = start.0.0 in
     let free = the_closed.ensures (not-false _ the_if1.false) _ _ _ asked.kept start.0.2.same in
-    let lengths = c.before.before.before.before.shadow-lengths in (
+    let lengths = c.shadow_lengths in (
       lengths.ensures.0,
       lengths.ensures.1,
       failed.lengths_noted asked _ free start.1.1 (failed.none_matched _ _ lengths.result _ lengths.ensures.1
-          (not-true _ c.before.before.if3.true)) lengths.ensures.2 c.note-failed.ensures,
+          c.if-not-m.true) lengths.ensures.2 c.note_failed.ensures,
       lengths.ensures.3,
     ))
-    (λ c. c.before.before.shadow-lengths.ensures)
+    (λ c. c.shadow_lengths.ensures)

@@ -13,7 +13,7 @@ search_shadow_spec =
     (λ c κs. search rules)
     (λ c κs. let start = c.before.before.before.before.before.before in
     let a = start.args in
-    let (kept, unbound) = c.before.none.ensures a.text.now a.terms.now in (
+    let (kept, unbound) = c.none.ensures a.text.now a.terms.now in (
       shadow_start a.text.now a.terms.now _ unbound a.earlier.now a.at a.later.now a.start
           start.requires.0.0 start.requires.0.1 start.requires.0.2 start.requires.1 kept,
       settled_fixed _ _ 0 _ (omega arith),
@@ -21,5 +21,5 @@ search_shadow_spec =
     ))
     (λ c. let start = c.before.before.before.before.before.before.before in
     let a = start.args in
-    let (kept, unbound) = c.before.before.none.ensures a.text.now a.terms.now in
-    shadow_answer_lem a.text.now a.terms.now _ unbound a.earlier.now a.later.now c.shadow-run.result c.shadow-run.ensures.1))
+    let (kept, unbound) = c.none.ensures a.text.now a.terms.now in
+    shadow_answer_lem a.text.now a.terms.now _ unbound a.earlier.now a.later.now c.shadow_run.result c.shadow_run.ensures.1))

@@ -120,8 +120,8 @@ loose-open-Inv-loop text pattern row i₀ j₀ i j = ends.Opened text pattern ro
 abbrev loose-open-μ-loop : loose-open-lts.decreases_loop
 loose-open-μ-loop text pattern row i₀ j₀ i j = length pattern - i
 
-pub +fits-front-last-leftmost-loose-loose-open-spec : {M : Type 1} → statement M
-+fits-front-last-leftmost-loose-loose-open-spec =
+pub +fits_front_last_leftmost_loose_loose_open_spec : {M : Type 1} → statement M
++fits_front_last_leftmost_loose_loose_open_spec =
     close μ-fits μ-front μ-last μ-leftmost μ-loose μ-loose-open (λ t. fits-lts.spec (
       is-bracket-reads.Asked,
       is-bracket-reads.Learnt,
@@ -137,30 +137,30 @@ pub +fits-front-last-leftmost-loose-loose-open-spec : {M : Type 1} → statement
     (fits_at t)
     fits.Post
     (λ c κs.
-    let the_pre = c.before.before.before.requires in
+    let the_pre = c.requires in
     the_pre.1.0)
-    (λ c κs. let the_pre = c.before.before.before.before.before.requires in
+    (λ c κs. let the_pre = c.requires in
     the_pre.1.0)
-    (λ c κs. let the_pre = c.before.before.before.before.before.before.requires in
+    (λ c κs. let the_pre = c.requires in
     the_pre.1.1)
     (λ c κs. tt)
     (λ c.
-    let the_is_bracket = c.before.before.before.before.is_bracket in
-    let the_if1 = c.before.before.before.if1 in
-    let the_pre = c.before.before.before.before.before.before.before.before.requires in
-    let a = c.before.before.before.before.before.before.before.before.args in
+    let the_is_bracket = c.is_bracket in
+    let the_if1 = c.if-not-is_bracket in
+    let the_pre = c.requires in
+    let a = c.args in
     laws.fits_variable a.text.now a.pattern.now a.row.now the_is_bracket.ensures refl the_pre.1.2
-    (not-true the_is_bracket.result the_if1.true) c.before.before.term-at.ensures c.before.term-at2.ensures c.may-stand.ensures)
-    (λ c κs. let the_pre = c.before.before.before.before.before.requires in
+    (not-true the_is_bracket.result the_if1.true) c.term_at.ensures c.term_at-then-not-is_bracket.ensures c.may_stand.ensures)
+    (λ c κs. let the_pre = c.requires in
     the_pre.1.1)
     (λ c.
-    let the_is_bracket = c.before.before.before.is_bracket in
-    let a = c.before.before.before.before.before.before.before.args in
-    laws.fits_none a.text.now a.pattern.now a.row.now the_is_bracket.ensures (not-false the_is_bracket.result c.before.before.if1.false)
-    c.before.is-bracket2.ensures (not-true c.before.is-bracket2.result c.if2.true))
-    (λ c κs. let the_pre = c.before.before.before.before.before.before.before.requires in
+    let the_is_bracket = c.is_bracket in
+    let a = c.args in
+    laws.fits_none a.text.now a.pattern.now a.row.now the_is_bracket.ensures (not-false the_is_bracket.result c.if-not-is_bracket.false)
+    c.is_bracket-2.ensures (not-true c.is_bracket-2.result c.if-not-is_bracket-2.true))
+    (λ c κs. let the_pre = c.requires in
     the_pre.1.0)
-    (λ c κs. let the_pre = c.before.before.before.before.before.before.before.before.requires in
+    (λ c κs. let the_pre = c.requires in
     the_pre.1.1)
     (λ c. search rules)
     (λ c. search rules)
@@ -169,18 +169,18 @@ pub +fits-front-last-leftmost-loose-loose-open-spec : {M : Type 1} → statement
     (λ c. search rules)
     (λ c. search rules)
     (λ c κs.
-    let the_end_of = c.before.before.before.end_of_lem in
-    let the_pre = c.before.before.before.before.before.before.before.before.before.before.before.requires in
-    let pattern = c.before.before.before.before.before.before.before.before.before.before.before.args.pattern.now in
+    let the_end_of = c.end_of-m in
+    let the_pre = c.requires in
+    let pattern = c.args.pattern.now in
     (omega (arith, inside_falls pattern the_end_of.result (length pattern) the_pre.1.0 the_end_of.ensures.0 refl, the_pre.0), tt))
     (λ c.
-    let the_end_of = c.before.before.before.before.end_of_lem in
-    let the_end_of2 = c.before.before.before.end-of2 in
-    let the_is_bracket = c.before.before.before.before.before.before.before.before.is_bracket in
-    let the_if1 = c.before.before.before.before.before.before.before.if1 in
-    let the_is_bracket2 = c.before.before.before.before.before.before.is-bracket2 in
-    let the_if2 = c.before.before.before.before.before.if2 in
-    let a = c.before.before.before.before.before.before.before.before.before.before.before.before.args in
+    let the_end_of = c.end_of-m in
+    let the_end_of2 = c.end_of-n in
+    let the_is_bracket = c.is_bracket in
+    let the_if1 = c.if-not-is_bracket in
+    let the_is_bracket2 = c.is_bracket-2 in
+    let the_if2 = c.if-not-is_bracket-2 in
+    let a = c.args in
     laws.fits_inside a.text.now a.pattern.now a.row.now the_is_bracket.ensures (not-false the_is_bracket.result the_if1.false)
     the_is_bracket2.ensures (not-false the_is_bracket2.result the_if2.false) the_end_of.ensures.0 the_end_of2.ensures.0 c.loose.ensures))
     (λ t. front-lts.spec (
@@ -199,104 +199,104 @@ pub +fits-front-last-leftmost-loose-loose-open-spec : {M : Type 1} → statement
     front.Post
     front-Inv-loop
     front-μ-loop
-    (λ c. let a = c.before.before.before.args in laws.fronted a.text.now a.pattern.now a.row.now)
-    (λ c. c.loop.invariant.within)
-    (λ c. c.loop.invariant.within)
+    (λ c. let a = c.args in laws.fronted a.text.now a.pattern.now a.row.now)
+    (λ c. c.loop-left.invariant.within)
+    (λ c. c.loop-left.invariant.within)
     (λ c. search rules)
-    (λ c. c.before.loop.invariant.row_within)
-    (λ c. c.before.loop.invariant.row_within)
+    (λ c. c.loop-left.invariant.row_within)
+    (λ c. c.loop-left.invariant.row_within)
     (λ c. search rules)
-    (λ c κs. omega (arith, c.if1.false))
+    (λ c κs. omega (arith, c.if-not-is_bracket.false))
     (λ c κs.
-    let the_if1 = c.before.before.before.before.if1 in
-    let the_word_at = c.before.before.before.word_at in
-    (the_if1.false, c.before.if3.false, omega (arith, c.if4.true, the_word_at.ensures)))
+    let the_if1 = c.if-not-is_bracket in
+    let the_word_at = c.word_at-kind in
+    (the_if1.false, c.if-right-lt24.false, omega (arith, c.if-kind-eq0.true, the_word_at.ensures)))
     (λ c κs.
     let at-if3 = c.before.before in
-    (at-if3.before.before.before.if1.false, at-if3.if3.false))
+    (at-if3.if-not-is_bracket.false, at-if3.if-right-lt24.false))
     (λ c κs.
     let at-if3 = c.before.before in
-    let the_if1 = at-if3.before.before.before.if1 in
-    let the_word_at = at-if3.before.before.word_at in
+    let the_if1 = at-if3.if-not-is_bracket in
+    let the_word_at = at-if3.word_at-kind in
     let at-loop = at-if3.before.before.before.before.before.before in
     let start = at-loop.before.before.before.before in (
       omega (arith, from_length at-loop.loop.i start.args.pattern.now, start.requires.0),
-      (the_if1.false, at-if3.if3.false, omega (arith, c.if6.false, the_word_at.ensures)),
+      (the_if1.false, at-if3.if-right-lt24.false, omega (arith, c.if-kind-lt3.false, the_word_at.ensures)),
     ))
     (λ c κs.
-    let the_if1 = c.before.before.before.before.if1 in
+    let the_if1 = c.if-not-is_bracket in
     the_if1.false)
-    (λ c. let the_loop = c.before.before.before.before.before.before.before.before.loop in
-    let the_args = c.before.before.before.before.before.before.before.before.before.before.before.before.args in
-    omega (arith, from_length the_loop.i the_args.pattern.now, c.end_of_lem.ensures.2, the_loop.invariant.within))
-    (λ c κs. c.before.before.if3.false)
-    (λ c. let the_loop = c.before.before.before.before.before.before.before.before.before.loop in
-    let the_args = c.before.before.before.before.before.before.before.before.before.before.before.before.before.args in
-    omega (arith, from_length the_loop.j the_args.row.now, c.end-of2.ensures.2, the_loop.invariant.row_within))
-    (λ c. let the_loop = c.before.before.before.before.before.before.before.before.before.loop in
-    let the_args = c.before.before.before.before.before.before.before.before.before.before.before.before.before.args in
-    let the_if1 = c.before.before.before.before.before.before.if1 in
-    omega (arith, from_length the_loop.i the_args.pattern.now, the_if1.false, c.before.end_of_lem.ensures.1))
+    (λ c. let the_loop = c.loop-left in
+    let the_args = c.args in
+    omega (arith, from_length the_loop.i the_args.pattern.now, c.end_of-m.ensures.2, the_loop.invariant.within))
+    (λ c κs. c.if-right-lt24.false)
+    (λ c. let the_loop = c.loop-left in
+    let the_args = c.args in
+    omega (arith, from_length the_loop.j the_args.row.now, c.end_of-n.ensures.2, the_loop.invariant.row_within))
+    (λ c. let the_loop = c.loop-left in
+    let the_args = c.args in
+    let the_if1 = c.if-not-is_bracket in
+    omega (arith, from_length the_loop.i the_args.pattern.now, the_if1.false, c.end_of-m.ensures.1))
     (λ c.
-    let the_if2 = c.before.before.before.before.if2 in
-    let the_if3 = c.before.before.before.if3 in
-    let the_if1 = c.before.before.before.before.before.before.if1 in
-    let the_word_at = c.before.before.before.before.before.word_at in
-    let a = c.before.before.before.before.before.before.before.before.before.before.before.before.before.args in
-    let at-loop = c.before.before.before.before.before.before.before.before.before.loop in
+    let the_if2 = c.if-not-is_bracket-2 in
+    let the_if3 = c.if-right-lt24 in
+    let the_if1 = c.if-not-is_bracket in
+    let the_word_at = c.word_at-kind in
+    let a = c.args in
+    let at-loop = c.loop-left in
     ⊎_elim
     (λ w. laws.front_next at-loop.invariant the_if1.false the_word_at.ensures the_if2.false the_if3.false
     (laws.fits_symbol a.text.now (from at-loop.i a.pattern.now) (from at-loop.j a.row.now) the_word_at.ensures
     (omega (arith, w.0.taken)) (w.1.ensures a.text.now))
-    (not-false w.1.result w.2.left) c.before.end_of_lem.ensures.0 c.end-of2.ensures.0)
+    (not-false w.1.result w.2.left) c.end_of-m.ensures.0 c.end_of-n.ensures.0)
     (λ u. ⊎_elim
     (λ w. laws.front_next at-loop.invariant the_if1.false the_word_at.ensures the_if2.false the_if3.false
     (laws.fits_symbol a.text.now (from at-loop.i a.pattern.now) (from at-loop.j a.row.now) the_word_at.ensures
     w.1.taken w.2.ensures)
-    (not-false w.2.result w.3.left) c.before.end_of_lem.ensures.0 c.end-of2.ensures.0)
+    (not-false w.2.result w.3.left) c.end_of-m.ensures.0 c.end_of-n.ensures.0)
     (λ w. laws.front_next at-loop.invariant the_if1.false the_word_at.ensures the_if2.false the_if3.false w.2.ensures
-    (not-false w.2.result w.3.left) c.before.end_of_lem.ensures.0 c.end-of2.ensures.0)
+    (not-false w.2.result w.3.left) c.end_of-m.ensures.0 c.end_of-n.ensures.0)
     u)
-    c.before.before.if4.branch)
+    c.if-kind-eq0.branch)
     (λ c.
-    let the_loop = c.before.before.before.loop in
-    laws.front_end the_loop.invariant c.if1.true)
-    (λ c. let the_loop = c.before.before.before.before.before.loop in
-    laws.front_open_term the_loop.invariant c.before.before.if1.false c.before.word_at.ensures c.if2.true)
+    let the_loop = c.loop-left in
+    laws.front_end the_loop.invariant c.if-not-is_bracket.true)
+    (λ c. let the_loop = c.loop-left in
+    laws.front_open_term the_loop.invariant c.if-not-is_bracket.false c.word_at-kind.ensures c.if-not-is_bracket-2.true)
     (λ c.
-    let the_if1 = c.before.before.before.if1 in
-    let the_loop = c.before.before.before.before.before.before.loop in
-    laws.front_short the_loop.invariant the_if1.false c.before.before.word_at.ensures c.before.if2.false c.if3.true)
+    let the_if1 = c.if-not-is_bracket in
+    let the_loop = c.loop-left in
+    laws.front_short the_loop.invariant the_if1.false c.word_at-kind.ensures c.if-not-is_bracket-2.false c.if-right-lt24.true)
     (λ c.
     let at-if3 = c.before.before.before in
-    let the_if2 = at-if3.before.if2 in
-    let the_word_at = at-if3.before.before.word_at in
-    let the_if1 = at-if3.before.before.before.if1 in
+    let the_if2 = at-if3.if-not-is_bracket-2 in
+    let the_word_at = at-if3.word_at-kind in
+    let the_if1 = at-if3.if-not-is_bracket in
     let at-loop = at-if3.before.before.before.before.before.before in
-    let a = at-loop.before.before.before.before.args in
-    laws.front_differs at-loop.loop.invariant the_if1.false the_word_at.ensures the_if2.false at-if3.if3.false
+    let a = at-loop.args in
+    laws.front_differs at-loop.loop.invariant the_if1.false the_word_at.ensures the_if2.false at-if3.if-right-lt24.false
     (laws.fits_symbol a.text.now (from at-loop.loop.i a.pattern.now) (from at-loop.loop.j a.row.now) the_word_at.ensures
-    (omega (arith, c.before.before.if4.taken)) (c.before.characters_same.ensures a.text.now))
-    (not-true c.before.characters_same.result c.if5.true))
+    (omega (arith, c.if-kind-eq0.taken)) (c.characters_same.ensures a.text.now))
+    (not-true c.characters_same.result c.if-not-characters_same.true))
     (λ c.
     let at-if3 = c.before.before.before.before in
-    let the_if2 = at-if3.before.if2 in
-    let the_word_at = at-if3.before.before.word_at in
-    let the_if1 = at-if3.before.before.before.if1 in
+    let the_if2 = at-if3.if-not-is_bracket-2 in
+    let the_word_at = at-if3.word_at-kind in
+    let the_if1 = at-if3.if-not-is_bracket in
     let at-loop = at-if3.before.before.before.before.before.before in
-    let a = at-loop.before.before.before.before.args in
-    laws.front_differs at-loop.loop.invariant the_if1.false the_word_at.ensures the_if2.false at-if3.if3.false
+    let a = at-loop.args in
+    laws.front_differs at-loop.loop.invariant the_if1.false the_word_at.ensures the_if2.false at-if3.if-right-lt24.false
     (laws.fits_symbol a.text.now (from at-loop.loop.i a.pattern.now) (from at-loop.loop.j a.row.now) the_word_at.ensures
-    c.before.before.if6.true c.before.atoms-same.ensures)
-    (not-true c.before.atoms-same.result c.if7.true))
+    c.if-kind-lt3.true c.atoms_same.ensures)
+    (not-true c.atoms_same.result c.if-not-atoms_same.true))
     (λ c.
     let at-if3 = c.before.before.before.before in
-    let the_if2 = at-if3.before.if2 in
-    let the_word_at = at-if3.before.before.word_at in
-    let the_if1 = at-if3.before.before.before.if1 in
+    let the_if2 = at-if3.if-not-is_bracket-2 in
+    let the_word_at = at-if3.word_at-kind in
+    let the_if1 = at-if3.if-not-is_bracket in
     let at-loop = at-if3.before.before.before.before.before.before in
-    laws.front_differs at-loop.loop.invariant the_if1.false the_word_at.ensures the_if2.false at-if3.if3.false c.before.fits2.ensures
-    (not-true c.before.fits2.result c.if8.true)))
+    laws.front_differs at-loop.loop.invariant the_if1.false the_word_at.ensures the_if2.false at-if3.if-right-lt24.false c.fits2.ensures
+    (not-true c.fits2.result c.if-not-fits.true)))
     (λ t. last-lts.spec (
       terms-in-reads.Asked,
       terms-in-reads.Learnt,
@@ -307,117 +307,117 @@ pub +fits-front-last-leftmost-loose-loose-open-spec : {M : Type 1} → statement
     )
     (last_at t)
     last.Post
-    (λ c. let a = c.before.before.before.before.args in ends.last_empty a.text.now a.pattern.now a.row.now c.if1.true)
+    (λ c. let a = c.args in ends.last_empty a.text.now a.pattern.now a.row.now c.if-not-is_bracket.true)
     (λ c κs. search rules)
     (λ c κs. search rules)
     (λ c.
-    let the_terms_in = c.before.before.terms-in in
-    let the_pre = c.before.before.before.before.before.before.before.requires in
-    let a = c.before.before.before.before.before.before.before.args in
+    let the_terms_in = c.terms_in-terms in
+    let the_pre = c.requires in
+    let a = c.args in
     ends.last_few a.text.now a.pattern.now a.row.now the_pre.1 (the_terms_in.ensures.0 a.text.now)
-    (c.before.terms-in2.ensures.0 a.text.now) c.if2.true)
-    (λ c κs. λ text. omega (arith, c.before.terms-in2.ensures.0 text))
-    (λ c. c.skip.ensures.within)
-    (λ c. c.skip.ensures.within)
+    (c.terms_in-room.ensures.0 a.text.now) c.if-not-is_bracket-2.true)
+    (λ c κs. λ text. omega (arith, c.terms_in-room.ensures.0 text))
+    (λ c. c.skip-start.ensures.within)
+    (λ c. c.skip-start.ensures.within)
     (λ c. search rules)
-    (λ c κs. let the_pre = c.before.before.before.before.before.before.before.before.before.requires in
+    (λ c κs. let the_pre = c.requires in
     (omega (arith, the_pre.0), tt))
     (λ c.
-    let the_terms_in2 = c.before.before.before.before.terms-in2 in
-    let the_if2 = c.before.before.before.if2 in
-    let the_pre = c.before.before.before.before.before.before.before.before.before.before.requires in
-    let the_terms_in = c.before.before.before.before.before.terms-in in
-    let a = c.before.before.before.before.before.before.before.before.before.before.args in
+    let the_terms_in2 = c.terms_in-room in
+    let the_if2 = c.if-not-is_bracket-2 in
+    let the_pre = c.requires in
+    let the_terms_in = c.terms_in-terms in
+    let a = c.args in
     ends.last_there a.text.now a.pattern.now a.row.now the_pre.1 (the_terms_in.ensures.0 a.text.now)
     (the_terms_in2.ensures.0 a.text.now)
-    (omega (arith, the_if2.false)) c.before.before.skip.ensures c.loose.ensures))
+    (omega (arith, the_if2.false)) c.skip-start.ensures c.loose.ensures))
     (λ t. leftmost-lts.spec
     (front_below t, front.Post, end-of-reads.Asked, end-of-reads.Learnt)
     (leftmost_at t)
     leftmost.Post
     leftmost-Inv-loop
     leftmost-μ-loop
-    (λ c. let a = c.before.before.before.args in laws.sought a.text.now a.pattern.now a.row.now)
-    (λ c. c.loop.invariant.within)
-    (λ c. c.loop.invariant.within)
+    (λ c. let a = c.args in laws.sought a.text.now a.pattern.now a.row.now)
+    (λ c. c.loop-left.invariant.within)
+    (λ c. c.loop-left.invariant.within)
     (λ c. search rules)
-    (λ c κs. let the_pre = c.before.before.before.before.before.requires in
+    (λ c κs. let the_pre = c.requires in
     (omega (arith, the_pre.0), tt))
     (λ c. search rules)
     (λ c.
-    let the_front = c.before.before.before.front in
-    let the_loop = c.before.before.before.before.before.loop in
-    let the_args = c.before.before.before.before.before.before.before.before.before.args in
+    let the_front = c.front in
+    let the_loop = c.loop-left in
+    let the_args = c.args in
     omega (
       arith,
       from_length the_loop.j the_args.row.now,
-      laws.sought_within the_loop.invariant the_front.ensures c.before.m.given.1,
+      laws.sought_within the_loop.invariant the_front.ensures c.m-1.given.1,
       the_loop.invariant.within,
     ))
     (λ c. search rules)
-    (λ c κs. c.if1.false)
-    (λ c. let the_loop = c.before.before.before.before.before.before.loop in
-    let the_args = c.before.before.before.before.before.before.before.before.before.before.args in
-    omega (arith, from_length the_loop.j the_args.row.now, c.end_of_lem.ensures.2, the_loop.invariant.within))
-    (λ c. let the_loop = c.before.before.before.before.before.before.loop in
-    let the_args = c.before.before.before.before.before.before.before.before.before.before.args in
-    omega (arith, from_length the_loop.j the_args.row.now, c.before.if1.false, c.end_of_lem.ensures.1))
+    (λ c κs. c.if-not-is_bracket.false)
+    (λ c. let the_loop = c.loop-left in
+    let the_args = c.args in
+    omega (arith, from_length the_loop.j the_args.row.now, c.end_of-m.ensures.2, the_loop.invariant.within))
+    (λ c. let the_loop = c.loop-left in
+    let the_args = c.args in
+    omega (arith, from_length the_loop.j the_args.row.now, c.if-not-is_bracket.false, c.end_of-m.ensures.1))
     (λ c.
-    let the_front = c.before.before.before.before.front in
-    let the_enum_told = c.before.before.enum_told in
-    let the_loop = c.before.before.before.before.before.before.loop in
-    laws.sought_later the_loop.invariant the_front.ensures the_enum_told.given.1 c.before.if1.false c.end_of_lem.ensures.0)
+    let the_front = c.front in
+    let the_enum_told = c.enum_told-1 in
+    let the_loop = c.loop-left in
+    laws.sought_later the_loop.invariant the_front.ensures the_enum_told.given.1 c.if-not-is_bracket.false c.end_of-m.ensures.0)
     (λ c.
-    let the_front = c.before.before.before.front in
-    let the_loop = c.before.before.before.before.before.loop in
-    laws.sought_here the_loop.invariant the_front.ensures c.before.m.given.1)
+    let the_front = c.front in
+    let the_loop = c.loop-left in
+    laws.sought_here the_loop.invariant the_front.ensures c.m-1.given.1)
     (λ c.
-    let the_front = c.before.before.before.front in
-    let the_loop = c.before.before.before.before.before.loop in
-    laws.sought_nowhere the_loop.invariant the_front.ensures c.before.enum_told.given.1 c.if1.true))
+    let the_front = c.front in
+    let the_loop = c.loop-left in
+    laws.sought_nowhere the_loop.invariant the_front.ensures c.enum_told-1.given.1 c.if-not-is_bracket.true))
     (λ t. loose-lts.spec
     (front_below t, front.Post, loose_open_below t, loose_open.Post)
     (loose_at t)
     loose.Post
     (λ c κs.
-    let the_pre = c.before.before.before.requires in
+    let the_pre = c.requires in
     (omega (arith, the_pre.0), tt))
     (λ c. search rules)
     (λ c. search rules)
     (λ c.
-    let the_front = c.before.before.before.front in
-    let a = c.before.before.before.before.before.before.before.args in (ends.loose_within a.text.now a.pattern.now a.row.now _
-    the_front.ensures c.before.m.given.1).0)
+    let the_front = c.front in
+    let a = c.args in (ends.loose_within a.text.now a.pattern.now a.row.now _
+    the_front.ensures c.m-1.given.1).0)
     (λ c.
-    let the_front = c.before.before.before.front in
-    let a = c.before.before.before.before.before.before.before.args in (ends.loose_within a.text.now a.pattern.now a.row.now _
-    the_front.ensures c.before.m.given.1).0)
+    let the_front = c.front in
+    let a = c.args in (ends.loose_within a.text.now a.pattern.now a.row.now _
+    the_front.ensures c.m-1.given.1).0)
     (λ c. search rules)
     (λ c.
-    let the_front = c.before.before.before.before.front in
-    let the_m = c.before.before.m in
-    let a = c.before.before.before.before.before.before.before.before.args in (ends.loose_within a.text.now a.pattern.now a.row.now _
+    let the_front = c.front in
+    let the_m = c.m-1 in
+    let a = c.args in (ends.loose_within a.text.now a.pattern.now a.row.now _
     the_front.ensures the_m.given.1).1)
     (λ c.
-    let the_front = c.before.before.before.before.front in
-    let the_m = c.before.before.m in
-    let a = c.before.before.before.before.before.before.before.before.args in (ends.loose_within a.text.now a.pattern.now a.row.now _
+    let the_front = c.front in
+    let the_m = c.m-1 in
+    let a = c.args in (ends.loose_within a.text.now a.pattern.now a.row.now _
     the_front.ensures the_m.given.1).1)
     (λ c. search rules)
     (λ c κs.
-    let the_m = c.before.before.before.m in
-    let the_pre = c.before.before.before.before.before.before.before.before.before.requires in
-    let the_front = c.before.before.before.before.before.front in
-    let a = c.before.before.before.before.before.before.before.before.before.args in (
+    let the_m = c.m-1 in
+    let the_pre = c.requires in
+    let the_front = c.front in
+    let a = c.args in (
       omega (arith, from_length the_m.given.0.0 a.pattern.now, the_pre.0),
       ends.loose_start a.text.now a.pattern.now a.row.now _ the_front.ensures the_m.given.1,
     ))
-    (λ c. let a = c.before.before.before.before.before.before.args in ends.loose_fails a.text.now a.pattern.now a.row.now _
-    c.before.before.front.ensures c.enum_told.given.1)
+    (λ c. let a = c.args in ends.loose_fails a.text.now a.pattern.now a.row.now _
+    c.front.ensures c.enum_told-1.given.1)
     (λ c.
-    let the_m = c.before.before.before.before.m in
-    let the_front = c.before.before.before.before.before.before.front in
-    let a = c.before.before.before.before.before.before.before.before.before.before.args in ends.loose_goes a.text.now a.pattern.now
+    let the_m = c.m-1 in
+    let the_front = c.front in
+    let a = c.args in ends.loose_goes a.text.now a.pattern.now
     a.row.now _ the_front.ensures the_m.given.1 c.loose_open.ensures))
     λ t. loose-open-lts.spec (
       end-of-reads.Asked,
@@ -434,25 +434,25 @@ pub +fits-front-last-leftmost-loose-loose-open-spec : {M : Type 1} → statement
     loose-open-Inv-loop
     loose-open-μ-loop
     (λ c.
-    let the_pre = c.before.before.before.requires in
-    let a = c.before.before.before.args in ends.opened a.text.now a.pattern.now a.row.now the_pre.1)
-    (λ c. c.loop.invariant.within)
-    (λ c. c.loop.invariant.within)
+    let the_pre = c.requires in
+    let a = c.args in ends.opened a.text.now a.pattern.now a.row.now the_pre.1)
+    (λ c. c.loop-left.invariant.within)
+    (λ c. c.loop-left.invariant.within)
     (λ c. search rules)
-    (λ c. c.before.loop.invariant.row_within)
-    (λ c. c.before.loop.invariant.row_within)
+    (λ c. c.loop-left.invariant.row_within)
+    (λ c. c.loop-left.invariant.row_within)
     (λ c. search rules)
-    (λ c κs. c.if1.false)
+    (λ c κs. c.if-not-is_bracket.false)
     (λ c. search rules)
     (λ c. search rules)
     (λ c. search rules)
     (λ c κs. search rules)
     (λ c κs.
-    let the_if1 = c.before.before.before.before.if1 in
-    let the_end_of = c.before.before.before.end_of_lem in
-    let the_loop = c.before.before.before.before.before.before.before.loop in
-    let the_args = c.before.before.before.before.before.before.before.before.before.before.before.args in
-    let the_pre = c.before.before.before.before.before.before.before.before.before.before.before.requires in (
+    let the_if1 = c.if-not-is_bracket in
+    let the_end_of = c.end_of-m in
+    let the_loop = c.loop-left in
+    let the_args = c.args in
+    let the_pre = c.requires in (
       omega (
         arith,
         from_length the_end_of.result (from the_loop.i the_args.pattern.now),
@@ -461,13 +461,13 @@ pub +fits-front-last-leftmost-loose-loose-open-spec : {M : Type 1} → statement
         the_end_of.ensures.1,
         the_pre.0,
       ),
-      sym (c.before.has-open.ensures the_args.text.now) ∙ not-true c.before.has-open.result c.if2.true,
+      sym (c.has_open.ensures the_args.text.now) ∙ not-true c.has_open.result c.if-not-is_bracket-2.true,
     ))
     (λ c κs.
-    let the_end_of = c.before.before.before.end_of_lem in
-    let the_loop = c.before.before.before.before.before.before.before.loop in
-    let the_args = c.before.before.before.before.before.before.before.before.before.before.before.args in
-    let the_pre = c.before.before.before.before.before.before.before.before.before.before.before.requires in (
+    let the_end_of = c.end_of-m in
+    let the_loop = c.loop-left in
+    let the_args = c.args in
+    let the_pre = c.requires in (
       omega (
         arith,
         from_length the_end_of.result (from the_loop.i the_args.pattern.now),
@@ -479,81 +479,81 @@ pub +fits-front-last-leftmost-loose-loose-open-spec : {M : Type 1} → statement
     (λ c. search rules)
     (λ c. search rules)
     (λ c.
-    let the_if2 = c.before.before.before.before.if2 in
-    let the_leftmost = c.before.before.before.leftmost in
-    let the_loop = c.before.before.before.before.before.before.before.before.before.before.before.loop in
-    let the_if1 = c.before.before.before.before.before.before.before.before.if1 in
-    let the_end_of = c.before.before.before.before.before.before.before.end_of_lem in
-    let the_has_open = c.before.before.before.before.before.has-open in
-    let the_args = c.before.before.before.before.before.before.before.before.before.before.before.before.before.before.before.args in
+    let the_if2 = c.if-not-is_bracket-2 in
+    let the_leftmost = c.leftmost in
+    let the_loop = c.loop-left in
+    let the_if1 = c.if-not-is_bracket in
+    let the_end_of = c.end_of-m in
+    let the_has_open = c.has_open in
+    let the_args = c.args in
     omega (
       arith,
       (ends.opened_within the_loop.invariant the_if1.false the_end_of.ensures.0 the_has_open.ensures (not-false the_has_open.result the_if2.false) _
-          the_leftmost.ensures c.before.m.given.1).0,
+          the_leftmost.ensures c.m-1.given.1).0,
       from_length the_end_of.result (from the_loop.i the_args.pattern.now),
       from_length the_loop.i the_args.pattern.now,
       the_loop.invariant.within,
       the_end_of.ensures.2,
     ))
     (λ c.
-    let the_if2 = c.before.before.before.before.if2 in
-    let the_leftmost = c.before.before.before.leftmost in
-    let the_loop = c.before.before.before.before.before.before.before.before.before.before.before.loop in
-    let the_if1 = c.before.before.before.before.before.before.before.before.if1 in
-    let the_end_of = c.before.before.before.before.before.before.before.end_of_lem in
-    let the_has_open = c.before.before.before.before.before.has-open in
-    let the_args = c.before.before.before.before.before.before.before.before.before.before.before.before.before.before.before.args in
+    let the_if2 = c.if-not-is_bracket-2 in
+    let the_leftmost = c.leftmost in
+    let the_loop = c.loop-left in
+    let the_if1 = c.if-not-is_bracket in
+    let the_end_of = c.end_of-m in
+    let the_has_open = c.has_open in
+    let the_args = c.args in
     omega (
       arith,
       (ends.opened_within the_loop.invariant the_if1.false the_end_of.ensures.0 the_has_open.ensures (not-false the_has_open.result the_if2.false) _
-          the_leftmost.ensures c.before.m.given.1).0,
+          the_leftmost.ensures c.m-1.given.1).0,
       from_length the_end_of.result (from the_loop.i the_args.pattern.now),
       from_length the_loop.i the_args.pattern.now,
       the_loop.invariant.within,
       the_end_of.ensures.2,
     ))
     (λ c.
-    let the_if2 = c.before.before.before.before.if2 in
-    let the_leftmost = c.before.before.before.leftmost in
-    let the_loop = c.before.before.before.before.before.before.before.before.before.before.before.loop in
-    let the_if1 = c.before.before.before.before.before.before.before.before.if1 in
-    let the_end_of = c.before.before.before.before.before.before.before.end_of_lem in
-    let the_has_open = c.before.before.before.before.before.has-open in
-    let the_args = c.before.before.before.before.before.before.before.before.before.before.before.before.before.before.before.args in
+    let the_if2 = c.if-not-is_bracket-2 in
+    let the_leftmost = c.leftmost in
+    let the_loop = c.loop-left in
+    let the_if1 = c.if-not-is_bracket in
+    let the_end_of = c.end_of-m in
+    let the_has_open = c.has_open in
+    let the_args = c.args in
     omega (
       arith,
       (ends.opened_within the_loop.invariant the_if1.false the_end_of.ensures.0 the_has_open.ensures (not-false the_has_open.result the_if2.false) _
-          the_leftmost.ensures c.before.m.given.1).1,
+          the_leftmost.ensures c.m-1.given.1).1,
       from_length the_loop.j the_args.row.now,
       the_loop.invariant.row_within,
     ))
-    (λ c. let the_loop = c.before.before.before.before.before.before.before.before.before.before.before.loop in
-    let the_args = c.before.before.before.before.before.before.before.before.before.before.before.before.before.before.before.args in
-    let the_if1 = c.before.before.before.before.before.before.before.before.if1 in
-    let the_end_of = c.before.before.before.before.before.before.before.end_of_lem in
+    (λ c. let the_loop = c.loop-left in
+    let the_args = c.args in
+    let the_if1 = c.if-not-is_bracket in
+    let the_end_of = c.end_of-m in
     omega (arith, from_length the_loop.i the_args.pattern.now, the_if1.false, the_end_of.ensures.1))
     (λ c.
-    let the_if2 = c.before.before.before.before.if2 in
-    let the_leftmost = c.before.before.before.leftmost in
-    let the_loop = c.before.before.before.before.before.before.before.before.before.before.before.loop in
-    let the_if1 = c.before.before.before.before.before.before.before.before.if1 in
-    let the_end_of = c.before.before.before.before.before.before.before.end_of_lem in
-    let the_has_open = c.before.before.before.before.before.has-open in
+    let the_if2 = c.if-not-is_bracket-2 in
+    let the_leftmost = c.leftmost in
+    let the_loop = c.loop-left in
+    let the_if1 = c.if-not-is_bracket in
+    let the_end_of = c.end_of-m in
+    let the_has_open = c.has_open in
     ends.opened_next the_loop.invariant the_if1.false the_end_of.ensures.0 the_has_open.ensures (not-false the_has_open.result the_if2.false) _
-    the_leftmost.ensures c.before.m.given.1)
+    the_leftmost.ensures c.m-1.given.1)
     (λ c.
-    let the_loop = c.before.before.before.loop in
-    ends.opened_end the_loop.invariant c.if1.true)
+    let the_loop = c.loop-left in
+    ends.opened_end the_loop.invariant c.if-not-is_bracket.true)
     (λ c.
-    let the_end_of = c.before.before.before.before.end_of_lem in
-    let the_loop = c.before.before.before.before.before.before.before.before.loop in
-    let the_if1 = c.before.before.before.before.before.if1 in
+    let the_end_of = c.end_of-m in
+    let the_loop = c.loop-left in
+    let the_if1 = c.if-not-is_bracket in
     ends.opened_last the_loop.invariant the_if1.false the_end_of.ensures.0 c.last.ensures)
     (λ c.
-    let the_has_open = c.before.before.before.before.has-open in
-    let the_if2 = c.before.before.before.if2 in
-    let the_loop = c.before.before.before.before.before.before.before.before.before.before.loop in
-    let the_if1 = c.before.before.before.before.before.before.before.if1 in
-    let the_end_of = c.before.before.before.before.before.before.end_of_lem in
+    let the_has_open = c.has_open in
+    let the_if2 = c.if-not-is_bracket-2 in
+    let the_loop = c.loop-left in
+    let the_if1 = c.if-not-is_bracket in
+    let the_end_of = c.end_of-m in
     ends.opened_fails the_loop.invariant the_if1.false the_end_of.ensures.0 the_has_open.ensures (not-false the_has_open.result the_if2.false) _
-    c.before.before.leftmost.ensures c.enum_told.given.1)
+    c.leftmost.ensures c.enum_told-1.given.1)

@@ -10,10 +10,10 @@ use Rattle.sentences.proofs.OnceLaws as laws
 use Rattle.sentences.proofs.loose.once.Statement.{statement}
 use Rattle.sentences.proofs.loose.once.Tie as tie
 
-abbrev invariant_loop : tie.invariant_loop
+abbrev invariant_loop : tie.invariant-loop-left
 invariant_loop text pattern i₀ i = laws.Apart text pattern i
 
-abbrev decreases_loop : tie.decreases_loop
+abbrev decreases_loop : tie.decreases-loop-left
 decreases_loop text pattern i₀ i = length pattern - i
 
 pub once_spec : {M : Type 1} → statement M
@@ -22,36 +22,36 @@ once_spec =
     (tie.spec
     invariant_loop
     decreases_loop
-    (λ c. let a = c.before.before.args in laws.apart_none a.text.now a.pattern.now)
-    (λ c. c.loop.invariant.within)
-    (λ c. c.loop.invariant.within)
+    (λ c. let a = c.args in laws.apart_none a.text.now a.pattern.now)
+    (λ c. c.loop-left.invariant.within)
+    (λ c. c.loop-left.invariant.within)
     (λ c. search rules)
-    (λ c κs. omega (arith, c.if1.false))
+    (λ c κs. omega (arith, c.if-left-lt24.false))
     (λ c.
-    let the_if1 = c.before.before.before.if1 in
+    let the_if1 = c.if-left-lt24 in
     the_if1.false)
     (λ c.
-    let the_if1 = c.before.before.before.if1 in
+    let the_if1 = c.if-left-lt24 in
     the_if1.false)
     (λ c. search rules)
     (λ c κs.
-    let the_if1 = c.before.before.before.before.if1 in
+    let the_if1 = c.if-left-lt24 in
     the_if1.false)
-    (λ c. let the_args = c.before.before.before.before.before.before.before.args in
-    let at-loop = c.before.before.before.before.loop in
-    omega (arith, from_length at-loop.i the_args.pattern.now, c.before.before.if1.false, at-loop.invariant.within))
-    (λ c. let the_args = c.before.before.before.before.before.before.before.args in
-    let at-loop = c.before.before.before.before.loop in
-    omega (arith, from_length at-loop.i the_args.pattern.now, c.before.before.if1.false))
-    (λ c. let so_far = c.before.before.before.before.loop.invariant in
-    let long = c.before.before.if1.false in
-    let kind = c.before.word_at.ensures in
+    (λ c. let the_args = c.args in
+    let at-loop = c.loop-left in
+    omega (arith, from_length at-loop.i the_args.pattern.now, c.if-left-lt24.false, at-loop.invariant.within))
+    (λ c. let the_args = c.args in
+    let at-loop = c.loop-left in
+    omega (arith, from_length at-loop.i the_args.pattern.now, c.if-left-lt24.false))
+    (λ c. let so_far = c.loop-left.invariant in
+    let long = c.if-left-lt24.false in
+    let kind = c.word_at-kind.ensures in
     ⊎_elim
     (λ w. laws.apart_variable so_far long ((w.3.ensures (omega (arith, kind, w.0.taken))).0 w.4.left))
     (λ u. ⊎_elim
     (λ w. laws.apart_other so_far long kind (omega (arith, w.1.left)))
-    (λ w. laws.apart_symbol so_far long kind (omega (arith, w.left)))
+    (λ w. laws.apart_symbol so_far long kind (omega (arith, w.left-1)))
     u)
-    c.if2.branch)
-    (λ c. λ e. laws.apart_all c.before.before.loop.invariant c.if1.true)
+    c.if-kind-gt2.branch)
+    (λ c. λ e. laws.apart_all c.loop-left.invariant c.if-left-lt24.true)
     (λ c. λ e. absurd (false_not_true e)))

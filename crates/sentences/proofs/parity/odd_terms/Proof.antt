@@ -8,10 +8,10 @@ use Rattle.sentences.proofs.ParityLaws as laws
 use Rattle.sentences.proofs.parity.odd_terms.Statement.{statement}
 use Rattle.sentences.proofs.parity.odd_terms.Tie as tie
 
-abbrev invariant_loop : tie.invariant_loop
+abbrev invariant_loop : tie.invariant-loop-left
 invariant_loop part odd₀ i₀ odd i = laws.OddSoFar part odd i
 
-abbrev decreases_loop : tie.decreases_loop
+abbrev decreases_loop : tie.decreases-loop-left
 decreases_loop part odd₀ i₀ odd i = length part - i
 
 pub odd_terms_spec : {M : Type 1} → statement M
@@ -20,19 +20,19 @@ odd_terms_spec =
     (tie.spec
     invariant_loop
     decreases_loop
-    (λ c. laws.odd_begun c.before.args.part.now)
-    (λ c. c.loop.invariant.within)
-    (λ c. c.loop.invariant.within)
+    (λ c. laws.odd_begun c.args.part.now)
+    (λ c. c.loop-left.invariant.within)
+    (λ c. c.loop-left.invariant.within)
     (λ c. search rules)
-    (λ c κs. c.if1.false)
-    (λ c. let the_args = c.before.before.before.before.before.args in
-    let the_loop = c.before.before.before.loop in
-    omega (arith, from_length the_loop.i the_args.part.now, c.end_of_lem.ensures.2, the_loop.invariant.within))
+    (λ c κs. c.if-left-lt24.false)
+    (λ c. let the_args = c.args in
+    let the_loop = c.loop-left in
+    omega (arith, from_length the_loop.i the_args.part.now, c.end_of-i.ensures.2, the_loop.invariant.within))
     (λ c.
-    let the_loop = c.before.before.before.loop in
-    let the_args = c.before.before.before.before.before.args in
-    omega (arith, from_length the_loop.i the_args.part.now, c.end_of_lem.ensures.1, c.end_of_lem.ensures.2))
+    let the_loop = c.loop-left in
+    let the_args = c.args in
+    omega (arith, from_length the_loop.i the_args.part.now, c.end_of-i.ensures.1, c.end_of-i.ensures.2))
     (λ c.
-    let the_loop = c.before.before.before.loop in
-    laws.odd_next the_loop.invariant c.before.if1.false c.end_of_lem.ensures.0)
-    (λ c. laws.odd_all c.before.before.loop.invariant c.if1.true))
+    let the_loop = c.loop-left in
+    laws.odd_next the_loop.invariant c.if-left-lt24.false c.end_of-i.ensures.0)
+    (λ c. laws.odd_all c.loop-left.invariant c.if-left-lt24.true))

@@ -9,10 +9,10 @@ use Rattle.sentences.proofs.ParityLaws as laws
 use Rattle.sentences.proofs.parity.odd_times.Statement.{statement}
 use Rattle.sentences.proofs.parity.odd_times.Tie as tie
 
-abbrev invariant_loop : tie.invariant_loop
+abbrev invariant_loop : tie.invariant-loop-left
 invariant_loop text first pattern odd₀ i₀ odd i = laws.TimesSoFar text first pattern odd i
 
-abbrev decreases_loop : tie.decreases_loop
+abbrev decreases_loop : tie.decreases-loop-left
 decreases_loop text first pattern odd₀ i₀ odd i = length pattern - i
 
 pub odd_times_spec : {M : Type 1} → statement M
@@ -21,24 +21,24 @@ odd_times_spec =
     (tie.spec
     invariant_loop
     decreases_loop
-    (λ c. let a = c.before.before.before.args in laws.times_begun a.text.now a.first.now a.pattern.now)
-    (λ c. c.loop.invariant.within)
-    (λ c. c.loop.invariant.within)
+    (λ c. let a = c.args in laws.times_begun a.text.now a.first.now a.pattern.now)
+    (λ c. c.loop-left.invariant.within)
+    (λ c. c.loop-left.invariant.within)
     (λ c. search rules)
-    (λ c κs. let the_pre = c.before.before.before.before.before.before.requires in
-    (the_pre, c.if1.false))
-    (λ c κs. c.before.before.if1.false)
-    (λ c. let the_args = c.before.before.before.before.before.before.before.before.before.args in
-    let the_loop = c.before.before.before.before.before.loop in
-    omega (arith, from_length the_loop.i the_args.pattern.now, c.end_of_lem.ensures.2, the_loop.invariant.within))
-    (λ c. let the_args = c.before.before.before.before.before.before.before.before.before.args in
-    let the_loop = c.before.before.before.before.before.loop in
-    omega (arith, from_length the_loop.i the_args.pattern.now, c.end_of_lem.ensures.1, c.end_of_lem.ensures.2))
-    (λ c. let so_far = c.before.before.before.before.before.loop.invariant in
-    let long = c.before.before.before.if1.false in
-    let same = c.before.before.variables_same.ensures in
+    (λ c κs. let the_pre = c.requires in
+    (the_pre, c.if-left-lt24.false))
+    (λ c κs. c.if-left-lt24.false)
+    (λ c. let the_args = c.args in
+    let the_loop = c.loop-left in
+    omega (arith, from_length the_loop.i the_args.pattern.now, c.end_of-i.ensures.2, the_loop.invariant.within))
+    (λ c. let the_args = c.args in
+    let the_loop = c.loop-left in
+    omega (arith, from_length the_loop.i the_args.pattern.now, c.end_of-i.ensures.1, c.end_of-i.ensures.2))
+    (λ c. let so_far = c.loop-left.invariant in
+    let long = c.if-left-lt24.false in
+    let same = c.variables_same.ensures in
     ⊎_elim
-    (λ w. laws.times_one so_far long c.end_of_lem.ensures.0 same w.0.taken w.1)
-    (λ w. laws.times_none so_far long c.end_of_lem.ensures.0 same w.0.left w.1)
-    c.before.if2.branch)
-    (λ c. laws.times_all c.before.before.loop.invariant c.if1.true))
+    (λ w. laws.times_one so_far long c.end_of-i.ensures.0 same w.0.taken w.1)
+    (λ w. laws.times_none so_far long c.end_of-i.ensures.0 same w.0.left w.1)
+    c.if-variables_same.branch)
+    (λ c. laws.times_all c.loop-left.invariant c.if-left-lt24.true))

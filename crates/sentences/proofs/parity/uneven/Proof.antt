@@ -14,7 +14,7 @@ uneven_spec =
     (λ c. λ e. absurd (false_not_true e))
     (λ c κs. search rules)
     (λ c.
-    let the_odd_terms = c.before.before.before.odd-terms in
-    λ e. let text = c.before.before.before.before.before.before.before.args.text.now in
-    laws.uneven_answer _ _ (c.evenly.ensures e) (the_odd_terms.ensures text) (c.before.before.odd-terms2.ensures text)
-    c.before.if1.false))
+    let the_odd_terms = c.odd_terms in
+    λ e. let text = c.args.text.now in
+    laws.uneven_answer _ _ (c.evenly.ensures e) (the_odd_terms.ensures text) (c.odd_terms-2.ensures text)
+    c.if-odd_terms.false))

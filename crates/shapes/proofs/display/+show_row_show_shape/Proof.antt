@@ -45,8 +45,8 @@ abbrev show_shape_below : ℕ → In 2 show-shape-kinds.ps
 show_shape_below t =
     and 2 show-shape-kinds.ps (falls 2 show-shape-kinds.ps ◌<◌ μ-show-shape t) show-shape.Pre
 
-pub +show-row-show-shape-spec : {M : Type 1} → statement M
-+show-row-show-shape-spec = close μ-show-row μ-show-shape (λ t. show-row-lts.spec (
+pub +show_row_show_shape_spec : {M : Type 1} → statement M
++show_row_show_shape_spec = close μ-show-row μ-show-shape (λ t. show-row-lts.spec (
   put-space-reads.Asked,
   put-space-reads.Learnt,
   put_reads.Asked,
@@ -63,25 +63,25 @@ pub +show-row-show-shape-spec : {M : Type 1} → statement M
     (λ c κs. omega arith)
     (λ c. search rules)
     (λ c κs.
-    let the_put_space = c.before.before.before.before.put-space in
+    let the_put_space = c.put_space-start in
     let start = c.before.before.before.before.before.before.before.before.before.before in
     omega (arith, the_put_space.ensures.end, space_length start.args.first, start.requires))
     (λ c. search rules)
     (λ c.
-    let the_put = c.before.before.put in
-    let the_put_space = c.before.before.before.before.before.before.before.put-space in
-    let the_if1 = c.before.before.before.before.before.before.before.before.before.before.if1 in
-    let the_if2 = c.before.before.before.before.before.before.before.before.before.if2 in
-    let x = c.before.before.before.before.before.before.before.before.before.before.before.before.before.args in (
+    let the_put = c.put in
+    let the_put_space = c.put_space-start in
+    let the_if1 = c.if-s-lt1 in
+    let the_if2 = c.if-is_open in
+    let x = c.args in (
       omega (arith, the_put.ensures.end, the_put_space.ensures.end, space_length x.first),
-      show_none_open x.is_open x.first x.s.now x.out.now x.at _ _ _ _ the_if1.true the_if2.true the_put_space.ensures
-          c.before.before.put.ensures,
+      show_none_open x.is_open x.first x.s.now x.out-1.now x.at _ _ _ _ the_if1.true the_if2.true the_put_space.ensures
+          c.put.ensures,
     ))
-    (λ c. let x = c.before.before.before.before.args in
-    (omega arith, show_none_closed x.is_open x.first x.s.now x.out.now x.at c.before.if1.true c.if2.false))
+    (λ c. let x = c.args in
+    (omega arith, show_none_closed x.is_open x.first x.s.now x.out-1.now x.at c.if-s-lt1.true c.if-is_open.false))
     (λ c κs. omega arith)
     (λ c κs.
-    let the_put_space2 = c.before.before.before.put-space2 in
+    let the_put_space2 = c.put_space-start-2 in
     let start = c.before.before.before.before.before.before.before.before in
     (omega arith, (omega arith, omega (arith, the_put_space2.ensures.end, space_length start.args.first, start.requires))))
     (λ c κs. omega arith)
@@ -90,24 +90,24 @@ pub +show-row-show-shape-spec : {M : Type 1} → statement M
     (λ c. omega arith)
     (λ c. search rules)
     (λ c κs.
-    let the_end_of = c.before.before.end_of_lem in
-    let the_if1 = c.before.before.before.before.before.before.before.before.before.before.before.if1 in
-    let the_show_shape = c.before.before.before.before.before.show-shape in
-    let the_put_space2 = c.before.before.before.before.before.before.before.before.before.put-space2 in
+    let the_end_of = c.end_of-e in
+    let the_if1 = c.if-s-lt1 in
+    let the_show_shape = c.show_shape-next in
+    let the_put_space2 = c.put_space-start-2 in
     let start = c.before.before.before.before.before.before.before.before.before.before.before.before.before.before in (
-      omega (arith, shapes_rest_falls start.args.s.now c.before.before.end_of_lem.result the_if1.false the_end_of.ensures.0),
-      omega (arith, c.before.before.end_of_lem.ensures, the_show_shape.ensures.0, the_put_space2.ensures.end, space_length start.args.first, start.requires),
+      omega (arith, shapes_rest_falls start.args.s.now c.end_of-e.result the_if1.false the_end_of.ensures.0),
+      omega (arith, c.end_of-e.ensures, the_show_shape.ensures.0, the_put_space2.ensures.end, space_length start.args.first, start.requires),
     ))
     (λ c. omega arith)
     (λ c.
-    let the_show_row = c.before.before.show-row in
-    let the_end_of = c.before.before.before.before.before.end_of_lem in
-    let the_show_shape = c.before.before.before.before.before.before.before.before.show-shape in
-    let the_put_space2 = c.before.before.before.before.before.before.before.before.before.before.before.before.put-space2 in
-    let the_if1 = c.before.before.before.before.before.before.before.before.before.before.before.before.before.before.if1 in
-    let x = c.before.before.before.before.before.before.before.before.before.before.before.before.before.before.before.before.before.args in (
+    let the_show_row = c.show_row in
+    let the_end_of = c.end_of-e in
+    let the_show_shape = c.show_shape-next in
+    let the_put_space2 = c.put_space-start-2 in
+    let the_if1 = c.if-s-lt1 in
+    let x = c.args in (
       omega (arith, the_show_row.ensures.0, the_end_of.ensures, the_show_shape.ensures.0, the_put_space2.ensures.end, space_length x.first),
-      show_some x.is_open x.first x.s.now x.out.now x.at _ _ _ _ _ _ _ the_if1.false the_end_of.ensures.0 the_put_space2.ensures
+      show_some x.is_open x.first x.s.now x.out-1.now x.at _ _ _ _ _ _ _ the_if1.false the_end_of.ensures.0 the_put_space2.ensures
           the_show_shape.ensures.1 the_show_row.ensures.1,
     )))
     λ t. show-shape-lts.spec (
@@ -137,44 +137,44 @@ pub +show-row-show-shape-spec : {M : Type 1} → statement M
     (λ c. omega arith)
     (λ c. search rules)
     (λ c κs. search rules)
-    (λ c κs. let the_end_of = c.before.before.before.before.before.before.before.before.before.before.end_of_lem in
-    let the_put = c.before.before.before.before.before.put in
+    (λ c κs. let the_end_of = c.end_of-e in
+    let the_put = c.put in
     let start = c.before.before.before.before.before.before.before.before.before.before.before.before.before.before in (
       omega (arith, shapes_contents_falls start.args.s.now the_end_of.result start.requires.1.0 the_end_of.ensures.0),
       omega (arith, the_end_of.ensures, the_put.ensures.end, start.requires),
     ))
     (λ c. search rules)
     (λ c κs.
-    let the_show_row = c.before.before.before.before.show-row in
-    let the_end_of = c.before.before.before.before.before.before.before.before.before.before.before.before.before.before.before.end_of_lem in
-    let the_put = c.before.before.before.before.before.before.before.before.before.before.put in
-    let the_pre = c.before.before.before.before.before.before.before.before.before.before.before.before.before.before.before.before.before.before.before.requires in
+    let the_show_row = c.show_row in
+    let the_end_of = c.end_of-e in
+    let the_put = c.put in
+    let the_pre = c.requires in
     omega (arith, the_show_row.ensures.0, the_end_of.ensures, the_put.ensures.end, the_pre))
     (λ c. search rules)
     (λ c.
-    let the_put2 = c.before.before.put2 in
-    let the_show_row = c.before.before.before.before.before.before.before.show-row in
-    let the_end_of = c.before.before.before.before.before.before.before.before.before.before.before.before.before.before.before.before.before.before.end_of_lem in
-    let the_put = c.before.before.before.before.before.before.before.before.before.before.before.before.before.put in
-    let the_is_bracket = c.before.before.before.before.before.before.before.before.before.before.before.before.before.before.before.before.before.is_bracket in
-    let the_if1 = c.before.before.before.before.before.before.before.before.before.before.before.before.before.before.before.before.if1 in
-    let the_inside_open = c.before.before.before.before.before.before.before.before.before.inside-open in
-    let x = c.before.before.before.before.before.before.before.before.before.before.before.before.before.before.before.before.before.before.before.before.before.before.args in (
+    let the_put2 = c.put in
+    let the_show_row = c.show_row in
+    let the_end_of = c.end_of-e in
+    let the_put = c.put in
+    let the_is_bracket = c.is_bracket in
+    let the_if1 = c.if-s-lt1 in
+    let the_inside_open = c.inside_open in
+    let x = c.args in (
       omega (arith, the_put2.ensures.end, the_show_row.ensures.0, the_end_of.ensures, the_put.ensures.end),
-      show_bracket x.s.now _ the_is_bracket.ensures x.out.now x.at _ _ _ _ _ _ _ _ the_if1.true the_inside_open.ensures
-          the_end_of.ensures.0 the_put.ensures the_show_row.ensures.1 c.before.before.put2.ensures,
+      show_bracket x.s.now _ the_is_bracket.ensures x.out-1.now x.at _ _ _ _ _ _ _ _ the_if1.true the_inside_open.ensures
+          the_end_of.ensures.0 the_put.ensures the_show_row.ensures.1 c.put.ensures,
     ))
     (λ c κs. search rules)
     (λ c κs. omega arith)
     (λ c. search rules)
     (λ c.
-    let the_leaf_byte = c.before.before.before.before.leaf-byte in
-    let the_put_byte = c.before.before.put_byte in
-    let the_pre = c.before.before.before.before.before.before.before.before.before.before.before.requires in
-    let the_is_bracket = c.before.before.before.before.before.before.is_bracket in
-    let the_if1 = c.before.before.before.before.before.if1 in
-    let x = c.before.before.before.before.before.before.before.before.before.before.before.args in (
+    let the_leaf_byte = c.leaf_byte in
+    let the_put_byte = c.put_byte in
+    let the_pre = c.requires in
+    let the_is_bracket = c.is_bracket in
+    let the_if1 = c.if-s-lt1 in
+    let x = c.args in (
       omega (arith, the_put_byte.ensures.end, shapes_end_low x.s.now the_pre.1.0),
-      show_leaf x.s.now _ the_is_bracket.ensures x.out.now x.at _ _ _ the_if1.false the_leaf_byte.ensures
-          c.before.before.put_byte.ensures,
+      show_leaf x.s.now _ the_is_bracket.ensures x.out-1.now x.at _ _ _ the_if1.false the_leaf_byte.ensures
+          c.put_byte.ensures,
     ))

@@ -6,9 +6,9 @@ use Rattle.shapes.proofs.display.put_space.Tie as tie
 
 pub put_space_spec : {M : Type 1} → statement M
 put_space_spec = tie.close (tie.spec
-    (λ c. let x = c.before.before.args in rw c.if1.true (put_none x.out.now x.at))
+    (λ c. let x = c.args in rw c.if-first.true (put_none x.out-1.now x.at))
     (λ c κs. search rules)
     (λ c. search rules)
     (λ c.
-    let the_if1 = c.before.before.before.before.if1 in
-    rw the_if1.false c.before.before.put_byte.ensures))
+    let the_if1 = c.if-first in
+    rw the_if1.false c.put_byte.ensures))

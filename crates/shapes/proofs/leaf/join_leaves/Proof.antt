@@ -6,15 +6,15 @@ use Rattle.shapes.proofs.leaf.join_leaves.Tie as tie
 
 pub join_leaves_spec : {M : Type 1} → statement M
 join_leaves_spec = tie.close (tie.spec
-    (λ c. simp (le-leb _ _ c.if1.true) at (leaves_join c.before.args.x c.before.args.y))
+    (λ c. simp (le-leb _ _ c.if-x-ge-UNKNOWN.true) at (leaves_join c.args.x c.args.y))
     (λ c.
     let start = c.before.before in
-    simp (lt-leb _ _ c.before.if1.false, le-leb _ _ c.if2.true) at (leaves_join start.args.x start.args.y))
+    simp (lt-leb _ _ c.if-x-ge-UNKNOWN.false, le-leb _ _ c.if-y-ge-UNKNOWN.true) at (leaves_join start.args.x start.args.y))
     (λ c.
     let start = c.before.before.before in
-    simp (lt-leb _ _ c.before.before.if1.false, lt-leb _ _ c.before.if2.false, eq-eqb _ _ c.if3.true) at
+    simp (lt-leb _ _ c.if-x-ge-UNKNOWN.false, lt-leb _ _ c.if-y-ge-UNKNOWN.false, eq-eqb _ _ c.if-x-y.true) at
     (leaves_join start.args.x start.args.y))
     (λ c.
     let start = c.before.before.before in
-    simp (lt-leb _ _ c.before.before.if1.false, lt-leb _ _ c.before.if2.false, ne_eqb _ _ c.if3.false) at
+    simp (lt-leb _ _ c.if-x-ge-UNKNOWN.false, lt-leb _ _ c.if-y-ge-UNKNOWN.false, ne_eqb _ _ c.if-x-y.false) at
     (leaves_join start.args.x start.args.y)))

@@ -6,10 +6,10 @@ use Rattle.shapes.proofs.leaf.leaves_apart.Tie as tie
 
 pub leaves_apart_spec : {M : Type 1} → statement M
 leaves_apart_spec = tie.close (tie.spec
-    (λ c. simp (le-leb _ _ c.if1.true) at (leaves_apart_lem c.before.args.x c.before.args.y))
+    (λ c. simp (le-leb _ _ c.if-x-ge-SYMBOL.true) at (leaves_apart_lem c.args.x c.args.y))
     (λ c.
     let start = c.before.before in
-    simp (lt-leb _ _ c.before.if1.false, le-leb _ _ c.if2.true) at (leaves_apart_lem start.args.x start.args.y))
+    simp (lt-leb _ _ c.if-x-ge-SYMBOL.false, le-leb _ _ c.if-y-ge-SYMBOL.true) at (leaves_apart_lem start.args.x start.args.y))
     (λ c.
     let start = c.before.before in
-    simp (lt-leb _ _ c.before.if1.false, lt-leb _ _ c.if2.false) at (leaves_apart_lem start.args.x start.args.y)))
+    simp (lt-leb _ _ c.if-x-ge-SYMBOL.false, lt-leb _ _ c.if-y-ge-SYMBOL.false) at (leaves_apart_lem start.args.x start.args.y)))

@@ -8,6 +8,6 @@ goes_on_spec =
     tie.close
     (tie.spec
     (λ c κs. search rules)
-    (λ c. rw c.before.if1.true c.digit-byte.ensures)
+    (λ c. rw c.if-digits.true c.digit_byte.ensures)
     (λ c κs. search rules)
-    (λ c. rw c.before.if1.false c.name-byte.ensures))
+    (λ c. rw c.if-digits.false c.name_byte.ensures))

@@ -6,10 +6,10 @@ use Rattle.tokens.proofs.atoms.identifier_or_variable.Statement.{statement}
 use Rattle.tokens.proofs.atoms.identifier_or_variable.Tie as tie
 
 -- the start, from where the letter is asked for its kind; where it was asked, from where an index is looked for
-abbrev start : tie.After-variable-kind → tie.Start
+abbrev start : tie.After-variable_kind-kind → tie.Start
 start c = c.before.before.before
 
-abbrev asked : tie.After-index-length → tie.After-variable-kind
+abbrev asked : tie.After-index_length-n → tie.After-variable_kind-kind
 asked c = c.before.before
 
 pub identifier_or_variable_spec : {M : Type 1} → statement M
@@ -23,8 +23,8 @@ identifier_or_variable_spec =
     (λ c.
     let kind = c.before.before in
     let begun = start kind in
-    let end = c.leading-end.ensures in (
-      identifier_plain begun.args.text.now begun.args.at begun.pre.0 begun.pre.1 kind.variable_kind.ensures c.before.if1.true end.0,
+    let end = c.leading_end.ensures in (
+      identifier_plain begun.args.text.now begun.args.at begun.requires.0 begun.requires.1 kind.variable_kind-kind.ensures c.if-kind-eq0.true end.0,
       (omega (arith, end.0), end.1),
     ))
     (λ c κs. search rules)
@@ -32,17 +32,17 @@ identifier_or_variable_spec =
     (λ c.
     let index = c.before.before in
     let begun = start (asked index) in
-    let end = c.leading-end2.ensures in (
-      identifier_short begun.args.text.now begun.args.at begun.pre.0 begun.pre.1 index.index-length.ensures.0 c.before.if2.true end.0,
+    let end = c.leading_end-then-n-eq0.ensures in (
+      identifier_short begun.args.text.now begun.args.at begun.requires.0 begun.requires.1 index.index_length-n.ensures.0 c.if-n-eq0.true end.0,
       (omega (arith, end.0), end.1),
     ))
     (λ c. search rules)
-    (λ c. omega (arith, c.before.index-length.ensures.1 c.if2.false))
+    (λ c. omega (arith, c.index_length-n.ensures.1 c.if-n-eq0.false))
     (λ c.
     let index = c.before in
     let kind = asked index in
     let begun = start kind in
-    let letter = index.before.if1.false in (
-      variable_found begun.args.text.now begun.args.at begun.pre.0 begun.pre.1 kind.variable_kind.ensures letter index.index-length.ensures.0 c.if2.false,
-      (kind_numbered_lem begun.args.text.now begun.args.at kind.variable_kind.ensures letter, omega arith, omega (arith, index.index-length.ensures.1 c.if2.false)),
+    let letter = index.if-kind-eq0.false in (
+      variable_found begun.args.text.now begun.args.at begun.requires.0 begun.requires.1 kind.variable_kind-kind.ensures letter index.index_length-n.ensures.0 c.if-n-eq0.false,
+      (kind_numbered_lem begun.args.text.now begun.args.at kind.variable_kind-kind.ensures letter, omega arith, omega (arith, index.index_length-n.ensures.1 c.if-n-eq0.false)),
     )))

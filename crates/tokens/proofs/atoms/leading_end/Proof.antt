@@ -9,10 +9,10 @@ use Rattle.tokens.proofs.AtomLaws.{LeadingTo, leading_start, leading_next, leadi
 use Rattle.tokens.proofs.atoms.leading_end.Statement.{statement}
 use Rattle.tokens.proofs.atoms.leading_end.Tie as tie
 
-abbrev invariant_loop : tie.invariant_loop
+abbrev invariant_loop : tie.invariant-loop-i
 invariant_loop digits text at i₀ i = LeadingTo (goes_on digits) text at i
 
-abbrev decreases_loop : tie.decreases_loop
+abbrev decreases_loop : tie.decreases-loop-i
 decreases_loop digits text at i₀ i = length text - i
 
 pub leading_end_spec : {M : Type 1} → statement M
@@ -21,15 +21,15 @@ leading_end_spec =
     (tie.spec
     invariant_loop
     decreases_loop
-    (λ c. leading_start (goes_on c.before.args.digits) c.before.args.text.now c.before.args.at (search rules))
+    (λ c. leading_start (goes_on c.args.digits) c.args.text.now c.args.at (search rules))
     (λ c. omega arith)
     (λ c κs. search rules)
     (λ c.
-    let the_loop = c.before.before.before.before.loop in
-    leading_stops the_loop.invariant (omega arith) c.before.goes_on.ensures (not-true _ c.if1.true))
+    let the_loop = c.loop-i in
+    leading_stops the_loop.invariant (omega arith) c.goes_on.ensures c.if-not-goes_on.true)
     (λ c. omega arith)
     (λ c. omega arith)
     (λ c.
-    let the_loop = c.before.before.before.before.loop in
-    leading_next the_loop.invariant (omega arith) c.before.goes_on.ensures (not-false _ c.if1.false))
-    (λ c. leading_ends c.before.loop.invariant c.loop-test.false))
+    let the_loop = c.loop-i in
+    leading_next the_loop.invariant (omega arith) c.goes_on.ensures c.if-not-goes_on.false)
+    (λ c. leading_ends c.loop-i.invariant c.loop-i-test.false))

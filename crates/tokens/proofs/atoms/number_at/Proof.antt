@@ -13,6 +13,6 @@ number_at_spec =
     (λ c κs. search rules)
     (λ c.
     let begun = c.before.before in (
-      number_found begun.args.text.now begun.args.at begun.requires.0 begun.requires.1 c.leading-end.ensures.0,
-      (omega (arith, c.leading-end.ensures.0), c.leading-end.ensures.1),
+      number_found begun.args.text.now begun.args.at begun.requires.0 begun.requires.1 c.leading_end.ensures.0,
+      (omega (arith, c.leading_end.ensures.0), c.leading_end.ensures.1),
     )))

@@ -7,7 +7,7 @@ pub variable_kind_spec : {M : Type 1} → statement M
 variable_kind_spec =
     tie.close
     (tie.spec
-    (λ c. simp (eq-eqb _ _ c.if1.true))
-    (λ c. simp (ne_eqb _ _ c.before.if1.false, eq-eqb _ _ c.if2.true))
-    (λ c. simp (ne_eqb _ _ c.before.before.if1.false, ne_eqb _ _ c.before.if2.false, eq-eqb _ _ c.if3.true))
-    (λ c. simp (ne_eqb _ _ c.before.before.if1.false, ne_eqb _ _ c.before.if2.false, ne_eqb _ _ c.if3.false)))
+    (λ c. simp (eq-eqb _ _ c.if-c-eq115.true))
+    (λ c. simp (ne_eqb _ _ c.if-c-eq115.false, eq-eqb _ _ c.if-c-eq116.true))
+    (λ c. simp (ne_eqb _ _ c.if-c-eq115.false, ne_eqb _ _ c.if-c-eq116.false, eq-eqb _ _ c.if-c-eq101.true))
+    (λ c. simp (ne_eqb _ _ c.if-c-eq115.false, ne_eqb _ _ c.if-c-eq116.false, ne_eqb _ _ c.if-c-eq101.false)))

@@ -11,8 +11,8 @@ byte_at_spec =
     tie.close
     (tie.spec
     (λ c.
-    let the_args = c.before.before.args in
-    (sym (get_or-eq_default the_args.text.now 0 c.if1.true), omega arith))
+    let the_args = c.args in
+    (sym (get_or-eq_default the_args.text.now 0 c.if-at-text.true), omega arith))
     (λ c. search rules)
     (λ c κs. search rules)
     (λ c. search rules))

@@ -11,10 +11,10 @@ use Rattle.tokens.proofs.characters.character_at.Statement.{statement}
 use Rattle.tokens.proofs.characters.character_at.Tie as tie
 
 -- the start, from where the character is guessed; where it was guessed, from where its bytes are looked for
-abbrev start : tie.After-guess-character → tie.Start
+abbrev start : tie.After-guess_character-c → tie.Start
 start c = c.before.before
 
-abbrev guessed : tie.After-stands → tie.After-guess-character
+abbrev guessed : tie.After-stands → tie.After-guess_character-c
 guessed c = c.before.before.before
 
 -- the bytes that are looked at
@@ -29,14 +29,14 @@ character_at_spec =
     (λ c κs. search rules)
     (λ c.
     let the_guess = c.before.before in
-    no_scalar (bytes (start the_guess)) the_guess.guess-character.ensures c.before.scalar-allowed.ensures (not-true _ c.if1.true))
-    (λ c κs. (search rules, scalar_bound c.before.before.guess-character.result (sym c.before.scalar-allowed.ensures ∙ not-false _ c.if1.false)))
+    no_scalar (bytes (start the_guess)) the_guess.guess_character-c.ensures c.scalar_allowed.ensures c.if-not-scalar_allowed.true)
+    (λ c κs. (search rules, scalar_bound c.guess_character-c.result (sym c.scalar_allowed.ensures ∙ c.if-not-scalar_allowed.false)))
     (λ c.
     let the_guess = guessed c.before in
-    not_standing (bytes (start the_guess)) the_guess.guess-character.ensures c.before.stands.ensures (not-true _ c.if2.true))
+    not_standing (bytes (start the_guess)) the_guess.guess_character-c.ensures c.stands.ensures c.if-not-stands.true)
     (λ c κs. search rules)
     (λ c.
     let looked = c.before.before in
     let the_guess = guessed looked in
-    whole_character (bytes (start the_guess)) the_guess.guess-character.ensures looked.before.before.scalar-allowed.ensures (not-false _ looked.before.if1.false)
-    looked.stands.ensures (not-false _ c.before.if2.false) c.width.ensures))
+    whole_character (bytes (start the_guess)) the_guess.guess_character-c.ensures looked.scalar_allowed.ensures looked.if-not-scalar_allowed.false
+    looked.stands.ensures c.if-not-stands.false c.width.ensures))

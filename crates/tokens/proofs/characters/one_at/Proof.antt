@@ -9,7 +9,7 @@ pub one_at_spec : {M : Type 1} → statement M
 one_at_spec =
     tie.close
     (tie.spec
-    (λ c. let x = c.before.before.args in byte_past x.text.now x.at x.a c.if1.true)
+    (λ c. let x = c.args in byte_past x.text.now x.at x.a c.if-at-text.true)
     (λ c. search rules)
     (λ c κs. search rules)
-    (λ c. let x = c.before.before.before.before.args in byte_same x.text.now x.at x.a (omega arith) c.wide.ensures.0))
+    (λ c. let x = c.args in byte_same x.text.now x.at x.a (omega arith) c.wide.ensures.0))

@@ -9,27 +9,27 @@ stands_spec =
     tie.close
     (tie.spec
     (λ c κs. search rules)
-    (λ c. let x = c.before.before.before.args in rw (utf8_one x.c c.before.if1.true) c.one_at.ensures)
+    (λ c. let x = c.args in rw (utf8_one x.c c.if-c-lt128.true) c.one_at.ensures)
     (λ c. search rules)
     (λ c. search rules)
     (λ c κs. search rules)
     (λ c.
     let under = c.before.before in
-    rw (utf8_two under.before.before.args.c under.if1.false c.before.if2.true) c.two_at.ensures)
-    (λ c. search rules)
-    (λ c. search rules)
-    (λ c. search rules)
-    (λ c κs. search rules)
-    (λ c.
-    let under = c.before.before in
-    let x = under.before.before.before.args in
-    rw (utf8_three x.c under.if2.false c.before.if3.true) c.three-at.ensures)
-    (λ c. search rules)
+    rw (utf8_two under.args.c under.if-c-lt128.false c.if-c-lt2048.true) c.two_at.ensures)
     (λ c. search rules)
     (λ c. search rules)
     (λ c. search rules)
     (λ c κs. search rules)
     (λ c.
     let under = c.before.before in
-    let x = under.before.before.before.args in
-    rw (utf8_four x.c c.before.if3.false) c.four-at.ensures))
+    let x = under.args in
+    rw (utf8_three x.c under.if-c-lt2048.false c.if-c-lt65536.true) c.three_at.ensures)
+    (λ c. search rules)
+    (λ c. search rules)
+    (λ c. search rules)
+    (λ c. search rules)
+    (λ c κs. search rules)
+    (λ c.
+    let under = c.before.before in
+    let x = under.args in
+    rw (utf8_four x.c c.if-c-lt65536.false) c.four_at.ensures))

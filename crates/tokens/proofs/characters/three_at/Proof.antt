@@ -14,6 +14,6 @@ three_at_spec =
     (λ c κs. search rules)
     (λ c.
     let first = c.before.before in
-    let x = first.before.before.args in
-    first_same x.text.now x.at x.a (x.b ∷ x.c ∷ []) first.one_at.ensures c.before.if1.true c.two_at.ensures)
-    (λ c. let x = c.before.before.before.args in first_differs x.text.now x.at x.a (x.b ∷ x.c ∷ []) c.before.one_at.ensures c.if1.false))
+    let x = first.args in
+    first_same x.text.now x.at x.a (x.b ∷ x.c ∷ []) first.one_at.ensures c.if-one_at.true c.two_at.ensures)
+    (λ c. let x = c.args in first_differs x.text.now x.at x.a (x.b ∷ x.c ∷ []) c.one_at.ensures c.if-one_at.false))

@@ -7,11 +7,11 @@ pub width_spec : {M : Type 1} → statement M
 width_spec =
     tie.close
     (tie.spec
-    (λ c. rw (utf8_one c.before.args.c c.if1.true))
-    (λ c. rw (utf8_two c.before.before.args.c c.before.if1.false c.if2.true))
+    (λ c. rw (utf8_one c.args.c c.if-c-lt128.true))
+    (λ c. rw (utf8_two c.args.c c.if-c-lt128.false c.if-c-lt2048.true))
     (λ c.
-    let the_args = c.before.before.before.args in
-    rw (utf8_three the_args.c c.before.if2.false c.if3.true))
+    let the_args = c.args in
+    rw (utf8_three the_args.c c.if-c-lt2048.false c.if-c-lt65536.true))
     (λ c.
-    let the_args = c.before.before.before.args in
-    rw (utf8_four the_args.c c.if3.false)))
+    let the_args = c.args in
+    rw (utf8_four the_args.c c.if-c-lt65536.false)))

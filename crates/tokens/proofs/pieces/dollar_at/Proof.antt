@@ -6,10 +6,10 @@ use Rattle.tokens.proofs.pieces.dollar_at.Statement.{statement}
 use Rattle.tokens.proofs.pieces.dollar_at.Tie as tie
 
 -- the start, from where each of the two is looked for
-abbrev start : tie.After-stands-at → tie.Start
+abbrev start : tie.After-stands_at → tie.Start
 start c = c.before.before.before
 
-abbrev first : tie.After-stands-at2 → tie.After-stands-at
+abbrev first : tie.After-stands_at-2 → tie.After-stands_at
 first c = c.before.before.before
 
 pub dollar_at_spec : {M : Type 1} → statement M
@@ -17,15 +17,15 @@ dollar_at_spec =
     tie.close
     (tie.spec
     (λ c. search rules)
-    (λ c κs. (c.before.before.requires.0, omega (arith, c.before.before.requires.1)))
+    (λ c κs. (c.requires.0, omega (arith, c.requires.1)))
     (λ c. omega arith)
-    (λ c. let begun = start c.before in entry_found begun.args.text.now begun.args.at c.before.stands_at.ensures c.if1.true)
+    (λ c. let begun = start c.before in entry_found begun.args.text.now begun.args.at c.stands_at.ensures c.if-stands_at.true)
     (λ c. search rules)
-    (λ c κs. let begun = start c.before.before in (begun.pre.0, omega (arith, begun.pre.1)))
+    (λ c κs. let begun = start c.before.before in (begun.requires.0, omega (arith, begun.requires.1)))
     (λ c. omega arith)
-    (λ c. let begun = start (first c.before) in extern_found begun.args.text.now begun.args.at c.before.stands-at2.ensures c.if2.true)
+    (λ c. let begun = start (first c.before) in extern_found begun.args.text.now begun.args.at c.stands_at-2.ensures c.if-stands_at-2.true)
     (λ c.
-    let the_if1 = c.before.before.before.if1 in
+    let the_if1 = c.if-stands_at in
     let entry = first c.before in
     let begun = start entry in
-    dollar_none begun.args.text.now begun.args.at begun.pre.1 begun.pre.2 entry.stands_at.ensures the_if1.false c.before.stands-at2.ensures c.if2.false))
+    dollar_none begun.args.text.now begun.args.at begun.requires.1 begun.requires.2 entry.stands_at.ensures the_if1.false c.stands_at-2.ensures c.if-stands_at-2.false))

@@ -6,10 +6,10 @@ use Rattle.tokens.proofs.PieceLaws.{Among, among_start, among_found, among_next,
 use Rattle.tokens.proofs.pieces.one_of.Statement.{statement}
 use Rattle.tokens.proofs.pieces.one_of.Tie as tie
 
-abbrev invariant_loop : tie.invariant_loop
+abbrev invariant_loop : tie.invariant-loop-i
 invariant_loop bytes c i₀ i = Among bytes c i
 
-abbrev decreases_loop : tie.decreases_loop
+abbrev decreases_loop : tie.decreases-loop-i
 decreases_loop bytes c i₀ i = length bytes - i
 
 pub one_of_spec : {M : Type 1} → statement M
@@ -21,11 +21,11 @@ one_of_spec =
     (λ c. among_start c.args.bytes.now c.args.c)
     (λ c. omega arith)
     (λ c.
-    let the_loop = c.before.before.before.loop in
-    among_found the_loop.invariant (omega arith) c.if1.true)
+    let the_loop = c.loop-i in
+    among_found the_loop.invariant (omega arith) c.if-c-bytes.true)
     (λ c. omega arith)
     (λ c. omega arith)
     (λ c.
-    let the_loop = c.before.before.before.loop in
-    among_next the_loop.invariant (omega arith) c.if1.false)
-    (λ c. among_end c.before.loop.invariant c.loop-test.false))
+    let the_loop = c.loop-i in
+    among_next the_loop.invariant (omega arith) c.if-c-bytes.false)
+    (λ c. among_end c.loop-i.invariant c.loop-i-test.false))

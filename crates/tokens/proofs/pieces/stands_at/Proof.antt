@@ -6,14 +6,14 @@ use Rattle.tokens.proofs.PieceLaws.{Standing, standing_start, standing_past, sta
 use Rattle.tokens.proofs.pieces.stands_at.Statement.{statement}
 use Rattle.tokens.proofs.pieces.stands_at.Tie as tie
 
-abbrev invariant_loop : tie.invariant_loop
+abbrev invariant_loop : tie.invariant-loop-i
 invariant_loop text at bytes i₀ i = Standing bytes text at i
 
-abbrev decreases_loop : tie.decreases_loop
+abbrev decreases_loop : tie.decreases-loop-i
 decreases_loop text at bytes i₀ i = length bytes - i
 
 -- the loop, from where two bytes are compared
-abbrev the_loop : tie.After-shared-slice-known2 invariant_loop decreases_loop → tie.At-loop invariant_loop decreases_loop
+abbrev the_loop : tie.After-shared_slice_known-in-loop-i-1 invariant_loop decreases_loop → tie.At-loop-i invariant_loop decreases_loop
 the_loop c = c.before.before.before.before
 
 pub stands_at_spec : {M : Type 1} → statement M
@@ -24,12 +24,12 @@ stands_at_spec =
     decreases_loop
     (λ c. standing_start c.args.bytes.now c.args.text.now c.args.at c.requires.1)
     (λ c. omega arith)
-    (λ c. standing_past c.before.before.loop.invariant c.before.loop-test.true c.if1.true)
+    (λ c. standing_past c.loop-i.invariant c.loop-i-test.true c.if-text-at.true)
     (λ c. omega arith)
     (λ c. omega arith)
     (λ c. omega arith)
-    (λ c. standing_differs (the_loop c.before).loop.inv (omega arith) (omega arith) c.if2.true)
+    (λ c. standing_differs (the_loop c.before).loop.inv (omega arith) (omega arith) c.if-bytes-i.true)
     (λ c. omega arith)
     (λ c. omega arith)
-    (λ c. standing_next (the_loop c.before).loop.inv (omega arith) (omega arith) c.if2.false)
-    (λ c. standing_end c.before.loop.invariant c.loop-test.false))
+    (λ c. standing_next (the_loop c.before).loop.inv (omega arith) (omega arith) c.if-bytes-i.false)
+    (λ c. standing_end c.loop-i.invariant c.loop-i-test.false))

@@ -7,14 +7,14 @@ use Rattle.writing.proofs.FoundLaws.{Counting, counting_start, counting_stop, co
 use Rattle.writing.proofs.arrays.count_kinds.Statement.{statement}
 use Rattle.writing.proofs.arrays.count_kinds.Tie as tie
 
-abbrev invariant_loop : tie.invariant_loop
+abbrev invariant_loop : tie.invariant-loop-i
 invariant_loop k stop from kinds n₀ i₀ n i = Counting k stop kinds from i n
 
-abbrev decreases_loop : tie.decreases_loop
+abbrev decreases_loop : tie.decreases-loop-i
 decreases_loop k stop from kinds n₀ i₀ n i = length kinds - i
 
 -- the loop, from where a kind was compared
-abbrev the_loop : tie.After-one-if invariant_loop decreases_loop → tie.At-loop invariant_loop decreases_loop
+abbrev the_loop : tie.After-one_if-n invariant_loop decreases_loop → tie.At-loop-i invariant_loop decreases_loop
 the_loop c = c.before.before.before.before.before
 
 pub count_kinds_spec : {M : Type 1} → statement M
@@ -23,15 +23,15 @@ count_kinds_spec =
     (tie.spec
     invariant_loop
     decreases_loop
-    (λ c. let x = c.before.args in counting_start x.k x.stop x.kinds.now x.from c.before.requires.0)
+    (λ c. let x = c.args in counting_start x.k x.stop x.kinds.now x.from c.requires.0)
     (λ c. omega arith)
     (λ c.
-    let the_loop = c.before.before.before.loop in
-    counting_stop the_loop.invariant (omega arith) c.if1.true)
+    let the_loop = c.loop-i in
+    counting_stop the_loop.invariant (omega arith) c.if-kinds-i.true)
     (λ c. omega arith)
     (λ c κs. search rules)
-    (λ c. omega (arith, (the_loop c).loop.invariant.few, c.one-if.ensures.1, (the_loop c).before.before.requires.1))
+    (λ c. omega (arith, (the_loop c).loop.invariant.few, c.one_if-n.ensures.1, (the_loop c).before.requires.1))
     (λ c. omega arith)
     (λ c. omega arith)
-    (λ c. counting_next (the_loop c).loop.invariant (omega arith) c.before.before.if1.false c.one-if.ensures.0 c.one-if.ensures.1)
-    (λ c. counting_end c.before.loop.invariant c.loop-test.false))
+    (λ c. counting_next (the_loop c).loop.invariant (omega arith) c.if-kinds-i.false c.one_if-n.ensures.0 c.one_if-n.ensures.1)
+    (λ c. counting_end c.loop-i.invariant c.loop-i-test.false))

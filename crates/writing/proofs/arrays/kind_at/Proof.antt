@@ -9,6 +9,6 @@ pub kind_at_spec : {M : Type 1} → statement M
 kind_at_spec =
     tie.close
     (tie.spec
-    (λ c. sym (get_or-eq_default c.before.args.kinds.now 0 c.if1.true))
+    (λ c. sym (get_or-eq_default c.args.kinds.now 0 c.if-i-kinds.true))
     (λ c. search rules)
     (λ c. search rules))

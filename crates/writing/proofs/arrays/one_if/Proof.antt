@@ -8,5 +8,5 @@ pub one_if_spec : {M : Type 1} → statement M
 one_if_spec =
     tie.close
     (tie.spec
-    (λ c. (simp (eq-eqb _ _ c.if1.true), omega arith))
-    (λ c. (simp (ne_eqb _ _ c.if1.false), omega arith)))
+    (λ c. (simp (eq-eqb _ _ c.if-a-b.true), omega arith))
+    (λ c. (simp (ne_eqb _ _ c.if-a-b.false), omega arith)))

@@ -7,6 +7,6 @@ pub within_after_spec : {M : Type 1} → statement M
 within_after_spec =
     tie.close
     (tie.spec
-    (λ c. simp (eq-eqb _ _ c.if1.true))
-    (λ c. simp (ne_eqb _ _ c.before.if1.false, eq-eqb _ _ c.if2.true))
-    (λ c. simp (ne_eqb _ _ c.before.if1.false, ne_eqb _ _ c.if2.false)))
+    (λ c. simp (eq-eqb _ _ c.if-k-eq123.true))
+    (λ c. simp (ne_eqb _ _ c.if-k-eq123.false, eq-eqb _ _ c.if-k-eq125.true))
+    (λ c. simp (ne_eqb _ _ c.if-k-eq123.false, ne_eqb _ _ c.if-k-eq125.false)))

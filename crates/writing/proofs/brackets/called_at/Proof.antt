@@ -12,5 +12,5 @@ called_at_spec =
     (λ c. search rules)
     (λ c. search rules)
     (λ c.
-    let the_args = c.before.before.args in
-    called_here the_args.kinds.now c.before.if1.false))
+    let the_args = c.args in
+    called_here the_args.kinds.now c.if-i-eq0.false))

@@ -10,12 +10,12 @@ pub closer_at_spec : {M : Type 1} → statement M
 closer_at_spec =
     tie.close
     (tie.spec
-    (λ c. let start = c.before.before in (omega (arith, start.requires), held_past start.args.closers.now start.args.end c.if1.true))
+    (λ c. let start = c.before.before in (omega (arith, start.requires), held_past start.args.closers.now start.args.end c.if-i-end.true))
     (λ c κs. search rules)
     (λ c κs. search rules)
     (λ c.
-    let found = c.before.short-at in
+    let found = c.short_at in
     let start = c.before.before.before.before in (
       omega (arith, c.index.ensures, found.ensures.1),
-      held_inside start.args.closers.now start.args.end (omega (arith, c.before.before.if1.false)) (c.index.ensures ∙ found.ensures.0),
+      held_inside start.args.closers.now start.args.end (omega (arith, c.if-i-end.false)) (c.index.ensures ∙ found.ensures.0),
     )))

@@ -14,7 +14,7 @@ closer_before_spec =
     (λ c.
     let start = c.before.before.before in (
       omega (arith, start.requires.0, start.requires.1),
-      λ kinds size is h. closer_here kinds (omega (arith, start.requires.1, size)) is (sym c.before.closes-term.ensures ∙ c.if1.true),
+      λ kinds size is h. closer_here kinds (omega (arith, start.requires.1, size)) is (sym c.closes_term.ensures ∙ c.if-closes_term.true),
     ))
     (λ c. search rules)
     (λ c κs. search rules)
@@ -26,18 +26,18 @@ closer_before_spec =
     let inner = opened.before in
     let tested = inner.before in
     let start = tested.before.before.before in (
-      c.closer-at2.ensures.0,
+      c.closer_at.ensures.0,
       λ kinds size is h. closer_open kinds (omega (arith, start.requires.1, size)) is start.args.closers.now
-          {inner = inner.closer-at.result} (sym tested.before.closes-term.ensures ∙ tested.if1.false) h
-          (rw size inner.closer-at.ensures.1) (sym opened.opens-term.ensures ∙ c.before.if2.true) (rw size c.closer-at2.ensures.1),
+          {inner = inner.closer_at-inner.result} (sym tested.closes_term.ensures ∙ tested.if-closes_term.false) h
+          (rw size inner.closer_at-inner.ensures.1) (sym opened.opens_term.ensures ∙ c.if-opens_term.true) (rw size c.closer_at.ensures.1),
     ))
     (λ c.
     let opened = c.before in
     let inner = opened.before in
     let tested = inner.before in
     let start = tested.before.before.before in (
-      inner.closer-at.ensures.0,
+      inner.closer_at-inner.ensures.0,
       λ kinds size is h. closer_plain kinds (omega (arith, start.requires.1, size)) is start.args.closers.now
-          {inner = inner.closer-at.result} (sym tested.before.closes-term.ensures ∙ tested.if1.false) h
-          (rw size inner.closer-at.ensures.1) (sym opened.opens-term.ensures ∙ c.if2.false),
+          {inner = inner.closer_at-inner.result} (sym tested.closes_term.ensures ∙ tested.if-closes_term.false) h
+          (rw size inner.closer_at-inner.ensures.1) (sym opened.opens_term.ensures ∙ c.if-opens_term.false),
     )))

@@ -8,5 +8,5 @@ pub closes_term_spec : {M : Type 1} → statement M
 closes_term_spec =
     tie.close
     (tie.spec
-    (λ c. simp (eq-eqb _ _ c.if1.true))
-    (λ c. closes_other c.before.args.k c.if1.false))
+    (λ c. simp (eq-eqb _ _ c.if-k-eq41.true))
+    (λ c. closes_other c.args.k c.if-k-eq41.false))

@@ -9,17 +9,17 @@ use Rattle.writing.proofs.CloserLaws.{from_end, from_set}
 use Rattle.writing.proofs.brackets.find_closers.Statement.{statement}
 use Rattle.writing.proofs.brackets.find_closers.Tie as tie
 
-abbrev invariant_loop : tie.invariant_loop
+abbrev invariant_loop : tie.invariant-loop-i
 invariant_loop kinds closers₀ i₀ closers i = (i ≤ length kinds) × (length closers ≡ length closers₀) × ClosedFrom i kinds closers
 
-abbrev decreases_loop : tie.decreases_loop
+abbrev decreases_loop : tie.decreases-loop-i
 decreases_loop kinds closers₀ i₀ closers i = i
 
 -- the start, from the loop; the loop, from where a place is written
-abbrev start : tie.At-loop invariant_loop decreases_loop → tie.Start invariant_loop decreases_loop
+abbrev start : tie.At-loop-i invariant_loop decreases_loop → tie.Start invariant_loop decreases_loop
 start c = c.before.before.before
 
-abbrev the_loop : tie.After-short invariant_loop decreases_loop → tie.At-loop invariant_loop decreases_loop
+abbrev the_loop : tie.After-short invariant_loop decreases_loop → tie.At-loop-i invariant_loop decreases_loop
 the_loop c = c.before.before.before.before.before
 
 pub find_closers_spec : {M : Type 1} → statement M
@@ -29,14 +29,14 @@ find_closers_spec =
     invariant_loop
     decreases_loop
     (λ c.
-    let the_args = c.before.before.args in
+    let the_args = c.args in
     (omega arith, refl, from_end _ the_args.closers.now _))
     (λ c. omega arith)
     (λ c.
-    let the_loop = c.before.before.loop in
+    let the_loop = c.loop-i in
     omega (arith, the_loop.invariant.0))
     (λ c κs. let round = c.before.before.before in ((start round).requires.1, omega (arith, round.loop.invariant.0)))
-    (λ c κs. c.closer-before.ensures.0)
+    (λ c κs. c.closer_before-place.ensures.0)
     (λ c. search rules)
     (λ c. let round = the_loop c in omega (arith, round.loop.inv.0, round.loop.inv.1, (start round).pre.0))
     (λ c. omega arith)
@@ -44,11 +44,11 @@ find_closers_spec =
     let round = the_loop c in
     let inv = round.loop.inv in
     let begun = start round in
-    let found = c.before.closer-before.ensures.1 begun.args.kinds.now refl refl (λ j m l. inv.2 j (omega (arith, m)) l) in (
+    let found = c.closer_before-place.ensures.1 begun.args.kinds.now refl refl (λ j m l. inv.2 j (omega (arith, m)) l) in (
       omega (arith, inv.0),
       length-set round.loop.closers _ _ ∙ inv.1,
-      from_set round.loop.closers (closer_of begun.args.kinds.now) (omega arith) (omega (arith, inv.0, inv.1, begun.pre.0))
+      from_set round.loop.closers (closer_of begun.args.kinds.now) (omega arith) (omega (arith, inv.0, inv.1, begun.requires.0))
           (c.short.ensures ∙ found) inv.2,
     ))
-    (λ c. c.before.loop.invariant.1)
-    (λ c j m l. c.before.loop.invariant.2 j (omega arith) l))
+    (λ c. c.loop-i.invariant.1)
+    (λ c j m l. c.loop-i.invariant.2 j (omega arith) l))

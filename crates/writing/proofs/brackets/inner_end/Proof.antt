@@ -12,4 +12,4 @@ inner_end_spec =
     (λ c κs. search rules)
     (λ c kinds starts sums ts size nested.
     let start = c.before.before.before.before in
-    inner_ends nested size start.requires.1 c.before.closer-at.ensures.1 c.short-at.ensures.0))
+    inner_ends nested size start.requires.1 c.closer_at.ensures.1 c.short_at.ensures.0))

@@ -14,5 +14,5 @@ inner_records_spec =
     (λ c κs. search rules)
     (λ c kinds starts ends ts size nested.
     let start = c.before.before.before.before.before.before in
-    let closer = c.before.before.before.closer-at in
-    inner_records nested size start.requires.2 closer.ensures.1 c.before.before.sum-at.ensures c.before.sum-at2.ensures c.less.ensures))
+    let closer = c.closer_at-close in
+    inner_records nested size start.requires.2 closer.ensures.1 c.sum_at.ensures c.sum_at-2.ensures c.less.ensures))

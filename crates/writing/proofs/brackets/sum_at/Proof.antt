@@ -10,7 +10,7 @@ pub sum_at_spec : {M : Type 1} → statement M
 sum_at_spec =
     tie.close
     (tie.spec
-    (λ c. let start = c.before in held_past start.args.sums.now 0 c.if1.true)
+    (λ c. let start = c.before in held_past start.args.sums.now 0 c.if-i-end.true)
     (λ c. search rules)
     (λ c. search rules)
-    (λ c. let start = c.before.before in held_inside start.args.sums.now 0 (omega (arith, c.before.if1.false)) refl))
+    (λ c. let start = c.before.before in held_inside start.args.sums.now 0 (omega (arith, c.if-i-end.false)) refl))

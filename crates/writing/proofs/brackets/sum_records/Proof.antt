@@ -12,20 +12,20 @@ use Rattle.writing.proofs.CloserLaws.{from_end, from_set, sum_end, sum_next}
 use Rattle.writing.proofs.brackets.sum_records.Statement.{statement}
 use Rattle.writing.proofs.brackets.sum_records.Tie as tie
 
-abbrev invariant_loop : tie.invariant_loop
+abbrev invariant_loop : tie.invariant-loop-i
 invariant_loop text kinds starts ends sums₀ sum₀ i₀ sums sum i =
     (i ≤ length kinds) × (sum ≤ 65536 * (length kinds - i)) × (length sums ≡ length sums₀)
     × ((ts : List Placed) → Held kinds starts ends ts → Stand text ts → (sum ≡ sum_of kinds ts i) × SummedFrom i kinds sums ts)
 
-abbrev decreases_loop : tie.decreases_loop
+abbrev decreases_loop : tie.decreases-loop-i
 decreases_loop text kinds starts ends sums₀ sum₀ i₀ sums sum i = i
 
 -- the loop, from where a number is written
-abbrev the_loop : tie.After-token-weight invariant_loop decreases_loop → tie.At-loop invariant_loop decreases_loop
+abbrev the_loop : tie.After-token_weight-sum invariant_loop decreases_loop → tie.At-loop-i invariant_loop decreases_loop
 the_loop c = c.before.before.before.before.before.before
 
 -- the call
-abbrev the_start : tie.At-loop invariant_loop decreases_loop → tie.Start invariant_loop decreases_loop
+abbrev the_start : tie.At-loop-i invariant_loop decreases_loop → tie.Start invariant_loop decreases_loop
 the_start c = c.before.before.before.before.before.before
 
 pub sum_records_spec : {M : Type 1} → statement M
@@ -35,37 +35,37 @@ sum_records_spec =
     invariant_loop
     decreases_loop
     (λ c.
-    let the_args = c.before.before.before.before.before.args in
+    let the_args = c.args in
     (omega arith, omega arith, refl, λ ts h st. (sum_end _ h, from_end _ the_args.sums.now _)))
     (λ c. omega arith)
-    (λ c κs. omega (arith, c.before.loop.invariant.0))
+    (λ c κs. omega (arith, c.loop-i.invariant.0))
     (λ c.
-    let the_loop = c.before.before.before.loop in
+    let the_loop = c.loop-i in
     omega (arith, the_loop.invariant.0))
     (λ c κs. search rules)
     (λ c κs. search rules)
-    (λ c κs. (c.before.short-at.ensures.1, c.short-at2.ensures.1))
-    (λ c. let round = the_loop c in omega (arith, round.loop.inv.0, round.loop.inv.1, c.token-weight.ensures.0, (the_start round).pre.1))
+    (λ c κs. (c.short_at.ensures.1, c.short_at-in-loop-i.ensures.1))
+    (λ c. let round = the_loop c in omega (arith, round.loop.inv.0, round.loop.inv.1, c.token_weight-sum.ensures.0, (the_start round).pre.1))
     (λ c. search rules)
     (λ c. let round = the_loop c in omega (arith, round.loop.inv.0, round.loop.inv.2, (the_start round).pre.0))
     (λ c. omega arith)
     (λ c.
-    let the_short_at = c.before.before.short-at in
+    let the_short_at = c.short_at in
     let round = the_loop c in
     let inv = round.loop.inv in
     let start = the_start round in
     let called = c.before.before.before.before in (
       omega (arith, inv.0),
-      omega (arith, inv.0, inv.1, c.token-weight.ensures.0),
+      omega (arith, inv.0, inv.1, c.token_weight-sum.ensures.0),
       length-set round.loop.sums _ _ ∙ inv.2,
       λ ts h st.
           let sum = sum_next h {i = round.loop.i} start.args.text.now (omega arith) (omega (arith, inv.0)) st the_short_at.ensures.0
-          c.before.short-at2.ensures.0 called.called_at.ensures
-          c.token-weight.ensures.1 (inv.3 ts h st).0 in (
+          c.short_at-in-loop-i.ensures.0 called.called_at-called.ensures
+          c.token_weight-sum.ensures.1 (inv.3 ts h st).0 in (
             sum,
-            from_set round.loop.sums (sum_of start.args.kinds.now ts) (omega arith) (omega (arith, inv.0, inv.2, start.pre.0))
+            from_set round.loop.sums (sum_of start.args.kinds.now ts) (omega arith) (omega (arith, inv.0, inv.2, start.requires.0))
                 sum (inv.3 ts h st).1,
           ),
     ))
-    (λ c. c.before.loop.invariant.2)
-    (λ c ts h st j m l. (c.before.loop.invariant.3 ts h st).1 j (omega arith) l))
+    (λ c. c.loop-i.invariant.2)
+    (λ c ts h st j m l. (c.loop-i.invariant.3 ts h st).1 j (omega arith) l))

@@ -8,5 +8,5 @@ pub begins_condition_spec : {M : Type 1} → statement M
 begins_condition_spec =
     tie.close
     (tie.spec
-    (λ c. let x = c.before.args in comma_outside x.inside x.k (not-true _ c.if1.true))
-    (λ c. let x = c.before.args in comma_inside x.inside x.k (not-false _ c.if1.false)))
+    (λ c. let x = c.args in comma_outside x.inside x.k c.if-not-inside.true)
+    (λ c. let x = c.args in comma_inside x.inside x.k c.if-not-inside.false))

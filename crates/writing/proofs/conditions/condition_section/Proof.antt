@@ -19,9 +19,9 @@ condition_section_spec =
     (λ c κs. search rules)
     (λ c. search rules)
     (λ c.
-    let count = c.before.before.put_word in
+    let count = c.put_word in
     let number = c.before.before.before.before in
-    let put = number.before.before.before.put-conditions in (
+    let put = number.put_conditions-end in (
       omega (arith, put.ensures.1),
-      λ ts h st. section_16 (flat_conditions false ts) (put.ensures.2 ts h st) count.ensures (conditions_length ts) number.word.ensures,
+      λ ts h st. section_16 (flat_conditions false ts) (put.ensures.2 ts h st) count.ensures (conditions_length ts) number.word-count.ensures,
     )))

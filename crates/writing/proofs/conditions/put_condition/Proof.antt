@@ -19,16 +19,16 @@ put_condition_spec =
       omega arith,
       omega arith,
       λ ts h st. put_no_record _ _
-          (condition_none h start.requires.1 start.args.inside begins.before.kind_at.ensures begins.begins-condition.ensures
-          (not-true _ c.if1.true)),
+          (condition_none h start.requires.1 start.args.inside begins.kind_at.ensures begins.begins_condition.ensures
+          c.if-not-begins_condition.true),
     ))
     (λ c. let start = c.before.before.before.before.before.before.before.before in omega (arith, start.requires.1, start.requires.2))
     (λ c κs. let start = c.before.before.before.before.before.before.before.before in (omega (arith, start.requires.1, start.requires.2), start.requires.2))
     (λ c κs. let start = c.before.before.before.before.before.before.before.before.before in omega (arith, start.requires.1))
     (λ c. let start = c.before.before.before.before.before.before.before.before.before.before in
-    omega (arith, c.place_of.ensures.1, start.requires.2))
+    omega (arith, c.place_of-colon.ensures.1, start.requires.2))
     (λ c κs. let start = c.before.before.before.before.before.before.before.before.before.before in
-    (omega (arith, c.place_of.ensures.1, start.requires.2), start.requires.2))
+    (omega (arith, c.place_of-colon.ensures.1, start.requires.2), start.requires.2))
     (λ c κs. search rules)
     (λ c κs. search rules)
     (λ c κs. search rules)
@@ -36,7 +36,7 @@ put_condition_spec =
     start.requires.0)
     (λ c. search rules)
     (λ c.
-    let put = c.before.before.put_four in
+    let put = c.put_four in
     let end = c.before.before.before.before in
     let start = end.before.before in
     let pattern = start.before in
@@ -47,8 +47,8 @@ put_condition_spec =
       omega (arith, put.ensures.0),
       omega (arith, put.ensures.0),
       λ ts h st. put_record _
-          (condition_found h entry.requires.1 entry.args.inside begins.before.kind_at.ensures begins.begins-condition.ensures
-          (not-false _ result.before.if1.false) (result.part-records.ensures ts h st) colon.place_of.ensures.0
-          (pattern.part-records2.ensures ts h st) start.short-at.ensures.0 end.before.short-at2.ensures.0 (end.part_end.ensures _ ts h))
+          (condition_found h entry.requires.1 entry.args.inside begins.kind_at.ensures begins.begins_condition.ensures
+          result.if-not-begins_condition.false (result.part_records-result.ensures ts h st) colon.place_of-colon.ensures.0
+          (pattern.part_records-pattern.ensures ts h st) start.short_at-start.ensures.0 end.short_at.ensures.0 (end.part_end-end.ensures _ ts h))
           put.ensures.1,
     )))

@@ -14,12 +14,12 @@ use Rattle.writing.proofs.ConditionLaws.{conditions_step}
 use Rattle.writing.proofs.conditions.put_conditions.Statement.{statement}
 use Rattle.writing.proofs.conditions.put_conditions.Tie as tie
 
-abbrev invariant_loop : tie.invariant_loop
+abbrev invariant_loop : tie.invariant-loop-i
 invariant_loop text kinds starts ends out₀ at next₀ inside₀ i₀ out next inside i =
     Rounds (λ ts. Held kinds starts ends ts × Stand text ts) (flat_conditions false) (λ ts. flat_conditions inside (drop i ts))
     (length kinds) 16 out₀ at i next out
 
-abbrev decreases_loop : tie.decreases_loop
+abbrev decreases_loop : tie.decreases-loop-i
 decreases_loop text kinds starts ends out₀ at next₀ inside₀ i₀ out next inside i = length kinds - i
 
 pub put_conditions_spec : {M : Type 1} → statement M
@@ -32,7 +32,7 @@ put_conditions_spec =
     (λ c κs.
     let round = c.before.before in
     let inv = round.loop.invariant in
-    let asked = round.before.before.before.before.before.before.requires in
+    let asked = round.requires in
     (omega (arith, inv.high, asked.0, asked.1), omega arith, asked.1))
     (λ c. omega arith)
     (λ c κs. search rules)
@@ -40,15 +40,15 @@ put_conditions_spec =
     (λ c. omega arith)
     (λ c.
     let done = c.before.before.before.before in
-    let put = done.put-condition in
+    let put = done.put_condition-next in
     let out-kept = put.auto.1.1.1.1.1.1.0 in
-    let round = done.before.before.before.loop in
+    let round = done.loop-i in
     rounds_next round.invariant (λ ts. at_first (conditions_at round.inside) (drop round.i ts)) _ (omega arith) put.ensures.0 put.ensures.1 out-kept
-    (λ ts h. conditions_step h.0 round.inside round.i (omega arith) c.within-after.ensures)
+    (λ ts h. conditions_step h.0 round.inside round.i (omega arith) c.within_after-inside.ensures)
     (λ ts h. put.ensures.2 ts h.0 h.1))
     (λ c. search rules)
     (λ c.
-    let round = c.before.loop in
-    let asked = c.before.before.before.before.before.before.before.requires in
-    let ended = rounds_end round.invariant asked.1 (λ ts h. ap (flat_conditions round.inside) (none_left h.0 round.i c.loop-test.false)) in
+    let round = c.loop-i in
+    let asked = c.requires in
+    let ended = rounds_end round.invariant asked.1 (λ ts h. ap (flat_conditions round.inside) (none_left h.0 round.i c.loop-i-test.false)) in
     (ended.0, ended.1, λ ts h st. ended.2 ts (h, st))))

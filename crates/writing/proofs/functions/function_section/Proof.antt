@@ -18,9 +18,9 @@ function_section_spec =
     (λ c κs. search rules)
     (λ c. search rules)
     (λ c.
-    let count = c.before.before.put_word in
+    let count = c.put_word in
     let number = c.before.before.before.before in
-    let put = number.before.before.before.put-functions in (
+    let put = number.put_functions-end in (
       omega (arith, put.ensures.1),
-      λ ts h. section_20 (flat_functions ts) (put.ensures.2 ts h) count.ensures (functions_length ts) number.word.ensures,
+      λ ts h. section_20 (flat_functions ts) (put.ensures.2 ts h) count.ensures (functions_length ts) number.word-count.ensures,
     )))

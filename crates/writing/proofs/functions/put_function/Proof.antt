@@ -12,15 +12,15 @@ put_function_spec =
     (tie.spec
     (λ c κs. search rules)
     (λ c.
-    let named = c.before.kind_at in
+    let named = c.kind_at in
     let start = c.before.before.before.before.before.before in
-    (omega arith, omega arith, λ ts h. put_no_record _ _ (function_unnamed h start.requires.1 named.ensures c.if1.true)))
+    (omega arith, omega arith, λ ts h. put_no_record _ _ (function_unnamed h start.requires.1 named.ensures c.if-kind_at-ne1.true)))
     (λ c. let start = c.before.before.before.before.before.before in omega (arith, start.requires.2))
     (λ c κs. search rules)
     (λ c.
-    let named = c.before.before.before.kind_at in
+    let named = c.kind_at in
     let start = c.before.before.before.before.before.before.before.before in
-    (omega arith, omega arith, λ ts h. put_no_record _ _ (function_unopened h start.requires.1 named.ensures c.before.kind-at2.ensures c.if2.true)))
+    (omega arith, omega arith, λ ts h. put_no_record _ _ (function_unopened h start.requires.1 named.ensures c.kind_at-2.ensures c.if-kind_at-ne123.true)))
     (λ c κs. search rules)
     (λ c κs. search rules)
     (λ c κs. search rules)
@@ -32,7 +32,7 @@ put_function_spec =
     start.requires.0)
     (λ c. search rules)
     (λ c.
-    let put = c.before.before.put_five in
+    let put = c.put_five in
     let last = c.before.before.before.before in
     let place = last.before in
     let count = place.before in
@@ -45,8 +45,8 @@ put_function_spec =
       omega (arith, put.ensures.0),
       omega (arith, put.ensures.0),
       λ ts h. put_record _
-          (function_found h entry.requires.1 named.kind_at.ensures opened.kind-at2.ensures opened.before.if1.false start.before.if2.false
-          start.short-at.ensures.0
-          end.short-at2.ensures.0 size.less.ensures count.count-kinds.ensures place.place_of.ensures.0 last.short-at3.ensures.0)
+          (function_found h entry.requires.1 named.kind_at.ensures opened.kind_at-2.ensures opened.if-kind_at-ne1.false start.if-kind_at-ne123.false
+          start.short_at-start.ensures.0
+          end.short_at.ensures.0 size.less-size.ensures count.count_kinds-count.ensures place.place_of.ensures.0 last.short_at-end.ensures.0)
           put.ensures.1,
     )))

@@ -12,11 +12,11 @@ use Rattle.writing.proofs.FunctionLaws.{functions_step}
 use Rattle.writing.proofs.functions.put_functions.Statement.{statement}
 use Rattle.writing.proofs.functions.put_functions.Tie as tie
 
-abbrev invariant_loop : tie.invariant_loop
+abbrev invariant_loop : tie.invariant-loop-i
 invariant_loop kinds starts ends out₀ at next₀ i₀ out next i =
     Rounds (Held kinds starts ends) (flat_functions) (λ ts. flat_functions (drop i ts)) (length kinds) 20 out₀ at i next out
 
-abbrev decreases_loop : tie.decreases_loop
+abbrev decreases_loop : tie.decreases-loop-i
 decreases_loop kinds starts ends out₀ at next₀ i₀ out next i = length kinds - i
 
 pub put_functions_spec : {M : Type 1} → statement M
@@ -27,19 +27,19 @@ put_functions_spec =
     decreases_loop
     (λ c. rounds_start)
     (λ c κs.
-    let inv = c.before.before.loop.invariant in
-    let asked = c.before.before.before.before.before.before.before.requires in
+    let inv = c.loop-i.invariant in
+    let asked = c.requires in
     (omega (arith, inv.high, asked.0, asked.1), omega arith, asked.1))
     (λ c. omega arith)
     (λ c. omega arith)
     (λ c.
-    let round = c.before.before.before.before.before.loop in
-    let put = c.before.before.put_function in
+    let round = c.loop-i in
+    let put = c.put_function-next in
     let out-kept = put.auto.1.1.1.1.0 in
     rounds_next round.invariant (λ ts. at_first functions_at (drop round.i ts)) _ (omega arith) put.ensures.0 put.ensures.1 out-kept
     (λ ts h. functions_step h round.i (omega arith))
     put.ensures.2)
     (λ c. search rules)
     (λ c.
-    let asked = c.before.before.before.before.before.before.requires in
-    rounds_end c.before.loop.invariant asked.1 (λ ts h. ap flat_functions (none_left h _ c.loop-test.false))))
+    let asked = c.requires in
+    rounds_end c.loop-i.invariant asked.1 (λ ts h. ap flat_functions (none_left h _ c.loop-i-test.false))))

@@ -6,10 +6,10 @@ use Rattle.writing.proofs.CharacterLaws.{Starts, starts_begin, starts_next, star
 use Rattle.writing.proofs.parts.character_count.Statement.{statement}
 use Rattle.writing.proofs.parts.character_count.Tie as tie
 
-abbrev invariant_loop : tie.invariant_loop
+abbrev invariant_loop : tie.invariant-loop-i
 invariant_loop text from to n₀ i₀ n i = Starts text from to i n
 
-abbrev decreases_loop : tie.decreases_loop
+abbrev decreases_loop : tie.decreases-loop-i
 decreases_loop text from to n₀ i₀ n i = to - i
 
 pub character_count_spec : {M : Type 1} → statement M
@@ -18,16 +18,16 @@ character_count_spec =
     (tie.spec
     invariant_loop
     decreases_loop
-    (λ c. let x = c.before.args in starts_begin x.text.now x.from x.to c.before.requires.0)
-    (λ c. starts_past c.before.before.loop.invariant c.if1.true)
+    (λ c. let x = c.args in starts_begin x.text.now x.from x.to c.requires.0)
+    (λ c. starts_past c.loop-i.invariant c.if-i-text.true)
     (λ c. omega arith)
     (λ c κs. search rules)
-    (λ c. let inv = c.before.before.before.before.loop.invariant in omega (arith, inv.few, inv.low, c.start_here.ensures.1))
+    (λ c. let inv = c.loop-i.invariant in omega (arith, inv.few, inv.low, c.start_here-n.ensures.1))
     (λ c.
-    let the_loop = c.before.before.before.before.loop in
+    let the_loop = c.loop-i in
     omega (arith, the_loop.invariant.low))
     (λ c. omega arith)
     (λ c.
     let round = c.before.before.before.before in
-    starts_next round.loop.invariant round.before.before.requires.1 (omega arith) (omega arith) c.start_here.ensures.0 c.start_here.ensures.1)
-    (λ c. starts_end c.before.loop.invariant c.loop-test.false))
+    starts_next round.loop.invariant round.requires.1 (omega arith) (omega arith) c.start_here-n.ensures.0 c.start_here-n.ensures.1)
+    (λ c. starts_end c.loop-i.invariant c.loop-i-test.false))

@@ -12,11 +12,11 @@ use Rattle.writing.proofs.PartLaws.{end_stop, end_next, end_end}
 use Rattle.writing.proofs.parts.part_end.Statement.{statement}
 use Rattle.writing.proofs.parts.part_end.Tie as tie
 
-abbrev invariant_loop : tie.invariant_loop
+abbrev invariant_loop : tie.invariant-loop-i
 invariant_loop other from kinds ends end₀ i₀ end i =
     ((starts : List ℕ) (ts : List Placed) → Held kinds starts ends ts → part_end other (drop from ts) ≡ part_end end (drop i ts))
 
-abbrev decreases_loop : tie.decreases_loop
+abbrev decreases_loop : tie.decreases-loop-i
 decreases_loop other from kinds ends end₀ i₀ end i = length kinds - i
 
 pub part_end_spec : {M : Type 1} → statement M
@@ -28,11 +28,11 @@ part_end_spec =
     (λ c ss ts h. refl)
     (λ c. omega arith)
     (λ c κs. search rules)
-    (λ c ss ts h. let round = c.before.before.before.before.loop in
-    end_stop h (omega arith) c.before.parts-terms.ensures c.if1.true (round.invariant ss ts h))
+    (λ c ss ts h. let round = c.loop-i in
+    end_stop h (omega arith) c.parts_terms.ensures c.if-parts_terms.true (round.invariant ss ts h))
     (λ c κs. search rules)
     (λ c. omega arith)
     (λ c. omega arith)
-    (λ c ss ts h. let round = c.before.before.before.before.before.loop in
-    end_next h round.end (omega arith) c.before.before.parts-terms.ensures c.before.if1.false c.short-at.ensures.0 (round.invariant ss ts h))
-    (λ c ss ts h. end_end h c.loop-test.false (c.before.loop.invariant ss ts h)))
+    (λ c ss ts h. let round = c.loop-i in
+    end_next h round.end (omega arith) c.parts_terms.ensures c.if-parts_terms.false c.short_at-end.ensures.0 (round.invariant ss ts h))
+    (λ c ss ts h. end_end h c.loop-i-test.false (c.loop-i.invariant ss ts h)))

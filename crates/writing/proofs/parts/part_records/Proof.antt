@@ -14,19 +14,19 @@ use Rattle.writing.proofs.PartLaws.{records_stop, records_next, records_end}
 use Rattle.writing.proofs.parts.part_records.Statement.{statement}
 use Rattle.writing.proofs.parts.part_records.Tie as tie
 
-abbrev invariant_loop : tie.invariant_loop
+abbrev invariant_loop : tie.invariant-loop-i
 invariant_loop text kinds starts ends from n₀ calling₀ i₀ n calling i =
     (i ≤ 4097) × (n ≤ 65536 * i)
     × ((ts : List Placed) → Held kinds starts ends ts → Stand text ts → part_records inside (drop from ts) ≡ n + part_records (run_state calling) (drop i ts))
 
-abbrev decreases_loop : tie.decreases_loop
+abbrev decreases_loop : tie.decreases-loop-i
 decreases_loop text kinds starts ends from n₀ calling₀ i₀ n calling i = length kinds - i
 
 -- the start, from the loop; the loop, from where a token's records are counted
-abbrev start : tie.At-loop invariant_loop decreases_loop → tie.Start invariant_loop decreases_loop
+abbrev start : tie.At-loop-i invariant_loop decreases_loop → tie.Start invariant_loop decreases_loop
 start c = c.before.before.before.before.before
 
-abbrev the_loop : tie.After-token-weight invariant_loop decreases_loop → tie.At-loop invariant_loop decreases_loop
+abbrev the_loop : tie.After-token_weight-n invariant_loop decreases_loop → tie.At-loop-i invariant_loop decreases_loop
 the_loop c = c.before.before.before.before.before.before.before
 
 pub part_records_spec : {M : Type 1} → statement M
@@ -36,26 +36,26 @@ part_records_spec =
     invariant_loop
     decreases_loop
     (λ c.
-    let the_pre = c.before.before.before.before.requires in
+    let the_pre = c.requires in
     (the_pre.0, omega arith, λ ts h st. omega arith))
     (λ c. omega arith)
     (λ c κs. search rules)
-    (λ c. let round = c.before.before.before.before.loop in
-    λ ts h st. records_stop h round.calling (omega arith) c.before.parts-terms.ensures c.if1.true (round.invariant.2 ts h st))
+    (λ c. let round = c.loop-i in
+    λ ts h st. records_stop h round.calling (omega arith) c.parts_terms.ensures c.if-parts_terms.true (round.invariant.2 ts h st))
     (λ c κs. search rules)
     (λ c κs. search rules)
-    (λ c κs. (c.before.short-at.ensures.1, c.short-at2.ensures.1))
-    (λ c. let round = (the_loop c).loop in omega (arith, round.inv.0, round.inv.1, c.token-weight.ensures.0))
+    (λ c κs. (c.short_at.ensures.1, c.short_at-in-loop-i.ensures.1))
+    (λ c. let round = (the_loop c).loop in omega (arith, round.inv.0, round.inv.1, c.token_weight-n.ensures.0))
     (λ c. omega (arith, (the_loop c).loop.invariant.0))
     (λ c. omega arith)
     (λ c.
-    let the_short_at = c.before.before.short-at in
+    let the_short_at = c.short_at in
     let round = (the_loop c).loop in
     let begun = start (the_loop c) in
     let parted = c.before.before.before in (
-      omega (arith, begun.pre.1),
-      omega (arith, round.inv.1, c.token-weight.ensures.0),
-      λ ts h st. records_next h begun.args.text.now round.n round.calling st (omega arith) parted.before.parts-terms.ensures parted.if1.false
-          the_short_at.ensures.0 c.before.short-at2.ensures.0 c.token-weight.ensures.1 (round.inv.2 ts h st),
+      omega (arith, begun.requires.1),
+      omega (arith, round.inv.1, c.token_weight-n.ensures.0),
+      λ ts h st. records_next h begun.args.text.now round.n round.calling st (omega arith) parted.parts_terms.ensures parted.if-parts_terms.false
+          the_short_at.ensures.0 c.short_at-in-loop-i.ensures.0 c.token_weight-n.ensures.1 (round.inv.2 ts h st),
     ))
-    (λ c. let round = c.before.loop in λ ts h st. records_end h round.calling c.loop-test.false (round.invariant.2 ts h st)))
+    (λ c. let round = c.loop-i in λ ts h st. records_end h round.calling c.loop-i-test.false (round.invariant.2 ts h st)))

@@ -8,13 +8,13 @@ pub parts_terms_spec : {M : Type 1} → statement M
 parts_terms_spec =
     tie.close
     (tie.spec
-    (λ c. simp (eq-eqb _ _ c.if1.true))
-    (λ c. simp (ne_eqb _ _ c.before.if1.false, eq-eqb _ _ c.if2.true))
-    (λ c. simp (ne_eqb _ _ c.before.before.if1.false, ne_eqb _ _ c.before.if2.false, eq-eqb _ _ c.if3.true))
+    (λ c. simp (eq-eqb _ _ c.if-k-eq44.true))
+    (λ c. simp (ne_eqb _ _ c.if-k-eq44.false, eq-eqb _ _ c.if-k-eq58.true))
+    (λ c. simp (ne_eqb _ _ c.if-k-eq44.false, ne_eqb _ _ c.if-k-eq58.false, eq-eqb _ _ c.if-k-eq61.true))
     (λ c.
-    let the_if1 = c.before.before.before.if1 in
-    simp (ne_eqb _ _ the_if1.false, ne_eqb _ _ c.before.before.if2.false, ne_eqb _ _ c.before.if3.false, eq-eqb _ _ c.if4.true))
+    let the_if1 = c.if-k-eq44 in
+    simp (ne_eqb _ _ the_if1.false, ne_eqb _ _ c.if-k-eq58.false, ne_eqb _ _ c.if-k-eq61.false, eq-eqb _ _ c.if-k-eq59.true))
     (λ c.
-    let the_args = c.before.before.before.before.args in
-    let the_if1 = c.before.before.before.if1 in
-    parts_last the_args.k the_if1.false c.before.before.if2.false c.before.if3.false c.if4.false))
+    let the_args = c.args in
+    let the_if1 = c.if-k-eq44 in
+    parts_last the_args.k the_if1.false c.if-k-eq58.false c.if-k-eq61.false c.if-k-eq59.false))

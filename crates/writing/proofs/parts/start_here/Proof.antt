@@ -8,6 +8,6 @@ pub start_here_spec : {M : Type 1} → statement M
 start_here_spec =
     tie.close
     (tie.spec
-    (λ c. (simp (lt-leb _ _ c.if1.true), omega arith))
-    (λ c. (simp (le-leb _ _ c.before.if1.false, le-leb _ _ c.if2.true), omega arith))
-    (λ c. (simp (le-leb _ _ c.before.if1.false, lt-leb _ _ c.if2.false), omega arith)))
+    (λ c. (simp (lt-leb _ _ c.if-b-lt128.true), omega arith))
+    (λ c. (simp (le-leb _ _ c.if-b-lt128.false, le-leb _ _ c.if-b-le191.true), omega arith))
+    (λ c. (simp (le-leb _ _ c.if-b-lt128.false, lt-leb _ _ c.if-b-le191.false), omega arith)))

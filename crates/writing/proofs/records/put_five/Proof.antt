@@ -12,13 +12,13 @@ put_five_spec =
     (tie.spec
     (λ c κs. search rules)
     (λ c κs.
-    let the_put_four = c.before.before.before.put_four in
+    let the_put_four = c.put_four-last in
     omega (arith, the_put_four.ensures.0))
     (λ c. search rules)
     (λ c.
-    let first = c.before.before.before.before.before.before.put_four in
-    let last = c.before.before.put_word in
-    let x = c.before.before.before.before.before.before.before.before.before.args in (
+    let first = c.put_four-last in
+    let last = c.put_word in
+    let x = c.args in (
       omega (arith, first.ensures.0, last.ensures.end),
       rw (← five_bytes x.a x.b x.c x.d x.e) (first.ensures.1 then last.ensures),
     )))

@@ -16,12 +16,12 @@ put_four_spec =
     (λ c κs. search rules)
     (λ c. search rules)
     (λ c.
-    let d = c.before.before.put-word4 in
+    let d = c.put_word in
     let third = c.before.before.before.before.before.before in
     let second = third.before.before.before.before in
     let first = second.before.before.before.before in
-    let x = first.before.before.before.args in (
-      omega (arith, first.put_word.ensures.end, second.put-word2.ensures.end, third.put-word3.ensures.end, d.ensures.end),
+    let x = first.args in (
+      omega (arith, first.put_word-second.ensures.end, second.put_word-third.ensures.end, third.put_word-last.ensures.end, d.ensures.end),
       rw (← four_bytes x.a x.b x.c x.d)
-          (first.put_word.ensures then second.put-word2.ensures then third.put-word3.ensures then d.ensures),
+          (first.put_word-second.ensures then second.put_word-third.ensures then third.put_word-last.ensures then d.ensures),
     )))

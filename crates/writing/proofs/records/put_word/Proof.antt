@@ -18,15 +18,15 @@ put_word_spec =
     (λ c κs. search rules)
     (λ c. search rules)
     (λ c.
-    let the_low_byte4 = c.before.before.before.before.low-byte4 in
-    let d = c.before.before.put-byte4 in
+    let the_low_byte4 = c.low_byte-4 in
+    let d = c.put_byte in
     let third = c.before.before.before.before.before.before.before in
     let second = third.before.before.before.before.before in
     let first = second.before.before.before.before.before in
     rw (
-      ← first.before.before.low_byte.ensures,
-      ← second.before.before.low-byte2.ensures,
-      ← third.before.before.low-byte3.ensures,
+      ← first.low_byte.ensures,
+      ← second.low_byte-2.ensures,
+      ← third.low_byte-3.ensures,
       ← the_low_byte4.ensures,
     )
-    (first.put_byte.ensures then second.put-byte2.ensures then third.put-byte3.ensures then d.ensures)))
+    (first.put_byte-second.ensures then second.put_byte-third.ensures then third.put_byte-last.ensures then d.ensures)))

@@ -8,9 +8,9 @@ pub begins_sentence_spec : {M : Type 1} → statement M
 begins_sentence_spec =
     tie.close
     (tie.spec
-    (λ c. let x = c.before.args in begins_closed x.inside x.k x.after c.if1.true)
-    (λ c. let x = c.before.before.args in begins_braced x.inside x.k x.after c.before.if1.false c.if2.true)
-    (λ c. let x = c.before.before.before.args in
-    begins_outside x.inside x.k x.after c.before.before.if1.false c.before.if2.false (not-true _ c.if3.true))
-    (λ c. let x = c.before.before.before.args in
-    begins_parted x.inside x.k x.after c.before.before.if1.false c.before.if2.false (not-false _ c.if3.false)))
+    (λ c. let x = c.args in begins_closed x.inside x.k x.after c.if-after-eq125.true)
+    (λ c. let x = c.args in begins_braced x.inside x.k x.after c.if-after-eq125.false c.if-k-eq123.true)
+    (λ c. let x = c.args in
+    begins_outside x.inside x.k x.after c.if-after-eq125.false c.if-k-eq123.false c.if-not-inside.true)
+    (λ c. let x = c.args in
+    begins_parted x.inside x.k x.after c.if-after-eq125.false c.if-k-eq123.false c.if-not-inside.false))

@@ -21,24 +21,24 @@ put_sentence_spec =
       omega arith,
       omega arith,
       λ ts h st. put_no_record _ _
-          (sentence_none h start.requires.1 start.args.inside begins.before.before.kind_at.ensures begins.before.kind-at2.ensures
-          begins.begins-sentence.ensures (not-true _ c.if1.true)),
+          (sentence_none h start.requires.1 start.args.inside begins.kind_at.ensures begins.kind_at-2.ensures
+          begins.begins_sentence.ensures c.if-not-begins_sentence.true),
     ))
     (λ c κs. let start = c.before.before.before.before.before.before.before.before.before in
     (omega (arith, start.requires.1, start.requires.2), start.requires.2))
     (λ c κs. let start = c.before.before.before.before.before.before.before.before.before.before in (omega (arith, start.requires.1), start.requires.2))
     (λ c κs. let start = c.before.before.before.before.before.before.before.before.before.before.before in omega (arith, start.requires.1))
     (λ c. let start = c.before.before.before.before.before.before.before.before.before.before.before.before in
-    omega (arith, c.place_of.ensures.1, start.requires.2))
+    omega (arith, c.place_of-equals.ensures.1, start.requires.2))
     (λ c κs. let start = c.before.before.before.before.before.before.before.before.before.before.before.before in
-    (omega (arith, c.place_of.ensures.1, start.requires.2), start.requires.2))
+    (omega (arith, c.place_of-equals.ensures.1, start.requires.2), start.requires.2))
     (λ c κs. search rules)
     (λ c κs. search rules)
     (λ c κs. search rules)
     (λ c κs. let start = c.before.before.before.before.before.before.before.before.before.before.before.before.before.before.before.before.before in start.requires.0)
     (λ c. search rules)
     (λ c.
-    let put = c.before.before.put_five in
+    let put = c.put_five in
     let end = c.before.before.before.before in
     let start = end.before.before in
     let result = start.before in
@@ -50,9 +50,9 @@ put_sentence_spec =
       omega (arith, put.ensures.0),
       omega (arith, put.ensures.0),
       λ ts h st. put_record _
-          (sentence_found h entry.requires.1 entry.args.inside begins.before.before.kind_at.ensures begins.before.kind-at2.ensures
-          begins.begins-sentence.ensures
-          (not-false _ pattern.before.if1.false) (pattern.part-records.ensures ts h st) conditions.count-kinds.ensures equals.place_of.ensures.0
-          (result.part-records2.ensures ts h st) start.short-at.ensures.0 end.before.short-at2.ensures.0 (end.part_end.ensures _ ts h))
+          (sentence_found h entry.requires.1 entry.args.inside begins.kind_at.ensures begins.kind_at-2.ensures
+          begins.begins_sentence.ensures
+          pattern.if-not-begins_sentence.false (pattern.part_records-pattern.ensures ts h st) conditions.count_kinds-conditions.ensures equals.place_of-equals.ensures.0
+          (result.part_records-result.ensures ts h st) start.short_at-start.ensures.0 end.short_at.ensures.0 (end.part_end-end.ensures _ ts h))
           put.ensures.1,
     )))

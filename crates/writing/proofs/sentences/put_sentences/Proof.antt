@@ -14,11 +14,11 @@ use Rattle.writing.proofs.SentenceLaws.{sentences_step}
 use Rattle.writing.proofs.sentences.put_sentences.Statement.{statement}
 use Rattle.writing.proofs.sentences.put_sentences.Tie as tie
 
-abbrev invariant_loop : tie.invariant_loop
+abbrev invariant_loop : tie.invariant-loop-i
 invariant_loop text kinds starts ends out₀ at next₀ inside₀ i₀ out next inside i =
     Rounds (λ ts. Held kinds starts ends ts × Stand text ts) (flat_sentences false) (λ ts. flat_sentences inside (drop i ts)) (length kinds) 20 out₀ at i next out
 
-abbrev decreases_loop : tie.decreases_loop
+abbrev decreases_loop : tie.decreases-loop-i
 decreases_loop text kinds starts ends out₀ at next₀ inside₀ i₀ out next inside i = length kinds - i
 
 pub put_sentences_spec : {M : Type 1} → statement M
@@ -31,7 +31,7 @@ put_sentences_spec =
     (λ c κs.
     let round = c.before.before in
     let inv = round.loop.invariant in
-    let asked = round.before.before.before.before.before.before.requires in
+    let asked = round.requires in
     (omega (arith, inv.high, asked.0, asked.1), omega arith, asked.1))
     (λ c. omega arith)
     (λ c κs. search rules)
@@ -39,15 +39,15 @@ put_sentences_spec =
     (λ c. omega arith)
     (λ c.
     let done = c.before.before.before.before in
-    let put = done.put-sentence in
+    let put = done.put_sentence-next in
     let out-kept = put.auto.1.1.1.1.1.1.0 in
-    let round = done.before.before.before.loop in
+    let round = done.loop-i in
     rounds_next round.invariant (λ ts. at_first (sentences_at round.inside) (drop round.i ts)) _ (omega arith) put.ensures.0 put.ensures.1 out-kept
-    (λ ts h. sentences_step h.0 round.inside round.i (omega arith) c.within-after.ensures)
+    (λ ts h. sentences_step h.0 round.inside round.i (omega arith) c.within_after-inside.ensures)
     (λ ts h. put.ensures.2 ts h.0 h.1))
     (λ c. search rules)
     (λ c.
-    let round = c.before.loop in
-    let asked = c.before.before.before.before.before.before.before.requires in
-    let ended = rounds_end round.invariant asked.1 (λ ts h. ap (flat_sentences round.inside) (none_left h.0 round.i c.loop-test.false)) in
+    let round = c.loop-i in
+    let asked = c.requires in
+    let ended = rounds_end round.invariant asked.1 (λ ts h. ap (flat_sentences round.inside) (none_left h.0 round.i c.loop-i-test.false)) in
     (ended.0, ended.1, λ ts h st. ended.2 ts (h, st))))

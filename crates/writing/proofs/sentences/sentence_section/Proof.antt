@@ -19,9 +19,9 @@ sentence_section_spec =
     (λ c κs. search rules)
     (λ c. search rules)
     (λ c.
-    let count = c.before.before.put_word in
+    let count = c.put_word in
     let number = c.before.before.before.before in
-    let put = number.before.before.before.put-sentences in (
+    let put = number.put_sentences-end in (
       omega (arith, put.ensures.1),
-      λ ts h st. section_20 (flat_sentences false ts) (put.ensures.2 ts h st) count.ensures (sentences_length ts) number.word.ensures,
+      λ ts h st. section_20 (flat_sentences false ts) (put.ensures.2 ts h st) count.ensures (sentences_length ts) number.word-count.ensures,
     )))

@@ -8,7 +8,7 @@ use Rattle.writing.proofs.terms.put_call.Statement.{statement}
 use Rattle.writing.proofs.terms.put_call.Tie as tie
 
 -- the call, from where the name's start is found
-abbrev begun : tie.After-short-at → tie.Start
+abbrev begun : tie.After-short_at-name → tie.Start
 begun c = c.before.before.before.before.before.before.before
 
 pub put_call_spec : {M : Type 1} → statement M
@@ -19,15 +19,15 @@ put_call_spec =
     (λ c κs. search rules)
     (λ c κs. search rules)
     (λ c κs. search rules)
-    (λ c κs. let entry = begun c.before.before in (entry.pre.3.2, entry.pre.3.0, omega (arith, entry.pre.1)))
-    (λ c κs. let entry = begun c.before.before.before in (entry.pre.3.0, omega (arith, entry.pre.1)))
+    (λ c κs. let entry = begun c.before.before in (entry.requires.3.2, entry.requires.3.0, omega (arith, entry.requires.1)))
+    (λ c κs. let entry = begun c.before.before.before in (entry.requires.3.0, omega (arith, entry.requires.1)))
     (λ c κs. search rules)
     (λ c κs.
     let earlier = c.before.before.before.before.before.before in
-    let entry = begun (earlier) in omega (arith, entry.pre.0))
+    let entry = begun (earlier) in omega (arith, entry.requires.0))
     (λ c. search rules)
     (λ c.
-    let put = c.before.before.put_six in
+    let put = c.put_six in
     let start = c.before.before.before.before in
     let end = start.before in
     let records = end.before in
@@ -37,7 +37,7 @@ put_call_spec =
       put.ensures.0,
       λ ts n.
           put_record _
-          (call_found_lem n.held entry.pre.1 entry.pre.2 name.short-at.ensures.0 size.before.short-at2.ensures.0 size.less.ensures
-          (records.inner_records.ensures _ _ _ ts refl n) start.short-at3.ensures.0 (end.inner-end.ensures _ _ _ ts refl n))
+          (call_found_lem n.held entry.requires.1 entry.requires.2 name.short_at-name.ensures.0 size.short_at.ensures.0 size.less-size.ensures
+          (records.inner_records-records.ensures _ _ _ ts refl n) start.short_at-2.ensures.0 (end.inner_end-end.ensures _ _ _ ts refl n))
           put.ensures.1,
     )))

@@ -14,16 +14,16 @@ use Rattle.writing.proofs.TermLaws.{terms_step}
 use Rattle.writing.proofs.terms.put_terms.Statement.{statement}
 use Rattle.writing.proofs.terms.put_terms.Tie as tie
 
-abbrev invariant_loop : tie.invariant_loop
+abbrev invariant_loop : tie.invariant-loop-i
 invariant_loop text kinds starts ends closers sums out₀ at next₀ state₀ i₀ out next state i =
     Rounds (λ ts. Nested kinds starts ends closers sums ts × Stand text ts) (flat_terms outside) (λ ts. flat_terms (where_of state) (drop i ts)) (length kinds)
     1680000 out₀ at i next out
 
-abbrev decreases_loop : tie.decreases_loop
+abbrev decreases_loop : tie.decreases-loop-i
 decreases_loop text kinds starts ends closers sums out₀ at next₀ state₀ i₀ out next state i = length kinds - i
 
 -- the call, from the loop
-abbrev begun : tie.At-loop invariant_loop decreases_loop → tie.Start invariant_loop decreases_loop
+abbrev begun : tie.At-loop-i invariant_loop decreases_loop → tie.Start invariant_loop decreases_loop
 begun c = c.before.before.before.before.before.before.before.before
 
 pub put_terms_spec : {M : Type 1} → statement M
@@ -44,17 +44,17 @@ put_terms_spec =
     (λ c. omega arith)
     (λ c.
     let done = c.before.before.before.before in
-    let put = done.put-term in
+    let put = done.put_term-next in
     let out-kept = put.auto.1.1.1.1.1.1.1.1.0 in
-    let round = done.before.before.before.loop in
+    let round = done.loop-i in
     rounds_next round.invariant (λ ts. at_first (terms_at (where_of round.state)) (drop round.i ts)) _ (omega arith) put.ensures.0
     put.ensures.1 out-kept
-    (λ ts h. terms_step h.0.held (where_of round.state) round.i (omega arith) c.where-after.ensures)
+    (λ ts h. terms_step h.0.held (where_of round.state) round.i (omega arith) c.where_after-state.ensures)
     (λ ts h. put.ensures.2 ts h.0 h.1))
     (λ c. search rules)
     (λ c.
-    let round = c.before.loop in
+    let round = c.loop-i in
     let asked = (begun c.before).pre in
     let ended = rounds_end round.invariant asked.1.0
-    (λ ts h. ap (flat_terms (where_of round.state)) (none_left h.0.held round.i c.loop-test.false)) in
+    (λ ts h. ap (flat_terms (where_of round.state)) (none_left h.0.held round.i c.loop-i-test.false)) in
     (ended.0, ended.1, λ ts h st. ended.2 ts (h, st))))

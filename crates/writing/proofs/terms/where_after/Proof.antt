@@ -7,14 +7,14 @@ pub where_after_spec : {M : Type 1} → statement M
 where_after_spec =
     tie.close
     (tie.spec
-    (λ c. let x = c.before.args in where_braced x.state x.k c.if1.true)
-    (λ c. let x = c.before.before.args in where_closed x.state x.k c.if2.true)
-    (λ c. let x = c.before.before.before.args in where_outside_lem x.state x.k c.before.before.if1.false c.before.if2.false c.if3.true)
+    (λ c. let x = c.args in where_braced x.state x.k c.if-k-eq123.true)
+    (λ c. let x = c.args in where_closed x.state x.k c.if-k-eq125.true)
+    (λ c. let x = c.args in where_outside_lem x.state x.k c.if-k-eq123.false c.if-k-eq125.false c.if-state-eq0.true)
     (λ c.
-    let the_if1 = c.before.before.before.if1 in
-    let x = c.before.before.before.before.args in
-    where_calling x.state x.k the_if1.false c.before.before.if2.false c.before.if3.false c.if4.true)
+    let the_if1 = c.if-k-eq123 in
+    let x = c.args in
+    where_calling x.state x.k the_if1.false c.if-k-eq125.false c.if-state-eq0.false c.if-k-eq60.true)
     (λ c.
-    let the_if1 = c.before.before.before.if1 in
-    let x = c.before.before.before.before.args in
-    where_inside_lem x.state x.k the_if1.false c.before.before.if2.false c.before.if3.false c.if4.false))
+    let the_if1 = c.if-k-eq123 in
+    let x = c.args in
+    where_inside_lem x.state x.k the_if1.false c.if-k-eq125.false c.if-state-eq0.false c.if-k-eq60.false))

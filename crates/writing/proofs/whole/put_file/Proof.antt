@@ -7,7 +7,7 @@ use Rattle.writing.proofs.whole.put_file.Statement.{statement}
 use Rattle.writing.proofs.whole.put_file.Tie as tie
 
 -- the call, from where the text's size is put
-abbrev begun : tie.After-put-word → tie.Start
+abbrev begun : tie.After-put_word-size → tie.Start
 begun c = c.before.before.before.before.before.before.before.before.before.before
 
 pub put_file_spec : {M : Type 1} → statement M
@@ -16,7 +16,7 @@ put_file_spec =
     (tie.spec
     (λ c κs. search rules)
     (λ c κs. search rules)
-    (λ c κs. let size = c.before.before.before in omega (arith, size.put_word.ensures.end, (begun size).requires.0))
+    (λ c κs. let size = c.before.before.before in omega (arith, size.put_word-size.ensures.end, (begun size).requires.0))
     (λ c κs. search rules)
     (λ c κs. search rules)
     (λ c κs. search rules)
@@ -29,15 +29,15 @@ put_file_spec =
     let start = begun size in (
       omega (
         arith,
-        fourth.condition-section.ensures.0,
-        third.sentence-section.ensures.0,
-        second.function-section.ensures.0,
-        first.put.ensures.end,
-        size.put_word.ensures.end,
-        start.pre.0,
+        fourth.condition_section-fourth.ensures.0,
+        third.sentence_section-third.ensures.0,
+        second.function_section-second.ensures.0,
+        first.put-first.ensures.end,
+        size.put_word-size.ensures.end,
+        start.requires.0,
       ),
-      start.pre.1,
-      start.pre.0,
+      start.requires.1,
+      start.requires.0,
     ))
     (λ c. search rules)
     (λ c. search rules)
@@ -48,11 +48,11 @@ put_file_spec =
     let second = third.before.before.before.before in
     let first = second.before.before.before.before in
     let size = first.before.before.before.before in
-    let out-by-terms = last.term-section.auto.1.1.1.1.1.1.0 in
-    let out-by-conditions = fourth.condition-section.auto.1.1.1.1.0 in
-    let out-by-sentences = third.sentence-section.auto.1.1.1.1.0 in
-    let out-by-functions = second.function-section.auto.1.1.1.0 in
-    out-by-terms ∙ out-by-conditions ∙ out-by-sentences ∙ out-by-functions ∙ first.put.auto.1.0 ∙ size.put_word.auto.1.0)
+    let out-by-terms = last.term_section.auto.1.1.1.1.1.1.0 in
+    let out-by-conditions = fourth.condition_section-fourth.auto.1.1.1.1.0 in
+    let out-by-sentences = third.sentence_section-third.auto.1.1.1.1.0 in
+    let out-by-functions = second.function_section-second.auto.1.1.1.0 in
+    out-by-terms ∙ out-by-conditions ∙ out-by-sentences ∙ out-by-functions ∙ first.put-first.auto.1.0 ∙ size.put_word-size.auto.1.0)
     (λ c ts h st.
     let last = c.before.before.before.before.before.before in
     let fourth = last.before.before.before.before.before.before in
@@ -60,8 +60,8 @@ put_file_spec =
     let second = third.before.before.before.before in
     let first = second.before.before.before.before in
     let size = first.before.before.before.before in
-    file_put (begun size).args.text.now ts size.before.before.word.ensures size.put_word.ensures first.put.ensures
-    (second.function-section.ensures.1 ts h)
-    (third.sentence-section.ensures.1 ts h st)
-    (fourth.condition-section.ensures.1 ts h st)
-    (last.term-section.ensures.1 ts h st)))
+    file_put (begun size).args.text.now ts size.word.ensures size.put_word-size.ensures first.put-first.ensures
+    (second.function_section-second.ensures.1 ts h)
+    (third.sentence_section-third.ensures.1 ts h st)
+    (fourth.condition_section-fourth.ensures.1 ts h st)
+    (last.term_section.ensures.1 ts h st)))
