@@ -26,13 +26,13 @@ put_spec =
     (λ c. omega arith)
     (λ c. omega arith)
     (λ c. omega arith)
-    (λ c. ltb-true _ _ c.if-at-i.true)
+    (λ c. c.if-at-i.true)
     (λ c. omega arith)
     (λ c. omega arith)
     (λ c.
     let x = c.args in
     let now = c.loop-i in
-    (omega arith, put_next x.out.now x.piece.now x.at now.i now.invariant.1 (omega arith) (ltb-true _ _ c.if-at-i.true)))
+    (omega arith, put_next x.out.now x.piece.now x.at now.i now.invariant.1 (omega arith) c.if-at-i.true))
     (λ c. omega arith)
     (λ c. put_length c.loop-i.invariant.1)
     (λ c.
