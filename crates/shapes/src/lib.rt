@@ -1,4 +1,6 @@
 // Formats as flat words: a header and its shapes, depth first.
+#![tactic(auto)]
+
 ghost use Rattle.std.specs.Prelude.{◌≡◌, true, false, cond, ◌+◌, ◌%◌, ◌≤◌, ◌<◌, length, take, drop, get_or, leb};
 ghost use Rattle.shapes.specs.Format.{end, size};
 ghost use Rattle.shapes.specs.Join.{join_rows, join_formats};
