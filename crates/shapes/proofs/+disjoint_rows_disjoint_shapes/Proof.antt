@@ -136,8 +136,7 @@ pub +disjoint_rows_disjoint_shapes_spec : {M : Type 1} → statement M
     (λ c. search rules)
     (λ c κs. search rules)
     (λ c κs. let the_end_of = c.end_of-ae in
-    let start = c in
-    (omega (arith, shapes_contents_falls start.args.a.now the_end_of.result start.requires.1.0 the_end_of.ensures.0), tt))
+    (omega (arith, shapes_contents_falls c.args.a.now the_end_of.result c.requires.1.0 the_end_of.ensures.0), tt))
     (λ c.
     let the_inside_open = c.inside_open in
     let the_is_bracket = c.is_bracket in

@@ -167,12 +167,11 @@ pub +join_rows_join_shapes_spec : {M : Type 1} → statement M
     (λ c. search rules)
     (λ c.
     let the_is_bracket = c.is_bracket in
-    let start = c in
-    let args = start.args in
+    let args = c.args in
     let joined =
     join_bracket_leaf args.a.now args.b.now args.out.now args.at _ _
     the_is_bracket.ensures c.is_bracket-then-is_bracket.ensures c.if-is_bracket.true c.if-is_bracket-2.false (omega arith) in
-    (omega (arith, shapes_end_low args.a.now start.requires.1.0), joined.0, joined.1))
+    (omega (arith, shapes_end_low args.a.now c.requires.1.0), joined.0, joined.1))
     (λ c κs. search rules)
     (λ c. search rules)
     (λ c. omega arith)
@@ -180,12 +179,11 @@ pub +join_rows_join_shapes_spec : {M : Type 1} → statement M
     (λ c. search rules)
     (λ c.
     let the_is_bracket = c.is_bracket in
-    let start = c in
-    let args = start.args in
+    let args = c.args in
     let joined =
     join_leaf_bracket args.a.now args.b.now args.out.now args.at _ _
     the_is_bracket.ensures c.is_bracket-2.ensures c.if-is_bracket.false c.if-is_bracket-3.true (omega arith) in
-    (omega (arith, shapes_end_low args.a.now start.requires.1.0), joined.0, joined.1))
+    (omega (arith, shapes_end_low args.a.now c.requires.1.0), joined.0, joined.1))
     (λ c κs. search rules)
     (λ c. search rules)
     (λ c. omega arith)
@@ -194,10 +192,9 @@ pub +join_rows_join_shapes_spec : {M : Type 1} → statement M
     (λ c.
     let the_is_bracket = c.is_bracket in
     let the_if1 = c.if-is_bracket in
-    let start = c in
-    let args = start.args in
+    let args = c.args in
     let joined =
     join_leaves_lem args.a.now args.b.now args.out.now args.at _ _
     the_is_bracket.ensures c.is_bracket-2.ensures _ the_if1.false
     c.if-is_bracket-3.false (omega arith) c.join_leaves.ensures in
-    (omega (arith, shapes_end_low args.a.now start.requires.1.0), joined.0, joined.1))
+    (omega (arith, shapes_end_low args.a.now c.requires.1.0), joined.0, joined.1))
