@@ -73,7 +73,7 @@ module _ (file : File) where
 
   -- the functions of the tree by number
   pub functions_length : (left f : ℕ) → f + left ≡ file.functions.count → length (functions_at f) ≡ left
-  functions_length zero f h = rw (functions_end f (omega arith))
+  functions_length zero f h = rw (functions_end f (omega arith)) ?
   functions_length (suc left) f h = rw (function_reads f (omega arith), functions_length left (suc f) (omega arith))
 
   pub tree_length : length (tree_of file) ≡ file.functions.count
