@@ -7,7 +7,6 @@ use mathlib.Core.List.{List}
 use mathlib.Core.Path.{◌≡◌, refl, ◌∙◌}
 use native.Mathlib.Omega.{arith}
 use borrow.Author.Rules.{rules}
-use borrow.Author.Tests.{not-true, not-false}
 use lib.ListN.{length}
 use Rattle.matching.specs.Pattern.{Atom}
 use Rattle.matching.specs.Match.{Values}
@@ -340,7 +339,7 @@ pub +literal_anew_literal_apart_literal_bracket_literal_end_literal_first_litera
     let the_literal_run = c.literal_run in
     let start = the_pre.1.0 in (
       alone.bracket_some _ _ _ the_pre.1.1.0 _ _ _ _ _ the_end_of.ensures.0 the_end_of2.ensures.0 the_pre.1.1.1
-          _ _ _ _ _ _ the_literal_run.ensures.0 (not-false _ the_if1.false) c.literal_run-2.ensures.0,
+          _ _ _ _ _ _ the_literal_run.ensures.0 the_if1.false c.literal_run-2.ensures.0,
       around.remembered_then (alone.remembered_inside start.0 the_pre.1.1.0 start.1 start.2 _ _ the_literal_run.ensures.1)
           (around.remembered_later start.0 _ _ the_end_of.ensures.2 the_end_of2.ensures.2 c.literal_run-2.ensures.1),
     )))

@@ -1,6 +1,5 @@
 -- `holds_here` meets its contract: it says yes only where what is remembered is of the levels around here, and no variable of the pattern or of these levels got its
 -- value since.
-use borrow.Author.Tests.{not-false}
 use Rattle.matching.proofs.SameLaws.{false_not_true}
 use Rattle.searches.proofs.AroundLaws as around
 use Rattle.searches.proofs.literal.holds_here.Statement.{statement}

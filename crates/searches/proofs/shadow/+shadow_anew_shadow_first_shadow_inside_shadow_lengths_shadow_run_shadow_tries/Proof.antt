@@ -6,7 +6,6 @@ use mathlib.Core.Bool.{false}
 use mathlib.Core.Path.{◌≡◌, refl, sym, ap, ◌∙◌}
 use native.Mathlib.Omega.{arith}
 use borrow.Author.Rules.{rules}
-use borrow.Author.Tests.{not-true, not-false}
 use lib.ListN.{length}
 use Rattle.law.proofs.Forests.{inside_falls, after_falls}
 use Rattle.matching.specs.Code.Step.{each_length}
@@ -366,7 +365,7 @@ pub +shadow_anew_shadow_first_shadow_inside_shadow_lengths_shadow_run_shadow_tri
       omega (arith, after_falls the_args.pattern.now ends.result (length the_args.pattern.now) start.1.1 ends.ensures.0 refl, start.0),
       (
         calls.asked_after start.1.0 start.1.1 start.1.2 inner.result.bindings inner.ensures.0
-            (returns.inside_first start.1.0 ends.ensures.0 the_end_of2.ensures.0 inner.result inner.ensures.1 (not-false _ the_if1.false))
+            (returns.inside_first start.1.0 ends.ensures.0 the_end_of2.ensures.0 inner.result inner.ensures.1 the_if1.false)
             ends.result the_end_of2.result ends.ensures.0 the_end_of2.ensures.2,
         sure.settled_fixed _ _ _ _ inner.ensures.3.few,
         sure.remembers_fixed inner.ensures.3 inner.ensures.2,
@@ -378,7 +377,7 @@ pub +shadow_anew_shadow_first_shadow_inside_shadow_lengths_shadow_run_shadow_tri
     let start = c.requires in
     let inner = c.shadow_run in (
       c.shadow_run.ensures.0,
-      returns.inside_some start.1.0 the_end_of.ensures.0 the_end_of2.ensures.0 inner.result inner.ensures.1 _ (not-false _ the_if1.false)
+      returns.inside_some start.1.0 the_end_of.ensures.0 the_end_of2.ensures.0 inner.result inner.ensures.1 _ the_if1.false
           c.shadow_run.ensures.1,
       sure.remembers_back inner.ensures.3 c.shadow_run.ensures.2,
       sure.fixed_after inner.ensures.3 c.shadow_run.ensures.3,
@@ -595,7 +594,7 @@ pub +shadow_anew_shadow_first_shadow_inside_shadow_lengths_shadow_run_shadow_tri
     let the_if1 = c.if-not-first in
     let start = c.requires.1 in
     let asked = start.0.0 in
-    let free = the_closed.ensures (not-false _ the_if1.false) _ _ _ asked.kept start.0.2.same in (
+    let free = the_closed.ensures the_if1.false _ _ _ asked.kept start.0.2.same in (
       asked.kept,
       sym (ap first_in (failed.lengths_known asked _ free start.1.1 start.0.1 start.0.3 (c.failed_before.ensures c.if-left-lt24.true))),
       start.0.3,
@@ -606,7 +605,7 @@ pub +shadow_anew_shadow_first_shadow_inside_shadow_lengths_shadow_run_shadow_tri
     let the_closed = c.closed in
     let start = c.requires in
     let asked = start.1.0.0 in
-    let free = the_closed.ensures (not-false _ the_if1.false) _ _ _ asked.kept start.1.0.2.same in
+    let free = the_closed.ensures the_if1.false _ _ _ asked.kept start.1.0.2.same in
     (omega (arith, start.0), ((asked, start.1.0.1, sure.settled_all start.1.0.2 _ free, start.1.0.3), start.1.1.0)))
     (λ c κs.
     let the_shadow_lengths = c.shadow_lengths in
@@ -622,7 +621,7 @@ pub +shadow_anew_shadow_first_shadow_inside_shadow_lengths_shadow_run_shadow_tri
     let the_if1 = c.if-not-first in
     let start = c.requires.1 in
     let asked = start.0.0 in
-    let free = the_closed.ensures (not-false _ the_if1.false) _ _ _ asked.kept start.0.2.same in
+    let free = the_closed.ensures the_if1.false _ _ _ asked.kept start.0.2.same in
     let lengths = c.shadow_lengths in (
       lengths.ensures.0,
       lengths.ensures.1,
