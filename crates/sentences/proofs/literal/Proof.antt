@@ -10,22 +10,22 @@ literal_spec =
     tie.close
     (tie.spec
     (λ c κs. search rules)
-    (λ c. let start = c.before.before.before.before.before.before in
+    (λ c. let start = c in
     let a = start.args in
     laws.literal_not a.text.now a.pattern.now a.row.now refl start.requires.1.2 (c.parted.ensures c.if-parted.true))
     (λ c κs. search rules)
-    (λ c. let start = c.before.before.before.before.before.before.before.before in
+    (λ c. let start = c in
     let a = start.args in
     laws.literal_not a.text.now a.pattern.now a.row.now c.loose.ensures start.requires.1.2
     c.if-not-loose.true)
     (λ c κs. search rules)
-    (λ c. let start = c.before.before.before.before.before.before.before.before.before.before in
+    (λ c. let start = c in
     let a = start.args in
     let loose = c.loose in
     laws.literal_once a.text.now a.pattern.now a.row.now loose.ensures start.requires.1.2
     c.if-not-loose.false (c.once.ensures c.if-once.true))
     (λ c κs. search rules)
-    (λ c. let start = c.before.before.before.before.before.before.before.before.before.before.before.before in
+    (λ c. let start = c in
     let a = start.args in
     laws.literal_none a.text.now a.pattern.now a.row.now (c.uneven.ensures c.if-uneven.true) start.requires.1.2)
     (λ c κs. search rules)

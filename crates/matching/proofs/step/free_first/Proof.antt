@@ -10,16 +10,16 @@ free_first_spec =
     (tie.spec
     (λ c κs. search rules)
     (λ c κs. search rules)
-    (λ c. let start = c.before.before.before.before.before in
+    (λ c. let start = c in
     λ text v vs e without. laws.free_tries text start.args.pattern.now start.args.row.now v vs start.requires e without
     (laws.open_told c.term_at-variable.ensures c.is_open.ensures) c.if-is_open.true)
-    (λ c. let start = c.before.before.before.before.before.before in
+    (λ c. let start = c in
     let term-at = c.term_at-variable in
     λ text v vs e without. laws.free_short text start.args.pattern.now start.args.row.now v vs start.requires e without
     (laws.open_told term-at.ensures c.is_open.ensures) c.if-is_open.false c.if-row-lt24.true)
     (λ c κs. search rules)
     (λ c κs. search rules)
-    (λ c. let start = c.before.before.before.before.before.before.before.before.before in
+    (λ c. let start = c in
     let term-at = c.term_at-variable in
     let is_open_lem = c.is_open in
     let if1 = c.if-is_open in
@@ -29,7 +29,7 @@ free_first_spec =
     (laws.stand_told term-at.ensures c.term_at.ensures c.may_stand.ensures)
     c.if-not-may_stand.true)
     (λ c κs. search rules)
-    (λ c. let start = c.before.before.before.before.before.before.before.before.before.before in
+    (λ c. let start = c in
     let term-at = c.term_at-variable in
     let is_open_lem = c.is_open in
     let if1 = c.if-is_open in

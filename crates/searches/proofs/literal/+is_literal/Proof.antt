@@ -68,7 +68,7 @@ pub +is_literal_spec : {M : Type 1} → statement M
     the_end_of.ensures.2)
     (λ c κs. let the_loop = c.loop-rest in
     let the_if1 = c.if-rest-lt24 in
-    let start = c.before.before.before.before.before.before.before.before.before in
+    let start = c in
     let rest = from the_loop.i start.args.part.now in
     let the_end = c.end_of-end in (
       omega (

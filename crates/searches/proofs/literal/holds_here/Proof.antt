@@ -14,7 +14,7 @@ holds_here_spec =
     (λ c. λ e. absurd (false_not_true e))
     (λ c κs. let start = c.requires in (start.0, start.1, start.2))
     (λ c.
-    let at-around = c.before.before in
+    let at-around = c in
     λ e. (
       at-around.if-not-sure.false,
       λ rows start starts sizes kept. around.closed_both _ _ _ _ (λ vs. c.closed.ensures e starts sizes vs kept)
