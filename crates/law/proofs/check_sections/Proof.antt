@@ -23,7 +23,7 @@ check_sections_spec =
     let the_fields_allowed = c.fields_allowed in
     let the_if1 = c.if-not-fields_allowed in
     let used = sym the_place_records.ensures.0 ∙ c.if-place_records.true in
-    let fields = sym the_fields_allowed.ensures ∙ not-false _ the_if1.false in
+    let fields = sym the_fields_allowed.ensures ∙ the_if1.false in
     (placed_indexed start.args.law.now _ start.requires.0 used the_place_records.ensures.1, fields))
     (λ c.
     let start = c.before.before.before.before.before.before.before.before in
@@ -34,6 +34,6 @@ check_sections_spec =
     let start = c.before.before.before.before.before.before in
     let the_fields_allowed = c.fields_allowed in
     let the_if1 = c.if-not-fields_allowed in
-    let fields = sym the_fields_allowed.ensures ∙ not-false _ the_if1.false in
+    let fields = sym the_fields_allowed.ensures ∙ the_if1.false in
     let unused = sym c.place_records.ensures.0 ∙ c.if-place_records.false in
     verdict.refused_filled start.args.law.now _ _ (verdict.used_refused start.args.law.now start.requires.0 fields unused)))
