@@ -1,6 +1,8 @@
 // The five calls for programs in other languages, as functions of C. A slice crosses as a pointer and a number of elements. The first four return 0 or a
 // refusal's number; what they answer stands in lent words, which keep their values where a call is refused. The last refuses nothing and returns its answer.
 // include/bilzarko.h says what stack a call is given, and that the first three can take for ever.
+#![tactic(auto)]
+
 ghost use Rattle.std.specs.Prelude.{◌≡◌, cond};
 ghost use Rattle.numbers.specs.OnePass.{step_of};
 ghost use Rattle.lints.specs.Levels.{settings_from};
