@@ -2,7 +2,9 @@
 // written after it, with `kept` in place of those that have their value still.
 ghost use Rattle.std.specs.Prelude.{◌≤◌, length};
 
-use libc::STDOUT_FILENO;
+use crate::print_decimal;
+use std::io;
+use std::io::Write;
 use std::num::{wrapping_add_u32, wrapping_add_u64};
 
 // The first value that is given to bytes, and the last, after which the first comes again. No finding's text and no
@@ -56,20 +58,21 @@ pub fn fill_bytes(bytes: &mut [u8]) {
 }
 
 // Writes a value after a space, and, where it was met more than once, `*` and how often.
-pub fn print_run(run: Run) {
+pub fn print_run<W: Write>(output: &mut W, run: Run) -> io::Result<()> {
     if run.count == 0 {
-        return;
+        return Ok(());
     }
     if run.value == KEPT {
-        io::write_all(STDOUT_FILENO, b" kept");
+        output.write_all(b" kept")?;
     } else {
-        io::write_all(STDOUT_FILENO, b" ");
-        io::print_decimal(STDOUT_FILENO, run.value);
+        output.write_all(b" ")?;
+        print_decimal(output, run.value)?;
     }
     if run.count > 1 {
-        io::write_all(STDOUT_FILENO, b"*");
-        io::print_decimal(STDOUT_FILENO, run.count);
+        output.write_all(b"*")?;
+        print_decimal(output, run.count)?;
     }
+    Ok(())
 }
 
 // What a word is now that was given this value before.
@@ -78,32 +81,32 @@ fn meaning(word: u32, given: u32) -> u64 {
 }
 
 // The values in a row with one more. A row that has ended is written.
-pub fn with_value(run: Run, value: u64) -> Run {
+pub fn with_value<W: Write>(output: &mut W, run: Run, value: u64) -> io::Result<Run> {
     if run.value == value {
-        return Run {
+        return Ok(Run {
             value: value,
             count: wrapping_add_u64(run.count, 1),
-        };
+        });
     }
-    print_run(run);
-    Run {
+    print_run(output, run)?;
+    Ok(Run {
         value: value,
         count: 1,
-    }
+    })
 }
 
 // Writes what all words are now, in order, and ends the line.
-pub fn print_words(words: &[u32], first: u32) {
+pub fn print_words<W: Write>(output: &mut W, words: &[u32], first: u32) -> io::Result<()> {
     let mut run = Run { value: 0, count: 0 };
     let mut given = first;
     let mut i = 0;
     while i < words.len() {
-        run = with_value(run, meaning(words[i], given));
+        run = with_value(output, run, meaning(words[i], given))?;
         given = wrapping_add_u32(given, 1);
         i += 1;
     }
-    print_run(run);
-    io::write_all(STDOUT_FILENO, b"\n");
+    print_run(output, run)?;
+    output.write_all(b"\n")
 }
 
 // The end of what was changed, with one byte more: the position after it where it was changed, else the end before it.
@@ -131,20 +134,20 @@ pub fn changed_bytes(bytes: &[u8]) -> usize
 }
 
 // Writes a word and a number.
-pub fn print_said(said: &[u8], number: u64) {
-    io::write_all(STDOUT_FILENO, said);
-    io::print_decimal(STDOUT_FILENO, number);
-    io::write_all(STDOUT_FILENO, b"\n");
+pub fn print_said<W: Write>(output: &mut W, said: &[u8], number: u64) -> io::Result<()> {
+    output.write_all(said)?;
+    print_decimal(output, number)?;
+    output.write_all(b"\n")
 }
 
 // Writes the number that the call returned, or its answer. After a refusal the answer's word is written only where it changed.
-pub fn print_returned(number: u32, answer: u64) {
+pub fn print_returned<W: Write>(output: &mut W, number: u32, answer: u64) -> io::Result<()> {
     if number == 0 {
-        print_said(b"  written ", answer);
-        return;
+        return print_said(output, b"  written ", answer);
     }
-    print_said(b"  refused ", number as u64);
+    print_said(output, b"  refused ", number as u64)?;
     if answer != ANSWER {
-        print_said(b"  answer ", answer);
+        print_said(output, b"  answer ", answer)?;
     }
+    Ok(())
 }

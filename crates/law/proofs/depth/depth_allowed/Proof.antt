@@ -84,8 +84,8 @@ depth_allowed_spec =
     let start = c.before.before in
     (c.functions-count.ensures ∙ start.requires.0.words.functions, omega arith, steps.functions_start_lem (file_of start.args.law.now)))
     (λ c κs. omega (arith, laws.functions_limit _ _ (begun c).requires.0, is_function c))
-    (λ c. omega (arith, laws.functions_limit _ _ (begun c.before).pre.0, is_function c.before))
-    (λ c κs. omega (arith, laws.functions_limit _ _ (begun c.before).pre.0, is_function c.before))
+    (λ c. omega (arith, laws.functions_limit _ _ (begun c.before).requires.0, is_function c.before))
+    (λ c κs. omega (arith, laws.functions_limit _ _ (begun c.before).requires.0, is_function c.before))
     (λ c. omega (arith, first_is_lem c, next_is c))
     (λ c κs.
     let round = c.before.before in

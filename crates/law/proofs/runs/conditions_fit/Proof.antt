@@ -140,7 +140,7 @@ conditions_fit_spec =
     (λ c. omega arith)
     (λ c.
     let round = round_of c.before in
-    let inv = round.loop-i.inv in
+    let inv = round.loop-i.invariant in
     let asked = c.before.before.before in
     let result = sym (result_is asked.before) ∙ asked.if-not-run_fits.false in
     let pattern = sym (pattern_is c.before) ∙ c.if-not-run_fits-2.false in

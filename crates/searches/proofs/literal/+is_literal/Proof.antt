@@ -5,7 +5,7 @@ use mathlib.Core.Path.{refl}
 use mathlib.Core.Logic.{⊎_elim}
 use native.Mathlib.Omega.{arith}
 use borrow.Author.Rules.{rules}
-use borrow.Author.Tests.{not-true, not-false}
+use borrow.Author.Tests.{not-false}
 use lib.ListN.{length}
 use Rattle.law.proofs.Forests.{inside_falls}
 use Rattle.matching.specs.Code.Part.{from}
@@ -68,7 +68,7 @@ pub +is_literal_spec : {M : Type 1} → statement M
     the_end_of.ensures.2)
     (λ c κs. let the_loop = c.loop-rest in
     let the_if1 = c.if-rest-lt24 in
-    let start = c.before.before.before.before.before.before.before.before.before in
+    let start = c in
     let rest = from the_loop.i start.args.part.now in
     let the_end = c.end_of-end in (
       omega (
@@ -108,4 +108,4 @@ pub +is_literal_spec : {M : Type 1} → statement M
     let the_word_at = c.word_at-kind in
     let the_end_of = c.end_of-end in
     laws.inside_no the_loop.invariant the_if1.false the_word_at.ensures the_end_of.ensures.0
-    the_if3.false c.is_literal.ensures (not-true c.is_literal.result c.if-not-is_literal.true))
+    the_if3.false c.is_literal.ensures c.if-not-is_literal.true)

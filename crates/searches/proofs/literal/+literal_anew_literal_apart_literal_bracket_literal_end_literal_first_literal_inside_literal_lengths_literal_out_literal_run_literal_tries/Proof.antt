@@ -7,7 +7,6 @@ use mathlib.Core.List.{List}
 use mathlib.Core.Path.{◌≡◌, refl, ◌∙◌}
 use native.Mathlib.Omega.{arith}
 use borrow.Author.Rules.{rules}
-use borrow.Author.Tests.{not-true, not-false}
 use lib.ListN.{length}
 use Rattle.matching.specs.Pattern.{Atom}
 use Rattle.matching.specs.Match.{Values}
@@ -340,7 +339,7 @@ pub +literal_anew_literal_apart_literal_bracket_literal_end_literal_first_litera
     let the_literal_run = c.literal_run in
     let start = the_pre.1.0 in (
       alone.bracket_some _ _ _ the_pre.1.1.0 _ _ _ _ _ the_end_of.ensures.0 the_end_of2.ensures.0 the_pre.1.1.1
-          _ _ _ _ _ _ the_literal_run.ensures.0 (not-false _ the_if1.false) c.literal_run-2.ensures.0,
+          _ _ _ _ _ _ the_literal_run.ensures.0 the_if1.false c.literal_run-2.ensures.0,
       around.remembered_then (alone.remembered_inside start.0 the_pre.1.1.0 start.1 start.2 _ _ the_literal_run.ensures.1)
           (around.remembered_later start.0 _ _ the_end_of.ensures.2 the_end_of2.ensures.2 c.literal_run-2.ensures.1),
     )))
@@ -392,16 +391,16 @@ pub +literal_anew_literal_apart_literal_bracket_literal_end_literal_first_litera
     (λ c. let start = c.requires.1 in omega (arith, start.0.3))
     (λ c κs. let start = c.requires.1 in (start.1.1.0.few, start.0.2.few, start.0.2.keyed, (_, (_, start.0.1))))
     (λ c κs.
-    let at-around = c.before.before in
+    let at-around = c in
     let start = at-around.requires in
     (omega (arith, start.0), ((start.1.0.0, start.1.0.1, start.1.0.2), start.1.1.0)))
     (λ c.
-    let at-around = c.before.before.before in
+    let at-around = c in
     let start = at-around.requires.1 in
     (c.literal_out.ensures.0, around.remembered_unchanged start.1.1.1 c.literal_out.ensures.1))
     (λ c κs. tt)
     (λ c.
-    let at-around = c.before.before.before.before in
+    let at-around = c in
     let at_start = at-around.before.before.before.before.before.before.before.before in
     let start = at_start.requires.1 in
     let (known, closed) = at-around.holds_here.ensures c.if-not-literal_run.false in (
@@ -410,12 +409,12 @@ pub +literal_anew_literal_apart_literal_bracket_literal_end_literal_first_litera
       around.remembered_unchanged start.1.1.1 refl,
     ))
     (λ c κs.
-    let at-around = c.before.before.before.before.before in
+    let at-around = c in
     let start = at-around.requires in
     (omega (arith, start.0), ((start.1.0.0, start.1.0.1, start.1.0.2), start.1.1.0)))
     (λ c κs.
     let the_literal_out2 = c.literal_out-found in
-    let at-if1 = c.before.before.before.before.before.before.before in
+    let at-if1 = c in
     let at-around = at-if1.before in
     let start = at-around.requires.1 in
     let (known, closed) = at-around.holds_here.ensures at-if1.if-not-literal_run.false in (
@@ -426,7 +425,7 @@ pub +literal_anew_literal_apart_literal_bracket_literal_end_literal_first_litera
       (remembers_same (start.1.1.1 known) the_literal_out2.ensures.1).long,
     ))
     (λ c.
-    let at-if1 = c.before.before.before.before.before.before.before.before in
+    let at-if1 = c in
     let at-around = at-if1.before in
     let at_start = at-around.before.before.before.before.before.before.before.before in
     let start = at_start.requires.1 in
@@ -439,7 +438,7 @@ pub +literal_anew_literal_apart_literal_bracket_literal_end_literal_first_litera
           (remembers_same (start.1.1.1 known) out.1) _ _ c.note_failed.ensures),
     ))
     (λ c.
-    let at-around = c.before.before.before.before.before.before.before in
+    let at-around = c in
     let start = at-around.requires.1 in
     let out = c.literal_out-found.ensures in
     (out.0, around.remembered_unchanged start.1.1.1 out.1)))
@@ -466,23 +465,23 @@ pub +literal_anew_literal_apart_literal_bracket_literal_end_literal_first_litera
     (λ c. search rules)
     (λ c. search rules)
     (λ c.
-    let the_first = c.first-1 in
+    let the_first = c.in-Binds in
     let the_pre = c.requires in
-    (first-record.binds_within the_pre.1.1.leaves true _ the_first.given.1).0)
+    (first-record.binds_within the_pre.1.1.leaves true _ the_first.is).0)
     (λ c.
-    let the_first = c.first-1 in
+    let the_first = c.in-Binds in
     let the_pre = c.requires in
-    (first-record.binds_within the_pre.1.1.leaves true _ the_first.given.1).0)
+    (first-record.binds_within the_pre.1.1.leaves true _ the_first.is).0)
     (λ c. search rules)
     (λ c.
     let the_end_of = c.end_of-m in
     let asked = c.requires.1.0.0.asked in
     omega (arith, asked.pattern_stands.inside-1, asked.small, the_end_of.ensures.2))
     (λ c κs.
-    let the_first = c.first-1 in
+    let the_first = c.in-Binds in
     let start = c.requires in
     let asked = start.1.0.0.asked in
-    let binds = first-record.binds_within start.1.1.leaves true _ the_first.given.1 in (
+    let binds = first-record.binds_within start.1.1.leaves true _ the_first.is in (
       (
         omega (arith, asked.pattern_stands.inside-1, asked.small, start.1.1.some),
         omega (arith, asked.row_stands.inside-1, asked.small),
@@ -491,19 +490,19 @@ pub +literal_anew_literal_apart_literal_bracket_literal_end_literal_first_litera
       ),
       (asked.kept.keys-1, asked.kept.starts, asked.kept.sizes),
     ))
-    (λ c. let the_first = c.first-1 in
+    (λ c. let the_first = c.in-Binds in
     let start = c.requires in
     let asked = start.1.0.0.asked in
-    omega (arith, asked.row_stands.inside-1, asked.small, (first-record.binds_within start.1.1.leaves true _ the_first.given.1).0))
-    (λ c κs. let the_first = c.first-1 in
+    omega (arith, asked.row_stands.inside-1, asked.small, (first-record.binds_within start.1.1.leaves true _ the_first.is).0))
+    (λ c κs. let the_first = c.in-Binds in
     let start = c.requires in
     let stopped = start.1.1 in
     let asked = start.1.0.0.asked in
     let ends = c.end_of-m in
-    let binds = first-record.binds_within start.1.1.leaves true _ the_first.given.1 in (
+    let binds = first-record.binds_within start.1.1.leaves true _ the_first.is in (
       omega (arith, start.0, ends.ensures.1, ends.ensures.2, asked.pattern_stands.inside-1),
       (
-        level.literal_more start.1.0.0 stopped.some binds.1 binds.0 c.bind-more.ensures ends.result the_first.given.0.0
+        level.literal_more start.1.0.0 stopped.some binds.1 binds.0 c.bind-more.ensures ends.result the_first.n
             ends.ensures.0 binds.0,
         around.remembering_later start.1.0.0 _ _ ends.ensures.2 binds.0 (sure.begin_second stopped.some ends.ensures.0)
             (around.remembering_bound start.1.0.1 c.bind-more.ensures),
@@ -512,7 +511,7 @@ pub +literal_anew_literal_apart_literal_bracket_literal_end_literal_first_litera
     (λ c. search rules)
     (λ c κs. let start = c.requires in
     let stopped = start.1.1 in
-    let told = c.enum_told-in-Tries-1.given.1 in (
+    let told = c.in-Tries.is in (
       omega (arith, start.0),
       (
         (start.1.0.0, stopped.some, start.1.0.1),
@@ -526,38 +525,38 @@ pub +literal_anew_literal_apart_literal_bracket_literal_end_literal_first_litera
       (
         start.1.0.0,
         stopped.some,
-        first-record.inside_facing stopped.leaves true c.enum_told-in-Inside-1.given.1,
+        first-record.inside_facing stopped.leaves true c.in-Inside.is,
         start.1.0.1,
       ),
     ))
     (λ c. let the_pre = c.requires in
-    absurd (known.stops_fails the_pre.1.1 c.enum_told-1.given.1))
+    absurd (known.stops_fails the_pre.1.1 c.in-Fails.is))
     (λ c. let the_pre = c.requires in
-    absurd (known.stops_not the_pre.1.1 _ _ c.enum_told-in-Goes-1.given.1))
-    (λ c. let the_first = c.first-1 in
+    absurd (known.stops_not the_pre.1.1 _ _ c.in-Goes.is))
+    (λ c. let the_first = c.in-Binds in
     let start = c.requires in
     let stopped = start.1.1 in
     let ends = c.end_of-m in
-    let binds = first-record.binds_within start.1.1.leaves true _ the_first.given.1 in
+    let binds = first-record.binds_within start.1.1.leaves true _ the_first.is in
     let values = calls.values_more start.1.0.0.asked stopped.some binds.1 binds.0 c.bind-more.ensures in (
-      level.run_rest start.1.0.0 c.literal_run.result ends.result the_first.given.0.0 c.bind-more.result
+      level.run_rest start.1.0.0 c.literal_run.result ends.result the_first.n c.bind-more.result
           ends.ensures.2 binds.0
-          (first-record.step_binds stopped.leaves true _ _ _ the_first.given.1 ends.ensures.0 values) c.literal_run.ensures.0,
+          (first-record.step_binds stopped.leaves true _ _ _ the_first.is ends.ensures.0 values) c.literal_run.ensures.0,
       around.remembered_bound start.1.0.1 c.bind-more.ensures (around.remembered_later start.1.0.0 _ _ ends.ensures.2 binds.0
           c.literal_run.ensures.1),
     ))
     (λ c.
-    let the_enum_told3 = c.enum_told-in-Tries-1 in
+    let the_enum_told3 = c.in-Tries in
     let the_pre = c.requires in (
       level.run_same the_pre.1.0.0 c.literal_tries.result _ c.literal_tries.ensures.0 (first-record.step_tries the_pre.1.1.leaves true
-          the_enum_told3.given.1),
+          the_enum_told3.is),
       c.literal_tries.ensures.1,
     ))
     (λ c.
-    let the_enum_told4 = c.enum_told-in-Inside-1 in
+    let the_enum_told4 = c.in-Inside in
     let the_pre = c.requires in (
       level.run_same the_pre.1.0.0 c.literal_bracket.result _ c.literal_bracket.ensures.0 (first-record.step_inside the_pre.1.1.leaves true
-          the_enum_told4.given.1),
+          the_enum_told4.is),
       c.literal_bracket.ensures.1,
     )))
     (λ t. literal-inside-lts.spec (
@@ -838,10 +837,10 @@ pub +literal_anew_literal_apart_literal_bracket_literal_end_literal_first_litera
     (λ c. search rules)
     (λ c.
     let the_known_front = c.known_front in
-    (known.known_end the_known_front.ensures _ _ c.n-1.given.1).0.within)
+    (known.known_end the_known_front.ensures _ _ c.in-End.is).0.within)
     (λ c.
     let the_known_front = c.known_front in
-    (known.known_end the_known_front.ensures _ _ c.n-1.given.1).0.within)
+    (known.known_end the_known_front.ensures _ _ c.in-End.is).0.within)
     (λ c. search rules)
     (λ c. let asked = c.requires.1.0.asked in
     omega (arith, asked.pattern_stands.inside-1, asked.small))
@@ -856,9 +855,9 @@ pub +literal_anew_literal_apart_literal_bracket_literal_end_literal_first_litera
       ),
     ))
     (λ c. let the_known_front = c.known_front in
-    let the_n = c.n-1 in
+    let the_n = c.in-End in
     let the_pre = c.requires in
-    let (passed, short) = known.known_end the_known_front.ensures _ _ the_n.given.1 in (
+    let (passed, short) = known.known_end the_known_front.ensures _ _ the_n.is in (
       level.run_one the_pre.1.0 c.literal_end.result (passed.search true ∙ step.end_both _ _ _ true _ short c.if-not-literal_run.true)
           c.literal_end.ensures.0,
       c.literal_end.ensures.1,
@@ -866,36 +865,36 @@ pub +literal_anew_literal_apart_literal_bracket_literal_end_literal_first_litera
     (λ c. search rules)
     (λ c.
     let the_known_front = c.known_front in
-    begin_inside (known.known_stop the_known_front.ensures _ _ _ c.m-1.given.1).0.begins)
+    begin_inside (known.known_stop the_known_front.ensures _ _ _ c.in-Stop.is).0.begins)
     (λ c.
     let the_known_front = c.known_front in
-    begin_inside (known.known_stop the_known_front.ensures _ _ _ c.m-1.given.1).0.begins)
+    begin_inside (known.known_stop the_known_front.ensures _ _ _ c.in-Stop.is).0.begins)
     (λ c. search rules)
     (λ c.
     let the_known_front = c.known_front in
-    let the_m = c.m-1 in
-    (known.known_stop the_known_front.ensures _ _ _ the_m.given.1).0.within)
+    let the_m = c.in-Stop in
+    (known.known_stop the_known_front.ensures _ _ _ the_m.is).0.within)
     (λ c.
     let the_known_front = c.known_front in
-    let the_m = c.m-1 in
-    (known.known_stop the_known_front.ensures _ _ _ the_m.given.1).0.within)
+    let the_m = c.in-Stop in
+    (known.known_stop the_known_front.ensures _ _ _ the_m.is).0.within)
     (λ c. search rules)
     (λ c.
-    let the_m = c.m-1 in
+    let the_m = c.in-Stop in
     let the_known_front = c.known_front in
     let asked = c.requires.1.0.asked in
-    omega (arith, asked.pattern_stands.inside-1, asked.small, begin_inside (known.known_stop the_known_front.ensures _ _ _ the_m.given.1).0.begins))
+    omega (arith, asked.pattern_stands.inside-1, asked.small, begin_inside (known.known_stop the_known_front.ensures _ _ _ the_m.is).0.begins))
     (λ c.
-    let the_m = c.m-1 in
+    let the_m = c.in-Stop in
     let the_known_front = c.known_front in
     let asked = c.requires.1.0.asked in
-    omega (arith, asked.row_stands.inside-1, asked.small, (known.known_stop the_known_front.ensures _ _ _ the_m.given.1).0.within))
+    omega (arith, asked.row_stands.inside-1, asked.small, (known.known_stop the_known_front.ensures _ _ _ the_m.is).0.within))
     (λ c κs.
-    let the_m = c.m-1 in
+    let the_m = c.in-Stop in
     let the_known_front = c.known_front in
     let start = c.requires in
     let asked = start.1.0.asked in
-    let (passed, stopped) = known.known_stop the_known_front.ensures _ _ _ the_m.given.1 in (
+    let (passed, stopped) = known.known_stop the_known_front.ensures _ _ _ the_m.is in (
       omega (arith, start.0, begin_inside passed.begins, asked.pattern_stands.inside-1),
       (
         (
@@ -906,19 +905,19 @@ pub +literal_anew_literal_apart_literal_bracket_literal_end_literal_first_litera
       ),
     ))
     (λ c. let the_pre = c.requires in (
-      level.run_none the_pre.1.0 (known.known_fails c.known_front.ensures c.enum_told-1.given.1 true),
+      level.run_none the_pre.1.0 (known.known_fails c.known_front.ensures c.in-Fails.is true),
       around.remembered_same the_pre.1.1 refl,
     ))
     (λ c.
-    let the_n = c.n-1 in
+    let the_n = c.in-End in
     let the_known_front = c.known_front in
     let the_pre = c.requires in
-    let (passed, short) = known.known_end the_known_front.ensures _ _ the_n.given.1 in
+    let (passed, short) = known.known_end the_known_front.ensures _ _ the_n.is in
     (level.run_none the_pre.1.0 (passed.search true ∙ step.end_one _ _ _ true _ short c.if-not-literal_run.false), around.remembered_same the_pre.1.1 refl))
     (λ c. let the_known_front = c.known_front in
-    let the_m = c.m-1 in
+    let the_m = c.in-Stop in
     let the_pre = c.requires in
-    let passed = (known.known_stop the_known_front.ensures _ _ _ the_m.given.1).0 in (
+    let passed = (known.known_stop the_known_front.ensures _ _ _ the_m.is).0 in (
       level.run_rest the_pre.1.0 c.literal_first.result _ _ _ (begin_inside passed.begins) passed.within (passed.search true)
           c.literal_first.ensures.0,
       around.remembered_later the_pre.1.0 _ _ (begin_inside passed.begins) passed.within
@@ -943,16 +942,16 @@ pub +literal_anew_literal_apart_literal_bracket_literal_end_literal_first_litera
     (λ c κs. let start = c.requires.1.0 in
     (start.2.settled.few, start.0.asked.kept.few, start.0.asked.kept.keyed, (_, (_, start.0.around))))
     (λ c κs.
-    let at_here = c.before.before in
+    let at_here = c in
     let start = at_here.requires in
     (omega (arith, start.0), ((start.1.0.0, start.1.0.1), start.1.1.0)))
     (λ c.
-    let at_here = c.before.before.before in
+    let at_here = c in
     let start = at_here.requires.1 in
     (c.literal_anew.ensures, around.remembered_same start.0.2 refl))
     (λ c κs. tt)
     (λ c.
-    let at_here = c.before.before.before.before in
+    let at_here = c in
     let start = at_here.requires.1 in
     let (known, closed) = at_here.holds_here.ensures c.if-not-literal_run.false in
     let settled = around.closed_fixed (closed _ _ _ _ start.0.0.asked.kept) start.0.2.settled in (
@@ -961,7 +960,7 @@ pub +literal_anew_literal_apart_literal_bracket_literal_end_literal_first_litera
       around.remembered_same start.0.2 refl,
     ))
     (λ c κs.
-    let at_here = c.before.before.before.before.before in
+    let at_here = c in
     let start = at_here.requires in
     let (known, closed) = at_here.holds_here.ensures c.if-not-literal_run.false in
     let settled = around.closed_fixed (closed _ _ _ _ start.1.0.0.asked.kept) start.1.0.2.settled in (
@@ -970,7 +969,7 @@ pub +literal_anew_literal_apart_literal_bracket_literal_end_literal_first_litera
     ))
     (λ c κs.
     let the_literal_lengths = c.literal_lengths in
-    let at_here = c.before.before.before.before.before.before.before.before in
+    let at_here = c in
     let start = at_here.requires.1.0 in
     let asked = start.0.asked in (
       omega (arith, asked.pattern_stands.inside-1, asked.small, start.1),
@@ -980,7 +979,7 @@ pub +literal_anew_literal_apart_literal_bracket_literal_end_literal_first_litera
       (the_literal_lengths.ensures.1.here refl).long,
     ))
     (λ c.
-    let at-if1 = c.before.before.before.before.before.before.before.before in
+    let at-if1 = c in
     let at_here = at-if1.before in
     let start = at_here.requires.1 in
     let (known, closed) = at_here.holds_here.ensures at-if1.if-not-literal_run.false in
@@ -993,6 +992,6 @@ pub +literal_anew_literal_apart_literal_bracket_literal_end_literal_first_litera
     ))
     (λ c.
     let the_literal_lengths = c.literal_lengths in
-    let at-if1 = c.before.before.before.before.before.before in
+    let at-if1 = c in
     let (known, closed) = at-if1.holds_here.ensures at-if1.if-not-literal_run.false in
     (the_literal_lengths.ensures.0, around.remembered_here known (the_literal_lengths.ensures.1.here refl)))
