@@ -16,7 +16,7 @@ row_format_spec =
     (λ c. search rules)
     (λ c κs.
     let the_clear_words = c.clear_words in
-    let p = c.requires in (row_cleared p.0 the_clear_words.auto.out refl, p.2))
+    let p = c.requires in (row_cleared p.0 the_clear_words.auto.words refl, p.2))
     (λ c. search rules)
     (λ c κs. search rules)
     (λ c. search rules)
@@ -30,12 +30,12 @@ row_format_spec =
     (λ c.
     let out-kept = c.write_row.auto.out in
     λ t knows. made_over c.args.limit _ _ _ refl c.in-Over.is (c.write_row.ensures.1 t knows)
-    (out-kept ∙ c.clear_words.auto.out ∙ c.requires.1) c.clear_words-in-Over.ensures)
+    (out-kept ∙ c.clear_words.auto.words ∙ c.requires.1) c.clear_words-in-Over.ensures)
     (λ c. let the_write_row = c.write_row in
     let out-kept = the_write_row.auto.out in
     let out-after = the_write_row.new.out in
     let the_clear_words = c.clear_words in
-    length-set out-after _ _ ∙ out-kept ∙ the_clear_words.auto.out)
+    length-set out-after _ _ ∙ out-kept ∙ the_clear_words.auto.words)
     (λ c.
     let the_args = c.args in
     let the_clear_words = c.clear_words in

@@ -20,10 +20,10 @@ sentences_format_spec =
     (λ c.
     let the_clear_words = c.clear_words in
     let the_pre = c.requires in
-    omega (arith, the_clear_words.auto.out, the_pre.3))
+    omega (arith, the_clear_words.auto.words, the_pre.3))
     (λ c.
     let the_clear_words = c.clear_words in
-    length-set the_clear_words.new.0 _ _ ∙ the_clear_words.auto.out)
+    length-set the_clear_words.new.words _ _ ∙ the_clear_words.auto.words)
     (λ c.
     let the_if1 = c.if-number-eq0 in
     let file = file_of c.args.law.now in
