@@ -230,13 +230,13 @@ literal_tries_below t =
 abbrev outside : List ℕ → List ℕ → Pending → List ℕ → ℕ → List ℕ → ℕ → Values Atom → Bool
 outside text terms pending pattern at row start = resume (levels_of text terms pending (at + length pattern) (start + length row))
 
-abbrev literal-lengths-Inv-loop : literal-lengths-lts.invariant_loop
+abbrev literal-lengths-Inv-loop : literal-lengths-lts.invariant-loop-rest
 literal-lengths-Inv-loop text terms pattern at row start outer b sure failed₀ end rest next n₀ failed n =
     Begin row n × (some_holds (outside text terms outer pattern at row start) (each_length text true pattern row (values_of text terms b))
     ≡ some_holds (outside text terms outer pattern at row start) (left_at text true pattern row (values_of text terms b) n))
     × Remembered text terms (levels_of text terms outer (at + length pattern) (start + length row)) b sure failed₀ failed
 
-abbrev literal-lengths-μ-loop : literal-lengths-lts.decreases_loop
+abbrev literal-lengths-μ-loop : literal-lengths-lts.decreases-loop-rest
 literal-lengths-μ-loop text terms pattern at row start outer b sure failed₀ end rest next n₀ failed n = length row - n
 
 pub +literal_anew_literal_apart_literal_bracket_literal_end_literal_first_literal_inside_literal_lengths_literal_out_literal_run_literal_tries_spec :
@@ -280,15 +280,15 @@ pub +literal_anew_literal_apart_literal_bracket_literal_end_literal_first_litera
     (λ c. search rules)
     (λ c. search rules)
     (λ c. let start = c.requires.1.0 in
-    omega (arith, start.0.asked.pattern_stands.inside-1, start.0.asked.small, start.1))
+    omega (arith, start.0.asked.pattern_stands.inside, start.0.asked.small, start.1))
     (λ c. let start = c.requires.1.0 in
-    omega (arith, start.0.asked.row_stands.inside-1, start.0.asked.small, start.2.some))
+    omega (arith, start.0.asked.row_stands.inside, start.0.asked.small, start.2.some))
     (λ c κs.
     let the_end_of = c.end_of-m in
     let the_end_of2 = c.end_of-n in
     let the_pre = c.requires in
     let start = c.requires.1.0 in (
-      omega (arith, the_pre.0, start.0.asked.pattern_stands.inside-1, start.1),
+      omega (arith, the_pre.0, start.0.asked.pattern_stands.inside, start.1),
       (
         alone.contents_alone start.0 the_pre.1.1.0 start.1 start.2 _ _ the_end_of.ensures.0 the_end_of2.ensures.0,
         alone.remembering_inside start.0 the_pre.1.1.0 start.1 start.2 _ the_end_of2.result the_end_of.ensures.0 start.3,
@@ -312,10 +312,10 @@ pub +literal_anew_literal_apart_literal_bracket_literal_end_literal_first_litera
     (λ c. search rules)
     (λ c. let the_end_of = c.end_of-m in
     let asked = c.requires.1.0.0.asked in
-    omega (arith, asked.pattern_stands.inside-1, asked.small, the_end_of.ensures.2))
+    omega (arith, asked.pattern_stands.inside, asked.small, the_end_of.ensures.2))
     (λ c. let the_end_of2 = c.end_of-n in
     let asked = c.requires.1.0.0.asked in
-    omega (arith, asked.row_stands.inside-1, asked.small, the_end_of2.ensures.2))
+    omega (arith, asked.row_stands.inside, asked.small, the_end_of2.ensures.2))
     (λ c κs.
     let the_literal_run = c.literal_run in
     let the_pre = c.requires in
@@ -323,7 +323,7 @@ pub +literal_anew_literal_apart_literal_bracket_literal_end_literal_first_litera
     let start = c.requires.1.0 in
     let ends = c.end_of-m.ensures in
     let begins = sure.begin_second start.1 ends.0 in (
-      omega (arith, the_pre.0, start.0.asked.pattern_stands.inside-1, ends.1, ends.2),
+      omega (arith, the_pre.0, start.0.asked.pattern_stands.inside, ends.1, ends.2),
       (
         level.literal_later start.0 _ _ begins the_end_of2.ensures.2,
         around.remembering_later start.0 _ _ ends.2 the_end_of2.ensures.2 begins
@@ -367,7 +367,7 @@ pub +literal_anew_literal_apart_literal_bracket_literal_end_literal_first_litera
     (λ c κs. tt)
     (λ c κs. let the_end_of = c.end_of-m in
     let start = c.requires in
-    let apart = c.stands_apart.ensures c.if-not-literal_run.true in
+    let apart = c.stands_apart.ensures c.if-stands_apart.true in
     (omega (arith, start.0), (start.1, (apart.0, rw the_end_of.ensures.0 at apart.1))))
     (λ c. c.literal_apart.ensures)
     (λ c κs. let start = c.requires in
@@ -401,9 +401,9 @@ pub +literal_anew_literal_apart_literal_bracket_literal_end_literal_first_litera
     (λ c κs. tt)
     (λ c.
     let at-around = c in
-    let at_start = at-around.before.before.before.before.before.before.before.before in
+    let at_start = at-around in
     let start = at_start.requires.1 in
-    let (known, closed) = at-around.holds_here.ensures c.if-not-literal_run.false in (
+    let (known, closed) = at-around.holds_here.ensures c.if-not-holds_here.false in (
       around.out_known _ _ _ _ _ (around.closed_levels at_start.args.at (closed _ _ _ _ start.0.2) start.1.1.0) (start.1.1.1 known) _ _
           (c.failed_before.ensures c.if-failed_before.true),
       around.remembered_unchanged start.1.1.1 refl,
@@ -415,9 +415,9 @@ pub +literal_anew_literal_apart_literal_bracket_literal_end_literal_first_litera
     (λ c κs.
     let the_literal_out2 = c.literal_out-found in
     let at-if1 = c in
-    let at-around = at-if1.before in
+    let at-around = at-if1 in
     let start = at-around.requires.1 in
-    let (known, closed) = at-around.holds_here.ensures at-if1.if-not-literal_run.false in (
+    let (known, closed) = at-around.holds_here.ensures at-if1.if-not-holds_here.false in (
       omega arith,
       omega arith,
       omega (arith, start.0.0, start.0.3),
@@ -426,11 +426,11 @@ pub +literal_anew_literal_apart_literal_bracket_literal_end_literal_first_litera
     ))
     (λ c.
     let at-if1 = c in
-    let at-around = at-if1.before in
-    let at_start = at-around.before.before.before.before.before.before.before.before in
+    let at-around = at-if1 in
+    let at_start = at-around in
     let start = at_start.requires.1 in
     let out = c.literal_out-found.ensures in
-    let (known, closed) = at-around.holds_here.ensures at-if1.if-not-literal_run.false in (
+    let (known, closed) = at-around.holds_here.ensures at-if1.if-not-holds_here.false in (
       out.0,
       around.remembered_here known
           (around.out_noted _ _ _ _ _ (around.closed_levels at_start.args.at (closed _ _ _ _ start.0.2) start.1.1.0) out.0
@@ -461,7 +461,7 @@ pub +literal_anew_literal_apart_literal_bracket_literal_end_literal_first_litera
     (λ c. search rules)
     (λ c κs. let the_pre = c.requires in
     the_pre.1.1.some)
-    (λ c. c.end_of-m.ensures.2)
+    (λ c. c.end_of-end.ensures.2)
     (λ c. search rules)
     (λ c. search rules)
     (λ c.
@@ -474,33 +474,33 @@ pub +literal_anew_literal_apart_literal_bracket_literal_end_literal_first_litera
     (first-record.binds_within the_pre.1.1.leaves true _ the_first.is).0)
     (λ c. search rules)
     (λ c.
-    let the_end_of = c.end_of-m in
+    let the_end_of = c.end_of-end in
     let asked = c.requires.1.0.0.asked in
-    omega (arith, asked.pattern_stands.inside-1, asked.small, the_end_of.ensures.2))
+    omega (arith, asked.pattern_stands.inside, asked.small, the_end_of.ensures.2))
     (λ c κs.
     let the_first = c.in-Binds in
     let start = c.requires in
     let asked = start.1.0.0.asked in
     let binds = first-record.binds_within start.1.1.leaves true _ the_first.is in (
       (
-        omega (arith, asked.pattern_stands.inside-1, asked.small, start.1.1.some),
-        omega (arith, asked.row_stands.inside-1, asked.small),
-        omega (arith, asked.row_stands.inside-1, asked.small, binds.0),
+        omega (arith, asked.pattern_stands.inside, asked.small, start.1.1.some),
+        omega (arith, asked.row_stands.inside, asked.small),
+        omega (arith, asked.row_stands.inside, asked.small, binds.0),
         calls.place_ready asked start.1.1.some binds.1,
       ),
-      (asked.kept.keys-1, asked.kept.starts, asked.kept.sizes),
+      (asked.kept.keys, asked.kept.starts, asked.kept.sizes),
     ))
     (λ c. let the_first = c.in-Binds in
     let start = c.requires in
     let asked = start.1.0.0.asked in
-    omega (arith, asked.row_stands.inside-1, asked.small, (first-record.binds_within start.1.1.leaves true _ the_first.is).0))
+    omega (arith, asked.row_stands.inside, asked.small, (first-record.binds_within start.1.1.leaves true _ the_first.is).0))
     (λ c κs. let the_first = c.in-Binds in
     let start = c.requires in
     let stopped = start.1.1 in
     let asked = start.1.0.0.asked in
-    let ends = c.end_of-m in
+    let ends = c.end_of-end in
     let binds = first-record.binds_within start.1.1.leaves true _ the_first.is in (
-      omega (arith, start.0, ends.ensures.1, ends.ensures.2, asked.pattern_stands.inside-1),
+      omega (arith, start.0, ends.ensures.1, ends.ensures.2, asked.pattern_stands.inside),
       (
         level.literal_more start.1.0.0 stopped.some binds.1 binds.0 c.bind-more.ensures ends.result the_first.n
             ends.ensures.0 binds.0,
@@ -536,7 +536,7 @@ pub +literal_anew_literal_apart_literal_bracket_literal_end_literal_first_litera
     (λ c. let the_first = c.in-Binds in
     let start = c.requires in
     let stopped = start.1.1 in
-    let ends = c.end_of-m in
+    let ends = c.end_of-end in
     let binds = first-record.binds_within start.1.1.leaves true _ the_first.is in
     let values = calls.values_more start.1.0.0.asked stopped.some binds.1 binds.0 c.bind-more.ensures in (
       level.run_rest start.1.0.0 c.literal_run.result ends.result the_first.n c.bind-more.result
@@ -577,13 +577,13 @@ pub +literal_anew_literal_apart_literal_bracket_literal_end_literal_first_litera
     (λ c κs. let the_pre = c.requires in
     the_pre.1.2.some)
     (λ c. let asked = c.requires.1.0.asked in
-    omega (arith, asked.pattern_stands.inside-1, asked.small))
+    omega (arith, asked.pattern_stands.inside, asked.small))
     (λ c. let asked = c.requires.1.0.asked in
-    omega (arith, asked.row_stands.inside-1, asked.small))
+    omega (arith, asked.row_stands.inside, asked.small))
     (λ c κs. let start = c.requires in
     let asked = start.1.0.asked in (
-      omega (arith, asked.pattern_stands.inside-1, asked.small),
-      omega (arith, asked.row_stands.inside-1, asked.small),
+      omega (arith, asked.pattern_stands.inside, asked.small),
+      omega (arith, asked.row_stands.inside, asked.small),
       level.level_ready start.1.0 start.1.1 start.1.2 _ _ c.end_of-m.ensures.0 c.end_of-n.ensures.0,
       start.1.0.around.patterns,
       start.1.0.around.rows,
@@ -600,10 +600,10 @@ pub +literal_anew_literal_apart_literal_bracket_literal_end_literal_first_litera
     (λ c. search rules)
     (λ c. let start = c.requires in
     let asked = start.1.0.asked in
-    omega (arith, asked.pattern_stands.inside-1, asked.small, start.1.1))
+    omega (arith, asked.pattern_stands.inside, asked.small, start.1.1))
     (λ c. let start = c.requires in
     let asked = start.1.0.asked in
-    omega (arith, asked.row_stands.inside-1, asked.small, start.1.2.some))
+    omega (arith, asked.row_stands.inside, asked.small, start.1.2.some))
     (λ c κs. tt)
     (λ c κs.
     let the_push = c.push-around in
@@ -613,7 +613,7 @@ pub +literal_anew_literal_apart_literal_bracket_literal_end_literal_first_litera
     let asked = start.1.0.asked in
     let more = c.push-around.ensures in
     let unsure = c.unsure-sure.ensures in (
-      omega (arith, start.0, more.0, asked.pattern_stands.inside-1, start.1.1),
+      omega (arith, start.0, more.0, asked.pattern_stands.inside, start.1.1),
       (
         level.literal_inside start.1.0 start.1.1 start.1.2 _ _ the_end_of.ensures.0 the_end_of2.ensures.0 the_push.result more.0
             more.1 more.2,
@@ -647,11 +647,11 @@ pub +literal_anew_literal_apart_literal_bracket_literal_end_literal_first_litera
     (λ c κs.
     let the_pre = c.requires in
     the_pre.1.0.1)
-    (λ c. c.end_of-m.ensures.2)
+    (λ c. c.end_of-end.ensures.2)
     (λ c. search rules)
     (λ c. search rules)
     (λ c. let asked = c.requires.1.0.0.asked in
-    omega (arith, asked.pattern_stands.inside-1, asked.small, c.end_of-m.ensures.2))
+    omega (arith, asked.pattern_stands.inside, asked.small, c.end_of-end.ensures.2))
     (λ c. let start = c.requires in
     (at_start, level.lengths_start start.1.0.0 start.1.0.1 start.1.1, around.remembered_same start.1.0.2 refl))
     (λ c. begin_inside c.loop-rest.invariant.0)
@@ -660,24 +660,24 @@ pub +literal_anew_literal_apart_literal_bracket_literal_end_literal_first_litera
     (λ c κs. let start = c.requires in
     let asked = start.1.0.0.asked in (
       (
-        omega (arith, asked.pattern_stands.inside-1, asked.small, start.1.0.1),
-        omega (arith, asked.row_stands.inside-1, asked.small),
-        omega (arith, asked.row_stands.inside-1, asked.small, begin_inside c.loop-rest.invariant.0),
+        omega (arith, asked.pattern_stands.inside, asked.small, start.1.0.1),
+        omega (arith, asked.row_stands.inside, asked.small),
+        omega (arith, asked.row_stands.inside, asked.small, begin_inside c.loop-rest.invariant.0),
         calls.place_ready asked start.1.0.1 start.1.1,
       ),
-      (asked.kept.keys-1, asked.kept.starts, asked.kept.sizes),
+      (asked.kept.keys, asked.kept.starts, asked.kept.sizes),
     ))
     (λ c.
     let the_loop = c.loop-rest in
     let asked = c.requires.1.0.0.asked in
-    omega (arith, asked.row_stands.inside-1, asked.small, begin_inside the_loop.invariant.0))
+    omega (arith, asked.row_stands.inside, asked.small, begin_inside the_loop.invariant.0))
     (λ c κs.
     let the_loop = c.loop-rest in
     let start = c.requires in
     let asked = start.1.0.0.asked in
-    let ends = c.end_of-m in
+    let ends = c.end_of-end in
     let inside = begin_inside the_loop.invariant.0 in (
-      omega (arith, start.0, ends.ensures.1, ends.ensures.2, asked.pattern_stands.inside-1),
+      omega (arith, start.0, ends.ensures.1, ends.ensures.2, asked.pattern_stands.inside),
       (
         level.literal_more start.1.0.0 start.1.0.1 start.1.1 inside c.bind-more.ensures ends.result the_loop.n ends.ensures.0
             inside,
@@ -685,13 +685,13 @@ pub +literal_anew_literal_apart_literal_bracket_literal_end_literal_first_litera
             (around.remembering_bound (around.remembering_then start.1.0.2 the_loop.invariant.2) c.bind-more.ensures),
       ),
     ))
-    (λ c κs. c.if-failed_before.false)
+    (λ c κs. c.if-left-lt24.false)
     (λ c. let the_loop = c.loop-rest in
     let the_args = c.args in
     let asked = c.requires.1.0.0.asked in
     omega (
       arith,
-      asked.row_stands.inside-1,
+      asked.row_stands.inside,
       asked.small,
       c.end_of-n.ensures.2,
       from_length the_loop.n the_args.row.now,
@@ -703,36 +703,36 @@ pub +literal_anew_literal_apart_literal_bracket_literal_end_literal_first_litera
     (λ c.
     let the_literal_run = c.literal_run in
     let the_loop = c.loop-rest in
-    let the_end_of = c.end_of-m in
+    let the_end_of = c.end_of-end in
     let the_bind = c.bind-more in
     let start = c.requires in (
-      rw c.end_of-n.ensures.0 (one_on c.if-failed_before.false the_loop.invariant.0),
+      rw c.end_of-n.ensures.0 (one_on c.if-left-lt24.false the_loop.invariant.0),
       rw c.end_of-n.ensures.0 (level.length_next start.1.0.0 start.1.0.1 start.1.1 the_end_of.ensures.0
           the_loop.invariant.0 the_bind.ensures
-          the_literal_run.result the_literal_run.ensures.0 the_loop.invariant.1 c.if-not-literal_run.false c.if-failed_before.false),
+          the_literal_run.result the_literal_run.ensures.0 the_loop.invariant.1 c.if-literal_run.false c.if-left-lt24.false),
       around.remembered_then the_loop.invariant.2 (around.remembered_bound (around.remembering_then start.1.0.2 the_loop.invariant.2) the_bind.ensures
           (around.remembered_later start.1.0.0 _ _ the_end_of.ensures.2 (begin_inside the_loop.invariant.0) the_literal_run.ensures.1)),
     ))
     (λ c.
     let the_bind = c.bind-more in
-    let the_end_of = c.end_of-m in
+    let the_end_of = c.end_of-end in
     let the_loop = c.loop-rest in
     let start = c.requires in (
       level.length_found start.1.0.0 start.1.0.1 start.1.1 the_end_of.ensures.0 the_loop.invariant.0 the_bind.ensures
           c.literal_run.result
-          c.literal_run.ensures.0 the_loop.invariant.1 c.if-not-literal_run.true,
+          c.literal_run.ensures.0 the_loop.invariant.1 c.if-literal_run.true,
       around.remembered_then the_loop.invariant.2 (around.remembered_bound (around.remembering_then start.1.0.2 the_loop.invariant.2) the_bind.ensures
           (around.remembered_later start.1.0.0 _ _ the_end_of.ensures.2 (begin_inside the_loop.invariant.0) c.literal_run.ensures.1)),
     ))
     (λ c.
     let the_bind = c.bind-more in
     let the_literal_run = c.literal_run in
-    let the_end_of = c.end_of-m in
+    let the_end_of = c.end_of-end in
     let the_loop = c.loop-rest in
     let start = c.requires in (
       level.length_none start.1.0.0 start.1.0.1 start.1.1 the_end_of.ensures.0 the_loop.invariant.0 the_bind.ensures
           c.literal_run.result
-          the_literal_run.ensures.0 the_loop.invariant.1 c.if-not-literal_run.false c.if-failed_before.true,
+          the_literal_run.ensures.0 the_loop.invariant.1 c.if-literal_run.false c.if-left-lt24.true,
       around.remembered_then the_loop.invariant.2 (around.remembered_bound (around.remembering_then start.1.0.2 the_loop.invariant.2) the_bind.ensures
           (around.remembered_later start.1.0.0 _ _ the_end_of.ensures.2 (begin_inside the_loop.invariant.0) the_literal_run.ensures.1)),
     )))
@@ -746,60 +746,60 @@ pub +literal_anew_literal_apart_literal_bracket_literal_end_literal_first_litera
     )
     (literal_out_at t)
     literal_out.Post
-    (λ c. (level.out_none _ _ _ _ _ _ c.if-not-literal_run.true, refl))
-    (λ c. omega (arith, c.if-not-literal_run.false))
+    (λ c. (level.out_none _ _ _ _ _ _ c.if-n-eq0.true, refl))
+    (λ c. omega (arith, c.if-n-eq0.false))
     (λ c.
     let the_pre = c.requires in
     omega (arith, the_pre.1.0.1.few))
     (λ c.
     let the_pre = c.requires in
-    omega (arith, the_pre.1.0.1.few, c.if-not-literal_run.false))
+    omega (arith, the_pre.1.0.1.few, c.if-n-eq0.false))
     (λ c κs. tt)
     (λ c. let the_pre = c.requires in
     omega (arith, the_pre.1.0.1.few))
     (λ c. let the_pre = c.requires in
-    omega (arith, the_pre.1.0.1.few, c.if-not-literal_run.false))
+    omega (arith, the_pre.1.0.1.few, c.if-n-eq0.false))
     (λ c κs. tt)
     (λ c.
-    let the_if1 = c.if-not-literal_run in
+    let the_if1 = c.if-n-eq0 in
     let the_wide = c.wide-end in
     let start = c.requires in
     (level.out_pattern start.1.0.0 start.1.0.1 start.1.0.2 start.1.1 (omega (arith, the_if1.false)) the_wide.ensures.0
     c.wide-row_end.ensures.0).0)
     (λ c.
-    let the_if1 = c.if-not-literal_run in
+    let the_if1 = c.if-n-eq0 in
     let the_wide = c.wide-end in
     let start = c.requires in
     (level.out_pattern start.1.0.0 start.1.0.1 start.1.0.2 start.1.1 (omega (arith, the_if1.false)) the_wide.ensures.0
     c.wide-row_end.ensures.0).0)
     (λ c.
-    let the_if1 = c.if-not-literal_run in
+    let the_if1 = c.if-n-eq0 in
     let the_wide = c.wide-end in
     let start = c.requires in
     (level.out_pattern start.1.0.0 start.1.0.1 start.1.0.2 start.1.1 (omega (arith, the_if1.false)) the_wide.ensures.0
     c.wide-row_end.ensures.0).1)
     (λ c.
     let the_wide = c.wide-end in
-    let the_if1 = c.if-not-literal_run in
+    let the_if1 = c.if-n-eq0 in
     let start = c.requires in
     (level.out_row start.1.0.0 start.1.0.1 start.1.0.2 start.1.1 (omega (arith, the_if1.false)) the_wide.ensures.0
     c.wide-row_end.ensures.0).0)
     (λ c.
     let the_wide = c.wide-end in
-    let the_if1 = c.if-not-literal_run in
+    let the_if1 = c.if-n-eq0 in
     let start = c.requires in
     (level.out_row start.1.0.0 start.1.0.1 start.1.0.2 start.1.1 (omega (arith, the_if1.false)) the_wide.ensures.0
     c.wide-row_end.ensures.0).0)
     (λ c.
     let the_wide = c.wide-end in
-    let the_if1 = c.if-not-literal_run in
+    let the_if1 = c.if-n-eq0 in
     let start = c.requires in
     (level.out_row start.1.0.0 start.1.0.1 start.1.0.2 start.1.1 (omega (arith, the_if1.false)) the_wide.ensures.0
     c.wide-row_end.ensures.0).1)
     (λ c κs. tt)
     (λ c κs.
     let the_wide2 = c.wide-row_end in
-    let the_if1 = c.if-not-literal_run in
+    let the_if1 = c.if-n-eq0 in
     let the_wide = c.wide-end in
     let start = c.requires in
     let unsure = c.unsure-sure.ensures in (
@@ -812,7 +812,7 @@ pub +literal_anew_literal_apart_literal_bracket_literal_end_literal_first_litera
     ))
     (λ c.
     let the_unsure = c.unsure-sure in
-    let the_if1 = c.if-not-literal_run in
+    let the_if1 = c.if-n-eq0 in
     let the_wide = c.wide-end in
     let the_wide2 = c.wide-row_end in
     let start = c.requires in (
@@ -843,14 +843,14 @@ pub +literal_anew_literal_apart_literal_bracket_literal_end_literal_first_litera
     (known.known_end the_known_front.ensures _ _ c.in-End.is).0.within)
     (λ c. search rules)
     (λ c. let asked = c.requires.1.0.asked in
-    omega (arith, asked.pattern_stands.inside-1, asked.small))
+    omega (arith, asked.pattern_stands.inside, asked.small))
     (λ c. let asked = c.requires.1.0.asked in
-    omega (arith, asked.row_stands.inside-1, asked.small))
+    omega (arith, asked.row_stands.inside, asked.small))
     (λ c κs. let start = c.requires in
     let asked = start.1.0 in (
       omega (arith, start.0),
       (
-        (asked.asked.small, asked.around, asked.asked.kept, asked.asked.pattern_stands.inside-1),
+        (asked.asked.small, asked.around, asked.asked.kept, asked.asked.pattern_stands.inside),
         (level.out_capacity asked, (around.settled_around start.1.1, start.1.1.here)),
       ),
     ))
@@ -858,7 +858,7 @@ pub +literal_anew_literal_apart_literal_bracket_literal_end_literal_first_litera
     let the_n = c.in-End in
     let the_pre = c.requires in
     let (passed, short) = known.known_end the_known_front.ensures _ _ the_n.is in (
-      level.run_one the_pre.1.0 c.literal_end.result (passed.search true ∙ step.end_both _ _ _ true _ short c.if-not-literal_run.true)
+      level.run_one the_pre.1.0 c.literal_end.result (passed.search true ∙ step.end_both _ _ _ true _ short c.if-left-lt24.true)
           c.literal_end.ensures.0,
       c.literal_end.ensures.1,
     ))
@@ -883,19 +883,19 @@ pub +literal_anew_literal_apart_literal_bracket_literal_end_literal_first_litera
     let the_m = c.in-Stop in
     let the_known_front = c.known_front in
     let asked = c.requires.1.0.asked in
-    omega (arith, asked.pattern_stands.inside-1, asked.small, begin_inside (known.known_stop the_known_front.ensures _ _ _ the_m.is).0.begins))
+    omega (arith, asked.pattern_stands.inside, asked.small, begin_inside (known.known_stop the_known_front.ensures _ _ _ the_m.is).0.begins))
     (λ c.
     let the_m = c.in-Stop in
     let the_known_front = c.known_front in
     let asked = c.requires.1.0.asked in
-    omega (arith, asked.row_stands.inside-1, asked.small, (known.known_stop the_known_front.ensures _ _ _ the_m.is).0.within))
+    omega (arith, asked.row_stands.inside, asked.small, (known.known_stop the_known_front.ensures _ _ _ the_m.is).0.within))
     (λ c κs.
     let the_m = c.in-Stop in
     let the_known_front = c.known_front in
     let start = c.requires in
     let asked = start.1.0.asked in
     let (passed, stopped) = known.known_stop the_known_front.ensures _ _ _ the_m.is in (
-      omega (arith, start.0, begin_inside passed.begins, asked.pattern_stands.inside-1),
+      omega (arith, start.0, begin_inside passed.begins, asked.pattern_stands.inside),
       (
         (
           level.literal_later start.1.0 _ _ passed.begins passed.within,
@@ -913,7 +913,7 @@ pub +literal_anew_literal_apart_literal_bracket_literal_end_literal_first_litera
     let the_known_front = c.known_front in
     let the_pre = c.requires in
     let (passed, short) = known.known_end the_known_front.ensures _ _ the_n.is in
-    (level.run_none the_pre.1.0 (passed.search true ∙ step.end_one _ _ _ true _ short c.if-not-literal_run.false), around.remembered_same the_pre.1.1 refl))
+    (level.run_none the_pre.1.0 (passed.search true ∙ step.end_one _ _ _ true _ short c.if-left-lt24.false), around.remembered_same the_pre.1.1 refl))
     (λ c. let the_known_front = c.known_front in
     let the_m = c.in-Stop in
     let the_pre = c.requires in
@@ -937,8 +937,8 @@ pub +literal_anew_literal_apart_literal_bracket_literal_end_literal_first_litera
     )
     (literal_tries_at t)
     literal-tries.Post
-    (λ c. let asked = c.requires.1.0.0.asked in omega (arith, asked.pattern_stands.inside-1, asked.small))
-    (λ c. let asked = c.requires.1.0.0.asked in omega (arith, asked.row_stands.inside-1, asked.small))
+    (λ c. let asked = c.requires.1.0.0.asked in omega (arith, asked.pattern_stands.inside, asked.small))
+    (λ c. let asked = c.requires.1.0.0.asked in omega (arith, asked.row_stands.inside, asked.small))
     (λ c κs. let start = c.requires.1.0 in
     (start.2.settled.few, start.0.asked.kept.few, start.0.asked.kept.keyed, (_, (_, start.0.around))))
     (λ c κs.
@@ -953,7 +953,7 @@ pub +literal_anew_literal_apart_literal_bracket_literal_end_literal_first_litera
     (λ c.
     let at_here = c in
     let start = at_here.requires.1 in
-    let (known, closed) = at_here.holds_here.ensures c.if-not-literal_run.false in
+    let (known, closed) = at_here.holds_here.ensures c.if-not-holds_here.false in
     let settled = around.closed_fixed (closed _ _ _ _ start.0.0.asked.kept) start.0.2.settled in (
       around.lengths_known start.0.0.asked _ _ settled start.1.1 start.0.1 (start.0.2.here known)
           (c.failed_before.ensures c.if-failed_before.true),
@@ -962,36 +962,36 @@ pub +literal_anew_literal_apart_literal_bracket_literal_end_literal_first_litera
     (λ c κs.
     let at_here = c in
     let start = at_here.requires in
-    let (known, closed) = at_here.holds_here.ensures c.if-not-literal_run.false in
+    let (known, closed) = at_here.holds_here.ensures c.if-not-holds_here.false in
     let settled = around.closed_fixed (closed _ _ _ _ start.1.0.0.asked.kept) start.1.0.2.settled in (
       omega (arith, start.0),
       ((start.1.0.0, start.1.0.1, around.remembering_all start.1.0.2 known settled), start.1.1.0),
     ))
     (λ c κs.
-    let the_literal_lengths = c.literal_lengths in
+    let the_literal_lengths = c.literal_lengths-found in
     let at_here = c in
     let start = at_here.requires.1.0 in
     let asked = start.0.asked in (
-      omega (arith, asked.pattern_stands.inside-1, asked.small, start.1),
-      omega (arith, asked.pattern_stands.inside-1, asked.small),
-      omega (arith, asked.row_stands.inside-1, asked.small),
-      omega (arith, asked.row_stands.inside-1, asked.small),
+      omega (arith, asked.pattern_stands.inside, asked.small, start.1),
+      omega (arith, asked.pattern_stands.inside, asked.small),
+      omega (arith, asked.row_stands.inside, asked.small),
+      omega (arith, asked.row_stands.inside, asked.small),
       (the_literal_lengths.ensures.1.here refl).long,
     ))
     (λ c.
     let at-if1 = c in
-    let at_here = at-if1.before in
+    let at_here = at-if1 in
     let start = at_here.requires.1 in
-    let (known, closed) = at_here.holds_here.ensures at-if1.if-not-literal_run.false in
+    let (known, closed) = at_here.holds_here.ensures at-if1.if-not-holds_here.false in
     let settled = around.closed_fixed (closed _ _ _ _ start.0.0.asked.kept) start.0.2.settled in
-    let lengths = c.literal_lengths in (
+    let lengths = c.literal_lengths-found in (
       lengths.ensures.0,
       around.remembered_here known
           (around.lengths_noted start.0.0.asked _ _ settled start.1.1 lengths.ensures.0
           c.if-not-found.true (lengths.ensures.1.here refl) c.note_failed.ensures),
     ))
     (λ c.
-    let the_literal_lengths = c.literal_lengths in
+    let the_literal_lengths = c.literal_lengths-found in
     let at-if1 = c in
-    let (known, closed) = at-if1.holds_here.ensures at-if1.if-not-literal_run.false in
+    let (known, closed) = at-if1.holds_here.ensures at-if1.if-not-holds_here.false in
     (the_literal_lengths.ensures.0, around.remembered_here known (the_literal_lengths.ensures.1.here refl)))

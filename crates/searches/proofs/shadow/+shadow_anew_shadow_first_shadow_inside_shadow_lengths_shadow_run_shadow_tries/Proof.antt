@@ -6,6 +6,7 @@ use mathlib.Core.Bool.{false}
 use mathlib.Core.Path.{◌≡◌, refl, sym, ap, ◌∙◌}
 use native.Mathlib.Omega.{arith}
 use borrow.Author.Rules.{rules}
+use borrow.Author.Tests.{not-true, not-false}
 use lib.ListN.{length}
 use Rattle.law.proofs.Forests.{inside_falls, after_falls}
 use Rattle.matching.specs.Code.Step.{each_length}
@@ -140,12 +141,12 @@ shadow_tries_below t =
     (falls 5 shadow-tries-kinds.ps ◌<◌ μ-shadow-tries t)
     shadow-tries.Pre
 
-abbrev shadow-lengths-Inv-loop : shadow-lengths-lts.invariant_loop
+abbrev shadow-lengths-Inv-loop : shadow-lengths-lts.invariant-loop-rest
 shadow-lengths-Inv-loop text terms pattern at row start b sure failed₀ end rest next n₀ failed n =
     Begin row n × (first_in (each_length text false pattern row (values_of text terms b)) ≡ first_in (left_at text false pattern row (values_of text terms b) n))
     × Remembers (Failed text terms (first_values text terms b sure.fixed)) failed
 
-abbrev shadow-lengths-μ-loop : shadow-lengths-lts.decreases_loop
+abbrev shadow-lengths-μ-loop : shadow-lengths-lts.decreases-loop-rest
 shadow-lengths-μ-loop text terms pattern at row start b sure failed₀ end rest next n₀ failed n = length row - n
 
 pub +shadow_anew_shadow_first_shadow_inside_shadow_lengths_shadow_run_shadow_tries_spec :
@@ -208,9 +209,9 @@ pub +shadow_anew_shadow_first_shadow_inside_shadow_lengths_shadow_run_shadow_tri
     let asked = start.1.0.0 in
     let binds = first-record.binds_within start.1.1.leaves false _ the_first.is in (
       (
-        omega (arith, asked.pattern_stands.inside-1, asked.small, start.1.1.some),
-        omega (arith, asked.row_stands.inside-1, asked.small),
-        omega (arith, asked.row_stands.inside-1, asked.small, binds.0),
+        omega (arith, asked.pattern_stands.inside, asked.small, start.1.1.some),
+        omega (arith, asked.row_stands.inside, asked.small),
+        omega (arith, asked.row_stands.inside, asked.small, binds.0),
         calls.place_ready asked start.1.1.some binds.1,
       ),
       (asked.kept.keys, asked.kept.starts, asked.kept.sizes),
@@ -218,11 +219,11 @@ pub +shadow_anew_shadow_first_shadow_inside_shadow_lengths_shadow_run_shadow_tri
     (λ c.
     let the_end_of = c.end_of-end in
     let asked = c.requires.1.0.0 in
-    omega (arith, asked.pattern_stands.inside-1, asked.small, the_end_of.ensures.2))
+    omega (arith, asked.pattern_stands.inside, asked.small, the_end_of.ensures.2))
     (λ c. let the_first = c.in-Binds in
     let start = c.requires in
     let asked = start.1.0.0 in
-    omega (arith, asked.row_stands.inside-1, asked.small, (first-record.binds_within start.1.1.leaves false _ the_first.is).0))
+    omega (arith, asked.row_stands.inside, asked.small, (first-record.binds_within start.1.1.leaves false _ the_first.is).0))
     (λ c κs. let the_first = c.in-Binds in
     let start = c in
     let stopped = start.requires.1.1 in
@@ -309,21 +310,21 @@ pub +shadow_anew_shadow_first_shadow_inside_shadow_lengths_shadow_run_shadow_tri
     the_pre.1.1)
     (λ c κs. let the_pre = c.requires in
     the_pre.1.2.some)
-    (λ c. c.end_of-end.ensures.1)
+    (λ c. c.end_of-m.ensures.1)
     (λ c. search rules)
     (λ c. search rules)
     (λ c. c.end_of-n.ensures.1)
     (λ c. search rules)
     (λ c. search rules)
     (λ c. let start = c.requires in
-    omega (arith, start.1.0.pattern_stands.inside-1, start.1.0.small, start.1.1))
+    omega (arith, start.1.0.pattern_stands.inside, start.1.0.small, start.1.1))
     (λ c. let start = c.requires in
-    omega (arith, start.1.0.row_stands.inside-1, start.1.0.small, start.1.2.some))
+    omega (arith, start.1.0.row_stands.inside, start.1.0.small, start.1.2.some))
     (λ c κs.
     let the_end_of2 = c.end_of-n in
     let the_args = c.args in
     let start = c.requires in
-    let ends = c.end_of-end in (
+    let ends = c.end_of-m in (
       omega (arith, inside_falls the_args.pattern.now ends.result (length the_args.pattern.now) start.1.1 ends.ensures.0 refl, start.0),
       (
         calls.asked_alone (calls.asked_inside start.1.0 start.1.1 start.1.2 ends.result the_end_of2.result ends.ensures.0
@@ -332,16 +333,16 @@ pub +shadow_anew_shadow_first_shadow_inside_shadow_lengths_shadow_run_shadow_tri
         start.1.4,
       ),
     ))
-    (λ c. let the_end_of = c.end_of-end in
+    (λ c. let the_end_of = c.end_of-m in
     let the_end_of2 = c.end_of-n in
     let start = c.requires in
-    let inner = c.shadow_run in (
+    let inner = c.shadow_run-first in (
       inner.ensures.0,
-      returns.inside_none start.1.0 the_end_of.ensures.0 the_end_of2.ensures.0 inner.result inner.ensures.1 c.if-not-first.true,
+      returns.inside_none start.1.0 the_end_of.ensures.0 the_end_of2.ensures.0 inner.result inner.ensures.1 (not-true _ c.if-not-first.true),
       inner.ensures.2,
       inner.ensures.3,
     ))
-    (λ c. let the_end_of = c.end_of-end in
+    (λ c. let the_end_of = c.end_of-m in
     the_end_of.ensures.2)
     (λ c. search rules)
     (λ c. search rules)
@@ -349,35 +350,35 @@ pub +shadow_anew_shadow_first_shadow_inside_shadow_lengths_shadow_run_shadow_tri
     the_end_of2.ensures.2)
     (λ c. search rules)
     (λ c. search rules)
-    (λ c. let the_end_of = c.end_of-end in
+    (λ c. let the_end_of = c.end_of-m in
     let start = c.requires in
-    omega (arith, start.1.0.pattern_stands.inside-1, start.1.0.small, the_end_of.ensures.2))
+    omega (arith, start.1.0.pattern_stands.inside, start.1.0.small, the_end_of.ensures.2))
     (λ c. let the_end_of2 = c.end_of-n in
     let start = c.requires in
-    omega (arith, start.1.0.row_stands.inside-1, start.1.0.small, the_end_of2.ensures.2))
+    omega (arith, start.1.0.row_stands.inside, start.1.0.small, the_end_of2.ensures.2))
     (λ c κs.
     let the_if1 = c.if-not-first in
     let the_args = c.args in
     let the_end_of2 = c.end_of-n in
     let start = c.requires in
-    let ends = c.end_of-end in
-    let inner = c.shadow_run in (
+    let ends = c.end_of-m in
+    let inner = c.shadow_run-first in (
       omega (arith, after_falls the_args.pattern.now ends.result (length the_args.pattern.now) start.1.1 ends.ensures.0 refl, start.0),
       (
         calls.asked_after start.1.0 start.1.1 start.1.2 inner.result.bindings inner.ensures.0
-            (returns.inside_first start.1.0 ends.ensures.0 the_end_of2.ensures.0 inner.result inner.ensures.1 the_if1.false)
+            (returns.inside_first start.1.0 ends.ensures.0 the_end_of2.ensures.0 inner.result inner.ensures.1 (not-false _ the_if1.false))
             ends.result the_end_of2.result ends.ensures.0 the_end_of2.ensures.2,
         sure.settled_fixed _ _ _ _ inner.ensures.3.few,
         sure.remembers_fixed inner.ensures.3 inner.ensures.2,
       ),
     ))
-    (λ c. let the_end_of = c.end_of-end in
+    (λ c. let the_end_of = c.end_of-m in
     let the_end_of2 = c.end_of-n in
     let the_if1 = c.if-not-first in
     let start = c.requires in
-    let inner = c.shadow_run in (
+    let inner = c.shadow_run-first in (
       c.shadow_run.ensures.0,
-      returns.inside_some start.1.0 the_end_of.ensures.0 the_end_of2.ensures.0 inner.result inner.ensures.1 _ the_if1.false
+      returns.inside_some start.1.0 the_end_of.ensures.0 the_end_of2.ensures.0 inner.result inner.ensures.1 _ (not-false _ the_if1.false)
           c.shadow_run.ensures.1,
       sure.remembers_back inner.ensures.3 c.shadow_run.ensures.2,
       sure.fixed_after inner.ensures.3 c.shadow_run.ensures.3,
@@ -401,7 +402,7 @@ pub +shadow_anew_shadow_first_shadow_inside_shadow_lengths_shadow_run_shadow_tri
     (λ c. search rules)
     (λ c. search rules)
     (λ c. let asked = c.requires.1.0.0 in
-    omega (arith, asked.pattern_stands.inside-1, asked.small, c.end_of-end.ensures.2))
+    omega (arith, asked.pattern_stands.inside, asked.small, c.end_of-end.ensures.2))
     (λ c. let start = c.requires in
     (at_start, returns.lengths_start start.1.0.0 start.1.0.1 start.1.1, start.1.0.3))
     (λ c. begin_inside c.loop-rest.invariant.0)
@@ -410,9 +411,9 @@ pub +shadow_anew_shadow_first_shadow_inside_shadow_lengths_shadow_run_shadow_tri
     (λ c κs. let start = c.requires in
     let asked = start.1.0.0 in (
       (
-        omega (arith, asked.pattern_stands.inside-1, asked.small, start.1.0.1),
-        omega (arith, asked.row_stands.inside-1, asked.small),
-        omega (arith, asked.row_stands.inside-1, asked.small, begin_inside c.loop-rest.invariant.0),
+        omega (arith, asked.pattern_stands.inside, asked.small, start.1.0.1),
+        omega (arith, asked.row_stands.inside, asked.small),
+        omega (arith, asked.row_stands.inside, asked.small, begin_inside c.loop-rest.invariant.0),
         calls.place_ready asked start.1.0.1 start.1.1,
       ),
       (asked.kept.keys, asked.kept.starts, asked.kept.sizes),
@@ -420,7 +421,7 @@ pub +shadow_anew_shadow_first_shadow_inside_shadow_lengths_shadow_run_shadow_tri
     (λ c.
     let the_loop = c.loop-rest in
     let asked = c.requires.1.0.0 in
-    omega (arith, asked.row_stands.inside-1, asked.small, begin_inside the_loop.invariant.0))
+    omega (arith, asked.row_stands.inside, asked.small, begin_inside the_loop.invariant.0))
     (λ c κs.
     let the_loop = c.loop-rest in
     let the_args = c.args in
@@ -441,7 +442,7 @@ pub +shadow_anew_shadow_first_shadow_inside_shadow_lengths_shadow_run_shadow_tri
     let asked = c.requires.1.0.0 in
     omega (
       arith,
-      asked.row_stands.inside-1,
+      asked.row_stands.inside,
       asked.small,
       c.end_of-n.ensures.2,
       from_length the_loop.n the_args.row.now,
@@ -451,7 +452,7 @@ pub +shadow_anew_shadow_first_shadow_inside_shadow_lengths_shadow_run_shadow_tri
     let the_loop = c.loop-rest in
     omega (arith, c.end_of-n.ensures.1, c.end_of-n.ensures.2, from_length the_loop.n the_args.row.now, begin_inside the_loop.invariant.0))
     (λ c.
-    let the_shadow_run = c.shadow_run in
+    let the_shadow_run = c.shadow_run-m in
     let the_loop = c.loop-rest in
     let the_end_of = c.end_of-end in
     let the_bind = c.bind-more in
@@ -459,7 +460,7 @@ pub +shadow_anew_shadow_first_shadow_inside_shadow_lengths_shadow_run_shadow_tri
       rw c.end_of-n.ensures.0 (one_on c.if-left-lt24.false the_loop.invariant.0),
       rw c.end_of-n.ensures.0 (returns.length_next start.1.0.0 start.1.0.1 start.1.1 the_end_of.ensures.0
           the_loop.invariant.0 the_bind.ensures
-          the_shadow_run.result the_shadow_run.ensures.1 the_loop.invariant.1 c.if-not-first.false c.if-left-lt24.false),
+          the_shadow_run.result the_shadow_run.ensures.1 the_loop.invariant.1 c.if-m.false c.if-left-lt24.false),
       sure.remembers_back (sure.fixed_bound the_bind.ensures _ (sure.settled_low start.1.0.2)) the_shadow_run.ensures.2,
     ))
     (λ c.
@@ -467,21 +468,21 @@ pub +shadow_anew_shadow_first_shadow_inside_shadow_lengths_shadow_run_shadow_tri
     let the_end_of = c.end_of-end in
     let the_loop = c.loop-rest in
     let start = c.requires in (
-      c.shadow_run.ensures.0,
+      c.shadow_run-m.ensures.0,
       returns.length_found start.1.0.0 start.1.0.1 start.1.1 the_end_of.ensures.0 the_loop.invariant.0 the_bind.ensures
-          c.shadow_run.result c.shadow_run.ensures.1 the_loop.invariant.1 c.if-not-first.true,
-      sure.remembers_back (sure.fixed_bound the_bind.ensures _ (sure.settled_low start.1.0.2)) c.shadow_run.ensures.2,
-      sure.fixed_more the_bind.ensures (sure.settled_low start.1.0.2) c.shadow_run.ensures.3,
+          c.shadow_run-m.result c.shadow_run-m.ensures.1 the_loop.invariant.1 c.if-m.true,
+      sure.remembers_back (sure.fixed_bound the_bind.ensures _ (sure.settled_low start.1.0.2)) c.shadow_run-m.ensures.2,
+      sure.fixed_more the_bind.ensures (sure.settled_low start.1.0.2) c.shadow_run-m.ensures.3,
     ))
     (λ c.
     let the_bind = c.bind-more in
-    let the_shadow_run = c.shadow_run in
+    let the_shadow_run = c.shadow_run-m in
     let the_end_of = c.end_of-end in
     let the_loop = c.loop-rest in
     let start = c.requires in (
       the_shadow_run.ensures.0,
       returns.length_none start.1.0.0 start.1.0.1 start.1.1 the_end_of.ensures.0 the_loop.invariant.0 the_bind.ensures
-          c.shadow_run.result the_shadow_run.ensures.1 the_loop.invariant.1 c.if-not-first.false c.if-left-lt24.true,
+          c.shadow_run-m.result the_shadow_run.ensures.1 the_loop.invariant.1 c.if-m.false c.if-left-lt24.true,
       sure.remembers_back (sure.fixed_bound the_bind.ensures _ (sure.settled_low start.1.0.2)) the_shadow_run.ensures.2,
       sure.fixed_more the_bind.ensures (sure.settled_low start.1.0.2) the_shadow_run.ensures.3,
     )))
@@ -525,12 +526,12 @@ pub +shadow_anew_shadow_first_shadow_inside_shadow_lengths_shadow_run_shadow_tri
     let the_m = c.in-Stop in
     let the_known_front = c.known_front in
     let asked = c.requires.1.0 in
-    omega (arith, asked.pattern_stands.inside-1, asked.small, begin_inside (known.known_stop the_known_front.ensures _ _ _ the_m.is).0.begins))
+    omega (arith, asked.pattern_stands.inside, asked.small, begin_inside (known.known_stop the_known_front.ensures _ _ _ the_m.is).0.begins))
     (λ c.
     let the_m = c.in-Stop in
     let the_known_front = c.known_front in
     let asked = c.requires.1.0 in
-    omega (arith, asked.row_stands.inside-1, asked.small, (known.known_stop the_known_front.ensures _ _ _ the_m.is).0.within))
+    omega (arith, asked.row_stands.inside, asked.small, (known.known_stop the_known_front.ensures _ _ _ the_m.is).0.within))
     (λ c κs.
     let the_m = c.in-Stop in
     let the_known_front = c.known_front in
@@ -585,48 +586,48 @@ pub +shadow_anew_shadow_first_shadow_inside_shadow_lengths_shadow_run_shadow_tri
     (λ c. let start = c.requires.1.0 in
     (c.shadow_anew.ensures.0, c.shadow_anew.ensures.1, start.3, sure.fixed_fewer c.shadow_anew.ensures.2 _ (sure.settled_low start.2)))
     (λ c. let asked = c.requires.1.0.0 in
-    omega (arith, asked.pattern_stands.inside-1, asked.small))
+    omega (arith, asked.pattern_stands.inside, asked.small))
     (λ c. let asked = c.requires.1.0.0 in
-    omega (arith, asked.row_stands.inside-1, asked.small))
+    omega (arith, asked.row_stands.inside, asked.small))
     (λ c κs. tt)
     (λ c.
     let the_closed = c.closed in
-    let the_if1 = c.if-not-first in
+    let the_if1 = c.if-not-closed in
     let start = c.requires.1 in
     let asked = start.0.0 in
     let free = the_closed.ensures the_if1.false _ _ _ asked.kept start.0.2.same in (
       asked.kept,
-      sym (ap first_in (failed.lengths_known asked _ free start.1.1 start.0.1 start.0.3 (c.failed_before.ensures c.if-left-lt24.true))),
+      sym (ap first_in (failed.lengths_known asked _ free start.1.1 start.0.1 start.0.3 (c.failed_before.ensures c.if-failed_before.true))),
       start.0.3,
       sure.fixed_same _ _ (sure.settled_low start.0.2),
     ))
     (λ c κs.
-    let the_if1 = c.if-not-first in
+    let the_if1 = c.if-not-closed in
     let the_closed = c.closed in
     let start = c.requires in
     let asked = start.1.0.0 in
     let free = the_closed.ensures the_if1.false _ _ _ asked.kept start.1.0.2.same in
     (omega (arith, start.0), ((asked, start.1.0.1, sure.settled_all start.1.0.2 _ free, start.1.0.3), start.1.1.0)))
     (λ c κs.
-    let the_shadow_lengths = c.shadow_lengths in
+    let the_shadow_lengths = c.shadow_lengths-m in
     let start = c.requires.1.0 in
     let asked = start.0 in (
-      omega (arith, asked.pattern_stands.inside-1, asked.small, start.1),
-      omega (arith, asked.pattern_stands.inside-1, asked.small),
-      omega (arith, asked.row_stands.inside-1, asked.small),
-      omega (arith, asked.row_stands.inside-1, asked.small),
+      omega (arith, asked.pattern_stands.inside, asked.small, start.1),
+      omega (arith, asked.pattern_stands.inside, asked.small),
+      omega (arith, asked.row_stands.inside, asked.small),
+      omega (arith, asked.row_stands.inside, asked.small),
       the_shadow_lengths.ensures.2.long,
     ))
     (λ c. let the_closed = c.closed in
-    let the_if1 = c.if-not-first in
+    let the_if1 = c.if-not-closed in
     let start = c.requires.1 in
     let asked = start.0.0 in
     let free = the_closed.ensures the_if1.false _ _ _ asked.kept start.0.2.same in
-    let lengths = c.shadow_lengths in (
+    let lengths = c.shadow_lengths-m in (
       lengths.ensures.0,
       lengths.ensures.1,
       failed.lengths_noted asked _ free start.1.1 (failed.none_matched _ _ lengths.result _ lengths.ensures.1
-          c.if-not-m.true) lengths.ensures.2 c.note_failed.ensures,
+          (not-true _ c.if-not-m.true)) lengths.ensures.2 c.note_failed.ensures,
       lengths.ensures.3,
     ))
-    (λ c. c.shadow_lengths.ensures)
+    (λ c. c.shadow_lengths-m.ensures)

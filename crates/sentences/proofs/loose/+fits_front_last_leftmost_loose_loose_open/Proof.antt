@@ -218,8 +218,8 @@ pub +fits_front_last_leftmost_loose_loose_open_spec : {M : Type 1} → statement
     let at-if3 = c in
     let the_if1 = at-if3.if-not-is_bracket in
     let the_word_at = at-if3.word_at-kind in
-    let at-loop = at-if3.before.before.before.before.before.before in
-    let start = at-loop.before.before.before.before in (
+    let at-loop = at-if3 in
+    let start = at-loop in (
       omega (arith, from_length at-loop.loop.i start.args.pattern.now, start.requires.0),
       (the_if1.false, at-if3.if-right-lt24.false, omega (arith, c.if-kind-lt3.false, the_word_at.ensures)),
     ))
@@ -272,7 +272,7 @@ pub +fits_front_last_leftmost_loose_loose_open_spec : {M : Type 1} → statement
     let the_if2 = at-if3.if-not-is_bracket-2 in
     let the_word_at = at-if3.word_at-kind in
     let the_if1 = at-if3.if-not-is_bracket in
-    let at-loop = at-if3.before.before.before.before.before.before in
+    let at-loop = at-if3 in
     let a = at-loop.args in
     laws.front_differs at-loop.loop.invariant the_if1.false the_word_at.ensures the_if2.false at-if3.if-right-lt24.false
     (laws.fits_symbol a.text.now (from at-loop.loop.i a.pattern.now) (from at-loop.loop.j a.row.now) the_word_at.ensures
@@ -283,7 +283,7 @@ pub +fits_front_last_leftmost_loose_loose_open_spec : {M : Type 1} → statement
     let the_if2 = at-if3.if-not-is_bracket-2 in
     let the_word_at = at-if3.word_at-kind in
     let the_if1 = at-if3.if-not-is_bracket in
-    let at-loop = at-if3.before.before.before.before.before.before in
+    let at-loop = at-if3 in
     let a = at-loop.args in
     laws.front_differs at-loop.loop.invariant the_if1.false the_word_at.ensures the_if2.false at-if3.if-right-lt24.false
     (laws.fits_symbol a.text.now (from at-loop.loop.i a.pattern.now) (from at-loop.loop.j a.row.now) the_word_at.ensures
@@ -294,7 +294,7 @@ pub +fits_front_last_leftmost_loose_loose_open_spec : {M : Type 1} → statement
     let the_if2 = at-if3.if-not-is_bracket-2 in
     let the_word_at = at-if3.word_at-kind in
     let the_if1 = at-if3.if-not-is_bracket in
-    let at-loop = at-if3.before.before.before.before.before.before in
+    let at-loop = at-if3 in
     laws.front_differs at-loop.loop.invariant the_if1.false the_word_at.ensures the_if2.false at-if3.if-right-lt24.false c.fits2.ensures
     c.if-not-fits.true))
     (λ t. last-lts.spec (

@@ -17,7 +17,7 @@ parted_spec =
     (at-kind.if-pattern-lt24.false, at-kind.if-row-lt24.false, omega (arith, at-kind.word_at-kind.ensures, c.if-kind-eq0.true)))
     (λ c.
     let at-kind = c in
-    let at-lengths = at-kind.before.before in
+    let at-lengths = at-kind in
     let a = at-lengths.args in
     λ e. laws.parted_not a.text.now a.pattern.now a.row.now at-lengths.if-pattern-lt24.false at-kind.if-row-lt24.false at-kind.word_at-kind.ensures
     (omega (arith, c.if-kind-eq0.true)) (c.characters_same.ensures a.text.now) e)
@@ -27,7 +27,7 @@ parted_spec =
     (at-kind.if-pattern-lt24.false, at-kind.if-row-lt24.false))
     (λ c.
     let at-kind = c in
-    let at-lengths = at-kind.before.before in
+    let at-lengths = at-kind in
     let a = at-lengths.args in
     λ e. laws.parted_not a.text.now a.pattern.now a.row.now at-lengths.if-pattern-lt24.false at-kind.if-row-lt24.false at-kind.word_at-kind.ensures
     (omega (arith, c.if-kind-gt2.false)) c.atoms_same.ensures e))
