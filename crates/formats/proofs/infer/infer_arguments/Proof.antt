@@ -73,7 +73,7 @@ infer_arguments_spec =
     let turn = c.function_turn in
     let joined-kept = turn.auto.joined in
     let store-after = turn.new.store in (
-      arguments_more the_loop.invariant.0 store-after turn.result turn.ensures (tag_not_over _ c.in_default-1.keys2)
+      arguments_more the_loop.invariant.0 store-after turn.result turn.ensures (tag_not_over _ c.in_default.in_default-own.keys2)
           (omega (arith, the_loop_test.true, functions_read the_pre.0 the_functions.result the_functions.ensures)) the_pre.0.small,
       joined-kept ∙ the_loop.invariant.1,
     ))
