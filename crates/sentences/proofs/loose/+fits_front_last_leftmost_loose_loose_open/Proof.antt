@@ -5,7 +5,7 @@ use native.Mathlib.Omega.{arith}
 use mathlib.Core.Logic.{⊎_elim}
 use mathlib.Core.Path.{refl, sym, ◌∙◌}
 use borrow.Author.Rules.{rules}
-use borrow.Author.Tests.{not-true, not-false}
+use borrow.Author.Tests.{not-false}
 use lib.ListN.{length}
 use Rattle.law.proofs.Forests.{inside_falls}
 use Rattle.matching.specs.Code.Part.{from}
@@ -150,14 +150,14 @@ pub +fits_front_last_leftmost_loose_loose_open_spec : {M : Type 1} → statement
     let the_pre = c.requires in
     let a = c.args in
     laws.fits_variable a.text.now a.pattern.now a.row.now the_is_bracket.ensures refl the_pre.1.2
-    (not-true the_is_bracket.result the_if1.true) c.term_at.ensures c.term_at-then-not-is_bracket.ensures c.may_stand.ensures)
+    the_if1.true c.term_at.ensures c.term_at-then-not-is_bracket.ensures c.may_stand.ensures)
     (λ c κs. let the_pre = c.requires in
     the_pre.1.1)
     (λ c.
     let the_is_bracket = c.is_bracket in
     let a = c.args in
-    laws.fits_none a.text.now a.pattern.now a.row.now the_is_bracket.ensures (not-false the_is_bracket.result c.if-not-is_bracket.false)
-    c.is_bracket-2.ensures (not-true c.is_bracket-2.result c.if-not-is_bracket-2.true))
+    laws.fits_none a.text.now a.pattern.now a.row.now the_is_bracket.ensures c.if-not-is_bracket.false
+    c.is_bracket-2.ensures c.if-not-is_bracket-2.true)
     (λ c κs. let the_pre = c.requires in
     the_pre.1.0)
     (λ c κs. let the_pre = c.requires in
@@ -181,8 +181,8 @@ pub +fits_front_last_leftmost_loose_loose_open_spec : {M : Type 1} → statement
     let the_is_bracket2 = c.is_bracket-2 in
     let the_if2 = c.if-not-is_bracket-2 in
     let a = c.args in
-    laws.fits_inside a.text.now a.pattern.now a.row.now the_is_bracket.ensures (not-false the_is_bracket.result the_if1.false)
-    the_is_bracket2.ensures (not-false the_is_bracket2.result the_if2.false) the_end_of.ensures.0 the_end_of2.ensures.0 c.loose.ensures))
+    laws.fits_inside a.text.now a.pattern.now a.row.now the_is_bracket.ensures the_if1.false
+    the_is_bracket2.ensures the_if2.false the_end_of.ensures.0 the_end_of2.ensures.0 c.loose.ensures))
     (λ t. front-lts.spec (
       word-at-reads.Asked,
       word-at-reads.Learnt,
@@ -212,14 +212,14 @@ pub +fits_front_last_leftmost_loose_loose_open_spec : {M : Type 1} → statement
     let the_word_at = c.word_at-kind in
     (the_if1.false, c.if-right-lt24.false, omega (arith, c.if-kind-eq0.true, the_word_at.ensures)))
     (λ c κs.
-    let at-if3 = c.before.before in
+    let at-if3 = c in
     (at-if3.if-not-is_bracket.false, at-if3.if-right-lt24.false))
     (λ c κs.
-    let at-if3 = c.before.before in
+    let at-if3 = c in
     let the_if1 = at-if3.if-not-is_bracket in
     let the_word_at = at-if3.word_at-kind in
-    let at-loop = at-if3.before.before.before.before.before.before in
-    let start = at-loop.before.before.before.before in (
+    let at-loop = at-if3 in
+    let start = at-loop in (
       omega (arith, from_length at-loop.loop.i start.args.pattern.now, start.requires.0),
       (the_if1.false, at-if3.if-right-lt24.false, omega (arith, c.if-kind-lt3.false, the_word_at.ensures)),
     ))
@@ -268,35 +268,35 @@ pub +fits_front_last_leftmost_loose_loose_open_spec : {M : Type 1} → statement
     let the_loop = c.loop-left in
     laws.front_short the_loop.invariant the_if1.false c.word_at-kind.ensures c.if-not-is_bracket-2.false c.if-right-lt24.true)
     (λ c.
-    let at-if3 = c.before.before.before in
+    let at-if3 = c in
     let the_if2 = at-if3.if-not-is_bracket-2 in
     let the_word_at = at-if3.word_at-kind in
     let the_if1 = at-if3.if-not-is_bracket in
-    let at-loop = at-if3.before.before.before.before.before.before in
+    let at-loop = at-if3 in
     let a = at-loop.args in
     laws.front_differs at-loop.loop.invariant the_if1.false the_word_at.ensures the_if2.false at-if3.if-right-lt24.false
     (laws.fits_symbol a.text.now (from at-loop.loop.i a.pattern.now) (from at-loop.loop.j a.row.now) the_word_at.ensures
     (omega (arith, c.if-kind-eq0.taken)) (c.characters_same.ensures a.text.now))
-    (not-true c.characters_same.result c.if-not-characters_same.true))
+    c.if-not-characters_same.true)
     (λ c.
-    let at-if3 = c.before.before.before.before in
+    let at-if3 = c in
     let the_if2 = at-if3.if-not-is_bracket-2 in
     let the_word_at = at-if3.word_at-kind in
     let the_if1 = at-if3.if-not-is_bracket in
-    let at-loop = at-if3.before.before.before.before.before.before in
+    let at-loop = at-if3 in
     let a = at-loop.args in
     laws.front_differs at-loop.loop.invariant the_if1.false the_word_at.ensures the_if2.false at-if3.if-right-lt24.false
     (laws.fits_symbol a.text.now (from at-loop.loop.i a.pattern.now) (from at-loop.loop.j a.row.now) the_word_at.ensures
     c.if-kind-lt3.true c.atoms_same.ensures)
-    (not-true c.atoms_same.result c.if-not-atoms_same.true))
+    c.if-not-atoms_same.true)
     (λ c.
-    let at-if3 = c.before.before.before.before in
+    let at-if3 = c in
     let the_if2 = at-if3.if-not-is_bracket-2 in
     let the_word_at = at-if3.word_at-kind in
     let the_if1 = at-if3.if-not-is_bracket in
-    let at-loop = at-if3.before.before.before.before.before.before in
+    let at-loop = at-if3 in
     laws.front_differs at-loop.loop.invariant the_if1.false the_word_at.ensures the_if2.false at-if3.if-right-lt24.false c.fits2.ensures
-    (not-true c.fits2.result c.if-not-fits.true)))
+    c.if-not-fits.true))
     (λ t. last-lts.spec (
       terms-in-reads.Asked,
       terms-in-reads.Learnt,
@@ -351,7 +351,7 @@ pub +fits_front_last_leftmost_loose_loose_open_spec : {M : Type 1} → statement
     omega (
       arith,
       from_length the_loop.j the_args.row.now,
-      laws.sought_within the_loop.invariant the_front.ensures c.m-1.given.1,
+      laws.sought_within the_loop.invariant the_front.ensures c.in-At.is,
       the_loop.invariant.within,
     ))
     (λ c. search rules)
@@ -364,17 +364,17 @@ pub +fits_front_last_leftmost_loose_loose_open_spec : {M : Type 1} → statement
     omega (arith, from_length the_loop.j the_args.row.now, c.if-not-is_bracket.false, c.end_of-m.ensures.1))
     (λ c.
     let the_front = c.front in
-    let the_enum_told = c.enum_told-1 in
+    let the_enum_told = c.in-Fails in
     let the_loop = c.loop-left in
-    laws.sought_later the_loop.invariant the_front.ensures the_enum_told.given.1 c.if-not-is_bracket.false c.end_of-m.ensures.0)
+    laws.sought_later the_loop.invariant the_front.ensures the_enum_told.is c.if-not-is_bracket.false c.end_of-m.ensures.0)
     (λ c.
     let the_front = c.front in
     let the_loop = c.loop-left in
-    laws.sought_here the_loop.invariant the_front.ensures c.m-1.given.1)
+    laws.sought_here the_loop.invariant the_front.ensures c.in-At.is)
     (λ c.
     let the_front = c.front in
     let the_loop = c.loop-left in
-    laws.sought_nowhere the_loop.invariant the_front.ensures c.enum_told-1.given.1 c.if-not-is_bracket.true))
+    laws.sought_nowhere the_loop.invariant the_front.ensures c.in-Fails.is c.if-not-is_bracket.true))
     (λ t. loose-lts.spec
     (front_below t, front.Post, loose_open_below t, loose_open.Post)
     (loose_at t)
@@ -387,38 +387,38 @@ pub +fits_front_last_leftmost_loose_loose_open_spec : {M : Type 1} → statement
     (λ c.
     let the_front = c.front in
     let a = c.args in (ends.loose_within a.text.now a.pattern.now a.row.now _
-    the_front.ensures c.m-1.given.1).0)
+    the_front.ensures c.in-At.is).0)
     (λ c.
     let the_front = c.front in
     let a = c.args in (ends.loose_within a.text.now a.pattern.now a.row.now _
-    the_front.ensures c.m-1.given.1).0)
+    the_front.ensures c.in-At.is).0)
     (λ c. search rules)
     (λ c.
     let the_front = c.front in
-    let the_m = c.m-1 in
+    let the_m = c.in-At in
     let a = c.args in (ends.loose_within a.text.now a.pattern.now a.row.now _
-    the_front.ensures the_m.given.1).1)
+    the_front.ensures the_m.is).1)
     (λ c.
     let the_front = c.front in
-    let the_m = c.m-1 in
+    let the_m = c.in-At in
     let a = c.args in (ends.loose_within a.text.now a.pattern.now a.row.now _
-    the_front.ensures the_m.given.1).1)
+    the_front.ensures the_m.is).1)
     (λ c. search rules)
     (λ c κs.
-    let the_m = c.m-1 in
+    let the_m = c.in-At in
     let the_pre = c.requires in
     let the_front = c.front in
     let a = c.args in (
-      omega (arith, from_length the_m.given.0.0 a.pattern.now, the_pre.0),
-      ends.loose_start a.text.now a.pattern.now a.row.now _ the_front.ensures the_m.given.1,
+      omega (arith, from_length the_m.m a.pattern.now, the_pre.0),
+      ends.loose_start a.text.now a.pattern.now a.row.now _ the_front.ensures the_m.is,
     ))
     (λ c. let a = c.args in ends.loose_fails a.text.now a.pattern.now a.row.now _
-    c.front.ensures c.enum_told-1.given.1)
+    c.front.ensures c.in-Fails.is)
     (λ c.
-    let the_m = c.m-1 in
+    let the_m = c.in-At in
     let the_front = c.front in
     let a = c.args in ends.loose_goes a.text.now a.pattern.now
-    a.row.now _ the_front.ensures the_m.given.1 c.loose_open.ensures))
+    a.row.now _ the_front.ensures the_m.is c.loose_open.ensures))
     λ t. loose-open-lts.spec (
       end-of-reads.Asked,
       end-of-reads.Learnt,
@@ -461,7 +461,7 @@ pub +fits_front_last_leftmost_loose_loose_open_spec : {M : Type 1} → statement
         the_end_of.ensures.1,
         the_pre.0,
       ),
-      sym (c.has_open.ensures the_args.text.now) ∙ not-true c.has_open.result c.if-not-is_bracket-2.true,
+      sym (c.has_open.ensures the_args.text.now) ∙ c.if-not-is_bracket-2.true,
     ))
     (λ c κs.
     let the_end_of = c.end_of-m in
@@ -488,8 +488,8 @@ pub +fits_front_last_leftmost_loose_loose_open_spec : {M : Type 1} → statement
     let the_args = c.args in
     omega (
       arith,
-      (ends.opened_within the_loop.invariant the_if1.false the_end_of.ensures.0 the_has_open.ensures (not-false the_has_open.result the_if2.false) _
-          the_leftmost.ensures c.m-1.given.1).0,
+      (ends.opened_within the_loop.invariant the_if1.false the_end_of.ensures.0 the_has_open.ensures the_if2.false _
+          the_leftmost.ensures c.in-At.is).0,
       from_length the_end_of.result (from the_loop.i the_args.pattern.now),
       from_length the_loop.i the_args.pattern.now,
       the_loop.invariant.within,
@@ -505,8 +505,8 @@ pub +fits_front_last_leftmost_loose_loose_open_spec : {M : Type 1} → statement
     let the_args = c.args in
     omega (
       arith,
-      (ends.opened_within the_loop.invariant the_if1.false the_end_of.ensures.0 the_has_open.ensures (not-false the_has_open.result the_if2.false) _
-          the_leftmost.ensures c.m-1.given.1).0,
+      (ends.opened_within the_loop.invariant the_if1.false the_end_of.ensures.0 the_has_open.ensures the_if2.false _
+          the_leftmost.ensures c.in-At.is).0,
       from_length the_end_of.result (from the_loop.i the_args.pattern.now),
       from_length the_loop.i the_args.pattern.now,
       the_loop.invariant.within,
@@ -522,8 +522,8 @@ pub +fits_front_last_leftmost_loose_loose_open_spec : {M : Type 1} → statement
     let the_args = c.args in
     omega (
       arith,
-      (ends.opened_within the_loop.invariant the_if1.false the_end_of.ensures.0 the_has_open.ensures (not-false the_has_open.result the_if2.false) _
-          the_leftmost.ensures c.m-1.given.1).1,
+      (ends.opened_within the_loop.invariant the_if1.false the_end_of.ensures.0 the_has_open.ensures the_if2.false _
+          the_leftmost.ensures c.in-At.is).1,
       from_length the_loop.j the_args.row.now,
       the_loop.invariant.row_within,
     ))
@@ -539,8 +539,8 @@ pub +fits_front_last_leftmost_loose_loose_open_spec : {M : Type 1} → statement
     let the_if1 = c.if-not-is_bracket in
     let the_end_of = c.end_of-m in
     let the_has_open = c.has_open in
-    ends.opened_next the_loop.invariant the_if1.false the_end_of.ensures.0 the_has_open.ensures (not-false the_has_open.result the_if2.false) _
-    the_leftmost.ensures c.m-1.given.1)
+    ends.opened_next the_loop.invariant the_if1.false the_end_of.ensures.0 the_has_open.ensures the_if2.false _
+    the_leftmost.ensures c.in-At.is)
     (λ c.
     let the_loop = c.loop-left in
     ends.opened_end the_loop.invariant c.if-not-is_bracket.true)
@@ -555,5 +555,5 @@ pub +fits_front_last_leftmost_loose_loose_open_spec : {M : Type 1} → statement
     let the_loop = c.loop-left in
     let the_if1 = c.if-not-is_bracket in
     let the_end_of = c.end_of-m in
-    ends.opened_fails the_loop.invariant the_if1.false the_end_of.ensures.0 the_has_open.ensures (not-false the_has_open.result the_if2.false) _
-    c.leftmost.ensures c.enum_told-1.given.1)
+    ends.opened_fails the_loop.invariant the_if1.false the_end_of.ensures.0 the_has_open.ensures the_if2.false _
+    c.leftmost.ensures c.in-Fails.is)

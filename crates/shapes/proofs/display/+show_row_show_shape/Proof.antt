@@ -61,7 +61,6 @@ pub +show_row_show_shape_spec : {M : Type 1} → statement M
     (show_row_at t)
     show-row.Post
     (λ c κs. omega arith)
-    (λ c. search rules)
     (λ c κs.
     let the_put_space = c.put_space-start in
     omega (arith, the_put_space.ensures.end, space_length c.args.first, c.requires))
@@ -129,7 +128,6 @@ pub +show_row_show_shape_spec : {M : Type 1} → statement M
     (λ c. omega arith)
     (λ c κs. omega arith)
     (λ c κs. search rules)
-    (λ c. search rules)
     (λ c κs. omega arith)
     (λ c. omega arith)
     (λ c. omega arith)
@@ -141,7 +139,6 @@ pub +show_row_show_shape_spec : {M : Type 1} → statement M
       omega (arith, shapes_contents_falls c.args.s.now the_end_of.result c.requires.1.0 the_end_of.ensures.0),
       omega (arith, the_end_of.ensures, the_put.ensures.end, c.requires),
     ))
-    (λ c. search rules)
     (λ c κs.
     let the_show_row = c.show_row-next in
     let the_end_of = c.end_of-e in
