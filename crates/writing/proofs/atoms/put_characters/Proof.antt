@@ -56,7 +56,7 @@ put_characters_spec =
     (λ c. omega (arith, (whole_width (drop c.loop-i.i c.args.text.now) c.character_at.ensures c.in-Whole.is).0))
     (λ c.
     let put = c.put_six-next in
-    let out-kept = put.auto.1.1.1.1.1.1.0 in
+    let out-kept = put.auto.out in
     let round = c.loop-i in
     let wide = (whole_width (drop c.loop-i.i c.args.text.now) c.character_at.ensures c.in-Whole.is) in (
       omega (arith, wide.1, c.requires.2),
