@@ -70,7 +70,7 @@ module _ (file : File) where
   function_reads f h =
       let left : file.functions.count - f ≡ suc (file.functions.count - suc f) = omega arith in
       let skipped : skip (first_sentence file f) (sentences_from file file.sentences.count 0) ≡ sentences_at file (first_sentence file f) =
-          rw (sentences_all, skip_at (first_sentence file f) 0, zero-add) in
+      rw (sentences_all, skip_at (first_sentence file f) 0, zero-add) in
       rw (left, skipped)
 
   -- the functions of the tree by number

@@ -4,6 +4,7 @@
 // A line with its eight words follows for each finding. A law that is refused gives one line: `refused` and document 01's
 // number.
 #![tactic(auto)]
+
 ghost use Rattle.std.specs.Prelude.{cond, ◌≡◌};
 
 use listing::{Found, Turned, findings, turned_number};

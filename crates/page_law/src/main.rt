@@ -2,6 +2,7 @@
 //
 // A law that is refused gives one line in its place: `refused` and document 01's number.
 #![tactic(auto)]
+
 use listing::{Told, Turned, page, turned_number};
 use std::io;
 use std::io::{Read, Write};

@@ -2,6 +2,7 @@
 //
 // A text that is refused gives one line in its place: `refused` and document 02's number.
 #![tactic(auto)]
+
 use reader::{Reading, Unread, read, unread_number};
 use std::io;
 use std::io::{Read, Write};

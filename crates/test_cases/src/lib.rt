@@ -4,6 +4,7 @@
 // law. Where a program asks for more, such as settings, their words stand after the label. The input ends where a label is
 // empty.
 #![tactic(auto)]
+
 ghost use Rattle.std.specs.Prelude.{◌≡◌, ◌<◌, ◌≤◌, IfOk, length, if◌then◌else◌};
 ghost use Rattle.std.specs.Io.{ReadsAtMost};
 

@@ -2,59 +2,74 @@
 //
 // A case is a label as the crate `test_cases` reads it; the state before the first byte, as two words of which the lower comes first; and the bytes as
 // `test_cases` reads a law.
-use libc::STDOUT_FILENO;
+#![tactic(auto)]
+
 use loader::mark;
-use test_cases::{LABEL, LAW, read_label, read_law, read_word};
+use std::io;
+use std::io::{BufWriter, Read, Write};
+use test_cases::{LABEL, LAW, print_decimal, read_label, read_law, read_word};
 
 // Reads a state.
-fn read_state() -> u64 {
-    let low = read_word() as u64;
-    let high = read_word() as u64;
-    high * 4294967296 + low
+fn read_state<R: Read>(input: &mut R) -> io::Result<u64> {
+    let low = read_word(input)? as u64;
+    let high = read_word(input)? as u64;
+    Ok(high * 4294967296 + low)
 }
 
 // Hands all bytes over.
-fn mark_all(start: u64, bytes: &[u8]) {
+fn mark_all<W: Write>(output: &mut W, start: u64, bytes: &[u8]) -> io::Result<()> {
     let mut state = start;
     let mut i = 0;
-    io::write_all(STDOUT_FILENO, b"  ");
+    output.write_all(b"  ")?;
     while i < bytes.len() {
-        io::print_decimal(STDOUT_FILENO, mark(&mut state, bytes[i]) as u64);
+        print_decimal(output, mark(&mut state, bytes[i]) as u64)?;
         i += 1;
     }
-    io::write_all(STDOUT_FILENO, b" ");
-    io::print_decimal(STDOUT_FILENO, state);
-    io::write_all(STDOUT_FILENO, b"\n");
+    output.write_all(b" ")?;
+    print_decimal(output, state)?;
+    output.write_all(b"\n")
 }
 
 // Reads one case and answers it, and says whether there may be another. Bytes that do not fit or are cut short are left without an answer.
-fn answer_case(space: &mut [u8]) -> bool {
+fn answer_case<R: Read, W: Write>(
+    input: &mut R,
+    output: &mut W,
+    space: &mut [u8],
+) -> io::Result<bool> {
     let mut label = [0u8; LABEL];
-    let n = read_label(&mut label);
+    let n = read_label(input, &mut label)?;
     if n == 0 {
-        return false;
+        return Ok(false);
     }
-    io::write_all(STDOUT_FILENO, &label[..n]);
-    io::write_all(STDOUT_FILENO, b"\n");
-    let start = read_state();
-    let found = read_law(space);
+    output.write_all(&label[..n])?;
+    output.write_all(b"\n")?;
+    let start = read_state(input)?;
+    let found = read_law(input, space)?;
     let end = found.bytes;
     if !found.whole {
-        return false;
+        return Ok(false);
     }
-    mark_all(start, &space[..end]);
-    true
+    mark_all(output, start, &space[..end])?;
+    Ok(true)
 }
 
-// Answers every case. Nothing says that the input ends, so the loop counts down from a number that no run uses up.
-fn answer_all(space: &mut [u8]) {
-    let mut turns = u64::MAX;
-    while turns > 0 && answer_case(space) {
-        turns -= 1;
+// Answers every case. Nothing says that the input ends, so the loop counts up to a number that no run reaches.
+fn answer_all<R: Read, W: Write>(
+    input: &mut R,
+    output: &mut W,
+    space: &mut [u8],
+) -> io::Result<()> {
+    for _ in 0..u64::MAX {
+        if !answer_case(input, output, space)? {
+            break;
+        }
     }
+    Ok(())
 }
 
-fn main() {
+fn main(rt: HostRuntime) -> io::Result<()> {
+    let mut output = BufWriter::new(rt.alloc(), rt.stdout())?;
     let mut space = [0u8; LAW];
-    answer_all(&mut space);
+    answer_all(&mut rt.stdin(), &mut output, &mut space)?;
+    output.flush()
 }

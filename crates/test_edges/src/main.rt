@@ -2,56 +2,73 @@
 //
 // The crate `test_cases` says what a case is. The answer is a line: the label, a space, and `accepted` or `refused` and
 // document 01's number.
+#![tactic(auto)]
+
 use file::refusal_number;
 use law::Check;
-use libc::STDOUT_FILENO;
-use test_cases::{LABEL, LAW, read_label, read_law};
+use std::io;
+use std::io::{BufWriter, Read, Write};
+use test_cases::{LABEL, LAW, print_decimal, read_label, read_law};
 
 // Writes the end of a case's line.
-fn print_answer(answer: Check) {
+fn print_answer<W: Write>(output: &mut W, answer: Check) -> io::Result<()> {
     match answer {
-        Check::Accepted => {
-            io::write_all(STDOUT_FILENO, b" accepted\n");
-        }
+        Check::Accepted => output.write_all(b" accepted\n"),
         Check::Refused(refusal) => {
-            io::write_all(STDOUT_FILENO, b" refused ");
-            io::print_decimal(STDOUT_FILENO, refusal_number(refusal) as u64);
-            io::write_all(STDOUT_FILENO, b"\n");
+            output.write_all(b" refused ")?;
+            print_decimal(output, refusal_number(refusal) as u64)?;
+            output.write_all(b"\n")
         }
     }
 }
 
 // Reads a law and answers it. A law that does not fit or is cut short is left without an answer.
-fn answer_law(space: &mut [u8]) -> bool {
-    let found = read_law(space);
+fn answer_law<R: Read, W: Write>(
+    input: &mut R,
+    output: &mut W,
+    space: &mut [u8],
+) -> io::Result<bool> {
+    let found = read_law(input, space)?;
     let bytes = found.bytes;
     if !found.whole {
-        return false;
+        return Ok(false);
     }
-    print_answer(law::check_law(&space[..bytes]));
-    true
+    print_answer(output, law::check_law(&space[..bytes]))?;
+    Ok(true)
 }
 
 // Reads one case and answers it, and says whether there may be another.
-fn answer_case(space: &mut [u8]) -> bool {
+fn answer_case<R: Read, W: Write>(
+    input: &mut R,
+    output: &mut W,
+    space: &mut [u8],
+) -> io::Result<bool> {
     let mut label = [0u8; LABEL];
-    let n = read_label(&mut label);
+    let n = read_label(input, &mut label)?;
     if n == 0 {
-        return false;
+        return Ok(false);
     }
-    io::write_all(STDOUT_FILENO, &label[..n]);
-    answer_law(space)
+    output.write_all(&label[..n])?;
+    answer_law(input, output, space)
 }
 
-// Answers every case. Nothing says that the input ends, so the loop counts down from a number that no run uses up.
-fn answer_all(space: &mut [u8]) {
-    let mut turns = u64::MAX;
-    while turns > 0 && answer_case(space) {
-        turns -= 1;
+// Answers every case. Nothing says that the input ends, so the loop counts up to a number that no run reaches.
+fn answer_all<R: Read, W: Write>(
+    input: &mut R,
+    output: &mut W,
+    space: &mut [u8],
+) -> io::Result<()> {
+    for _ in 0..u64::MAX {
+        if !answer_case(input, output, space)? {
+            break;
+        }
     }
+    Ok(())
 }
 
-fn main() {
+fn main(rt: HostRuntime) -> io::Result<()> {
+    let mut output = BufWriter::new(rt.alloc(), rt.stdout())?;
     let mut space = [0u8; LAW];
-    answer_all(&mut space);
+    answer_all(&mut rt.stdin(), &mut output, &mut space)?;
+    output.flush()
 }

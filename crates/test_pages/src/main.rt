@@ -5,8 +5,11 @@
 //
 // Before each call every lent word and byte is given a value. After the answer come all words of the store in order, as numbers and as `kept` where a word
 // has its value still, with `*` and a number for so many in a row; then the bytes of the page up to the last that was changed, and how many are kept after it.
-use libc::STDOUT_FILENO;
+#![tactic(auto)]
+
 use loader::print;
+use std::io;
+use std::io::{BufWriter, Read, Write};
 use test_cases::lent::{
     ANSWER, changed_bytes, fill_bytes, fill_words, print_returned, print_said, print_words,
 };
@@ -23,78 +26,110 @@ const OVERRIDES: usize = 16;
 const STORE_FIRST: u32 = 0xa5a50000;
 
 // Writes the bytes of a page up to the last that was changed, and how many are kept after it.
-fn print_page(page: &[u8]) {
+fn print_page<W: Write>(output: &mut W, page: &[u8]) -> io::Result<()> {
     let end = changed_bytes(page);
-    io::write_all(STDOUT_FILENO, b"    page\n");
-    io::write_all(STDOUT_FILENO, &page[..end]);
-    print_said(b"    kept*", (page.len() - end) as u64);
+    output.write_all(b"    page\n")?;
+    output.write_all(&page[..end])?;
+    print_said(output, b"    kept*", (page.len() - end) as u64)
 }
 
 // Makes the call.
-fn call_print(mode: u32, overrides: &[u32], law: &[u8], store: &mut [u32], page: &mut [u8]) {
+fn call_print<W: Write>(
+    output: &mut W,
+    mode: u32,
+    overrides: &[u32],
+    law: &[u8],
+    store: &mut [u32],
+    page: &mut [u8],
+) -> io::Result<()> {
     let mut answer = ANSWER;
     fill_words(store, STORE_FIRST);
     fill_bytes(page);
     let number = print(mode, overrides, law, store, page, &mut answer);
-    print_returned(number, answer);
-    io::write_all(STDOUT_FILENO, b"    store");
-    print_words(store, STORE_FIRST);
-    print_page(page);
+    print_returned(output, number, answer)?;
+    output.write_all(b"    store")?;
+    print_words(output, store, STORE_FIRST)?;
+    print_page(output, page)
 }
 
 // Makes the call with parts of the space that is there, as a case asks. A law that does not fit or is cut short is left without
 // an answer.
-fn answer_law(
+fn answer_law<R: Read, W: Write>(
+    input: &mut R,
+    output: &mut W,
     mode: u32,
     overrides: &[u32],
     space: &mut [u8],
     store: &mut [u32],
     page: &mut [u8],
-) -> bool {
-    let lent_store = read_at_most(store.len());
-    let lent_page = read_at_most(page.len());
-    let found = read_law(space);
+) -> io::Result<bool> {
+    let lent_store = read_at_most(input, store.len())?;
+    let lent_page = read_at_most(input, page.len())?;
+    let found = read_law(input, space)?;
     let end = found.bytes;
     if !found.whole {
-        return false;
+        return Ok(false);
     }
     let law = &space[..end];
     call_print(
+        output,
         mode,
         overrides,
         law,
         &mut store[..lent_store],
         &mut page[..lent_page],
-    );
-    true
+    )?;
+    Ok(true)
 }
 
 // Reads one case and answers it, and says whether there may be another.
-fn answer_case(space: &mut [u8], store: &mut [u32], page: &mut [u8]) -> bool {
+fn answer_case<R: Read, W: Write>(
+    input: &mut R,
+    output: &mut W,
+    space: &mut [u8],
+    store: &mut [u32],
+    page: &mut [u8],
+) -> io::Result<bool> {
     let mut label = [0u8; LABEL];
-    let n = read_label(&mut label);
+    let n = read_label(input, &mut label)?;
     if n == 0 {
-        return false;
+        return Ok(false);
     }
-    io::write_all(STDOUT_FILENO, &label[..n]);
-    io::write_all(STDOUT_FILENO, b"\n");
-    let mode = read_word();
+    output.write_all(&label[..n])?;
+    output.write_all(b"\n")?;
+    let mode = read_word(input)?;
     let mut overrides = [0u32; OVERRIDES];
-    let count = read_overrides(&mut overrides);
-    answer_law(mode, &overrides[..count], space, store, page)
+    let count = read_overrides(input, &mut overrides)?;
+    answer_law(input, output, mode, &overrides[..count], space, store, page)
 }
 
-// Answers every case. Nothing says that the input ends, so the loop counts down from a number that no run uses up.
-fn answer_all(space: &mut [u8], store: &mut [u32], page: &mut [u8]) {
-    let mut turns = u64::MAX;
-    while turns > 0 && answer_case(space, store, page) {
-        turns -= 1;
+// Answers every case. Nothing says that the input ends, so the loop counts up to a number that no run reaches.
+fn answer_all<R: Read, W: Write>(
+    input: &mut R,
+    output: &mut W,
+    space: &mut [u8],
+    store: &mut [u32],
+    page: &mut [u8],
+) -> io::Result<()> {
+    for _ in 0..u64::MAX {
+        if !answer_case(input, output, space, store, page)? {
+            break;
+        }
     }
+    Ok(())
 }
 
-fn main() {
+fn main(rt: HostRuntime) -> io::Result<()> {
+    let mut output = BufWriter::new(rt.alloc(), rt.stdout())?;
     let mut space = [0u8; LAW];
     let mut store = [0u32; STORE];
     let mut page = [0u8; PAGE];
-    answer_all(&mut space, &mut store, &mut page);
+    answer_all(
+        &mut rt.stdin(),
+        &mut output,
+        &mut space,
+        &mut store,
+        &mut page,
+    )?;
+    output.flush()
 }

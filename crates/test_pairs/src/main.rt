@@ -4,137 +4,190 @@
 // or `accepted`. For each sentence record a line follows for each earlier one: whether the earlier shadows the later. For
 // each call whose argument is literal, by its term record, a line follows for each sentence: whether it matches. Sentences
 // of all functions and blocks are asked about, so that a case may spread its patterns over several.
+#![tactic(auto)]
+
 use file::refusal_number;
 use law::places::{sentences, terms};
 use law::{Check, Index};
-use libc::STDOUT_FILENO;
 use sentences::{Recognised, Shadowed, matches_in, shadows_in};
-use test_cases::{LABEL, LAW, read_label, read_law};
+use std::io;
+use std::io::{BufWriter, Read, Write};
+use test_cases::{LABEL, LAW, print_decimal, read_label, read_law};
 
 // Writes a line: two spaces, a number, words and a number.
-fn print_line(first: usize, words: &[u8], second: usize) {
-    io::write_all(STDOUT_FILENO, b"  ");
-    io::print_decimal(STDOUT_FILENO, first as u64);
-    io::write_all(STDOUT_FILENO, words);
-    io::print_decimal(STDOUT_FILENO, second as u64);
-    io::write_all(STDOUT_FILENO, b"\n");
+fn print_line<W: Write>(
+    output: &mut W,
+    first: usize,
+    words: &[u8],
+    second: usize,
+) -> io::Result<()> {
+    output.write_all(b"  ")?;
+    print_decimal(output, first as u64)?;
+    output.write_all(words)?;
+    print_decimal(output, second as u64)?;
+    output.write_all(b"\n")
 }
 
 // Writes whether a sentence shadows another.
-fn print_shadowed(earlier: usize, later: usize, answer: Shadowed) {
+fn print_shadowed<W: Write>(
+    output: &mut W,
+    earlier: usize,
+    later: usize,
+    answer: Shadowed,
+) -> io::Result<()> {
     match answer {
-        Shadowed::Refused(_) => print_line(earlier, b" is refused beside ", later),
-        Shadowed::NoSentence => print_line(earlier, b" has no sentence ", later),
+        Shadowed::Refused(_) => print_line(output, earlier, b" is refused beside ", later),
+        Shadowed::NoSentence => print_line(output, earlier, b" has no sentence ", later),
         Shadowed::Answered(yes) => {
             if yes {
-                print_line(earlier, b" shadows ", later);
+                print_line(output, earlier, b" shadows ", later)
             } else {
-                print_line(earlier, b" does not shadow ", later);
+                print_line(output, earlier, b" does not shadow ", later)
             }
         }
     }
 }
 
 // Writes whether a sentence matches the argument of a call, and nothing where that is not literal.
-fn print_recognised(sentence: usize, term: usize, answer: Recognised) {
+fn print_recognised<W: Write>(
+    output: &mut W,
+    sentence: usize,
+    term: usize,
+    answer: Recognised,
+) -> io::Result<()> {
     match answer {
-        Recognised::Refused(_) => print_line(sentence, b" is refused beside the call at ", term),
-        Recognised::NoSentence => print_line(sentence, b" is no sentence for the call at ", term),
-        Recognised::NotLiteral => {}
+        Recognised::Refused(_) => print_line(
+            output,
+            sentence,
+            b" is refused beside the call at ",
+            term,
+        ),
+        Recognised::NoSentence => print_line(
+            output,
+            sentence,
+            b" is no sentence for the call at ",
+            term,
+        ),
+        Recognised::NotLiteral => Ok(()),
         Recognised::Answered(yes) => {
             if yes {
-                print_line(sentence, b" matches the call at ", term);
+                print_line(output, sentence, b" matches the call at ", term)
             } else {
-                print_line(sentence, b" does not match the call at ", term);
+                print_line(output, sentence, b" does not match the call at ", term)
             }
         }
     }
 }
 
 // Asks about a sentence and each one before it.
-fn print_earlier(law: &[u8], later: usize) {
+fn print_earlier<W: Write>(output: &mut W, law: &[u8], later: usize) -> io::Result<()> {
     let mut earlier = 0;
     while earlier < later {
-        print_shadowed(earlier, later, shadows_in(law, earlier, later));
+        print_shadowed(output, earlier, later, shadows_in(law, earlier, later))?;
         earlier += 1;
     }
+    Ok(())
 }
 
 // Asks about each two of so many sentences.
-fn print_pairs(law: &[u8], count: usize) {
+fn print_pairs<W: Write>(output: &mut W, law: &[u8], count: usize) -> io::Result<()> {
     let mut later = 0;
     while later < count {
-        print_earlier(law, later);
+        print_earlier(output, law, later)?;
         later += 1;
     }
+    Ok(())
 }
 
 // Asks about a term record and each of so many sentences.
-fn print_call(law: &[u8], count: usize, term: usize) {
+fn print_call<W: Write>(output: &mut W, law: &[u8], count: usize, term: usize) -> io::Result<()> {
     let mut sentence = 0;
     while sentence < count {
-        print_recognised(sentence, term, matches_in(law, sentence, term));
+        print_recognised(output, sentence, term, matches_in(law, sentence, term))?;
         sentence += 1;
     }
+    Ok(())
 }
 
 // Asks about each of so many term records and each of so many sentences.
-fn print_calls(law: &[u8], count: usize, records: usize) {
+fn print_calls<W: Write>(
+    output: &mut W,
+    law: &[u8],
+    count: usize,
+    records: usize,
+) -> io::Result<()> {
     let mut term = 0;
     while term < records {
-        print_call(law, count, term);
+        print_call(output, law, count, term)?;
         term += 1;
     }
+    Ok(())
 }
 
 // Writes the end of a case's line, and the lines after it.
-fn print_answers(law: &[u8]) {
+fn print_answers<W: Write>(output: &mut W, law: &[u8]) -> io::Result<()> {
     let mut index: Index = [0; 972];
     match law::read_law(law, &mut index) {
         Check::Accepted => {
-            io::write_all(STDOUT_FILENO, b" accepted\n");
-            print_pairs(law, sentences(&index));
-            print_calls(law, sentences(&index), terms(&index));
+            output.write_all(b" accepted\n")?;
+            print_pairs(output, law, sentences(&index))?;
+            print_calls(output, law, sentences(&index), terms(&index))
         }
         Check::Refused(refusal) => {
-            io::write_all(STDOUT_FILENO, b" refused ");
-            io::print_decimal(STDOUT_FILENO, refusal_number(refusal) as u64);
-            io::write_all(STDOUT_FILENO, b"\n");
+            output.write_all(b" refused ")?;
+            print_decimal(output, refusal_number(refusal) as u64)?;
+            output.write_all(b"\n")
         }
     }
 }
 
 // Reads a law and answers it. A law that does not fit or is cut short is left without an answer.
-fn answer_law(space: &mut [u8]) -> bool {
-    let found = read_law(space);
+fn answer_law<R: Read, W: Write>(
+    input: &mut R,
+    output: &mut W,
+    space: &mut [u8],
+) -> io::Result<bool> {
+    let found = read_law(input, space)?;
     let bytes = found.bytes;
     if !found.whole {
-        return false;
+        return Ok(false);
     }
-    print_answers(&space[..bytes]);
-    true
+    print_answers(output, &space[..bytes])?;
+    Ok(true)
 }
 
 // Reads one case and answers it, and says whether there may be another.
-fn answer_case(space: &mut [u8]) -> bool {
+fn answer_case<R: Read, W: Write>(
+    input: &mut R,
+    output: &mut W,
+    space: &mut [u8],
+) -> io::Result<bool> {
     let mut label = [0u8; LABEL];
-    let n = read_label(&mut label);
+    let n = read_label(input, &mut label)?;
     if n == 0 {
-        return false;
+        return Ok(false);
     }
-    io::write_all(STDOUT_FILENO, &label[..n]);
-    answer_law(space)
+    output.write_all(&label[..n])?;
+    answer_law(input, output, space)
 }
 
-// Answers every case. Nothing says that the input ends, so the loop counts down from a number that no run uses up.
-fn answer_all(space: &mut [u8]) {
-    let mut turns = u64::MAX;
-    while turns > 0 && answer_case(space) {
-        turns -= 1;
+// Answers every case. Nothing says that the input ends, so the loop counts up to a number that no run reaches.
+fn answer_all<R: Read, W: Write>(
+    input: &mut R,
+    output: &mut W,
+    space: &mut [u8],
+) -> io::Result<()> {
+    for _ in 0..u64::MAX {
+        if !answer_case(input, output, space)? {
+            break;
+        }
     }
+    Ok(())
 }
 
-fn main() {
+fn main(rt: HostRuntime) -> io::Result<()> {
+    let mut output = BufWriter::new(rt.alloc(), rt.stdout())?;
     let mut space = [0u8; LAW];
-    answer_all(&mut space);
+    answer_all(&mut rt.stdin(), &mut output, &mut space)?;
+    output.flush()
 }

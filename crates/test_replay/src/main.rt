@@ -6,11 +6,14 @@
 //
 // The label is written again. A line follows for each finding: lint, severity, span, a, b, and the text. Function position
 // and subject, which the Rust has no counterpart of, are left out.
+#![tactic(auto)]
+
 ghost use Rattle.std.specs.Prelude.{◌≤◌};
 
-use libc::STDOUT_FILENO;
 use listing::{Found, Told, Turned, findings, text, turned_number};
-use test_cases::{LAW, read_label, read_law, read_overrides, read_word};
+use std::io;
+use std::io::{BufWriter, Read, Write};
+use test_cases::{LAW, print_decimal, read_label, read_law, read_overrides, read_word};
 
 // A label's most bytes, with its line feed. It may quote what the Rust lists.
 const LABEL: usize = 1024;
@@ -37,116 +40,124 @@ fn least(one: usize, other: usize) -> usize
 }
 
 // Writes `refused` and the number.
-fn print_refused(why: Turned) {
-    io::write_all(STDOUT_FILENO, b"refused ");
-    io::print_decimal(STDOUT_FILENO, turned_number(why) as u64);
+fn print_refused<W: Write>(output: &mut W, why: Turned) -> io::Result<()> {
+    output.write_all(b"refused ")?;
+    print_decimal(output, turned_number(why) as u64)
 }
 
 // Writes the text that the text call put into a buffer, or its refusal.
-fn print_told(answer: Told, bytes: &[u8]) {
+fn print_told<W: Write>(output: &mut W, answer: Told, bytes: &[u8]) -> io::Result<()> {
     match answer {
-        Told::Refused(why) => print_refused(why),
+        Told::Refused(why) => print_refused(output, why),
         Told::Written(written) => {
             let end = least(written, bytes.len());
-            io::write_all(STDOUT_FILENO, &bytes[..end]);
+            output.write_all(&bytes[..end])
         }
     }
 }
 
 // Writes a word and a space.
-fn print_word(word: u32) {
-    io::print_decimal(STDOUT_FILENO, word as u64);
-    io::write_all(STDOUT_FILENO, b" ");
+fn print_word<W: Write>(output: &mut W, word: u32) -> io::Result<()> {
+    print_decimal(output, word as u64)?;
+    output.write_all(b" ")
 }
 
 // Writes words, with a space after each.
-fn print_words(words: &[u32]) {
+fn print_words<W: Write>(output: &mut W, words: &[u32]) -> io::Result<()> {
     let mut i = 0;
     while i < words.len() {
-        print_word(words[i]);
+        print_word(output, words[i])?;
         i += 1;
     }
+    Ok(())
 }
 
 // Writes the line of the finding at a position.
-fn print_finding(
+fn print_finding<W: Write>(
+    output: &mut W,
     mode: u32,
     overrides: &[u32],
     law: &[u8],
     store: &mut [u32],
     words: &[u32],
     position: usize,
-) {
+) -> io::Result<()> {
     let mut bytes = [0u8; TEXT];
-    io::write_all(STDOUT_FILENO, b"  ");
-    print_words(words);
+    output.write_all(b"  ")?;
+    print_words(output, words)?;
     let told = text(mode, overrides, law, store, position, &mut bytes);
-    print_told(told, &bytes);
-    io::write_all(STDOUT_FILENO, b"\n");
+    print_told(output, told, &bytes)?;
+    output.write_all(b"\n")
 }
 
 // Writes a line for each of so many findings.
-fn print_findings(
+fn print_findings<W: Write>(
+    output: &mut W,
     mode: u32,
     overrides: &[u32],
     law: &[u8],
     store: &mut [u32],
     words: &[u32],
     count: usize,
-) {
+) -> io::Result<()> {
     let most = least(count, words.len() / 8);
     let mut i = 0;
     while i < most {
         let at = 8 * i;
         let end = at + WRITTEN;
-        print_finding(mode, overrides, law, store, &words[at..end], i);
+        print_finding(output, mode, overrides, law, store, &words[at..end], i)?;
         i += 1;
     }
+    Ok(())
 }
 
 // Lists the findings of a law with their texts.
-fn list(mode: u32, overrides: &[u32], law: &[u8]) {
+fn list<W: Write>(output: &mut W, mode: u32, overrides: &[u32], law: &[u8]) -> io::Result<()> {
     let mut store = [0u32; STORE];
     let mut words = [0u32; WORDS];
     match findings(mode, overrides, law, &mut store, &mut words) {
         Found::Refused(why) => {
-            io::write_all(STDOUT_FILENO, b"  ");
-            print_refused(why);
-            io::write_all(STDOUT_FILENO, b"\n");
+            output.write_all(b"  ")?;
+            print_refused(output, why)?;
+            output.write_all(b"\n")
         }
         Found::Listed(count, _, _) => {
-            print_findings(mode, overrides, law, &mut store, &words, count);
+            print_findings(output, mode, overrides, law, &mut store, &words, count)
         }
     }
 }
 
 // Reads one case and lists its law, and says whether there may be another. A law that does not fit or is cut short is left
 // without a listing.
-fn list_case() -> bool {
+fn list_case<R: Read, W: Write>(input: &mut R, output: &mut W) -> io::Result<bool> {
     let mut label = [0u8; LABEL];
-    let n = read_label(&mut label);
+    let n = read_label(input, &mut label)?;
     if n == 0 {
-        return false;
+        return Ok(false);
     }
-    io::write_all(STDOUT_FILENO, &label[..n]);
-    io::write_all(STDOUT_FILENO, b"\n");
-    let mode = read_word();
+    output.write_all(&label[..n])?;
+    output.write_all(b"\n")?;
+    let mode = read_word(input)?;
     let mut overrides = [0u32; OVERRIDES];
-    let count = read_overrides(&mut overrides);
+    let count = read_overrides(input, &mut overrides)?;
     let mut space = [0u8; LAW];
-    let found = read_law(&mut space);
+    let found = read_law(input, &mut space)?;
     let end = found.bytes;
     if !found.whole {
-        return false;
+        return Ok(false);
     }
-    list(mode, &overrides[..count], &space[..end]);
-    true
+    list(output, mode, &overrides[..count], &space[..end])?;
+    Ok(true)
 }
 
-// Nothing says that the input ends, so the loop counts down from a number that no run uses up.
-fn main() {
-    let mut turns = u64::MAX;
-    while turns > 0 && list_case() {
-        turns -= 1;
+// Nothing says that the input ends, so the loop counts up to a number that no run reaches.
+fn main(rt: HostRuntime) -> io::Result<()> {
+    let mut input = rt.stdin();
+    let mut output = BufWriter::new(rt.alloc(), rt.stdout())?;
+    for _ in 0..u64::MAX {
+        if !list_case(&mut input, &mut output)? {
+            break;
+        }
     }
+    output.flush()
 }

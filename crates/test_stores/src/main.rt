@@ -6,13 +6,16 @@
 // text and its words.
 //
 // All cases share a store, so that words which a call should have set to 0 show what the case before left there.
+#![tactic(auto)]
+
 ghost use Rattle.std.specs.Prelude.{◌≤◌, length};
 
 use formats::{Answered, infer_formats};
-use libc::STDOUT_FILENO;
 use listing::{Turned, turned_number};
 use shapes::display::{Shown, display_format};
-use test_cases::{LABEL, LAW, read_label, read_law};
+use std::io;
+use std::io::{BufWriter, Read, Write};
+use test_cases::{LABEL, LAW, print_decimal, read_label, read_law};
 
 // The words of a store: 128 formats.
 const STORE: usize = 8320;
@@ -38,49 +41,49 @@ fn used_words(words: &[u32]) -> usize
 }
 
 // Writes a space and a word.
-fn print_word(word: u32) {
-    io::write_all(STDOUT_FILENO, b" ");
-    io::print_decimal(STDOUT_FILENO, word as u64);
+fn print_word<W: Write>(output: &mut W, word: u32) -> io::Result<()> {
+    output.write_all(b" ")?;
+    print_decimal(output, word as u64)
 }
 
 // Writes words, each after a space.
-fn print_words(words: &[u32]) {
+fn print_words<W: Write>(output: &mut W, words: &[u32]) -> io::Result<()> {
     let mut i = 0;
     while i < words.len() {
-        print_word(words[i]);
+        print_word(output, words[i])?;
         i += 1;
     }
+    Ok(())
 }
 
 // Writes a format's text.
-fn print_text(format: &[u32]) {
+fn print_text<W: Write>(output: &mut W, format: &[u32]) -> io::Result<()> {
     let mut text = [0u8; TEXT];
     let shown = display_format(format, &mut text, 0);
     match shown {
         Shown::At(end) => {
             if end <= TEXT {
-                io::write_all(STDOUT_FILENO, &text[..end]);
+                output.write_all(&text[..end])?;
             }
+            Ok(())
         }
-        Shown::NoRoom => {
-            io::write_all(STDOUT_FILENO, b"no room");
-        }
+        Shown::NoRoom => output.write_all(b"no room"),
     }
 }
 
 // Writes a format's line.
-fn print_format(k: usize, format: &[u32]) {
-    io::write_all(STDOUT_FILENO, b"  ");
-    io::print_decimal(STDOUT_FILENO, k as u64);
-    io::write_all(STDOUT_FILENO, b" ");
-    print_text(format);
+fn print_format<W: Write>(output: &mut W, k: usize, format: &[u32]) -> io::Result<()> {
+    output.write_all(b"  ")?;
+    print_decimal(output, k as u64)?;
+    output.write_all(b" ")?;
+    print_text(output, format)?;
     let end = used_words(format);
-    print_words(&format[..end]);
-    io::write_all(STDOUT_FILENO, b"\n");
+    print_words(output, &format[..end])?;
+    output.write_all(b"\n")
 }
 
 // Writes the formats of a store up to the last that is not all zeros.
-fn print_store(store: &[u32]) {
+fn print_store<W: Write>(output: &mut W, store: &[u32]) -> io::Result<()> {
     let used = used_words(store);
     let mut k = 0;
     let mut at = 0;
@@ -88,53 +91,59 @@ fn print_store(store: &[u32]) {
         if store.len() - at < FORMAT {
             break;
         }
-        print_format(k, &store[at..at + FORMAT]);
+        print_format(output, k, &store[at..at + FORMAT])?;
         k += 1;
         at += FORMAT;
     }
+    Ok(())
 }
 
 // Writes the end of a refused case's line.
-fn print_refused(why: Turned) {
-    io::write_all(STDOUT_FILENO, b" refused ");
-    io::print_decimal(STDOUT_FILENO, turned_number(why) as u64);
-    io::write_all(STDOUT_FILENO, b"\n");
+fn print_refused<W: Write>(output: &mut W, why: Turned) -> io::Result<()> {
+    output.write_all(b" refused ")?;
+    print_decimal(output, turned_number(why) as u64)?;
+    output.write_all(b"\n")
 }
 
 // Writes the end of an inferred case's line.
-fn print_rounds(rounds: usize, settled: bool) {
-    io::write_all(STDOUT_FILENO, b" ");
-    io::print_decimal(STDOUT_FILENO, rounds as u64);
+fn print_rounds<W: Write>(output: &mut W, rounds: usize, settled: bool) -> io::Result<()> {
+    output.write_all(b" ")?;
+    print_decimal(output, rounds as u64)?;
     if settled {
-        io::write_all(STDOUT_FILENO, b" rounds settled\n");
+        output.write_all(b" rounds settled\n")
     } else {
-        io::write_all(STDOUT_FILENO, b" rounds unsettled\n");
+        output.write_all(b" rounds unsettled\n")
     }
 }
 
 // Writes the end of a case's line, and the formats.
-fn print_answer(answer: Answered, store: &[u32]) {
+fn print_answer<W: Write>(output: &mut W, answer: Answered, store: &[u32]) -> io::Result<()> {
     match answer {
-        Answered::Refused(refusal) => print_refused(Turned::File(refusal)),
-        Answered::ShapesOver => print_refused(Turned::Shapes),
-        Answered::StoreShort => print_refused(Turned::Store),
+        Answered::Refused(refusal) => print_refused(output, Turned::File(refusal)),
+        Answered::ShapesOver => print_refused(output, Turned::Shapes),
+        Answered::StoreShort => print_refused(output, Turned::Store),
         Answered::Formed(rounds, settled) => {
-            print_rounds(rounds, settled);
-            print_store(store);
+            print_rounds(output, rounds, settled)?;
+            print_store(output, store)
         }
     }
 }
 
 // Reads a law and answers it. A law that does not fit or is cut short is left without an answer.
-fn answer_law(space: &mut [u8], store: &mut [u32]) -> bool {
-    let found = read_law(space);
+fn answer_law<R: Read, W: Write>(
+    input: &mut R,
+    output: &mut W,
+    space: &mut [u8],
+    store: &mut [u32],
+) -> io::Result<bool> {
+    let found = read_law(input, space)?;
     let bytes = found.bytes;
     if !found.whole {
-        return false;
+        return Ok(false);
     }
     let answer = infer_formats(&space[..bytes], store);
-    print_answer(answer, store);
-    true
+    print_answer(output, answer, store)?;
+    Ok(true)
 }
 
 // Does a label ask for a store that is too short?
@@ -159,27 +168,41 @@ fn lent_words(label: &[u8], words: usize) -> usize
 }
 
 // Reads one case and answers it, and says whether there may be another.
-fn answer_case(space: &mut [u8], store: &mut [u32]) -> bool {
+fn answer_case<R: Read, W: Write>(
+    input: &mut R,
+    output: &mut W,
+    space: &mut [u8],
+    store: &mut [u32],
+) -> io::Result<bool> {
     let mut label = [0u8; LABEL];
-    let n = read_label(&mut label);
+    let n = read_label(input, &mut label)?;
     if n == 0 {
-        return false;
+        return Ok(false);
     }
-    io::write_all(STDOUT_FILENO, &label[..n]);
+    output.write_all(&label[..n])?;
     let words = lent_words(&label[..n], store.len());
-    answer_law(space, &mut store[..words])
+    answer_law(input, output, space, &mut store[..words])
 }
 
-// Answers every case. Nothing says that the input ends, so the loop counts down from a number that no run uses up.
-fn answer_all(space: &mut [u8], store: &mut [u32]) {
-    let mut turns = u64::MAX;
-    while turns > 0 && answer_case(space, store) {
-        turns -= 1;
+// Answers every case. Nothing says that the input ends, so the loop counts up to a number that no run reaches.
+fn answer_all<R: Read, W: Write>(
+    input: &mut R,
+    output: &mut W,
+    space: &mut [u8],
+    store: &mut [u32],
+) -> io::Result<()> {
+    for _ in 0..u64::MAX {
+        if !answer_case(input, output, space, store)? {
+            break;
+        }
     }
+    Ok(())
 }
 
-fn main() {
+fn main(rt: HostRuntime) -> io::Result<()> {
+    let mut output = BufWriter::new(rt.alloc(), rt.stdout())?;
     let mut space = [0u8; LAW];
     let mut store = [0u32; STORE];
-    answer_all(&mut space, &mut store);
+    answer_all(&mut rt.stdin(), &mut output, &mut space, &mut store)?;
+    output.flush()
 }

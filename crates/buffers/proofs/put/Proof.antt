@@ -38,6 +38,6 @@ put_spec =
     let x = c.args in
     let now = c.loop-i in
     elim c.loop-i-test.branch [
-      then-loop-i-test+else-at-i w ↦ put_full x.out.now x.piece.now x.at now.i now.invariant.1 now.invariant.0 w.if-at-i.false
+      | then-loop-i-test+else-at-i w ↦ put_full x.out.now x.piece.now x.at now.i now.invariant.1 now.invariant.0 w.if-at-i.false
       | else-loop-i-test w ↦ put_all x.out.now x.piece.now x.at now.i now.invariant.1 w.loop-i-test.false
     ]))

@@ -2,7 +2,6 @@
 use mathlib.Core.Path.{◌≡◌, sym, ◌∙◌}
 use mathlib.Core.Bool.{true}
 use lib.Dec.{leb}
-use borrow.Author.Tests.{not-true, not-false}
 use Rattle.file.proofs.SectionLaws.{sections_records}
 use Rattle.file.specs.Sections.{file_of}
 use Rattle.law.specs.Runs.{runs_allowed, blocks_allowed}

@@ -1,6 +1,5 @@
 -- One law for each refusal (proofs/Verdict.antt), with the tests that led there.
 use mathlib.Core.Path.{sym, ◌∙◌}
-use borrow.Author.Tests.{not-true, not-false}
 use Rattle.law.proofs.Tables.{placed_indexed}
 use Rattle.law.proofs.Verdict as verdict
 use borrow.Author.Rules.{rules}

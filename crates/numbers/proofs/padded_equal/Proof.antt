@@ -1,7 +1,6 @@
 -- Rests on one law for each return: no digits, another digit than zero before, zeros alone before.
 use Prim.Native.Nat.{◌-◌}
 use borrow.Author.Rules.{rules}
-use borrow.Author.Tests.{not-true, not-false}
 use native.Mathlib.Omega.{arith}
 use lib.ListN.{length, length-take}
 use Rattle.numbers.proofs.StrippedLaws.{padded_none, padded_digit, padded_zeros}

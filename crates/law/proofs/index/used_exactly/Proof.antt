@@ -12,7 +12,7 @@ use Rattle.law.proofs.index.used_exactly.Tie as tie
 first_two : (c : tie.Joined-sentences-sections) → (let a = c.args in
     c.if-sentences-sections.t-6 ≡ eqb a.sentences a.sections.sentences && eqb a.conditions a.sections.conditions)
 first_two c = elim c.if-sentences-sections.branch [
-  then-sentences-sections w ↦ and_held _ _ _ (eq-eqb _ _ w.if-sentences-sections.true) w.t-6-is
+  | then-sentences-sections w ↦ and_held _ _ _ (eq-eqb _ _ w.if-sentences-sections.true) w.t-6-is
   | else-sentences-sections w ↦ and_failed _ _ _ (ne_eqb _ _ w.if-sentences-sections.false) w.t-6-is
 ]
 

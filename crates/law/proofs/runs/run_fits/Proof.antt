@@ -49,7 +49,7 @@ run_fits_spec =
     let the_loop_test = c.loop-k-test in
     levels.records_next _ the_loop.invariant the_loop_test.true
     (elim c.if-n-ne0.branch [
-      then-n-ne0+else-part-i+else-not-level_fits w ↦ levels.record_fits _ the_loop.invariant the_loop_test.true c.word_at-n.ensures
+      | then-n-ne0+else-part-i+else-not-level_fits w ↦ levels.record_fits _ the_loop.invariant the_loop_test.true c.word_at-n.ensures
           w.if-part-i.false (sym w.level_fits.ensures ∙ w.if-not-level_fits.false)
       | else-n-ne0 w ↦ levels.record_leaf _ the_loop.invariant the_loop_test.true c.word_at-n.ensures w.if-n-ne0.false
     ]))

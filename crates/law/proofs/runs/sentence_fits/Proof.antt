@@ -1,5 +1,3 @@
-use Prim.Native.Nat.{◌-◌}
-use borrow.Author.Tests.{not-true, not-false}
 use mathlib.Core.Path.{sym, ap, ◌∙◌}
 use Rattle.file.specs.Sections.{file_of}
 use Rattle.law.proofs.FitLaws.{pattern_unfit, conditions_unfit, result_decides}

@@ -4,7 +4,6 @@ use mathlib.Core.Path.{refl, sym}
 use native.Mathlib.Omega.{arith}
 use lib.ListN.{drop, replicate}
 use borrow.Author.Rules.{rules}
-use borrow.Author.Tests.{not-true, not-false}
 use Rattle.law.proofs.IndexLaws.{terms_limit}
 use Rattle.formats.proofs.TurnLaws.{lent_length, back_inside, back_length}
 use Rattle.lints.proofs.RecognitionLaws.{argument_asked, argument_made, compared_wide, accepted_inside, accepted_few, compared_apart, compared_literal, compared_silent}
@@ -83,7 +82,7 @@ compare_call_spec =
     let p = c.requires in
     let a = c.args in
     let made = argument_made p.0.0 a.t refl the_argument.ensures the_wide.ensures.0 the_row_format.ensures in
-    compared_apart p.0.0 a.t p.1.0 p.1.1 (drop (a.limit + 1) (replicate 65 0)) made (not-false _ the_if1.false)
+    compared_apart p.0.0 a.t p.1.0 p.1.1 (drop (a.limit + 1) (replicate 65 0)) made the_if1.false
     c.disjoint_formats.ensures p.0.2 c.if-disjoint_formats.true)
     (λ c. let the_argument = c.argument-part in
     let the_wide = c.wide-all in
@@ -92,7 +91,7 @@ compare_call_spec =
     let p = c.requires in
     let a = c.args in
     let made = argument_made p.0.0 a.t refl the_argument.ensures the_wide.ensures.0 the_row_format.ensures in
-    compared_literal p.0.0 a.t p.1.0 p.1.1 (drop (a.limit + 1) (replicate 65 0)) made (not-false _ the_if1.false)
+    compared_literal p.0.0 a.t p.1.0 p.1.1 (drop (a.limit + 1) (replicate 65 0)) made the_if1.false
     c.disjoint_formats.ensures p.0.2 c.if-disjoint_formats.false c.if-literal.true)
     (λ c. let the_argument = c.argument-part in
     let the_wide = c.wide-all in
@@ -101,5 +100,5 @@ compare_call_spec =
     let p = c.requires in
     let a = c.args in
     let made = argument_made p.0.0 a.t refl the_argument.ensures the_wide.ensures.0 the_row_format.ensures in
-    compared_silent p.0.0 a.t p.1.0 p.1.1 (drop (a.limit + 1) (replicate 65 0)) made (not-false _ the_if1.false)
+    compared_silent p.0.0 a.t p.1.0 p.1.1 (drop (a.limit + 1) (replicate 65 0)) made the_if1.false
     c.disjoint_formats.ensures p.0.2 c.if-disjoint_formats.false c.if-literal.false))
