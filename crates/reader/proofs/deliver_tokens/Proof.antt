@@ -24,7 +24,7 @@ deliver_tokens_spec =
     (λ c. search rules)
     (λ c.
     let put = c.before.before.before.before.before.before.before.before in
-    let out-kept = put.put_file-end.auto.1.1.1.1.1.1.0 in
+    let out-kept = put.put_file-end.auto.out in
     let begun = start put in
     part_size put.put_file-end.result _ begun.args.file-1.now (omega (arith, c.if-end-gt16384.false)) begun.requires.2 out-kept)
     (λ c κs.

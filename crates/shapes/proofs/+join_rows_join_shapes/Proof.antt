@@ -1,15 +1,14 @@
 -- The number of words of the first row falls, as for disjointness. One law of `FirstLaws` for each return; what is written takes no more words than
 -- the first row has.
-use Prim.Native.Nat.{ℕ, ◌<◌, ◌≤◌, ◌+◌, ◌*◌}
+use Prim.Native.Nat.{ℕ, ◌<◌, ◌+◌, ◌*◌}
 use mathlib.Core.Bool.{Bool, true, false, ◌||◌}
 use mathlib.Core.Path.{◌≡◌}
 use native.Mathlib.Omega.{arith}
 use borrow.Author.Rules.{rules}
 use lib.ListN.{length}
-use Rattle.shapes.specs.Words.{shapes_end}
 use Rattle.shapes.proofs.WordLaws.{shapes_end_low}
 use Rattle.shapes.proofs.FirstLaws.{join_none_none, join_none_some, join_some_none, join_some_some, join_brackets, join_bracket_leaf, join_leaf_bracket, join_leaves_lem}
-use borrow.Fn.Kinds.{In, Out}
+use borrow.Fn.Kinds.{In}
 use borrow.Fn.PlainCycle.{Measures, is, falls, and}
 use Rattle.shapes.proofs.join_rows.Reads as join-rows
 use Rattle.shapes.proofs.join_rows.Kinds as join-rows-kinds

@@ -27,8 +27,7 @@ function_turn_spec =
       turn_next c.requires.0 c.args.f c.requires.2,
     ))
     (λ c κs.
-    let the_first_sentence = c.first_sentence-first in
-    (
+    let the_first_sentence = c.first_sentence-first in (
       c.requires.0,
       c.requires.1,
       omega (

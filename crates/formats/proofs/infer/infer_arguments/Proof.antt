@@ -30,8 +30,7 @@ infer_arguments_spec =
     (λ c κs.
     let the_functions = c.functions-most in
     let the_pre = c.requires in
-    let now = c.loop-f in
-    (
+    let now = c.loop-f in (
       c.requires.0,
       arguments_holding now.invariant.0 c.requires.1,
       (omega (arith, c.loop-f-test.true, functions_read the_pre.0 the_functions.result the_functions.ensures)),

@@ -33,8 +33,7 @@ infer_round_spec =
     (λ c κs.
     let the_functions = c.functions-most in
     let the_pre = c.requires in
-    let now = c.loop-f in
-    (
+    let now = c.loop-f in (
       c.requires.0,
       round_holding now.invariant.0 c.requires.1,
       (omega (arith, c.loop-f-test.true, functions_read the_pre.0 the_functions.result the_functions.ensures)),
@@ -80,7 +79,7 @@ infer_round_spec =
     let store-after = turn.new.store in
     let marked : Marked turn.result the_loop.changed c.match-function_turn.changed =
     elim c.match-function_turn.branch [
-      in-Changed w ↦ inl (tag_changed _ w.in-Changed.in-Changed-own.keys2, w.changed-is)
+      | in-Changed w ↦ inl (tag_changed _ w.in-Changed.in-Changed-own.keys2, w.changed-is)
       | in-Same w ↦ inr (tag_same _ w.in-Same.in-Same-own.keys3, w.changed-is)
     ] in (
       round_more the_loop.invariant.0 store-after turn.result turn.ensures c.match-function_turn.changed marked

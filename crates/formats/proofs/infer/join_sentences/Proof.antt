@@ -53,8 +53,7 @@ join_sentences_spec =
     let now = c.loop-i in
     sym (lent_length c.args.limit now.row c.requires.0.small now.invariant.0))
     (λ c κs.
-    let now = c.loop-i in
-    (
+    let now = c.loop-i in (
       c.requires.0,
       c.requires.1,
       omega (arith, c.loop-i-test.true, c.requires.2),
@@ -88,8 +87,7 @@ join_sentences_spec =
     (back_length c.args.limit now.row new out-kept now.invariant.0)))
     (λ c κs.
     let made = c.sentence_format in
-    let now = c.loop-i in
-    (
+    let now = c.loop-i in (
       c.requires.0.small,
       rows_format now.invariant.1,
       row_format now.invariant.1 made.ensures c.if-not-sentence_format.false (drop (c.args.limit + 1) now.row),

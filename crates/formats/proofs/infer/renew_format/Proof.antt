@@ -33,8 +33,7 @@ renew_format_spec =
     (λ c.
     let the_copy_words = c.copy_words in
     let the_is_never = c.is_never in
-    let the_if1 = c.if-is_never in
-    (
+    let the_if1 = c.if-is_never in (
       started_words c.args.limit c.args.store.now c.args.k c.args.other.now c.requires.0 c.requires.4
           the_is_never.ensures the_if1.true the_copy_words.ensures,
       started_test c.args.limit c.args.store.now c.args.k c.args.other.now c.requires.0 c.requires.4

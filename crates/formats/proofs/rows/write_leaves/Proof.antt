@@ -3,7 +3,6 @@ use Prim.Native.Nat.{◌+◌, ◌*◌, ◌-◌, ◌≤◌}
 use mathlib.Core.Path.{◌≡◌, refl, ◌∙◌}
 use native.Mathlib.Omega.{arith}
 use borrow.Author.Rules.{rules}
-use borrow.Author.Tests.{leb-true}
 use lib.ListN.{length, length-set}
 use Rattle.formats.specs.Code.Rows.{LeavesAre}
 use Rattle.formats.proofs.RowLaws.{left_length, leaves_none, leaves_next}

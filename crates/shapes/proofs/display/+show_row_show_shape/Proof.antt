@@ -90,8 +90,7 @@ pub +show_row_show_shape_spec : {M : Type 1} → statement M
     let the_end_of = c.end_of-e in
     let the_if1 = c.if-s-lt1 in
     let the_show_shape = c.show_shape-next in
-    let the_put_space2 = c.put_space-start-2 in
-    (
+    let the_put_space2 = c.put_space-start-2 in (
       omega (arith, shapes_rest_falls c.args.s.now c.end_of-e.result the_if1.false the_end_of.ensures.0),
       omega (arith, c.end_of-e.ensures, the_show_shape.ensures.0, the_put_space2.ensures.end, space_length c.args.first, c.requires),
     ))
@@ -134,8 +133,7 @@ pub +show_row_show_shape_spec : {M : Type 1} → statement M
     (λ c. search rules)
     (λ c κs. search rules)
     (λ c κs. let the_end_of = c.end_of-e in
-    let the_put = c.put-start in
-    (
+    let the_put = c.put-start in (
       omega (arith, shapes_contents_falls c.args.s.now the_end_of.result c.requires.1.0 the_end_of.ensures.0),
       omega (arith, the_end_of.ensures, the_put.ensures.end, c.requires),
     ))
