@@ -51,15 +51,15 @@ compare_call_spec =
     omega (arith, accepted_few p.0.0 a.t p.1.0 p.1.1))
     (λ c.
     let the_row_format = c.row_format in
-    let out-kept = the_row_format.auto.1.1.1.1.1.1.1.0 in
-    let out-after = the_row_format.new.1.1.1.1.1.1.1.0 in
+    let out-kept = the_row_format.auto.out in
+    let out-after = the_row_format.new.out in
     let p = c.requires in
     let a = c.args in
     back_inside p.0.0.asked.small out-after _ out-kept)
     (λ c.
     let the_row_format = c.row_format in
-    let out-kept = the_row_format.auto.1.1.1.1.1.1.1.0 in
-    let out-after = the_row_format.new.1.1.1.1.1.1.1.0 in
+    let out-kept = the_row_format.auto.out in
+    let out-after = the_row_format.new.out in
     let p = c.requires in
     let a = c.args in
     sym (back_length p.0.0.asked.small out-after _ out-kept))
