@@ -46,9 +46,9 @@ module _ {X : Type 0} where
 
   -- what is made from a member is among all that is made
   pub each_in : {Y : Type 0} (f : X → List Y) {x : X} {l : List X} {y : Y} → Memᴰ x l → Memᴰ y (f x) → Memᴰ y (each f l)
+  each_in f {l = []} m k = elim m [ ]
   each_in f {l = z ∷ l} (Memᴰ.head e) k = Memᴰ.append_left {s = f z} (each f l) (rw e at k)
   each_in f {l = z ∷ l} (Memᴰ.tail m) k = Memᴰ.append_right (f z) (each_in f m k)
-  each_in {Y = Y} f {l = []} {y = y} x6 k = elim x6 [ ]
 
   -- a member of a list made member by member
   pub in_map : {Y : Type 0} (f : X → Y) (l : List X) {y : Y} → Memᴰ y (map f l) → (x : X) × Memᴰ x l × (y ≡ f x)

@@ -4,7 +4,6 @@ use Prim.Native.Nat.{ℕ, ◌-◌, ◌<◌}
 use mathlib.Core.Path.{refl}
 use native.Mathlib.Omega.{arith}
 use borrow.Author.Rules.{rules}
-use borrow.Author.Tests.{not-false}
 use lib.ListN.{length}
 use Rattle.law.proofs.Forests.{inside_falls}
 use Rattle.matching.specs.Code.Part.{from}
@@ -91,8 +90,8 @@ pub +is_literal_spec : {M : Type 1} → statement M
     let kind = c.word_at-kind.ensures in
     let ends = c.end_of-end.ensures.0 in
     elim c.if-kind-gt2.branch [
-      then-kind-gt2+else-kind-ne6+else-not-is_literal w ↦ laws.after_bracket so_far some kind ends w.if-kind-ne6.false w.is_literal.ensures w.if-not-is_literal.false
-    | else-kind-gt2 w ↦ laws.after_symbol so_far some kind ends w.if-kind-gt2.false
+      | then-kind-gt2+else-kind-ne6+else-not-is_literal w ↦ laws.after_bracket so_far some kind ends w.if-kind-ne6.false w.is_literal.ensures w.if-not-is_literal.false
+      | else-kind-gt2 w ↦ laws.after_symbol so_far some kind ends w.if-kind-gt2.false
     ])
     (λ c. laws.literal_all c.loop-rest.invariant c.if-rest-lt24.true)
     (λ c.

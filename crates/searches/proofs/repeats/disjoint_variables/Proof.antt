@@ -37,9 +37,9 @@ disjoint_variables_spec =
     (λ c. let so_far = c.loop-left.invariant in
     let long = c.if-left-lt24.false in
     elim c.if-word_at-gt2.branch [
-      then-word_at-gt2+else-again w ↦
+      | then-word_at-gt2+else-again w ↦
           laws.across_alone so_far long ((w.again.ensures (omega (arith, c.word_at.ensures, w.if-word_at-gt2.true))).0 w.if-again.false)
-    | else-word_at-gt2 w ↦ laws.across_symbol so_far long c.word_at.ensures w.if-word_at-gt2.false
+      | else-word_at-gt2 w ↦ laws.across_symbol so_far long c.word_at.ensures w.if-word_at-gt2.false
     ])
     (λ c. λ e. laws.across_all c.loop-left.invariant c.if-left-lt24.true)
     (λ c. λ e. absurd (false_not_true e)))

@@ -4,7 +4,6 @@ use Prim.Native.Nat.{ℕ, ◌+◌, ◌*◌, ◌-◌, ◌<◌}
 use native.Mathlib.Omega.{arith}
 use mathlib.Core.Path.{refl, sym, ◌∙◌}
 use borrow.Author.Rules.{rules}
-use borrow.Author.Tests.{not-false}
 use lib.ListN.{length}
 use Rattle.law.proofs.Forests.{inside_falls}
 use Rattle.matching.specs.Code.Part.{from}
@@ -20,7 +19,9 @@ use Rattle.sentences.proofs.loose.front.Reads as front
 use Rattle.sentences.proofs.loose.front.Kinds as front-kinds
 use Rattle.sentences.proofs.loose.+fits_front_last_leftmost_loose_loose_open.Lts-front as front-lts
 use Rattle.sentences.proofs.loose.+fits_front_last_leftmost_loose_loose_open.Lts-front.{
-  then-kind-eq0+else-not-characters_same, else-kind-eq0+then-kind-lt3+else-not-atoms_same, else-kind-eq0+else-kind-lt3+else-not-fits,
+  then-kind-eq0+else-not-characters_same,
+  else-kind-eq0+then-kind-lt3+else-not-atoms_same,
+  else-kind-eq0+else-kind-lt3+else-not-fits,
 }
 use Rattle.sentences.proofs.loose.last.Reads as last
 use Rattle.sentences.proofs.loose.last.Kinds as last-kinds
@@ -247,17 +248,17 @@ pub +fits_front_last_leftmost_loose_loose_open_spec : {M : Type 1} → statement
     let a = c.args in
     let at-loop = c.loop-left in
     elim c.if-kind-eq0.branch [
-      then-kind-eq0+else-not-characters_same w ↦
+      | then-kind-eq0+else-not-characters_same w ↦
           laws.front_next at-loop.invariant the_if1.false the_word_at.ensures the_if2.false the_if3.false
           (laws.fits_symbol a.text.now (from at-loop.i a.pattern.now) (from at-loop.j a.row.now) the_word_at.ensures
           (omega (arith, w.if-kind-eq0.true)) (w.characters_same.ensures a.text.now))
           w.if-not-characters_same.false c.end_of-i.ensures.0 c.end_of-j.ensures.0
-    | else-kind-eq0+then-kind-lt3+else-not-atoms_same w ↦
+      | else-kind-eq0+then-kind-lt3+else-not-atoms_same w ↦
           laws.front_next at-loop.invariant the_if1.false the_word_at.ensures the_if2.false the_if3.false
           (laws.fits_symbol a.text.now (from at-loop.i a.pattern.now) (from at-loop.j a.row.now) the_word_at.ensures
           w.if-kind-lt3.true w.atoms_same.ensures)
           w.if-not-atoms_same.false c.end_of-i.ensures.0 c.end_of-j.ensures.0
-    | else-kind-eq0+else-kind-lt3+else-not-fits w ↦
+      | else-kind-eq0+else-kind-lt3+else-not-fits w ↦
           laws.front_next at-loop.invariant the_if1.false the_word_at.ensures the_if2.false the_if3.false w.fits.ensures
           w.if-not-fits.false c.end_of-i.ensures.0 c.end_of-j.ensures.0
     ])

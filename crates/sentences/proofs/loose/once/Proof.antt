@@ -47,10 +47,10 @@ once_spec =
     let long = c.if-left-lt24.false in
     let kind = c.word_at-kind.ensures in
     elim c.if-kind-gt2.branch [
-      then-kind-gt2+then-kind-lt6+else-again w ↦
+      | then-kind-gt2+then-kind-lt6+else-again w ↦
           laws.apart_variable so_far long ((w.again.ensures (omega (arith, kind, w.if-kind-gt2.true))).0 w.if-again.false)
-    | then-kind-gt2+else-kind-lt6 w ↦ laws.apart_other so_far long kind (omega (arith, w.if-kind-lt6.false))
-    | else-kind-gt2 w ↦ laws.apart_symbol so_far long kind (omega (arith, w.if-kind-gt2.false))
+      | then-kind-gt2+else-kind-lt6 w ↦ laws.apart_other so_far long kind (omega (arith, w.if-kind-lt6.false))
+      | else-kind-gt2 w ↦ laws.apart_symbol so_far long kind (omega (arith, w.if-kind-gt2.false))
     ])
     (λ c. λ e. laws.apart_all c.loop-left.invariant c.if-left-lt24.true)
     (λ c. λ e. absurd (false_not_true e)))

@@ -39,8 +39,8 @@ evenly_spec =
     let long = c.if-left-lt24.false in
     let kind = c.word_at.ensures in
     elim c.if-word_at-eq5.branch [
-      then-word_at-eq5+else-odd_times w ↦ laws.even_open so_far long kind c.end_of-i.ensures.0 w.odd_times.ensures w.if-odd_times.false
-    | else-word_at-eq5 w ↦ laws.even_other so_far long kind c.end_of-i.ensures.0 w.if-word_at-eq5.false
+      | then-word_at-eq5+else-odd_times w ↦ laws.even_open so_far long kind c.end_of-i.ensures.0 w.odd_times.ensures w.if-odd_times.false
+      | else-word_at-eq5 w ↦ laws.even_other so_far long kind c.end_of-i.ensures.0 w.if-word_at-eq5.false
     ])
     (λ c. λ e. laws.even_all c.loop-left.invariant c.if-left-lt24.true)
     (λ c. λ e. absurd (false_not_true e)))

@@ -38,7 +38,7 @@ odd_times_spec =
     let long = c.if-left-lt24.false in
     let same = c.variables_same.ensures in
     elim c.if-variables_same.branch [
-      then-variables_same w ↦ laws.times_one so_far long c.end_of-i.ensures.0 same w.if-variables_same.true w.odd-is
-    | else-variables_same w ↦ laws.times_none so_far long c.end_of-i.ensures.0 same w.if-variables_same.false w.odd-is
+      | then-variables_same w ↦ laws.times_one so_far long c.end_of-i.ensures.0 same w.if-variables_same.true w.odd-is
+      | else-variables_same w ↦ laws.times_none so_far long c.end_of-i.ensures.0 same w.if-variables_same.false w.odd-is
     ])
     (λ c. laws.times_all c.loop-left.invariant c.if-left-lt24.true))
