@@ -19,7 +19,7 @@ bilzarko_findings_spec =
     let at-why = c.before.before in
     let at_call = c.before.before.before.before.before.before.before.before in
     let at_start = at_call.before.before.before.before.before.before.before in
-    findings_refused at_start.args.answer-1.now at_call.findings.ensures at-why.why-1.given.0.0 at-why.why-1.given.1 c.turned_number.ensures)
+    findings_refused at_start.args.answer.now at_call.findings.ensures at-why.why.given.0.0 at-why.why.given.1 c.turned_number.ensures)
     (λ c. search rules)
     (λ c. search rules)
     (λ c.
@@ -27,5 +27,5 @@ bilzarko_findings_spec =
     let listed = at_count.count.given.0 in
     let at_call = c.before.before.before.before.before.before.before.before.before in
     let at_start = at_call.before.before.before.before.before.before.before in
-    findings_listed at_start.args.answer-1.now at_call.findings.ensures listed.0 listed.1.0
+    findings_listed at_start.args.answer.now at_call.findings.ensures listed.0 listed.1.0
     listed.1.1.0 at_count.count.given.1 c.settled_word.ensures))

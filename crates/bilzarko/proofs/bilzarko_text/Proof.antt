@@ -18,11 +18,11 @@ bilzarko_text_spec =
     let at-why = c.before.before in
     let at_call = c.before.before.before.before.before.before.before.before in
     let at_start = at_call.before.before.before.before.before.before.before in
-    bytes_refused at_start.args.answer.now at_call.text.ensures at-why.why-1.given.0.0 at-why.why-1.given.1 c.turned_number.ensures)
+    bytes_refused at_start.args.answer.now at_call.text.ensures at-why.why.given.0.0 at-why.why.given.1 c.turned_number.ensures)
     (λ c. search rules)
     (λ c. search rules)
     (λ c.
     let at-bytes = c.before in
     let at_call = c.before.before.before.before.before.before.before in
     let at_start = at_call.before.before.before.before.before.before.before in
-    bytes_written at_start.args.answer.now at_call.text.ensures at-bytes.bytes-1.given.0.0 at-bytes.bytes-1.given.1))
+    bytes_written at_start.args.answer.now at_call.text.ensures at-bytes.bytes.given.0.0 at-bytes.bytes.given.1))

@@ -21,8 +21,8 @@ findings_spec =
     let start = c.before.before.before.before.before.before.before.before.before.before in
     let settings = settings_from start.args.mode start.args.overrides.now in
     let the_none = c.findings_none in
-    promise 64 settings start.args.law.now start.args.store.now start.args.words-1.now _ _ the_none.result
-    (the_none.ensures start.args.law.now start.args.words-1.now (empty_law start.args.law.now (sym the_is_empty.ensures ∙ the_if1.true))))
+    promise 64 settings start.args.law.now start.args.store.now start.args.words.now _ _ the_none.result
+    (the_none.ensures start.args.law.now start.args.words.now (empty_law start.args.law.now (sym the_is_empty.ensures ∙ the_if1.true))))
     (λ c κs. search rules)
     (λ c. search rules)
     (λ c. search rules)
@@ -36,7 +36,7 @@ findings_spec =
     let start = c.before.before.before.before.before.before.before.before.before.before.before in
     let settings = settings_from start.args.mode start.args.overrides.now in
     let front = c.check_front in
-    findings_turned 64 settings start.args.law.now start.args.store.now _ _ (front.ensures.0 _ refl) _ _ c.why-1.given.1)
+    findings_turned 64 settings start.args.law.now start.args.store.now _ _ (front.ensures.0 _ refl) _ _ c.why.given.1)
     (λ c. search rules)
     (λ c. search rules)
     (λ c. let the_enum_told = c.enum_told-1 in

@@ -21,7 +21,7 @@ findings_gathered_spec =
     let the_gather = c.gather in
     let out-kept = the_gather.auto.1.1.1.1.1.1.1.1.0 in
     let the_slots_of = c.slots_of-slots in
-    let the_count = c.count-1 in (
+    let the_count = c.count in (
       findings_collected settings the_gather.ensures start.requires the_slots_of.ensures _ _ _ the_count.given.1 out-kept,
       omega (arith, count_fits settings the_gather.ensures start.requires the_slots_of.ensures _ _ _ the_count.given.1),
     ))
@@ -40,7 +40,7 @@ findings_gathered_spec =
     (λ c. search rules)
     (λ c. search rules)
     (λ c. search rules)
-    (λ c. let the_count = c.count-1 in
+    (λ c. let the_count = c.count in
     let at-slots-of = c.before.before.before.before.before.before.before.before.before.before.before.before.before.before.before.before.before.before in
     let start = at-slots-of.before.before.before.before.before.before in
     let settings = settings_from start.args.mode start.args.overrides.now in

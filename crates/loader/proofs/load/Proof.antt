@@ -14,4 +14,4 @@ load_spec =
     (λ c.
     let at_call = c.before.before.before.before in
     let at_start = at_call.before.before.before.before.before.before.before.before in
-    loaded _ at_start.args.law.now at_start.args.store.now at_start.args.words-1.now at_start.args.answer.now _ at_call.bilzarko_findings.ensures))
+    loaded _ at_start.args.law.now at_start.args.store.now at_start.args.words.now at_start.args.answer.now _ at_call.bilzarko_findings.ensures))

@@ -14,5 +14,5 @@ print_spec =
     (λ c.
     let at_call = c.before.before.before.before in
     let at_start = at_call.before.before.before.before.before.before.before.before in
-    printed _ at_start.args.law.now at_start.args.store.now at_start.args.page-1.now at_start.args.answer.now _
+    printed _ at_start.args.law.now at_start.args.store.now at_start.args.page.now at_start.args.answer.now _
     at_call.bilzarko_page.ensures))

@@ -38,7 +38,7 @@ write_spec =
     let front = c.check_front in
     let wanted = start.args.wanted in
     bytes_turned 64 settings start.args.law.now start.args.store.now _ _ (front.ensures.0 _ refl)
-    (wanted_number wanted) (own_bytes (wanted_bytes wanted settings)) start.args.buffer-1.now _ c.why-1.given.1)
+    (wanted_number wanted) (own_bytes (wanted_bytes wanted settings)) start.args.buffer.now _ c.why.given.1)
     (λ c. search rules)
     (λ c. search rules)
     (λ c. let the_enum_told = c.enum_told-1 in
@@ -48,5 +48,5 @@ write_spec =
     let ready = c.write_ready in
     let wanted = start.args.wanted in
     bytes_goes 64 settings start.args.law.now start.args.store.now _ _ (front.ensures.0 _ refl)
-    (wanted_number wanted) (own_bytes (wanted_bytes wanted settings)) start.args.buffer-1.now _ _ ready.result
+    (wanted_number wanted) (own_bytes (wanted_bytes wanted settings)) start.args.buffer.now _ _ ready.result
     the_enum_told.given.1 ready.ensures))

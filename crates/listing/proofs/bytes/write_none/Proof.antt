@@ -16,7 +16,7 @@ write_none_spec =
     let x = allowed.args in
     let settings = settings_from x.mode x.overrides.now in
     λ bytes empty. bytes_settings x.limit settings bytes x.store.now empty allowed.settings_allowed.ensures
-    (wanted_number x.wanted) (wanted_bytes x.wanted settings) x.buffer-1.now c.if-not-settings_allowed.true)
+    (wanted_number x.wanted) (wanted_bytes x.wanted settings) x.buffer.now c.if-not-settings_allowed.true)
     (λ c κs. search rules)
     (λ c.
     let sized = c.before in
@@ -25,7 +25,7 @@ write_none_spec =
     let x = allowed.args in
     let settings = settings_from x.mode x.overrides.now in
     λ bytes empty. bytes_short x.limit settings bytes x.store.now empty allowed.settings_allowed.ensures
-    (wanted_number x.wanted) (wanted_bytes x.wanted settings) x.buffer-1.now tested.if-not-settings_allowed.false
+    (wanted_number x.wanted) (wanted_bytes x.wanted settings) x.buffer.now tested.if-not-settings_allowed.false
     (omega (arith, c.if-store-store_words.true, sized.store_words.ensures)))
     (λ c κs. search rules)
     (λ c κs. search rules)
@@ -41,5 +41,5 @@ write_none_spec =
     let x = allowed.args in
     let settings = settings_from x.mode x.overrides.now in
     λ bytes empty. bytes_none x.limit settings bytes x.store.now empty allowed.settings_allowed.ensures
-    (wanted_number x.wanted) (wanted_bytes x.wanted settings) x.buffer-1.now tested.if-not-settings_allowed.false _ _ the_none.result
+    (wanted_number x.wanted) (wanted_bytes x.wanted settings) x.buffer.now tested.if-not-settings_allowed.false _ _ the_none.result
     (omega (arith, enough.if-store-store_words.false, sized.store_words.ensures)) cleared.clear_store.ensures (the_none.ensures settings)))

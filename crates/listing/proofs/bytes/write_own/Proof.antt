@@ -24,10 +24,10 @@ write_own_spec =
     let at-wanted = c.before.before.before.before.before in
     let x = at-wanted.before.before.before.before.before.before in
     let the_tell = c.tell in
-    λ settings held. text_wanted settings held x.requires.1 x.args.wanted-1 _ the_tell.result _ _ at-wanted.wanted-1.given.1 (the_tell.ensures settings held))
+    λ settings held. text_wanted settings held x.requires.1 x.args.wanted _ the_tell.result _ _ at-wanted.wanted.given.1 (the_tell.ensures settings held))
     (λ c. search rules)
     (λ c.
     let known = c.before.before.before.before in
     let x = start known in
     let the_print = c.print in
-    λ settings held. page_wanted settings held x.requires.1 x.args.wanted-1 _ the_print.result _ known.enum_told-1.given.1 the_print.ensures))
+    λ settings held. page_wanted settings held x.requires.1 x.args.wanted _ the_print.result _ known.enum_told-1.given.1 the_print.ensures))

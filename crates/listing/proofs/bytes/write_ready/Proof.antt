@@ -21,7 +21,7 @@ write_ready_spec =
     (λ c κs. let the_gather = c.gather in
     let out-kept = the_gather.auto.1.1.1.1.1.1.1.1.0 in
     let the_slots_of = c.slots_of-slots in
-    let the_count = c.count-1 in
+    let the_count = c.count in
     let start = c.before.before.before.before.before.before.before.before.before.before.before.before.before.before.before.before.before.before.before in
     let settings = settings_from start.args.mode start.args.overrides.now in
     let collected = findings_collected settings the_gather.ensures start.requires the_slots_of.ensures _ _ _ the_count.given.1 out-kept in
@@ -32,23 +32,23 @@ write_ready_spec =
     let start = c.before.before.before.before.before.before.before.before.before.before.before.before.before.before in
     let settings = settings_from start.args.mode start.args.overrides.now in
     let wanted = start.args.wanted in
-    bytes_wide settings the_gather.ensures (wanted_number wanted) (wanted_bytes wanted settings) start.args.buffer-1.now c.enum_told-1.given.1)
+    bytes_wide settings the_gather.ensures (wanted_number wanted) (wanted_bytes wanted settings) start.args.buffer.now c.enum_told-1.given.1)
     (λ c. search rules)
     (λ c. let the_gather = c.gather in
     let start = c.before.before.before.before.before.before.before.before.before.before.before.before.before.before in
     let settings = settings_from start.args.mode start.args.overrides.now in
     let wanted = start.args.wanted in
-    bytes_full settings the_gather.ensures (wanted_number wanted) (wanted_bytes wanted settings) start.args.buffer-1.now refl c.enum_told-in-Full-1.given.1)
+    bytes_full settings the_gather.ensures (wanted_number wanted) (wanted_bytes wanted settings) start.args.buffer.now refl c.enum_told-in-Full-1.given.1)
     (λ c. search rules)
     (λ c. search rules)
     (λ c. let the_gather = c.gather in
     let out-kept = the_gather.auto.1.1.1.1.1.1.1.1.0 in
     let the_slots_of = c.slots_of-slots in
-    let the_count = c.count-1 in
+    let the_count = c.count in
     let start = c.before.before.before.before.before.before.before.before.before.before.before.before.before.before.before.before.before.before.before.before.before.before in
     let settings = settings_from start.args.mode start.args.overrides.now in
     let collected = findings_collected settings the_gather.ensures start.requires the_slots_of.ensures _ _ _ the_count.given.1 out-kept in
     let wanted = start.args.wanted in
     bytes_told settings the_gather.ensures start.requires the_slots_of.ensures _ _ _ the_count.given.1
-    (wanted_number wanted) (wanted_bytes wanted settings) start.args.buffer-1.now _ c.write_own.result refl
+    (wanted_number wanted) (wanted_bytes wanted settings) start.args.buffer.now _ c.write_own.result refl
     (c.write_own.ensures settings collected)))

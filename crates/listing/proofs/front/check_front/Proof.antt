@@ -37,7 +37,7 @@ check_front_spec =
     let read = c.read_law in
     turned_file start.args.limit settings start.args.law.now start.args.words start.args.index.now allowed.ensures
     (not-false _ the_if1.false) _ read.ensures.0 read.ensures.1 _
-    c.why-1.given.1)
+    c.why.given.1)
     (λ c.
     let the_enum_told = c.enum_told-1 in
     let start = c.before.before.before.before.before.before.before.before.before.before in

@@ -17,7 +17,7 @@ is_empty_spec =
     let the_args = c.args in
     refused_empty the_args.law.now _ (cut_refused _ _ _ c.sections_of.ensures c.enum_told-1.given.1))
     (λ c.
-    let the_sections = c.sections-1 in
+    let the_sections = c.sections in
     let start = c.before.before.before.before.before.before in
     let the_sections_of = c.sections_of in
     counts_empty start.args.law.now _ _ (cut_whole start.args.law.now _ _ the_sections_of.ensures the_sections.given.1)

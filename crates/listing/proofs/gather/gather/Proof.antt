@@ -15,7 +15,7 @@ gather_spec =
     (λ c. search rules)
     (λ c. search rules)
     (λ c κs.
-    let the_rounds = c.rounds-1 in
+    let the_rounds = c.rounds in
     let the_infer_store = c.infer_store in
     let start = c.before.before.before.before.before.before.before.before.before.before.before.before.before in
     let settings = settings_from start.args.mode start.args.overrides.now in (
@@ -36,7 +36,7 @@ gather_spec =
     (λ c.
     let the_gather_findings = c.gather_findings in
     let the_infer_store = c.infer_store in
-    let the_rounds = c.rounds-1 in
+    let the_rounds = c.rounds in
     let start = c.before.before.before.before.before.before.before.before.before.before.before.before.before.before.before.before.before.before in
     let settings = settings_from start.args.mode start.args.overrides.now in
     gather_both start.args.room settings _ the_infer_store.result start.requires.0 start.requires.1 the_infer_store.ensures _ _ the_rounds.given.1 _
