@@ -1,6 +1,6 @@
-// The five calls for programs in other languages, which the crate `bilzarko_c` exports as functions of C. The first four return 0 or a
-// refusal's number; what they answer stands in lent words, which keep their values where a call is refused. The last refuses nothing and returns its answer.
-// include/bilzarko.h says what stack a call is given, and that the first three can take for ever.
+// The five calls for programs in other languages, which the crate `bilzarko_c` exports as functions of C. A slice crosses as a pointer and a number of elements.
+// The first four return 0 or a refusal's number; what they answer stands in lent words, which keep their values where a call is refused. The last refuses
+// nothing and returns its answer. include/bilzarko.h says what stack a call is given, and that the first three can take for ever.
 #![tactic(auto)]
 
 ghost use Rattle.std.specs.Prelude.{◌≡◌, cond};

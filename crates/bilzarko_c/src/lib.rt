@@ -1,5 +1,5 @@
-// The five calls of the crate `bilzarko` as functions of C, for programs in other languages: include/bilzarko.h declares them. A slice crosses as a pointer
-// and a number of elements. Each states the clauses of the function that it calls.
+// The static library for programs in other languages: the five calls of the crate `bilzarko`, as functions of C, each under its name and its contract there.
+// A slice crosses as a pointer and a number of elements. include/bilzarko.h declares them, and says what stack a call is given.
 #![tactic(auto)]
 
 ghost use Rattle.std.specs.Prelude.{◌≡◌};

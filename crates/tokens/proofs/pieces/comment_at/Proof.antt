@@ -3,7 +3,6 @@ use Prim.Native.Nat.{◌-◌}
 use native.Mathlib.Omega.{arith}
 use lib.ListN.{length}
 use borrow.Author.Rules.{rules}
-use borrow.Author.Tests.{not-true, not-false}
 use Rattle.tokens.proofs.CommentLaws.{comment_none, Commenting, comment_start, comment_over, comment_broken, comment_more, comment_within, comment_found}
 use Rattle.tokens.proofs.pieces.comment_at.Statement.{statement}
 use Rattle.tokens.proofs.pieces.comment_at.Tie as tie

@@ -1,6 +1,5 @@
 -- One law for each way out: `$ENTRY` stands, `$EXTERN` stands, or neither.
 use native.Mathlib.Omega.{arith}
-use borrow.Author.Rules.{rules}
 use Rattle.tokens.proofs.PieceLaws.{entry_found, extern_found, dollar_none}
 use Rattle.tokens.proofs.pieces.dollar_at.Statement.{statement}
 use Rattle.tokens.proofs.pieces.dollar_at.Tie as tie
