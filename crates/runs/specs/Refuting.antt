@@ -29,6 +29,7 @@ refuted law words (working r env u k left) reached h claim = elim h [ ]
 refuted law words (called m f v k left) reached (listed, found) claim = go (definition law f) refl found
   where
     go : (o : Option Sentences) → definition law f ≡ o → Recognised o v → ⊥
+    go none e h = elim h [ ]
     go (some ss) e h = claim.recognition m f v k left reached listed ss e h
 refuted law words (entered n ss env v k left) reached h claim = elim h [ ]
 refuted law words (trying t k left) reached h claim = elim h [ ]
