@@ -1,5 +1,5 @@
 //! Finds libbilzarko.a: in the folder that BILZARKO_LIB_DIR names, or in ../target/staticlib, where
-//! `rt staticlib bilzarko` writes it.
+//! `tools/staticlib.sh` writes it.
 use std::env;
 use std::path::PathBuf;
 
@@ -14,7 +14,7 @@ fn main() {
     let archive = folder.join("libbilzarko.a");
     assert!(
         archive.is_file(),
-        "{} is not there: run `rt staticlib bilzarko` at the repository's root, or set BILZARKO_LIB_DIR",
+        "{} is not there: run `tools/staticlib.sh` at the repository's root, or set BILZARKO_LIB_DIR",
         archive.display()
     );
     println!("cargo:rerun-if-env-changed=BILZARKO_LIB_DIR");

@@ -20,7 +20,7 @@ else
     unset BILZARKO_LIB_DIR
     library=$root/target/staticlib/libbilzarko.a
     cd "$root"
-    if ! rt staticlib bilzarko >"$made/staticlib.out" 2>&1; then
+    if ! tools/staticlib.sh >"$made/staticlib.out" 2>&1; then
         tail -n 20 "$made/staticlib.out"
         exit 1
     fi

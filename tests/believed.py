@@ -41,6 +41,11 @@ CALLS = [
     ("bilzarko/src/lib.rt", "bilzarko_page"),
     ("bilzarko/src/lib.rt", "bilzarko_read"),
     ("bilzarko/src/lib.rt", "bilzarko_digit"),
+    ("bilzarko_c/src/lib.rt", "bilzarko_findings"),
+    ("bilzarko_c/src/lib.rt", "bilzarko_text"),
+    ("bilzarko_c/src/lib.rt", "bilzarko_page"),
+    ("bilzarko_c/src/lib.rt", "bilzarko_read"),
+    ("bilzarko_c/src/lib.rt", "bilzarko_digit"),
     ("numbers/src/lib.rt", "digit_step"),
     ("reader/src/lib.rt", "read"),
     ("loader/src/lib.rt", "load"),
@@ -56,64 +61,66 @@ CALLS = [
 ]
 
 THEOREMS = [
-    ("runs/proofs/NoFalse.antt", "no-false-finding"),
-    ("runs/proofs/NoFalse.antt", "no-false-dead"),
+    ("runs/proofs/NoFalse.antt", "no_false_finding"),
+    ("runs/proofs/NoFalse.antt", "no_false_dead"),
     ("runs/proofs/Ends.antt", "ends"),
     ("runs/proofs/Ends.antt", "ended"),
     ("runs/proofs/Ends.antt", "finishes"),
-    ("runs/proofs/Ends.antt", "finished-with"),
-    ("lints/specs/SmallLaws.antt", "small-laws"),
-    ("shapes/proofs/JoinLaws.antt", "join-over-left"),
-    ("shapes/proofs/JoinLaws.antt", "join-over-right"),
-    ("shapes/proofs/JoinLaws.antt", "join-least"),
-    ("shapes/proofs/DisjointLaws.antt", "disjoint-exact"),
-    ("shapes/proofs/WordLaws.antt", "read-write"),
-    ("formats/proofs/RoundLaws.antt", "pattern-closed"),
-    ("formats/proofs/RoundLaws.antt", "result-closed"),
-    ("matching/proofs/FillLaws.antt", "matches-iff"),
-    ("matching/proofs/FillLaws.antt", "matches-iff-from"),
-    ("matching/proofs/FillLaws.antt", "call-or-block-matches-nothing"),
-    ("matching/proofs/OrderLaws.antt", "every-match"),
-    ("matching/proofs/OrderLaws.antt", "matches-in-order"),
-    ("matching/proofs/ShadowLaws.antt", "shadow-sound"),
-    ("matching/proofs/LiteralLaws.antt", "literal-as-in-run"),
-    ("matching/proofs/SymbolLaws.antt", "numbers-by-value"),
-    ("matching/proofs/SymbolLaws.antt", "number-in-run"),
-    ("matching/proofs/SymbolLaws.antt", "same-in-run"),
-    ("numbers/proofs/DigitLaws.antt", "same-value"),
-    ("numbers/proofs/PassLaws.antt", "state-of-digits"),
-    ("numbers/proofs/PassLaws.antt", "answer-of-digits"),
-    ("numbers/proofs/PassLaws.antt", "state-of-bytes"),
-    ("numbers/proofs/PassLaws.antt", "answer-after"),
-    ("pages/proofs/LayoutLaws.antt", "every-line"),
-    ("pages/proofs/LayoutLaws.antt", "heading-at"),
-    ("pages/proofs/LayoutLaws.antt", "finding-at"),
-    ("pages/proofs/LayoutLaws.antt", "line-count"),
-    ("pages/proofs/LayoutLaws.antt", "page-length"),
-    ("pages/proofs/FieldLaws.antt", "left-whole"),
-    ("pages/proofs/FieldLaws.antt", "right-whole"),
-    ("pages/proofs/FieldLaws.antt", "ten-digits"),
-    ("tokens/proofs/NextPiece.antt", "next-longest"),
-    ("tokens/proofs/NextPiece.antt", "longest-next"),
-    ("tokens/proofs/Lexing.antt", "lexed-found"),
-    ("tokens/proofs/Lexing.antt", "found-lexed"),
-    ("tokens/proofs/Lexing.antt", "lexed-once"),
-    ("grammar/proofs/Reading.antt", "written-found"),
-    ("grammar/proofs/Reading.antt", "found-written"),
-    ("grammar/proofs/Reading.antt", "written-once"),
-    ("encoding/proofs/EncodedLaw.antt", "encoded-law"),
-    ("encoding/proofs/EncodedLaw.antt", "only-these-refusals"),
-    ("encoding/proofs/EncodedLaw.antt", "encoded-tree"),
+    ("runs/proofs/Ends.antt", "finished_with"),
+    ("lints/specs/SmallLaws.antt", "small_laws"),
+    ("shapes/proofs/JoinLaws.antt", "join_over_left"),
+    ("shapes/proofs/JoinLaws.antt", "join_over_right"),
+    ("shapes/proofs/JoinLaws.antt", "join_least"),
+    ("shapes/proofs/DisjointLaws.antt", "disjoint_exact"),
+    ("shapes/proofs/WordLaws.antt", "read_write"),
+    ("formats/proofs/RoundLaws.antt", "pattern_closed"),
+    ("formats/proofs/RoundLaws.antt", "result_closed"),
+    ("matching/proofs/FillLaws.antt", "matches_iff"),
+    ("matching/proofs/FillLaws.antt", "matches_iff_from"),
+    ("matching/proofs/FillLaws.antt", "call_or_block_matches_nothing"),
+    ("matching/proofs/OrderLaws.antt", "every_match"),
+    ("matching/proofs/OrderLaws.antt", "matches_in_order"),
+    ("matching/proofs/ShadowLaws.antt", "shadow_sound"),
+    ("matching/proofs/LiteralLaws.antt", "literal_as_in_run"),
+    ("matching/proofs/SymbolLaws.antt", "numbers_by_value"),
+    ("matching/proofs/SymbolLaws.antt", "number_in_run"),
+    ("matching/proofs/SymbolLaws.antt", "same_in_run"),
+    ("numbers/proofs/DigitLaws.antt", "same_value"),
+    ("numbers/proofs/PassLaws.antt", "state_of_digits"),
+    ("numbers/proofs/PassLaws.antt", "answer_of_digits"),
+    ("numbers/proofs/PassLaws.antt", "state_of_bytes"),
+    ("numbers/proofs/PassLaws.antt", "answer_after_lem"),
+    ("pages/proofs/LayoutLaws.antt", "every_line"),
+    ("pages/proofs/LayoutLaws.antt", "heading_at"),
+    ("pages/proofs/LayoutLaws.antt", "finding_at"),
+    ("pages/proofs/LayoutLaws.antt", "line_count_lem"),
+    ("pages/proofs/LayoutLaws.antt", "page_length_lem"),
+    ("pages/proofs/FieldLaws.antt", "left_whole"),
+    ("pages/proofs/FieldLaws.antt", "right_whole"),
+    ("pages/proofs/FieldLaws.antt", "ten_digits"),
+    ("tokens/proofs/NextPiece.antt", "next_longest"),
+    ("tokens/proofs/NextPiece.antt", "longest_next"),
+    ("tokens/proofs/Lexing.antt", "lexed_found"),
+    ("tokens/proofs/Lexing.antt", "found_lexed"),
+    ("tokens/proofs/Lexing.antt", "lexed_once"),
+    ("grammar/proofs/Reading.antt", "written_found"),
+    ("grammar/proofs/Reading.antt", "found_written"),
+    ("grammar/proofs/Reading.antt", "written_once"),
+    ("encoding/proofs/EncodedLaw.antt", "encoded_law"),
+    ("encoding/proofs/EncodedLaw.antt", "only_these_refusals"),
+    ("encoding/proofs/EncodedLaw.antt", "encoded_tree"),
 ]
 
 # antt's own words and names, which no `use` line brings in, and those of contracts
 ANTT = set(
-    "λ → × : = | ↦ ← . _ [] ⌜ ⌝ let in do where elim as record data module deriving Discrete unfolding"
-    " Type Unit tt ⊥ requires ensures now".split()
+    "λ → × : = | ↦ ← . _ [] let in do where elim as record data module deriving Discrete unfolding"
+    " Type Unit tt ⊥ requires ensures result".split()
 )
+# The parts of operators that stand before or between their arguments
+PARTS = {"if": "if◌then◌else◌", "then": "if◌then◌else◌", "else": "if◌then◌else◌"}
 MARKS = {"pub", "abbrev", "unfoldable", "opaque", "private"}
 RUST = set(
-    "pub extern C no_mangle fn struct enum type const mut"
+    "pub extern C unsafe no_mangle fn struct enum type const mut"
     " bool u8 u16 u32 u64 usize i8 i16 i32 i64 isize f32 f64".split()
 )
 
@@ -142,6 +149,11 @@ def antt(text):
             tokens.append(Token(found[0], found.start() - line, line != seen))
             seen = line
     return tokens
+
+
+def head(token):
+    """What a projection, as `law.count`, is of; else the word itself, without the stop that ends a λ's names."""
+    return token.rstrip(".").split(".")[0] or token
 
 
 def blocks(tokens):
@@ -193,13 +205,19 @@ class Module:
             self.text = re.sub(r"//[^\n]*", "", self.text)
             for line in re.findall(r"^ghost use (.*?);$", self.text, re.M | re.S):
                 self.bring(antt(line))
-            for words in re.findall(r"^(?:pub )?use ([\w:]+);$", self.text, re.M):
-                self.names[words.split("::")[-1]] = rust_place(self.path, words.split("::"))
+            for words in re.findall(r"^(?:pub )?use ([\w:{},\s]+);$", self.text, re.M):
+                before, _, several = words.partition("{")
+                for name in several.rstrip("}").split(",") if several else [""]:
+                    path = [word for word in (before + name.strip()).split("::") if word]
+                    if name.strip() or not several:
+                        self.names[path[-1]] = rust_place(self.path, path)
 
     def bring(self, words):
         whole = "".join(words[:1])
         if len(words) == 3 and words[1] == "as":
             self.names[words[2]] = module_place(whole)
+        elif len(words) == 1:
+            self.names[whole.split(".")[-1]] = module_place(whole)
         elif len(words) > 2 and whole.endswith(".") and words[1] == "{" and words[-1] == "}":
             for name in " ".join(words[2:-1]).split(","):
                 name = name.split()
@@ -242,7 +260,7 @@ class Module:
                 fixity = []
             else:
                 left = item[: place(item, "=")]
-                operators = [d for name, d in here.items() if name.strip("_") != name and name.strip("_") in left]
+                operators = [d for name, d in here.items() if "◌" in name and any(word in left for word in name.split("◌") if word)]
                 owner = here.get(key) or (operators + [current])[0]
                 if owner is None and key == "unfolding":
                     continue  # of a whole `mutual`
@@ -271,8 +289,8 @@ class Module:
 
     def meaning(self, token):
         """What a name stands for here: a file, or a library's module, and names there. None where it is not known."""
-        for name in (token, f"_{token}_"):
-            first, *others = [name] if "_" in (name[0], name[-1]) else name.split(".")
+        for name in (token, f"◌{token}◌", PARTS.get(token, token)):
+            first, *others = [name] if "◌" in name else name.split(".")
             if first in self.names:
                 return self.names[first] + tuple(others)
             if self.own(first):
@@ -291,14 +309,12 @@ def module(path):
 
 def module_place(words):
     """The file that a module's path names, or a file of code and the type declared there, or a library's module."""
-    found = re.match(r"Rattle·(\w+)(?:·specs|·proofs)?\.(specs|proofs)\.([\w.-]+)$", words)
-    if not found:
-        if words.startswith("Rattle·"):
-            raise Fault(f"use {words}: not understood")
+    found = re.match(r"Rattle\.(\w+)\.(specs|proofs)\.([\w.+'-]+)$", words)
+    if not found or not (CRATES / found[1]).is_dir():
         return (words,)
     crate, part, rest = found.groups()
     if rest.startswith("declared."):
-        names = [name for name in rest.split(".")[1:] if name != "the-variants"]
+        names = [name for name in rest.split(".")[1:] if name != "TheVariants"]
         return code_file(crate, names[:-1]), names[-1]
     return (CRATES / crate / part / (rest.replace(".", "/") + ".antt"),)
 
@@ -325,12 +341,12 @@ def declared(path, name):
 def contract(path, name):
     """A public function's signature, as words of Rust, and what it requires and ensures, as words of antt."""
     text = module(path).text
-    found = re.search(rf'^(?:#\[\w+\]\n)?pub (?:extern "C" )?fn {name}\(', text, re.M)
+    found = re.search(rf'^(?:#\[[\w()]+\]\n)?pub (?:extern "C" )?fn {name}\(', text, re.M)
     if not found:
         raise Fault(f"{path.relative_to(ROOT)}: no public function {name}")
     signature, said, at, depth = "", [], found.start(), 0
     while True:
-        keyword = re.compile(r"(requires|ensures)\s*\{").match(text, at)
+        keyword = re.compile(r"(requires|ensures)\s*(?:\w+\s*)?\{").match(text, at)
         if keyword and not depth:
             start, depth, at = keyword.end(), 1, keyword.end()
             while depth:
@@ -375,7 +391,8 @@ def references(path, items, also=()):
         if token[0] in '."' or token in OPENS + CLOSES + ",;" or token in MARKS or token[0].isdigit():
             continue
         token = token.rstrip(".") or token
-        meaning = here.meaning(token)
+        meaning = here.meaning(token) or here.meaning(head(token))
+        token = token if meaning else head(token)
         if meaning:
             found.append(meaning)
         elif token not in ANTT and token not in local and not token.startswith("infix"):
@@ -480,11 +497,15 @@ def spelled(path, items, shared):
             if token in MARKS or token in ",;" and i + 1 < len(item) and item[i + 1] in CLOSES:
                 continue  # what the prover sees of it, and what layout puts where it breaks lines
             meaning = None if token[0] in '."' else here.meaning(token.rstrip(".") or token)
+            if not meaning and token[0] not in '."' and head(token) != token and here.meaning(head(token)):
+                meaning, fields = here.meaning(head(token)), token[len(head(token)) :]
+            else:
+                fields = ""
             whole = meaning and resolve(meaning)
             if whole:
-                token = f"{whole[0].relative_to(ROOT) if whole[1] in shared else ''}:{whole[1]}:{'.'.join(meaning[1:])}"
+                token = f"{whole[0].relative_to(ROOT) if whole[1] in shared else ''}:{whole[1]}:{'.'.join(meaning[1:])}{fields}"
             elif meaning:
-                token = ".".join(meaning)
+                token = ".".join(meaning) + fields
             out.append(token)
     return " ".join(out)
 

@@ -20,14 +20,19 @@ def head(path):
     return " ".join(said).strip()
 
 
+def of_one_function(path):
+    """Is it the proof of a single function, in a folder of its own?"""
+    return path.name in ("Proof.antt", "Invariants.antt", "Answers.antt") and path.parent.name != "proofs"
+
+
 def main():
     words = [word for word in sys.argv[1:] if word != "-v"]
-    listed = [line.split(":")[0] for line in (ROOT / "crates.txt").read_text().split("\n") if ":" in line and not line.startswith("#")]
+    listed = [line.split(":")[0].split()[0] for line in (ROOT / "crates.txt").read_text().split("\n") if ":" in line and not line.startswith("#")]
     for crate in words or listed:
         print(crate)
         for part in ("src", "specs", "proofs"):
             for path in sorted((ROOT / "crates" / crate / part).rglob("*")):
-                if path.suffix not in (".rt", ".antt") or path.name == "Lib.antt" or (path.name == "Proof.antt" and "-v" not in sys.argv):
+                if path.suffix not in (".rt", ".antt") or path.name == "Lib.antt" or (of_one_function(path) and "-v" not in sys.argv):
                     continue
                 print(f"  {path.relative_to(ROOT / 'crates' / crate)}: {head(path) or '-'}")
 

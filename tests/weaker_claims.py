@@ -5,7 +5,7 @@ A claim over fewer runs, calls, sentences or findings is easier to prove, and sa
 step, such that the weaker claim is proved, and so is the lemma by which a run refutes a listing (`shown` in
 specs/Refuting.antt). What is left to refuse it is the table of specs/FalseListings.antt: a listing that is false in just the way
 that the weaker claim leaves out. The examples in specs/Premises.antt may refuse it too. Words name claims; without any, all are
-tried."""
+tried. --dry: no check, only whether the old text of each edit stands in its file exactly once."""
 import sys
 
 from weaker_machines import INVARIANT, tried
@@ -17,19 +17,19 @@ HOLDS = "runs/proofs/FindingsHold.antt"
 NO_FALSE = "runs/proofs/NoFalse.antt"
 
 RECOGNISES = (
-    "Recognises (sentence m p cs r ss) v = (some-in (runMatches (patternOf p) v none-bound) ≡ true) ⊎ Recognises ss v"
+    "Recognises (sentence m p cs r ss) v = (some_in (run_matches (pattern_of p) v none_bound) ≡ true) ⊎ Recognises ss v"
 )
-NONE_RECOGNISED = """none-recognised (sentence m p cs r ss) v h (inl e) = false-not-true (sym (ap some-in (h .0)) ∙ e)
-none-recognised (sentence m p cs r ss) v h (inr k) = none-recognised ss v (h .1) k"""
-NUMBERS = "use Prim.Native.Nat.{ℕ"
+NONE_RECOGNISED = """none_recognised (sentence m p cs r ss) v h (inl e) = false_not_true (sym (ap some_in h.0) ∙ e)
+none_recognised (sentence m p cs r ss) v h (inr k) = none_recognised ss v h.1 k"""
+PRELUDE = "use Rattle.std.specs.Prelude.{ℕ, ◌+◌, ◌*◌, ◌≤◌, true, ◌⊎◌, ◌≡◌, length, get_or}"
 COMES = "  pub comes : run law function argument answers steps ≡ state"
 REACHED = "-- a state of a run: of any function of the law, on any expression, with any answers, cut off after any number of steps"
-REACHED_HOLDS = """        (steps-hold (trying (sentences none-bound (reached .argument) (reached .function .sentences)) over (reached .answers))
-        (none-kinded anyLiteral anyLiteral, started (reached .function) (reached .of-law) (reached .argument)) (reached .steps))"""
+REACHED_HOLDS = """        (steps_hold (trying (sentences none_bound reached.argument reached.function.sentences) over reached.answers)
+        (none_kinded any_literal any_literal, started reached.function reached.of_law reached.argument) reached.steps)"""
 SHOWN_BY = "    → IsFalse law words (run law f v answers n) → NoFalseFinding law words → ⊥"
 SHOWN = "    refuted law words (run law f v answers n) (record"
-USES = "use Rattle·runs·specs.specs.Claim.{"
-EXPRESSIONS = "use Rattle·law.specs.Expression.{Expression}"
+USES = "use Rattle.runs.specs.Claim.{"
+EXPRESSIONS = "use Rattle.law.specs.Expression.{Expression}"
 
 
 def fewer(name, definition, changed, run):
@@ -48,11 +48,16 @@ def fewer(name, definition, changed, run):
     ]
 
 
+def besides(names):
+    """Names that the claim takes from the library besides."""
+    return (CLAIM, PRELUDE, PRELUDE.replace("}", f", {names}}}"))
+
+
 def expressions(rows):
     """Runs on expressions in which this is left out."""
     definition = "abbrev pub kept : Expression → Expression\nkept nothing = nothing\n" + "".join(row + "\n" for row in rows)
-    return [(CLAIM, EXPRESSIONS, "use Rattle·law.specs.Expression.{Literal, Expression, nothing, symbol, brackets}")] + fewer(
-        "kept", definition, [("(reached .argument)", "(kept (reached .argument))")],
+    return [(CLAIM, EXPRESSIONS, "use Rattle.law.specs.Expression.{Literal, Expression, nothing, symbol, brackets}")] + fewer(
+        "kept", definition, [("reached.argument", "(kept reached.argument)")],
         lambda function, argument, answers, steps: f"run law {function} (kept {argument}) {answers} {steps}")
 
 
@@ -68,90 +73,86 @@ CLAIMS = {
         "a listed call is held to the first sentence of its function",
         [
             (CLAIM, RECOGNISES, RECOGNISES.replace("⊎ Recognises ss v", "⊎ ⊥")),
-            (HOLDS, NONE_RECOGNISED, NONE_RECOGNISED.replace("none-recognised ss v (h .1) k", "absurd k")),
+            (HOLDS, NONE_RECOGNISED, NONE_RECOGNISED.replace("none_recognised ss v h.1 k", "absurd k")),
         ],
     ),
     "no-condition": (
         "a listed call is held to the sentences without conditions",
         [
-            (CLAIM, "noSentence, sentence, Function", "noSentence, sentence, noCondition, condition, Function"),
+            (CLAIM, "no_sentence, sentence, Function", "no_sentence, sentence, no_condition, condition, Function"),
             (CLAIM, RECOGNISES,
-             RECOGNISES.replace(" cs r", " noCondition r") + "\nRecognises (sentence m p (condition q w cs) r ss) v = Recognises ss v"),
-            (HOLDS, "use Rattle·law.specs.Tree.{Sentences, sentence, Law}",
-             "use Rattle·law.specs.Tree.{Sentences, sentence, noCondition, condition, Law}"),
+             RECOGNISES.replace(" cs r", " no_condition r") + "\nRecognises (sentence m p (condition q w cs) r ss) v = Recognises ss v"),
+            (HOLDS, "use Rattle.law.specs.Tree.{Sentences, no_sentence, sentence, Law}",
+             "use Rattle.law.specs.Tree.{Sentences, no_sentence, sentence, no_condition, condition, Law}"),
             (HOLDS, NONE_RECOGNISED,
-             NONE_RECOGNISED.replace(" cs r", " noCondition r")
-             + "\nnone-recognised (sentence m p (condition q w cs) r ss) v h k = none-recognised ss v (h .1) k"),
+             NONE_RECOGNISED.replace(" cs r", " no_condition r")
+             + "\nnone_recognised (sentence m p (condition q w cs) r ss) v h k = none_recognised ss v h.1 k"),
         ],
     ),
     "first-function": (
         "only sentences of the first function count as dead",
         [
             (CLAIM, "⊎ OfFunction fs i", "⊎ ⊥"),
-            (HOLDS, "function-record P fs (h .1) i j", "absurd j"),
+            (HOLDS, "function_record_lem P fs h.1 i j", "absurd j"),
         ],
     ),
     "first-of-function": (
         "only the first sentence of a function counts as dead",
         [
             (CLAIM, "⊎ IsAmong i ss", "⊎ ⊥"),
-            (HOLDS, "among-record P ss (h .1) i j", "absurd j"),
+            (HOLDS, "among_record P ss h.1 i j", "absurd j"),
         ],
     ),
     "first-finding": (
         "only the first finding of a listing counts",
         [
-            (CLAIM, "(getD words (8 * j) 0 ≡ lint) × (getD words (8 * j + 7) 0 ≡ subject)", "(getD words 0 0 ≡ lint) × (getD words 7 0 ≡ subject)"),
-            (NO_FALSE, "listed-found settings (x ∷ xs) lint subject (zero, inside", "listed-found settings (x ∷ xs) lint subject (j, inside"),
+            (CLAIM, "(get_or words (8 * j) 0 ≡ lint) × (get_or words (8 * j + 7) 0 ≡ subject)", "(get_or words 0 0 ≡ lint) × (get_or words 7 0 ≡ subject)"),
+            (NO_FALSE, "listed_found settings (x ∷ xs) lint subject (zero, inside", "listed_found settings (x ∷ xs) lint subject (j, inside"),
             (NO_FALSE,
-             """listed-found settings (x ∷ xs) lint subject (suc j, inside, first, last) =
+             """listed_found settings (x ∷ xs) lint subject (suc j, inside, first, last) =
     let next : 8 * suc j ≡ suc (suc (suc (suc (suc (suc (suc (suc (8 * j)))))))) = omega arith in
     let later : 8 * suc j + 7 ≡ suc (suc (suc (suc (suc (suc (suc (suc (8 * j + 7)))))))) = omega arith in
-    let (y, m, l, s) = listed-found settings xs lint subject (j, omega (arith, inside), rw next at first, rw later at last) in
-    (y, List·Memᴰ·tail m, l, s)
+    let (y, m, l, s) = listed_found settings xs lint subject (j, omega (arith, inside), rw next at first, rw later at last) in
+    (y, Memᴰ.tail m, l, s)
 """, ""),
         ],
     ),
     "steps": (
         "runs of at most 1,000 steps",
-        [(CLAIM, NUMBERS, NUMBERS + ", min")]
-        + fewer("few", "abbrev pub few : ℕ → ℕ\nfew n = min n 1000\n", [("(reached .steps)", "(few (reached .steps))")],
+        [besides("min")]
+        + fewer("few", "abbrev pub few : ℕ → ℕ\nfew n = min n 1000\n", [("reached.steps", "(few reached.steps)")],
                 lambda function, argument, answers, steps: f"run law {function} {argument} {answers} (few {steps})"),
     ),
     "answers": (
         "runs without answers",
-        fewer("no-answer", "abbrev pub no-answer : List Expression → List Expression\nno-answer answers = []\n",
-              [("(reached .answers)", "(no-answer (reached .answers))")],
-              lambda function, argument, answers, steps: f"run law {function} {argument} (no-answer {answers}) {steps}"),
+        fewer("no_answer", "abbrev pub no_answer : List Expression → List Expression\nno_answer answers = []\n",
+              [("reached.answers", "(no_answer reached.answers)")],
+              lambda function, argument, answers, steps: f"run law {function} {argument} (no_answer {answers}) {steps}"),
     ),
     "first-runs": (
         "runs of the first function",
-        fewer("firstOf, first-in",
-              """abbrev pub firstOf : Law → Function → Function
-firstOf [] f = f
-firstOf (d ∷ ds) f = d
+        fewer("first_of, first_in",
+              """abbrev pub first_of : Law → Function → Function
+first_of [] f = f
+first_of (d ∷ ds) f = d
 
-pub first-in : (law : Law) (f : Function) → List·Memᴰ f law → List·Memᴰ (firstOf law f) law
-first-in [] f m = m
-first-in (d ∷ ds) f m = List·Memᴰ·head refl
+pub first_in : (law : Law) (f : Function) → Memᴰ f law → Memᴰ (first_of law f) law
+first_in [] f m = m
+first_in (d ∷ ds) f m = Memᴰ.head refl
 """,
-              [("(reached .function .sentences)", "(firstOf law (reached .function) .sentences)"),
-               ("started (reached .function) (reached .of-law)",
-                "started (firstOf law (reached .function)) (first-in law (reached .function) (reached .of-law))")],
-              lambda function, argument, answers, steps: f"run law (firstOf law {function}) {argument} {answers} {steps}")
-        + [
-            (CLAIM, "_∷_, List·Memᴰ}", "_∷_, List·Memᴰ, List·Memᴰ·head}"),
-            (CLAIM, "use mathlib.Core.Path.{_≡_}", "use mathlib.Core.Path.{_≡_, refl}"),
-        ],
+              [("reached.function.sentences", "(first_of law reached.function).sentences"),
+               ("started reached.function reached.of_law",
+                "started (first_of law reached.function) (first_in law reached.function reached.of_law)")],
+              lambda function, argument, answers, steps: f"run law (first_of law {function}) {argument} {answers} {steps}")
+        + [besides("refl")],
     ),
     "bracket-laws": (
         "laws without brackets",
         [
-            (CLAIM, "use mathlib.Core.Bool.{true}", "use mathlib.Core.Bool.{Bool, true, false, cond, _&&_}"),
-            (CLAIM, NUMBERS, NUMBERS + ", zero"),
-            (CLAIM, "use Rattle·law.specs.Tree.{Run, Sentences, noSentence, sentence, Function, Law}",
-             "use Rattle·law.specs.Tree as tree\n"
-             "use Rattle·law.specs.Tree.{Run, Sentences, noSentence, sentence, Conditions, noCondition, condition, Function, Law}"),
+            besides("zero, Bool, false, cond, ◌&&◌"),
+            (CLAIM, "use Rattle.law.specs.Tree.{Run, Sentences, no_sentence, sentence, Function, Law}",
+             "use Rattle.law.specs.Tree as tree\n"
+             "use Rattle.law.specs.Tree.{Run, Sentences, no_sentence, sentence, Conditions, no_condition, condition, Function, Law}"),
         ]
         + fewer("few",
                 """abbrev pub flat : Run → Bool
@@ -162,18 +163,18 @@ flat (tree.Run.bracket q r) = false
 flat (tree.Run.call m f q r) = flat q && flat r
 flat (tree.Run.block m q ss r) = flat q && flat r
 
-abbrev pub flatSentences : Sentences → Bool
-flatSentences noSentence = true
-flatSentences (sentence m p cs r ss) = flat p && (flat r && flatSentences ss)
+abbrev pub flat_sentences : Sentences → Bool
+flat_sentences no_sentence = true
+flat_sentences (sentence m p cs r ss) = flat p && (flat r && flat_sentences ss)
 
-abbrev pub flatLaw : Law → Bool
-flatLaw [] = true
-flatLaw (f ∷ fs) = flatSentences (f .sentences) && flatLaw fs
+abbrev pub flat_law : Law → Bool
+flat_law [] = true
+flat_law (f ∷ fs) = flat_sentences f.sentences && flat_law fs
 
 abbrev pub few : Law → ℕ → ℕ
-few law n = cond (flatLaw law) n zero
+few law n = cond (flat_law law) n zero
 """,
-                [("(reached .steps)", "(few law (reached .steps))")],
+                [("reached.steps", "(few law reached.steps)")],
                 lambda function, argument, answers, steps: f"run law {function} {argument} {answers} (few law {steps})"),
     ),
     "brackets": ("runs on expressions without brackets", expressions(["kept (symbol a x) = symbol a (kept x)", "kept (brackets c x) = kept x"])),

@@ -3,8 +3,9 @@
 
 A weaker contract is easier to prove. So in each of these the proofs of crates/bilzarko are kept in step, such that it is still
 proved, and only what pins it is left to refuse it: the contracts of crates/loader, which say the same in other words. Edits of
-crates/loader/must-fail cannot reach crates/bilzarko; else these are the same. They are tried in a copy of the crates; what
-is proved already, in target, is taken along. Words name contracts; without any, all are tried.
+crates/loader/must-fail cannot reach crates/bilzarko; else these are the same. They are tried by `rt check` in a copy of the crates,
+which begins with what `rt check` has kept of the crates here. Words name contracts; without any, all are tried. --dry: no check,
+only whether the old text of each edit stands in its file exactly once.
 
 `put-whole` is a program instead, which no caller would miss: its proof is kept in step too, and only the contract of
 `buffers::put`, on a buffer without room, is left to refuse it."""
@@ -15,6 +16,7 @@ from weaker_machines import tried
 CODE = "bilzarko/src/lib.rt"
 EXPORTED = "bilzarko/specs/Exported.antt"
 LAWS = "bilzarko/proofs/ExportLaws.antt"
+RULES = "use borrow.Author.Rules.{rules}"
 PUT_CODE = "buffers/src/lib.rt"
 PUT_PROOF = "buffers/proofs/put/Proof.antt"
 PINS = {PUT_PROOF} | {"loader/proofs/" + name for name in ("LoadedLaws.antt", "BytesLaws.antt", "ShownLaws.antt", "PrintedLaws.antt", "TypedLaws.antt",
@@ -22,21 +24,23 @@ PINS = {PUT_PROOF} | {"loader/proofs/" + name for name in ("LoadedLaws.antt", "B
 
 # ---- demand 3
 
-PREMISES = "→ getD (after .answer) 2 0 ≡ 1"
-WORDS = "(take (8 * getD (after .answer) 0 0) (after .findings))"
+EXPORTED_PRELUDE = "use Rattle.std.specs.Prelude.{ℕ, ◌*◌, cond, List, [], ◌∷◌, ◌≡◌, take, get_or}"
+PREMISES = "→ get_or after.answer 2 0 ≡ 1"
+WORDS = "(take (8 * get_or after.answer 0 0) after.findings)"
 CLAIM = f"→ NoFalseFinding law {WORDS}"
-USED = "use Rattle·runs.specs.Claim.{NoFalseFinding}"
-CLAIMED_FOR = "no-false-finding = λ law law-is none one."
-CLAIMED = "(settled-by-word settled (rw (← word-is) one));"
-CLAIMED_WHOLE = f"""{CLAIMED_FOR}
-        promise .no-false-finding law (record {{ findings = count; rounds = rounds; settled = settled }}) law-is (rw is refl) {CLAIMED}"""
+USED = "use Rattle.runs.specs.Claim.{NoFalseFinding}"
+CLAIMED_FOR = "no_false_finding = λ law law-is none one."
+CLAIMED = (
+    "promise.no_false_finding law (record { findings = count; rounds = rounds; settled = settled }) law-is (rw is refl)"
+    " (settled_by_word settled (rw (← word-is) one))"
+)
 
 # ---- the outcome
 
-OUTCOME = "outcome : after ≡ findingsExit answer (findingsOutcome limit settings bytes store words)"
-REFUSED = "outcome = rw (← promise .outcome, is, number-is) refl;"
-LISTED = "outcome = rw (← promise .outcome, is, word-is) refl;"
-NUMBER_SOME = "absurd (turned-number-some why (rw (← number-is) none))"
+OUTCOME = "outcome : after ≡ findings_exit answer (findings_outcome limit settings bytes store words)"
+REFUSED = "outcome = rw (← promise.outcome, is, number_is) refl;"
+LISTED = "outcome = rw (← promise.outcome, is, word-is) refl;"
+NUMBER_SOME = "absurd (turned_number_some why (rw (← number_is) none))"
 
 
 class Call:
@@ -46,56 +50,52 @@ class Call:
     def __init__(self, name, word, fields, outcome, number):
         self.exit_type, self.fields = f"{word.capitalize()}Exit", tuple(fields)
         self.proof = f"bilzarko/proofs/bilzarko_{name}/Proof.antt"
-        self.definition = f"abbrev pub {word}Exit :"
-        after = "; ".join(f"{field} = now ({parameter} .exit)" for field, parameter in fields.items())
-        self.record = f"(record {{ number = r; {after} }})"
-        self.outcome = f"({word}Exit (now (answer .entry)) ({outcome}))"
-        self.ensured = f"_≡_ {{A = {self.exit_type}}} {self.record}\n        {self.outcome}"
-        start = f"(at-start .args .answer .now) (at-call .{name} .ensures)"
-        self.refused = f"{word}-refused {start} (at-why .why .given .0 .0) (at-why .why .given .1) (c .{number} .ensures)"
-        self.written = f"{word}-written {start} (at-bytes .bytes .given .0 .0) (at-bytes .bytes .given .1)"
+        self.definition = f"abbrev pub {word}_exit :"
+        after = "; ".join(f"{field} = {parameter}.new" for field, parameter in fields.items())
+        self.record = f"(record {{ number = result; {after} }})"
+        self.outcome = f"({word}_exit answer.old ({outcome}))"
+        self.ensured = f"◌≡◌ {{A = {self.exit_type}}} {self.record}\n        {self.outcome}"
+        start = f"c.args.answer.now c.{name}.ensures"
+        self.refused = f"{word}_refused {start} c.in-Refused.why c.in-Refused.is c.{number}.ensures"
+        self.written = f"{word}_written {start} c.in-Written.bytes c.in-Written.is"
 
 
 TEXT = Call("text", "bytes", {"store": "store", "bytes": "text", "answer": "answer"},
-            "textOutcome 64 (settingsFrom mode (now (overrides .entry))) (now (law .entry)) (now (store .entry)) position (now (text .entry))",
-            "turned-number")
+            "text_outcome 64 (settings_from mode overrides.now) law.now store.old position text.old", "turned_number")
 PAGE = Call("page", "bytes", {"store": "store", "bytes": "page", "answer": "answer"},
-            "pageOutcome 64 (settingsFrom mode (now (overrides .entry))) (now (law .entry)) (now (store .entry)) (now (page .entry))",
-            "turned-number")
-READ = Call("read", "read", {"law": "law", "answer": "answer"}, "readOutcome (now (text .entry)) (now (law .entry))", "unread-number")
+            "page_outcome 64 (settings_from mode overrides.now) law.now store.old page.old", "turned_number")
+READ = Call("read", "read", {"law": "law", "answer": "answer"}, "read_outcome text.now law.old", "unread_number")
 
 # ---- the digit call
 
-DIGIT_TYPE = "_≡_ {A = DigitExit}"
-DIGIT_ENSURED = f"{DIGIT_TYPE} (record {{ number = r; state = now (state .exit) }}) (digitExit (stepOf (now (state .entry)) digit))"
+DIGIT_TYPE = "◌≡◌ {A = DigitExit}"
+DIGIT_ENSURED = f"{DIGIT_TYPE} (record {{ number = result; state = state.new }}) (digit_exit (step_of state.old digit))"
 DIGIT_PROOF = "bilzarko/proofs/bilzarko_digit/Proof.antt"
-DIGIT_TAKEN = "digit-taken (c .before .digit-step .ensures) (c .tested-number .ensures)"
-DIGIT_BYTE = "Rattle·names.specs.Name.{digitByte}"
-
-# ---- what is put into a buffer
-
-PUT_INSIDE = "ltb-true _ _ (c .before .if1 .taken)"
-PUT_AT = "c .before .before .before"
-PUT_FITS = (f"omega (arith, leb-true ({PUT_AT} .before .args .at + length ({PUT_AT} .before .args .piece .now))"
-            f" (length ({PUT_AT} .loop .out)) (c .before .if1 .taken))")
-PUT_SHORT = "omega (arith, leb-false (x .at + length (x .piece .now)) (length (now .out)) (w .1 .left))"
+DIGIT_TAKEN = "digit_taken c.digit_step-step.ensures c.tested_number.ensures"
+DIGIT_BYTE = "Rattle.names.specs.Name.{digit_byte}"
+AT_MOST = "Rattle.std.specs.Prelude.{◌≤◌}"
 
 
 def said(name, type_of, fields, left_out, nothing, where):
     """A definition: what an exit says where a field counts only after refusals, or only where there is none."""
-    kept = {field: f"e .{field}" for field in fields}
-    ways = (f"(e .{left_out})", nothing) if where == "refused" else (nothing, f"(e .{left_out})")
-    kept[left_out] = f"cond (eqb (e .number) 0) {' '.join(ways)}"
+    kept = {field: f"e.{field}" for field in fields}
+    ways = (f"e.{left_out}", nothing) if where == "refused" else (nothing, f"e.{left_out}")
+    kept[left_out] = f"cond (eqb e.number 0) {' '.join(ways)}"
     return f"""abbrev pub {name} : {type_of} → {type_of}
-{name} e = record {{ number = e .number; {'; '.join(f'{field} = {text}' for field, text in kept.items())} }}
+{name} e = record {{ number = e.number; {'; '.join(f'{field} = {text}' for field, text in kept.items())} }}
 
 """
+
+
+def besides(names):
+    """Names that the definitions of the exported calls take from the library besides."""
+    return (EXPORTED, EXPORTED_PRELUDE, EXPORTED_PRELUDE.replace("}", f", {names}}}"))
 
 
 def findings_unsaid(field, where):
     definition = said("said", "FindingsExit", ("store", "findings", "answer"), field, "[]", where)
     return [
-        (EXPORTED, "use lib.ListN.{take, getD}", "use lib.ListN.{take, getD}\nuse lib.Dec.{eqb}"),
+        besides("eqb"),
         (EXPORTED, "-- `bytes` is the law;", definition + "-- `bytes` is the law;"),
         (EXPORTED, OUTCOME, OUTCOME.replace("after ≡ ", "said after ≡ said (") + ")"),
     ] + ([(LAWS, LISTED, LISTED.replace(", word-is", ""))] if (field, where) == ("answer", "listed") else [])
@@ -104,33 +104,32 @@ def findings_unsaid(field, where):
 def unsaid(call, field, where):
     definition = said("said", call.exit_type, call.fields, field, "0" if field == "answer" else "[]", where)
     return [
-        (EXPORTED, "use lib.ListN.{take, getD}", "use lib.ListN.{take, getD}\nuse lib.Dec.{eqb}"),
+        besides("eqb"),
         (EXPORTED, call.definition, definition + call.definition),
         (CODE, "Exported.{FindingsExported, ", "Exported.{said, FindingsExported, "),
         (CODE, call.record, f"(said {call.record})"),
         (CODE, call.outcome, f"(said {call.outcome})"),
-        (call.proof, "use borrow.Author.Needs.{needs}", "use borrow.Author.Needs.{needs}\nuse mathlib.Core.Path.{ap}\n"
-         "use Rattle·bilzarko·specs.specs.Exported.{said}"),
+        (call.proof, RULES, f"{RULES}\nuse mathlib.Core.Path.{{ap}}\nuse Rattle.bilzarko.specs.Exported.{{said}}"),
         (call.proof, call.refused, f"ap said ({call.refused})"),
         (call.proof, call.written, f"ap said ({call.written})"),
     ]
 
 
 def asking(call, asked):
-    return [(CODE, f"    ensures {{ λ r. ⌜ {call}", f"    requires {{ ⌜ {asked} ⌝ }}\n    ensures {{ λ r. ⌜ {call}")]
+    return [(CODE, f"    ensures {{ {call}", f"    requires {{ {asked} }}\n    ensures {{ {call}")]
 
 
 def using(names):
     """Names that the exported calls' contracts take from the libraries besides."""
-    first = "ghost use mathlib.Core.Bool.{cond};"
-    return [(CODE, first, first + "".join(f"\nghost use {name};" for name in names))]
+    first = "ghost use Rattle.std.specs.Prelude.{◌≡◌, cond};"
+    return [(CODE, first, first + "".join(f"\nghost use {name};" for name in names))] if names else []
 
 
 def digit_says(ensured, uses, proved):
     """The digit call with another promise, the names that it takes from the libraries, and its proof from the whole promise."""
     return [
         (CODE, DIGIT_ENSURED, ensured),
-        (DIGIT_PROOF, "use borrow.Author.Needs.{needs}", "use borrow.Author.Needs.{needs}\nuse mathlib.Core.Path.{ap}"),
+        (DIGIT_PROOF, RULES, f"{RULES}\nuse mathlib.Core.Path.{{ap}}"),
         (DIGIT_PROOF, DIGIT_TAKEN, proved),
     ] + using(uses)
 
@@ -142,21 +141,21 @@ def nothing_said(call):
 CONTRACTS = {
     "no-demand-3": (
         "demand 3 is taken off",
-        [(EXPORTED, CLAIM, "→ Unit {0}"), (LAWS, CLAIMED_WHOLE, CLAIMED_FOR + " tt;")],
+        [(EXPORTED, CLAIM, "→ Unit {0}"), (LAWS, f"{CLAIMED_FOR}\n        {CLAIMED};", CLAIMED_FOR + " tt;")],
     ),
     "demand-3-empty": (
         "demand 3 of empty listings alone",
         [
-            (EXPORTED, PREMISES, PREMISES + " → getD (after .answer) 0 0 ≡ 0"),
+            (EXPORTED, PREMISES, PREMISES + " → get_or after.answer 0 0 ≡ 0"),
             (LAWS, CLAIMED_FOR, CLAIMED_FOR.replace("one.", "one empty.")),
         ],
     ),
     "demand-3-zeros": (
         "demand 3 of laws without a digit 0 alone",
         [
-            (EXPORTED, "use mathlib.Core.Bool.{cond}", "use mathlib.Core.Bool.{true, false, cond}"),
-            (EXPORTED, USED, USED + "\nuse lib.Dec.{eqb}\nuse Rattle·names.specs.Name.{everyByte}"),
-            (EXPORTED, PREMISES, PREMISES + " → everyByte (λ b. cond (eqb b 48) false true) bytes ≡ true"),
+            besides("true, false, eqb"),
+            (EXPORTED, USED, USED + "\nuse Rattle.names.specs.Name.{every_byte}"),
+            (EXPORTED, PREMISES, PREMISES + " → every_byte (λ b. cond (eqb b 48) false true) bytes ≡ true"),
             (LAWS, CLAIMED_FOR, CLAIMED_FOR.replace("one.", "one plain.")),
         ],
     ),
@@ -165,7 +164,7 @@ CONTRACTS = {
         [
             (EXPORTED, USED, USED.replace("NoFalseFinding", "OfFunction, Lists, NeverChosen")),
             (EXPORTED, CLAIM, f"→ NeverChosen law (λ i. OfFunction law i × Lists {WORDS} 1 i)"),
-            (LAWS, CLAIMED, CLAIMED.replace(";", " .dead;")),
+            (LAWS, CLAIMED, f"({CLAIMED}).dead"),
         ],
     ),
     "demand-3-lint-2": (
@@ -173,13 +172,13 @@ CONTRACTS = {
         [
             (EXPORTED, USED, USED.replace("NoFalseFinding", "Lists, NeverRecognised")),
             (EXPORTED, CLAIM, f"→ NeverRecognised law (Lists {WORDS} 2)"),
-            (LAWS, CLAIMED, CLAIMED.replace(";", " .recognition;")),
+            (LAWS, CLAIMED, f"({CLAIMED}).recognition"),
         ],
     ),
     "findings-refusals-alone": (
         "the findings call's outcome is said of refusals alone",
         [
-            (EXPORTED, OUTCOME, OUTCOME.replace("after ≡", "(after .number ≡ 0 → ⊥) → after ≡")),
+            (EXPORTED, OUTCOME, OUTCOME.replace("after ≡", "(after.number ≡ 0 → ⊥) → after ≡")),
             (LAWS, REFUSED, REFUSED.replace("rw", "λ some. rw")),
             (LAWS, LISTED, "outcome = λ some. absurd (some refl);"),
         ],
@@ -187,7 +186,7 @@ CONTRACTS = {
     "findings-listings-alone": (
         "the findings call's outcome is said of listings alone",
         [
-            (EXPORTED, OUTCOME, OUTCOME.replace("after ≡", "after .number ≡ 0 → after ≡")),
+            (EXPORTED, OUTCOME, OUTCOME.replace("after ≡", "after.number ≡ 0 → after ≡")),
             (LAWS, REFUSED, f"outcome = λ none. {NUMBER_SOME};"),
             (LAWS, LISTED, LISTED.replace("rw", "λ none. rw")),
         ],
@@ -197,41 +196,42 @@ CONTRACTS = {
     "text-nothing": ("the text call promises nothing", nothing_said(TEXT)),
     "page-asks": ("the page call asks for strict mode", asking(PAGE.ensured, "mode ≡ 1")),
     "page-nothing": ("the page call promises nothing", nothing_said(PAGE)),
-    "read-asks": ("the reading call asks for a word of 7", asking(READ.ensured, "now answer ≡ 7")),
+    "read-asks": ("the reading call asks for a word of 7", asking(READ.ensured, "answer.old ≡ 7")),
     "read-nothing": ("the reading call promises nothing", nothing_said(READ)),
     "digit-asks": (
         "the digit call asks for a state that digits give",
-        asking(DIGIT_TYPE, "now state ≤ 4294967296") + using(["Prim.Native.Nat.{_≤_}"]),
+        asking(DIGIT_TYPE, "state.old ≤ 4294967296") + using([AT_MOST]),
     ),
     "digit-nothing": ("the digit call promises nothing", digit_says("Unit {0}", [], "tt")),
     "digit-number": (
         "the digit call leaves the state unsaid",
-        digit_says("r ≡ testedNumber (stepOf (now (state .entry)) digit .answer)", [], f"ap (λ e. e .number) ({DIGIT_TAKEN})"),
+        digit_says("result ≡ tested_number (step_of state.old digit).answer", [], f"ap (λ e. e.number) ({DIGIT_TAKEN})"),
     ),
     "digit-state": (
         "the digit call leaves the number unsaid",
-        digit_says("now (state .exit) ≡ stepOf (now (state .entry)) digit .state", [], f"ap (λ e. e .state) ({DIGIT_TAKEN})"),
+        digit_says("state.new ≡ (step_of state.old digit).state", [], f"ap (λ e. e.state) ({DIGIT_TAKEN})"),
     ),
     "digit-digits": (
         "the digit call says nothing of a byte that is no digit",
-        digit_says(f"(digitByte digit ≡ true → {DIGIT_ENSURED})", ["mathlib.Core.Bool.{true}", DIGIT_BYTE], f"λ is. {DIGIT_TAKEN}"),
+        digit_says(f"(digit_byte digit ≡ true → {DIGIT_ENSURED})", ["Rattle.std.specs.Prelude.{true}", DIGIT_BYTE], f"λ is. {DIGIT_TAKEN}"),
     ),
     "digit-others": (
         "the digit call says nothing of a digit",
-        digit_says(f"(digitByte digit ≡ false → {DIGIT_ENSURED})", ["mathlib.Core.Bool.{false}", DIGIT_BYTE], f"λ is. {DIGIT_TAKEN}"),
+        digit_says(f"(digit_byte digit ≡ false → {DIGIT_ENSURED})", ["Rattle.std.specs.Prelude.{false}", DIGIT_BYTE], f"λ is. {DIGIT_TAKEN}"),
     ),
     "digit-small": (
         "the digit call says nothing of states past the macrodigits",
-        digit_says(f"(now (state .entry) ≤ 4294967295 → {DIGIT_ENSURED})", ["Prim.Native.Nat.{_≤_}"], f"λ is. {DIGIT_TAKEN}"),
+        digit_says(f"(state.old ≤ 4294967295 → {DIGIT_ENSURED})", [AT_MOST], f"λ is. {DIGIT_TAKEN}"),
     ),
     "put-whole": (
         "what puts bytes into a buffer writes none where there is no room for all",
         [
             (PUT_CODE, "at + i < out.len()", "at + piece.len() <= out.len()"),
-            (PUT_PROOF, "{ltb-true, ltb-false}", "{leb-true, leb-false}"),
-            (PUT_PROOF, f"(λ c. {PUT_INSIDE})", f"(λ c. {PUT_FITS})"),
-            (PUT_PROOF, f"(omega arith) ({PUT_INSIDE})", f"(omega arith) ({PUT_FITS})"),
-            (PUT_PROOF, "ltb-false _ _ (w .1 .left)", PUT_SHORT),
+            (PUT_PROOF, "{then-loop-i-test+else-at-i,", "{then-loop-i-test+else-at-piece,"),
+            (PUT_PROOF, "(λ c. c.if-at-i.true)", "(λ c. omega (arith, c.if-at-piece.true))"),
+            (PUT_PROOF, "(omega arith) c.if-at-i.true)", "(omega arith) (omega (arith, c.if-at-piece.true)))"),
+            (PUT_PROOF, "| then-loop-i-test+else-at-i w", "| then-loop-i-test+else-at-piece w"),
+            (PUT_PROOF, "w.if-at-i.false", "(omega (arith, w.if-at-piece.false))"),
         ],
     ),
 }

@@ -1,148 +1,101 @@
 #!/usr/bin/env python3
 """Tries the wrong programs of tests/wrong_programs, which the gate leaves out for its time: the prover must refuse each.
 
-Each folder there is a crate's, and its edits are as those of crates/NAME/must-fail. They are tried one after the other in one
-copy of the crates, with what is proved already in target, over the crate's incremental folder (`rt dev`): only what an edit
-changes is checked again. Such a check is not the verdict on a crate. It is good for a refusal, since the crate without edits
-is proved in the same way before the first edit and after the last. As for `rt must-fail`, an edit is refused where the prover
-was reached and a proof failed; besides, an error in an edited file must say that two types differ: else the edit would be no
-Rattle or no antt. Such an error is a fact that fails, where an edit keeps a proof in step.
+Each folder there is a crate's, and its edits are as those of crates/NAME/must-fail. They are put there in a copy of the crates,
+where `rt check` of the crate begins with what it has kept here, and `rt must-fail` tries them over what that check kept: only what
+an edit changes is checked again, and what was tried on this machine and has not changed is not tried again. Besides what
+`rt must-fail` wants, an edit must be refused for a fact that fails: not for a name alone that it takes from a proof, where it does
+not keep the proof in step, and not by a limit of the prover.
 
-  wrong_programs.py [--gate] [NAME..]
+  wrong_programs.py [--gate] [--anew] [--dry] [NAME..]
 
-NAME is a crate; without any, all that have edits are tried. --gate: the edits of crates/NAME/must-fail too, which `rt ci` tries
-without an incremental folder. The exit status is 1 where an edit is not refused."""
+NAME is a crate; without any, all that have edits are tried. --gate: the edits of crates/NAME/must-fail too, which `rt ci` tries.
+--anew: those too that were tried before. --dry: no check, only whether each edit applies. The exit status is 1 where an edit is
+not refused."""
 import re
 import shutil
 import subprocess
 import sys
 import tempfile
-import time
 from pathlib import Path
 
 ROOT = Path(__file__).resolve().parent.parent
+# what rt says of an edit that is refused, but not for a fact that fails
+POORLY = re.compile(r"refused, as it must be \(only (because|by)")
 
 
-class BadEdit(Exception):
-    pass
-
-
-def edited(edit, crate):
-    """The files of a crate that an edit changes, as they become; an old text must stand in its file once."""
+def misfit(edit, crate):
+    """Why an edit does not apply, if it does not: an old text must stand in its file once."""
     texts, path, old = {}, None, ""
     for line in edit.read_text().split("\n"):
         if line.startswith("file: "):
-            path = crate / line.removeprefix("file: ")
+            path = crate / line.removeprefix("file: ").strip()
         elif line.startswith("old: "):
             old = line.removeprefix("old: ")
         elif line.startswith("new:"):
             if not path or not path.is_file() or not old:
-                raise BadEdit("it names no file of the crate, or no old text")
-            text = texts.get(path, path.read_text())
-            if text.count(old) != 1:
-                raise BadEdit(f"an old text is in {path.relative_to(crate)} {text.count(old)} times")
-            texts[path], old = text.replace(old, line.removeprefix("new:").removeprefix(" ")), ""
-    if not texts:
-        raise BadEdit("it has no old and new text")
-    return texts
+                return "it names no file of the crate, or no old text"
+            text, new = texts.get(path) or path.read_text(), line.removeprefix("new:").removeprefix(" ")
+            if text.count(old) != 1 or old == new:
+                return f"{path.relative_to(crate)} has this {text.count(old)} times: {old}" if old != new else f"nothing changes in {old}"
+            texts[path], old = text.replace(old, new), ""
+    return None if texts else "it has no old and new text"
 
 
-def check(copy, name):
-    """Checks a crate over its incremental folder: its exit status, and what was said."""
-    done = subprocess.run(["rt", "dev", name], cwd=copy, stdout=subprocess.PIPE, stderr=subprocess.STDOUT, text=True)
-    return done.returncode, done.stdout
-
-
-def attempt(copy, name, edit):
-    """Tries an edit and undoes it: where the first proof failed. BadEdit where none was looked at, None where none failed."""
+def attempts(copy, name, edits, flags):
+    """Tries the edits of a crate in a copy of the crates; how many are not refused for a fact."""
     crate = copy / "crates" / name
-    texts = edited(edit, crate)
-    before = {path: path.read_text() for path in texts}
-    for path, text in texts.items():
-        path.write_text(text)
-    status, said = check(copy, name)
-    for path, text in before.items():
-        path.write_text(text)
-    if status == 0:
-        return None
-    errors = re.findall(r"^(/\S+?):(\d+):\d+: error(.*)", said, re.M)
-    broken = any(Path(file) in texts and "the two types" not in what for file, _, what in errors)
-    if status != 1 or not re.search(r"^logic=not-proved", said, re.M) or broken:
-        raise BadEdit("it did not come to a proof: " + "\n".join(said.split("\n")[:5]))
-    places = errors or re.findall(r"^note: (/\S+?):(\d+):\d+:", said, re.M)
-    return f"{Path(places[0][0]).relative_to(crate)}:{places[0][1]}" if places else "no place named"
-
-
-def attempts(copy, name, edits):
-    """Tries the edits of a crate; how many are not refused."""
-    failed = 0
-
-    def whole(when):
-        began = time.time()
-        status, said = check(copy, name)
-        print(f"{name}: {'proved' if status == 0 else 'NOT PROVED'} {when} ({time.time() - began:.0f} s)", flush=True)
-        if status:
-            print("\n".join(said.split("\n")[-12:]))
-        return status == 0
-
-    if not whole("without edits"):
+    checked = subprocess.run(["rt", "check"], cwd=crate, stdout=subprocess.PIPE, stderr=subprocess.STDOUT, text=True)
+    if checked.returncode:
+        print(f"{name}: NOT PROVED without edits\n" + "\n".join(checked.stdout.split("\n")[-12:]), flush=True)
         return len(edits)
+    shutil.rmtree(crate / "must-fail", ignore_errors=True)
+    (crate / "must-fail").mkdir()
+    called = {edit: edit.name if edit.parent.name == "must-fail" else f"wrong-{edit.name}" for edit in edits}
     for edit in edits:
-        began = time.time()
-        try:
-            place = attempt(copy, name, edit)
-            verdict = f"refused, first at {place}" if place else "NOT REFUSED"
-        except BadEdit as bad:
-            place, verdict = None, f"BAD EDIT: {bad}"
-        print(f"{name}/{edit.stem}: {verdict} ({time.time() - began:.0f} s)", flush=True)
-        failed += not place
-    return failed if whole("after them") else len(edits)
-
-
-def crates():
-    """The crates of crates.txt, lowest first, each with all below it."""
-    lines = [line.split("#")[0].split(":") for line in (ROOT / "crates.txt").read_text().split("\n")]
-    found = {}
-    for name, below in [line for line in lines if len(line) == 2]:
-        found[name.strip()] = {lower for one in below.split() for lower in {one} | found.get(one, set())}
-    return found
-
-
-def take(copy, parts):
-    """Takes parts of target along: what an earlier check proved."""
-    for part in sorted(set(parts)):
-        here, there = ROOT / "target" / part, copy / "target" / part
-        there.parent.mkdir(parents=True, exist_ok=True)
-        if here.is_dir():
-            shutil.copytree(here, there)
-        elif here.is_file():
-            shutil.copy(here, there)
+        shutil.copy(edit, crate / "must-fail" / called[edit])
+    said = subprocess.run(["rt", "must-fail", *flags, name], cwd=copy, stdout=subprocess.PIPE, stderr=subprocess.STDOUT, text=True).stdout
+    verdicts = dict(re.findall(rf"^rt: must-fail {name}/(\S+): (.*)", said, re.M))
+    failed = 0
+    for edit in edits:
+        verdict = verdicts.get(called[edit], "NOT TRIED")
+        good = verdict.startswith("refused, as it must be") and not POORLY.match(verdict)
+        failed += not good
+        print(f"{name}/{edit.stem}: {verdict if good or verdict[:3].isupper() else f'NOT AS IT MUST BE: {verdict}'}", flush=True)
+    if not verdicts:
+        print("\n".join(said.split("\n")[-12:]), flush=True)
+    return failed
 
 
 def main(words):
-    names = [word for word in words if word != "--gate"]
+    names = [word for word in words if not word.startswith("--")]
     edits = sorted(ROOT.glob("tests/wrong_programs/*/*.edit"))
     if "--gate" in words:
         edits += sorted(ROOT.glob("crates/*/must-fail/*.edit"))
     by_crate = {}
     for edit in edits:
         by_crate.setdefault(edit.parent.parent.name if edit.parent.name == "must-fail" else edit.parent.name, []).append(edit)
-    listed = crates()
+    listed = re.findall(r"^(\w+):", (ROOT / "crates.txt").read_text(), re.M)
     unknown = [name for name in names if name not in by_crate] + [name for name in by_crate if name not in listed]
     if unknown:
         print(f"no edits, or no crate: {' '.join(unknown)}", file=sys.stderr)
         return 1
     wanted = [name for name in listed if name in by_crate and (not names or name in names)]  # lowest first
-    tried = failed = 0
+    tried, failed = sum(len(by_crate[name]) for name in wanted), 0
+    if "--dry" in words:
+        for name in wanted:
+            for edit in by_crate[name]:
+                why = misfit(edit, ROOT / "crates" / name)
+                failed += bool(why)
+                print(f"{name}/{edit.stem}: {why}\n" if why else "", end="")
+        print(f"{tried - failed} apply, {failed} do not")
+        return 1 if failed else 0
     with tempfile.TemporaryDirectory() as folder:
         copy = Path(folder).resolve()
         shutil.copy(ROOT / "crates.txt", copy)
-        shutil.copytree(ROOT / "crates", copy / "crates")
-        take(copy, [f"inc/{name}" for name in wanted])
-        take(copy, [part for name in wanted for below in listed[name] for part in (f"stamp/{below}", f"rlib/{below}.rlib")])
+        shutil.copytree(ROOT / "crates", copy / "crates", ignore=shutil.ignore_patterns("out"))
         for name in wanted:
-            tried += len(by_crate[name])
-            failed += attempts(copy, name, by_crate[name])
+            failed += attempts(copy, name, by_crate[name], [word for word in words if word == "--anew"])
     print(f"{tried - failed} refused, {failed} not")
     return 1 if failed else 0
 

@@ -24,7 +24,7 @@
 //!
 //! # Toolchain
 //!
-//! `rt staticlib bilzarko` at the repository's root writes the archive, which is for x86-64 Linux, to `target/staticlib`;
+//! `tools/staticlib.sh` at the repository's root writes the archive, which is for x86-64 Linux, to `target/staticlib`;
 //! the environment variable `BILZARKO_LIB_DIR` names another folder when the crate is built. The crate is built and tested
 //! with Rust 1.95, has no dependencies and needs no nightly feature.
 //!

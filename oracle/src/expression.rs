@@ -1,9 +1,9 @@
-//! Expressions, and the manual's matching of them: `crates/law/specs/Expression.antt`, and what `runMatches` of
+//! Expressions, and the manual's matching of them: `crates/law/specs/Expression.antt`, and what `run_matches` of
 //! `crates/matching/specs/Match.antt` is made of. Functions have the names of the definitions. A row of terms is a
 //! slice, a list of matches a vector in the same order.
 //!
 //! Laws are folded beforehand (`records.rs`), so that names, identifiers and indices are the same exactly when their
-//! texts are. A run of the law stands for its pattern: `patternOf` would only rename its cases.
+//! texts are. A run of the law stands for its pattern: `pattern_of` would only rename its cases.
 use std::rc::Rc;
 
 use refal_ast::{Symbol, Term, TermKind, Variable, VariableKind};
@@ -123,7 +123,7 @@ fn choices<'x, 'l>(
     })
 }
 
-/// The ordered list of all matches of a pattern with a row, from given values: `runMatches`.
+/// The ordered list of all matches of a pattern with a row, from given values: `run_matches`.
 pub fn run_matches<'l>(
     pattern: &'l [Term],
     row: &[Item<'l>],

@@ -1,5 +1,5 @@
 //! The plain search: `matches` of `crates/matching/specs/Match.antt`, case by case and with every length, and what `shadows`
-//! (`Shadow.antt`) and `literalMatches` (`Literal.antt`) make of it. Functions have the names of the definitions. A row of
+//! (`Shadow.antt`) and `literal_matches` (`Literal.antt`) make of it. Functions have the names of the definitions. A row of
 //! terms is a slice; a list of matches is gone through in its order, each handed on as it is found.
 use std::rc::Rc;
 
@@ -60,7 +60,7 @@ pub fn shadows(earlier: &[Item], later: &[Item]) -> bool {
     some_in(false, earlier, later)
 }
 
-/// Of literal rows alone: on these, `sameAtom`, `symbolLike` and `singleTerm` say what `sameSymbol` and `anySymbol` say.
+/// Of literal rows alone: on these, `same_atom`, `symbol_like` and `single_term` say what `same_symbol` and `any_symbol` say.
 pub fn literal_matches(pattern: &[Item], row: &[Item]) -> bool {
     some_in(true, pattern, row)
 }

@@ -235,7 +235,7 @@ impl Subject {
         counts.defined_twice += usize::from(names.len() < functions(&self.law).count());
     }
 
-    /// Whether the premise is met by which this must not happen: `formats-hold`, `literals-hold` and `dead-holds` of
+    /// Whether the premise is met by which this must not happen: `formats_hold`, `literals_hold` and `dead_holds` of
     /// `crates/runs/proofs/FindingsHold.antt`.
     pub fn promised(&self, broken: Broken) -> bool {
         match broken {

@@ -2,6 +2,8 @@
 //
 // What puts text does so as far as there is room, and gives the position after all of it in any case, so that with an empty buffer
 // it measures.
+#![tactic(auto)]
+
 ghost use Rattle.std.specs.Prelude.{◌≡◌, [], ◌∷◌, ◌+◌, ◌≤◌, length, replicate};
 ghost use Rattle.buffers.specs.Code.Put.{Put, largest};
 ghost use Rattle.buffers.specs.Decimal.{decimal};

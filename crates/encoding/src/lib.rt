@@ -1,1 +1,2 @@
 // The law file that a text means, and its tree: definitions in specs/, laws in proofs/.
+#![tactic(auto)]

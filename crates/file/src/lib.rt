@@ -1,4 +1,6 @@
 // A law file: its sections, the words of its records, and the fields that refusal 5 looks at.
+#![tactic(auto)]
+
 ghost use Rattle.std.specs.Prelude.{◌≡◌, true, ◌&&◌, ◌+◌, ◌*◌, ◌≤◌, ◌<◌, length, drop, leb};
 ghost use Rattle.file.specs.Word.{word_at};
 ghost use Rattle.file.specs.Answer.{given, map_answer};

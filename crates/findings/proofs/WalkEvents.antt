@@ -33,7 +33,7 @@ module _ (on_call : Call → List Event) (on_block : Sentences → List Event) w
       walk_sentence_calls no_sentence = refl
       walk_sentence_calls (sentence m p cs r ss) =
           rw (walk_condition_calls cs, walk_calls r, walk_sentence_calls ss)
-          (simp (each_append on_call, append_assoc) (append_assoc (each on_call (condition_calls cs)) (each on_call (calls r)) (each on_call (sentence_calls ss))))
+          (simp (each_append on_call, append_assoc))
 
       walk_condition_calls : (cs : Conditions) → walked_conditions on_call on_block false cs ≡ each on_call (condition_calls cs)
       walk_condition_calls no_condition = refl

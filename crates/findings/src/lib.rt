@@ -1,4 +1,6 @@
 // The four lints' ways through a law, and the findings that they note in a lent buffer.
+#![tactic(auto)]
+
 ghost use Rattle.std.specs.Prelude.{◌≡◌, ◌+◌, ◌*◌, ◌≤◌, length};
 ghost use Rattle.buffers.specs.Written.{written};
 ghost use Rattle.findings.specs.Code.Events.{noting, sink_of, met};

@@ -20,7 +20,7 @@ use Rattle.law.specs.Depth.{deepest, depth_of}
 use Rattle.law.specs.Variables.{variables_from, occurs, distinct, patterns_allowed}
 use Rattle.law.specs.Law.{law_of}
 use Rattle.law.specs.Examples.{bytes_of, unused_term, example_file}
-use Rattle.shapes.specs.Leaf.{character, number, any_symbol}
+use Rattle.shapes.specs.Leaf.{character, any_symbol}
 use Rattle.shapes.specs.Format.{item, of, size, is_open}
 use Rattle.shapes.specs.Join.{join_rows}
 use Rattle.shapes.specs.Same.{same_shapes}

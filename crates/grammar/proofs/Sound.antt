@@ -338,23 +338,99 @@ step_text at (sign dollar_entry) [] ps h ih = entry_found at ps (ih AfterEntry [
 step_text at (sign dollar_extern) [] ps h ih = extern_found at ps (ih AtExtern [] h)
 step_text at (atom (identifier w)) [] ps h ih =
     function_found (atom_at at (identifier w) ∷ ps) (name_found (record { start = at; spelled = w }) ps (ih AfterName [] h))
+step_text at (sign left_brace) st ps h ih = elim h [ ]
+step_text at (sign right_brace) st ps h ih = elim h [ ]
+step_text at (sign left_bracket) st ps h ih = elim h [ ]
+step_text at (sign right_bracket) st ps h ih = elim h [ ]
+step_text at (sign left_angle) st ps h ih = elim h [ ]
+step_text at (sign right_angle) st ps h ih = elim h [ ]
+step_text at (sign comma) st ps h ih = elim h [ ]
+step_text at (sign colon) st ps h ih = elim h [ ]
+step_text at (sign equals) st ps h ih = elim h [ ]
+step_text at (sign semicolon) st ps h ih = elim h [ ]
+step_text at (sign dollar_entry) (_ ∷ _) ps h ih = elim h [ ]
+step_text at (sign dollar_extern) (_ ∷ _) ps h ih = elim h [ ]
+step_text at (atom (identifier w)) (_ ∷ _) ps h ih = elim h [ ]
+step_text at (atom (number _)) st ps h ih = elim h [ ]
+step_text at (atom (variable _ _)) st ps h ih = elim h [ ]
+step_text at (atom (quoted _)) st ps h ih = elim h [ ]
 
 step_entry : (at : ℕ) (t : Token) (st : List Opened) (ps : List Placed) → Stepping AfterEntry st at t ps
 step_entry at (sign comma) st ps h ih = absurd h
 step_entry at (atom (identifier w)) [] ps h ih = name_found (record { start = at; spelled = w }) ps (ih AfterName [] h)
+step_entry at (sign left_brace) st ps h ih = elim h [ ]
+step_entry at (sign right_brace) st ps h ih = elim h [ ]
+step_entry at (sign left_bracket) st ps h ih = elim h [ ]
+step_entry at (sign right_bracket) st ps h ih = elim h [ ]
+step_entry at (sign left_angle) st ps h ih = elim h [ ]
+step_entry at (sign right_angle) st ps h ih = elim h [ ]
+step_entry at (sign colon) st ps h ih = elim h [ ]
+step_entry at (sign equals) st ps h ih = elim h [ ]
+step_entry at (sign semicolon) st ps h ih = elim h [ ]
+step_entry at (sign dollar_entry) st ps h ih = elim h [ ]
+step_entry at (sign dollar_extern) st ps h ih = elim h [ ]
+step_entry at (atom (identifier w)) (_ ∷ _) ps h ih = elim h [ ]
+step_entry at (atom (number _)) st ps h ih = elim h [ ]
+step_entry at (atom (variable _ _)) st ps h ih = elim h [ ]
+step_entry at (atom (quoted _)) st ps h ih = elim h [ ]
 
 step_name : (at : ℕ) (t : Token) (st : List Opened) (ps : List Placed) → Stepping AfterName st at t ps
 step_name at (atom (identifier w)) st ps h ih = absurd h
 step_name at (sign left_brace) [] ps h ih = name_body at ps (ih InPattern [] h)
+step_name at (sign left_brace) (_ ∷ _) ps h ih = elim h [ ]
+step_name at (sign right_brace) st ps h ih = elim h [ ]
+step_name at (sign left_bracket) st ps h ih = elim h [ ]
+step_name at (sign right_bracket) st ps h ih = elim h [ ]
+step_name at (sign left_angle) st ps h ih = elim h [ ]
+step_name at (sign right_angle) st ps h ih = elim h [ ]
+step_name at (sign comma) st ps h ih = elim h [ ]
+step_name at (sign colon) st ps h ih = elim h [ ]
+step_name at (sign equals) st ps h ih = elim h [ ]
+step_name at (sign semicolon) st ps h ih = elim h [ ]
+step_name at (sign dollar_entry) st ps h ih = elim h [ ]
+step_name at (sign dollar_extern) st ps h ih = elim h [ ]
+step_name at (atom (number _)) st ps h ih = elim h [ ]
+step_name at (atom (variable _ _)) st ps h ih = elim h [ ]
+step_name at (atom (quoted _)) st ps h ih = elim h [ ]
 
 step_extern : (at : ℕ) (t : Token) (st : List Opened) (ps : List Placed) → Stepping AtExtern st at t ps
 step_extern at (sign comma) st ps h ih = absurd h
 step_extern at (atom (identifier w)) [] ps h ih = list_found (record { start = at; spelled = w }) ps (ih InExtern [] h)
+step_extern at (sign left_brace) st ps h ih = elim h [ ]
+step_extern at (sign right_brace) st ps h ih = elim h [ ]
+step_extern at (sign left_bracket) st ps h ih = elim h [ ]
+step_extern at (sign right_bracket) st ps h ih = elim h [ ]
+step_extern at (sign left_angle) st ps h ih = elim h [ ]
+step_extern at (sign right_angle) st ps h ih = elim h [ ]
+step_extern at (sign colon) st ps h ih = elim h [ ]
+step_extern at (sign equals) st ps h ih = elim h [ ]
+step_extern at (sign semicolon) st ps h ih = elim h [ ]
+step_extern at (sign dollar_entry) st ps h ih = elim h [ ]
+step_extern at (sign dollar_extern) st ps h ih = elim h [ ]
+step_extern at (atom (identifier w)) (_ ∷ _) ps h ih = elim h [ ]
+step_extern at (atom (number _)) st ps h ih = elim h [ ]
+step_extern at (atom (variable _ _)) st ps h ih = elim h [ ]
+step_extern at (atom (quoted _)) st ps h ih = elim h [ ]
 
 step_in_extern : (at : ℕ) (t : Token) (st : List Opened) (ps : List Placed) → Stepping InExtern st at t ps
 step_in_extern at (atom (identifier w)) st ps h ih = absurd h
 step_in_extern at (sign comma) [] ps h ih = list_more at ps (ih AtExtern [] h)
 step_in_extern at (sign semicolon) [] ps h ih = list_end at ps (ih AtText [] h)
+step_in_extern at (sign left_brace) st ps h ih = elim h [ ]
+step_in_extern at (sign right_brace) st ps h ih = elim h [ ]
+step_in_extern at (sign left_bracket) st ps h ih = elim h [ ]
+step_in_extern at (sign right_bracket) st ps h ih = elim h [ ]
+step_in_extern at (sign left_angle) st ps h ih = elim h [ ]
+step_in_extern at (sign right_angle) st ps h ih = elim h [ ]
+step_in_extern at (sign comma) (_ ∷ _) ps h ih = elim h [ ]
+step_in_extern at (sign colon) st ps h ih = elim h [ ]
+step_in_extern at (sign equals) st ps h ih = elim h [ ]
+step_in_extern at (sign semicolon) (_ ∷ _) ps h ih = elim h [ ]
+step_in_extern at (sign dollar_entry) st ps h ih = elim h [ ]
+step_in_extern at (sign dollar_extern) st ps h ih = elim h [ ]
+step_in_extern at (atom (number _)) st ps h ih = elim h [ ]
+step_in_extern at (atom (variable _ _)) st ps h ih = elim h [ ]
+step_in_extern at (atom (quoted _)) st ps h ih = elim h [ ]
 
 step_pattern : (at : ℕ) (t : Token) (st : List Opened) (ps : List Placed) → Stepping InPattern st at t ps
 step_pattern at (atom (identifier w)) st ps h ih = found_atom Body spell_body front_body body_allowed call_free pattern_laws at (identifier w) st ps (ih InPattern st h)
@@ -365,6 +441,18 @@ step_pattern at (sign left_bracket) st ps h ih = found_bracket Body spell_body f
 step_pattern at (sign right_bracket) (bracket_open ∷ st) ps h ih = found_close Body spell_body front_body body_allowed call_free pattern_laws at bracket_open st ps (ih InPattern st h)
 step_pattern at (sign comma) [] ps h ih = pattern_comma at ps (ih InCondition [] h)
 step_pattern at (sign equals) [] ps h ih = pattern_equals at ps (ih InResult [] h)
+step_pattern at (sign left_brace) st ps h ih = elim h [ ]
+step_pattern at (sign right_brace) st ps h ih = elim h [ ]
+step_pattern at (sign right_bracket) [] ps h ih = elim h [ ]
+step_pattern at (sign right_bracket) (call_open ∷ st) ps h ih = elim h [ ]
+step_pattern at (sign left_angle) st ps h ih = elim h [ ]
+step_pattern at (sign right_angle) st ps h ih = elim h [ ]
+step_pattern at (sign comma) (_ ∷ st) ps h ih = elim h [ ]
+step_pattern at (sign colon) st ps h ih = elim h [ ]
+step_pattern at (sign equals) (_ ∷ st) ps h ih = elim h [ ]
+step_pattern at (sign semicolon) st ps h ih = elim h [ ]
+step_pattern at (sign dollar_entry) st ps h ih = elim h [ ]
+step_pattern at (sign dollar_extern) st ps h ih = elim h [ ]
 
 step_condition : (at : ℕ) (t : Token) (st : List Opened) (ps : List Placed) → Stepping InCondition st at t ps
 step_condition at (atom (identifier w)) st ps h ih =
@@ -381,6 +469,18 @@ step_condition at (sign left_angle) st ps h ih = condition_call at st ps (ih Con
 step_condition at (sign right_angle) (call_open ∷ st) ps h ih =
     found_close ConditionRest spell_condition front_condition (λ x. body_allowed x.2) any_terms condition_laws at call_open st ps (ih InCondition st h)
 step_condition at (sign colon) [] ps h ih = condition_colon at ps (ih InPattern [] h)
+step_condition at (sign left_brace) st ps h ih = elim h [ ]
+step_condition at (sign right_brace) st ps h ih = elim h [ ]
+step_condition at (sign right_bracket) [] ps h ih = elim h [ ]
+step_condition at (sign right_bracket) (call_open ∷ st) ps h ih = elim h [ ]
+step_condition at (sign right_angle) [] ps h ih = elim h [ ]
+step_condition at (sign right_angle) (bracket_open ∷ st) ps h ih = elim h [ ]
+step_condition at (sign comma) st ps h ih = elim h [ ]
+step_condition at (sign colon) (_ ∷ st) ps h ih = elim h [ ]
+step_condition at (sign equals) st ps h ih = elim h [ ]
+step_condition at (sign semicolon) st ps h ih = elim h [ ]
+step_condition at (sign dollar_entry) st ps h ih = elim h [ ]
+step_condition at (sign dollar_extern) st ps h ih = elim h [ ]
 
 step_result : (at : ℕ) (t : Token) (st : List Opened) (ps : List Placed) → Stepping InResult st at t ps
 step_result at (atom (identifier w)) st ps h ih = found_atom ResultRest spell_result front_result (λ x. sentence_rest_allowed x.1) any_terms result_laws at (identifier w) st ps (ih InResult st h)
@@ -394,6 +494,18 @@ step_result at (sign left_angle) st ps h ih = result_call at st ps (ih ResultCal
 step_result at (sign right_angle) (call_open ∷ st) ps h ih = found_close ResultRest spell_result front_result (λ x. sentence_rest_allowed x.1) any_terms result_laws at call_open st ps (ih InResult st h)
 step_result at (sign right_brace) [] ps h ih = result_brace at ps (ih AtText [] h)
 step_result at (sign semicolon) [] ps h ih = result_semicolon at ps (ih AfterSemicolon [] h)
+step_result at (sign left_brace) st ps h ih = elim h [ ]
+step_result at (sign right_brace) (_ ∷ st) ps h ih = elim h [ ]
+step_result at (sign right_bracket) [] ps h ih = elim h [ ]
+step_result at (sign right_bracket) (call_open ∷ st) ps h ih = elim h [ ]
+step_result at (sign right_angle) [] ps h ih = elim h [ ]
+step_result at (sign right_angle) (bracket_open ∷ st) ps h ih = elim h [ ]
+step_result at (sign comma) st ps h ih = elim h [ ]
+step_result at (sign colon) st ps h ih = elim h [ ]
+step_result at (sign equals) st ps h ih = elim h [ ]
+step_result at (sign semicolon) (_ ∷ st) ps h ih = elim h [ ]
+step_result at (sign dollar_entry) st ps h ih = elim h [ ]
+step_result at (sign dollar_extern) st ps h ih = elim h [ ]
 
 -- after a semicolon the stack is empty, and anything but `}` is read as in a pattern
 step_semicolon : (at : ℕ) (t : Token) (st : List Opened) (ps : List Placed) → Stepping AfterSemicolon st at t ps
@@ -416,14 +528,53 @@ step_semicolon at (sign left_bracket) [] ps h ih =
     closed_body (sign_at at left_bracket ∷ ps)
     (found_bracket Body spell_body front_body body_allowed call_free pattern_laws at [] ps (ih InPattern (bracket_open ∷ []) h))
 step_semicolon at (sign left_bracket) (o ∷ st) ps h ih = tt
+step_semicolon at (sign left_brace) st ps h ih = elim h [ ]
+step_semicolon at (sign right_brace) (o ∷ st) ps h ih = elim h [ ]
+step_semicolon at (sign right_bracket) st ps h ih = elim h [ ]
+step_semicolon at (sign left_angle) st ps h ih = elim h [ ]
+step_semicolon at (sign right_angle) st ps h ih = elim h [ ]
+step_semicolon at (sign comma) (o ∷ st) ps h ih = elim h [ ]
+step_semicolon at (sign colon) st ps h ih = elim h [ ]
+step_semicolon at (sign equals) (o ∷ st) ps h ih = elim h [ ]
+step_semicolon at (sign semicolon) st ps h ih = elim h [ ]
+step_semicolon at (sign dollar_entry) st ps h ih = elim h [ ]
+step_semicolon at (sign dollar_extern) st ps h ih = elim h [ ]
 
 step_condition_call : (at : ℕ) (t : Token) (st : List Opened) (ps : List Placed) → Stepping ConditionCall st at t ps
 step_condition_call at (sign comma) st ps h ih = absurd h
 step_condition_call at (atom (identifier w)) st ps h ih = call_found_lem (ConditionFound st) (record { start = at; spelled = w }) ps (ih InCondition st h)
+step_condition_call at (sign left_brace) st ps h ih = elim h [ ]
+step_condition_call at (sign right_brace) st ps h ih = elim h [ ]
+step_condition_call at (sign left_bracket) st ps h ih = elim h [ ]
+step_condition_call at (sign right_bracket) st ps h ih = elim h [ ]
+step_condition_call at (sign left_angle) st ps h ih = elim h [ ]
+step_condition_call at (sign right_angle) st ps h ih = elim h [ ]
+step_condition_call at (sign colon) st ps h ih = elim h [ ]
+step_condition_call at (sign equals) st ps h ih = elim h [ ]
+step_condition_call at (sign semicolon) st ps h ih = elim h [ ]
+step_condition_call at (sign dollar_entry) st ps h ih = elim h [ ]
+step_condition_call at (sign dollar_extern) st ps h ih = elim h [ ]
+step_condition_call at (atom (number _)) st ps h ih = elim h [ ]
+step_condition_call at (atom (variable _ _)) st ps h ih = elim h [ ]
+step_condition_call at (atom (quoted _)) st ps h ih = elim h [ ]
 
 step_result_call : (at : ℕ) (t : Token) (st : List Opened) (ps : List Placed) → Stepping ResultCall st at t ps
 step_result_call at (sign comma) st ps h ih = absurd h
 step_result_call at (atom (identifier w)) st ps h ih = call_found_lem (ResultFound st) (record { start = at; spelled = w }) ps (ih InResult st h)
+step_result_call at (sign left_brace) st ps h ih = elim h [ ]
+step_result_call at (sign right_brace) st ps h ih = elim h [ ]
+step_result_call at (sign left_bracket) st ps h ih = elim h [ ]
+step_result_call at (sign right_bracket) st ps h ih = elim h [ ]
+step_result_call at (sign left_angle) st ps h ih = elim h [ ]
+step_result_call at (sign right_angle) st ps h ih = elim h [ ]
+step_result_call at (sign colon) st ps h ih = elim h [ ]
+step_result_call at (sign equals) st ps h ih = elim h [ ]
+step_result_call at (sign semicolon) st ps h ih = elim h [ ]
+step_result_call at (sign dollar_entry) st ps h ih = elim h [ ]
+step_result_call at (sign dollar_extern) st ps h ih = elim h [ ]
+step_result_call at (atom (number _)) st ps h ih = elim h [ ]
+step_result_call at (atom (variable _ _)) st ps h ih = elim h [ ]
+step_result_call at (atom (quoted _)) st ps h ih = elim h [ ]
 
 step : (m : Mode) (at : ℕ) (t : Token) (st : List Opened) (ps : List Placed) → Stepping m st at t ps
 step AtText at t st ps h ih = step_text at t st ps h ih
@@ -440,6 +591,17 @@ step ResultCall at t st ps h ih = step_result_call at t st ps h ih
 
 sound_end : (m : Mode) (st : List Opened) → T (accepts m st []) → Fine m st []
 sound_end AtText [] h = record { text = done; spells = refl; allowed = refl }
+sound_end AtText (_ ∷ _) h = elim h [ ]
+sound_end AfterEntry st h = elim h [ ]
+sound_end AfterName st h = elim h [ ]
+sound_end AtExtern st h = elim h [ ]
+sound_end InExtern st h = elim h [ ]
+sound_end InPattern st h = elim h [ ]
+sound_end InCondition st h = elim h [ ]
+sound_end InResult st h = elim h [ ]
+sound_end AfterSemicolon st h = elim h [ ]
+sound_end ConditionCall st h = elim h [ ]
+sound_end ResultCall st h = elim h [ ]
 
 sound : (ts : List Placed) (m : Mode) (st : List Opened) → T (accepts m st ts) → Fine m st ts
 sound [] m st h = sound_end m st h

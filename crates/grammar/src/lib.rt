@@ -1,4 +1,6 @@
 // The grammar of a law typed as text: a machine that reads tokens from left to right, by their kinds.
+#![tactic(auto)]
+
 ghost use Rattle.std.specs.Prelude.{◌≤◌, ◌<◌, [], ◌≡◌, length};
 ghost use Rattle.grammar.specs.Code.Machine.{accepts_kinds, stack_of, StepDone};
 

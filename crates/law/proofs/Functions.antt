@@ -69,7 +69,9 @@ module _ (file : File) where
   unfolding functions_at functions_from
   function_reads f h =
       let left : file.functions.count - f ≡ suc (file.functions.count - suc f) = omega arith in
-      rw (left, sentences_all, skip_at (first_sentence file f) 0, zero-add)
+      let skipped : skip (first_sentence file f) (sentences_from file file.sentences.count 0) ≡ sentences_at file (first_sentence file f) =
+      rw (sentences_all, skip_at (first_sentence file f) 0, zero-add) in
+      rw (left, skipped)
 
   -- the functions of the tree by number
   pub functions_length : (left f : ℕ) → f + left ≡ file.functions.count → length (functions_at f) ≡ left

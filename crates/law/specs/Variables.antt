@@ -1,7 +1,7 @@
 -- Row 9: "over 32 distinct variables in a sentence's pattern". Every variable record of the pattern's run counts, inside a call or a block's
 -- argument too. Two variables are the same when kind and folded index are.
 -- docs/SPECIFICATION.md, 1.9, 2.6.
-use Rattle.std.specs.Prelude.{ℕ, zero, suc, ◌+◌, ◌*◌, List, [], ◌∷◌, ◌++◌, Bool, true, false, cond, ◌&&◌, ◌||◌, take, drop, leb}
+use Rattle.std.specs.Prelude.{ℕ, zero, suc, ◌*◌, List, [], ◌∷◌, ◌++◌, Bool, true, false, cond, ◌&&◌, ◌||◌, take, drop, leb}
 use Rattle.names.specs.Name.{folded_index, same_bytes}
 use Rattle.file.specs.Below.{every}
 use Rattle.file.specs.Sections.{File}

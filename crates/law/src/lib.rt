@@ -1,4 +1,6 @@
 // A law: the runs, blocks, depth and patterns of a file (refusals 6 to 9), and where things stand in it.
+#![tactic(auto)]
+
 ghost use Rattle.std.specs.Prelude.{◌≡◌, true, length};
 ghost use Rattle.file.specs.Answer.{given};
 ghost use Rattle.file.specs.Sections.{sections_of, file_of};

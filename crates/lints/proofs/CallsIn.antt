@@ -4,7 +4,7 @@ use mathlib.Core.List.Memᴰ
 use mathlib.Core.List.{List, ◌∷◌, ◌++◌, Memᴰ}
 use mathlib.Core.Logic.{◌⊎◌, inl, inr}
 use Rattle.law.specs.Tree as tree
-use Rattle.law.specs.Tree.{Name, Symbol, Run, Sentences, sentence, Conditions, condition, Function, Law}
+use Rattle.law.specs.Tree.{Name, Symbol, Run, Sentences, no_sentence, sentence, Conditions, no_condition, condition, Function, Law}
 use Rattle.matching.specs.Literal.{InDigits}
 use Rattle.lints.specs.Calls.{Call, calls, sentence_calls, condition_calls}
 use Rattle.lints.specs.Dead.{blocks, sentence_blocks, condition_blocks}
@@ -29,6 +29,7 @@ module _ (OfSymbol : Symbol → Type 0) (OfCall : ℕ → Name → Run → Type 
     unfolding calls
 
     run_call : (r : Run) → EveryRun OfSymbol OfCall OfBlock r → (c : Call) → Memᴰ c (calls r) → CallHas c
+    run_call tree.Run.empty h c m = elim m [ ]
     run_call (tree.Run.symbol a after) h c m = run_call after h.1 c m
     run_call (tree.Run.variable k i after) h c m = run_call after h c m
     run_call (tree.Run.bracket inside after) h c m =
@@ -42,12 +43,14 @@ module _ (OfSymbol : Symbol → Type 0) (OfCall : ℕ → Name → Run → Type 
         (λ i. run_call after h.2 c i)
 
     pub sentence_call : (ss : Sentences) → EverySentence OfSymbol OfCall OfBlock ss → (c : Call) → Memᴰ c (sentence_calls ss) → CallHas c
+    sentence_call no_sentence h c m = elim m [ ]
     sentence_call (sentence n p cs r ss) h c m =
         either (condition_calls cs ++ calls r) (sentence_calls ss) m
         (λ j. either (condition_calls cs) (calls r) j (λ i. condition_call cs h.1 c i) (λ i. run_call r h.2 c i))
         (λ i. sentence_call ss h.3 c i)
 
     condition_call : (cs : Conditions) → EveryCondition OfSymbol OfCall OfBlock cs → (c : Call) → Memᴰ c (condition_calls cs) → CallHas c
+    condition_call no_condition h c m = elim m [ ]
     condition_call (condition r p cs) h c m =
         either (calls r) (condition_calls cs) m (λ i. run_call r h.0 c i) (λ i. condition_call cs h.2 c i)
 
@@ -56,6 +59,7 @@ module _ (OfSymbol : Symbol → Type 0) (OfCall : ℕ → Name → Run → Type 
     unfolding blocks
 
     run_block : (r : Run) → EveryRun OfSymbol OfCall OfBlock r → (b : Sentences) → Memᴰ b (blocks r) → EachRecord OfBlock b
+    run_block tree.Run.empty h b m = elim m [ ]
     run_block (tree.Run.symbol a after) h b m = run_block after h.1 b m
     run_block (tree.Run.variable k i after) h b m = run_block after h b m
     run_block (tree.Run.bracket inside after) h b m =
@@ -75,6 +79,7 @@ module _ (OfSymbol : Symbol → Type 0) (OfCall : ℕ → Name → Run → Type 
 
     pub sentence_block : (ss : Sentences) → EverySentence OfSymbol OfCall OfBlock ss → (b : Sentences) → Memᴰ b (sentence_blocks ss)
         → EachRecord OfBlock b
+    sentence_block no_sentence h b m = elim m [ ]
     sentence_block (sentence n p cs r ss) h b m =
         either (blocks p ++ condition_blocks cs ++ blocks r) (sentence_blocks ss) m
         (λ j. either (blocks p ++ condition_blocks cs) (blocks r) j
@@ -84,6 +89,7 @@ module _ (OfSymbol : Symbol → Type 0) (OfCall : ℕ → Name → Run → Type 
 
     condition_block : (cs : Conditions) → EveryCondition OfSymbol OfCall OfBlock cs → (b : Sentences) → Memᴰ b (condition_blocks cs)
         → EachRecord OfBlock b
+    condition_block no_condition h b m = elim m [ ]
     condition_block (condition r p cs) h b m =
         either (blocks r ++ blocks p) (condition_blocks cs) m
         (λ j. either (blocks r) (blocks p) j (λ i. run_block r h.0 b i) (λ i. run_block p h.1 b i))

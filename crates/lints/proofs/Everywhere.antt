@@ -12,6 +12,7 @@ use Rattle.formats.proofs.RoundLaws.{EachFunction}
 
 -- what holds of every function holds of each
 pub each_function_in : (P : Function → Type 0) (law : Law) → EachFunction P law → (d : Function) → Memᴰ d law → P d
+each_function_in P [] h d m = elim m [ ]
 each_function_in P (f ∷ fs) h d (Memᴰ.head e) = rw e h.0
 each_function_in P (f ∷ fs) h d (Memᴰ.tail m) = each_function_in P fs h.1 d m
 

@@ -4,7 +4,7 @@ use mathlib.Core.Bool.{Bool, true, false, cond, not, ◌&&◌, ◌||◌}
 use mathlib.Core.List.Memᴰ
 use mathlib.Core.List.{List, [], ◌∷◌, ◌++◌, map, Memᴰ}
 use mathlib.Core.Logic.{◌⊎◌, inl, inr}
-use mathlib.Core.Option.{Option, some}
+use mathlib.Core.Option.{Option, none, some}
 use mathlib.Core.Path.{◌≡◌, refl, sym, ap, ◌∙◌}
 use native.Mathlib.Omega.{arith}
 use lib.Dec.{leb}
@@ -46,6 +46,7 @@ pub record Remarked (remarks : Function → List Remark) (law : Law) (x : Findin
 pub finding_remarked : (remarks : Function → List Remark) (position : ℕ) (law : Law) (x : Finding) → Memᴰ x (findings_from remarks position law)
     → Remarked remarks law x
 unfolding findings_from
+finding_remarked remarks position [] x m = elim m [ ]
 finding_remarked remarks position (f ∷ fs) x m =
     go (Memᴰ.append_cases (map (finding_in position f.name) (remarks f)) m) (finding_remarked remarks (suc position) fs x)
   where
@@ -83,11 +84,13 @@ shown_in_lem settings fs x m =
   where
     go : (f : Finding) → Memᴰ f fs → Memᴰ x (f ∷ []) → Memᴰ x fs
     go f i (Memᴰ.head e) = rw e i
+    go f i (Memᴰ.tail m) = elim m [ ]
 
 -- the claims of each lint
 dead_claims : (in_block : Bool) (earlier : List Earlier) (n : ℕ) (ss : Sentences) (r : Remark) → Memᴰ r (dead_after in_block [] earlier n ss)
     → lint_of r.claim ≡ dead_sentence
 unfolding dead_after
+dead_claims in_block earlier n no_sentence x i = elim i [ ]
 dead_claims in_block earlier n (sentence m p cs r ss) x i =
     go (earliest [] earlier (pattern_of p)) (Memᴰ.append_cases (dead_by in_block m n (earliest [] earlier (pattern_of p))) i)
     (dead_claims in_block (earlier ++ unconditional cs n p) (suc n) ss x)
@@ -95,20 +98,25 @@ dead_claims in_block earlier n (sentence m p cs r ss) x i =
     go : (o : Option ℕ) → Memᴰ x (dead_by in_block m n o) ⊎ Memᴰ x (dead_after in_block [] (earlier ++ unconditional cs n p) (suc n) ss)
         → (Memᴰ x (dead_after in_block [] (earlier ++ unconditional cs n p) (suc n) ss) → lint_of x.claim ≡ dead_sentence)
         → lint_of x.claim ≡ dead_sentence
+    go none (inl m) below = elim m [ ]
     go (some k) (inl (Memᴰ.head e)) below = rw e
+    go (some k) (inl (Memᴰ.tail m)) below = elim m [ ]
     go o (inr j) below = below j
 
 -- what holds of every sentence's record holds of a remark's subject
 pub subject_record : (P : ℕ → Type 0) (in_block : Bool) (earlier : List Earlier) (n : ℕ) (ss : Sentences) → EachRecord P ss
     → (x : Remark) → Memᴰ x (dead_after in_block [] earlier n ss) → P x.subject.at
 unfolding dead_after
+subject_record P in_block earlier n no_sentence h x i = elim i [ ]
 subject_record P in_block earlier n (sentence m p cs r ss) h x i =
     go (earliest [] earlier (pattern_of p)) (Memᴰ.append_cases (dead_by in_block m n (earliest [] earlier (pattern_of p))) i)
     (subject_record P in_block (earlier ++ unconditional cs n p) (suc n) ss h.1 x)
   where
     go : (o : Option ℕ) → Memᴰ x (dead_by in_block m n o) ⊎ Memᴰ x (dead_after in_block [] (earlier ++ unconditional cs n p) (suc n) ss)
         → (Memᴰ x (dead_after in_block [] (earlier ++ unconditional cs n p) (suc n) ss) → P x.subject.at) → P x.subject.at
+    go none (inl m) below = elim m [ ]
     go (some k) (inl (Memᴰ.head e)) below = rw e h.0
+    go (some k) (inl (Memᴰ.tail m)) below = elim m [ ]
     go o (inr j) below = below j
 
 -- lint 1's remarks on a function: its own sentences', and those of the blocks in it
@@ -134,6 +142,7 @@ judged_cases formats c r m = go (disjoint_formats (of (passed formats c)) (accep
   where
     literal : Memᴰ r (remark c (by_literals c.name) ∷ []) → is_literal c.argument ≡ true → (r.subject ≡ c.mark) × Judged formats c r
     literal (Memᴰ.head e) h = (ap (λ y. y.subject) e, literally (ap (λ y. y.claim) e) h)
+    literal (Memᴰ.tail m) h = elim m [ ]
 
     go : (b : Bool) → disjoint_formats (of (passed formats c)) (accepted formats c) ≡ b
         → Memᴰ r
@@ -142,6 +151,7 @@ judged_cases formats c r m = go (disjoint_formats (of (passed formats c)) (accep
         (when (is_literal c.argument) (remark c (by_literals c.name) ∷ [])))
         → (r.subject ≡ c.mark) × Judged formats c r
     go true h (Memᴰ.head e) = (ap (λ y. y.subject) e, apart (ap (λ y. y.claim) e) h)
+    go true h (Memᴰ.tail m) = elim m [ ]
     go false h i =
         let (is_it, j) = in_when (is_literal c.argument) (remark c (by_literals c.name) ∷ []) i in
         literal j is_it
@@ -239,15 +249,19 @@ builtin_lint law x m =
     (in_when (looked_at (definition law (callee c))) (failed c (failure (domain_in builtins (callee c)) c.argument)) j).1)
   where
     go : (c : Call) (o : Option Failure) (r : Remark) → Memᴰ r (failed c o) → lint_number (lint_of r.claim) ≡ 3
+    go c none r m = elim m [ ]
     go c (some why) r (Memᴰ.head e) = rw e
+    go c (some why) r (Memᴰ.tail m) = elim m [ ]
 
 open_claims : (ss : Sentences) (r : Remark) → Memᴰ r (open_in ss) → lint_number (lint_of r.claim) ≡ 4
 unfolding open_in
+open_claims no_sentence r i = elim i [ ]
 open_claims (sentence m p cs q ss) r i =
     go (Memᴰ.append_cases (when (leb 2 (e_occurrences p)) (record { subject = m; claim = open_pattern (e_occurrences p) } ∷ [])) i) (open_claims ss r)
   where
     one : Memᴰ r (record { subject = m; claim = open_pattern (e_occurrences p) } ∷ []) → lint_number (lint_of r.claim) ≡ 4
     one (Memᴰ.head e) = rw e
+    one (Memᴰ.tail m) = elim m [ ]
 
     go : Memᴰ r (when (leb 2 (e_occurrences p)) (record { subject = m; claim = open_pattern (e_occurrences p) } ∷ [])) ⊎ Memᴰ r (open_in ss)
         → (Memᴰ r (open_in ss) → lint_number (lint_of r.claim) ≡ 4) → lint_number (lint_of r.claim) ≡ 4

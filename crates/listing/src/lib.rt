@@ -1,4 +1,6 @@
 // The calls: the findings of a law, the text of one of them, and all of them on a page.
+#![tactic(auto)]
+
 ghost use Rattle.std.specs.Prelude.{List, [], ◌≡◌, ℕ, ◌*◌, ◌≤◌, length};
 ghost use Rattle.file.specs.Answer.{given};
 ghost use Rattle.file.specs.Sections.{file_of};

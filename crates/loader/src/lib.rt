@@ -1,5 +1,7 @@
 // The exported calls as a loader and an editor use them. These contracts say in full what a caller relies on, in words of their own: where a contract of
 // `bilzarko`, `listing`, `reader` or `numbers` promises less, or asks for something, they are not proved.
+#![tactic(auto)]
+
 ghost use Rattle.std.specs.Prelude.{[], ◌∷◌};
 ghost use Rattle.lints.specs.Levels.{settings_from};
 ghost use Rattle.loader.specs.Rows.{returned};

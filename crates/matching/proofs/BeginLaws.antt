@@ -1,5 +1,5 @@
 -- Does a row begin with a value (`after` and `same_terms`, specs/Match.antt), where both are parts of the term records: record by record, as `begins`
--- and `same_first_lem` ask.
+-- and `same_first` ask.
 use Prim.Native.Nat.{ℕ, ◌+◌, ◌-◌, ◌≤◌, ◌<◌}
 use mathlib.Core.Bool.{Bool, true, false, cond, ◌&&◌}
 use mathlib.Core.List.{List, [], ◌∷◌}
@@ -134,7 +134,7 @@ row_short text part k h = go (dec_lt (length (from k part)) 24)
 pub begins_within : (row : List ℕ) {r : Beginning} {k : ℕ} → r ≡ After k → BeginsIn row r → k ≤ length row
 begins_within row e h = rw e at h
 
--- ---- what `same_first_lem` answers at each return
+-- ---- what `same_first` answers at each return
 
 module _ (text value row : List ℕ) {p : Bool} (first : p ≡ is_bracket (term_at value 0)) where
   -- no bracket

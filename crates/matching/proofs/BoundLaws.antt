@@ -60,13 +60,18 @@ module _ {text terms : List ℕ} {b : Bindings} (kept : Kept text terms b) (room
   new_size : get_or r.sizes b.count 0 ≡ size
   new_size = rw more.sizes (get_or-set_same b.sizes b.count size 0 (omega (arith, kept.sizes)))
 
+  -- the values in the old places are what they were
+  older_values : values_up_to text terms r.keys r.starts r.sizes b.count ≡ values_of text terms b
+  older_values =
+      rw (more.keys, more.starts, more.sizes)
+      (values_set text terms b.keys b.starts b.sizes b.count key start size b.count (omega arith))
+
   -- the variable at `key` has the row of `size` bytes from `start` on for its value; the others have their values as before
   pub bound_values : values_of text terms r ≡ bound (variable_at text terms key) (row_at text terms start size) (values_of text terms b)
   unfolding values_up_to
   bound_values =
-      rw (more.more, new_key, new_start, new_size, more.keys, more.starts, more.sizes)
-      (ap (bound (variable_at text terms key) (row_at text terms start size))
-      (values_set text terms b.keys b.starts b.sizes b.count key start size b.count (omega arith)))
+      rw (more.more, new_key, new_start, new_size)
+      (ap (bound (variable_at text terms key) (row_at text terms start size)) older_values)
 
   -- the old places
   old_key : (i : ℕ) → i < b.count → get_or r.keys i 0 ≡ get_or b.keys i 0

@@ -110,6 +110,7 @@ plain_holds_none nothing g = refl
 plain_holds_none (symbol (literal a) p) g = plain_holds_none p g
 plain_holds_none (symbol (variable v) p) g = plain_holds_none p g
 plain_holds_none (brackets c p) g = rw (plain_holds_none c g.0) (plain_holds_none p g.1)
+plain_holds_none (symbol Rattle.matching.specs.Pattern.other p) g = elim g [ ]
 
 -- a pattern that holds a call or a block at any depth matches nothing
 pub other_matches_nothing : {A : Type 0} (same : A → A → Bool) (of_law : Symbol → A) (is_symbol is_single : A → Bool) (back : Bool)

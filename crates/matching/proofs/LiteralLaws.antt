@@ -44,6 +44,15 @@ module _ {A B : Type 0} (f : A → B) where
   changed_kinded term_kind (symbol a nothing) h = refl
   changed_kinded term_kind (brackets c nothing) h = tt
   changed_kinded expression_kind y h = tt
+  changed_kinded symbol_kind nothing h = elim h [ ]
+  changed_kinded symbol_kind (symbol a (symbol _ _)) h = elim h [ ]
+  changed_kinded symbol_kind (symbol a (brackets _ _)) h = elim h [ ]
+  changed_kinded symbol_kind (brackets c _) h = elim h [ ]
+  changed_kinded term_kind nothing h = elim h [ ]
+  changed_kinded term_kind (symbol a (symbol _ _)) h = elim h [ ]
+  changed_kinded term_kind (symbol a (brackets _ _)) h = elim h [ ]
+  changed_kinded term_kind (brackets c (symbol _ _)) h = elim h [ ]
+  changed_kinded term_kind (brackets c (brackets _ _)) h = elim h [ ]
 
 -- ---- what literal matching finds, a run finds
 

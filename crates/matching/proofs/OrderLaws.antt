@@ -141,6 +141,7 @@ module _ {A : Type 0} where
   before_kept (v ∷ a) b us ws us' ws' h k i j (inl s) = inl (rw (i v h.0.0 h.0.1, j v k.0.0 k.0.1) (rw (h.0.1, k.0.1) at s))
   before_kept (v ∷ a) b us ws us' ws' h k i j (inr (e, s)) =
       inr (rw (i v h.0.0 h.0.1, j v k.0.0 k.0.1) (sym h.0.1 ∙ (e ∙ k.0.1)), before_kept a b us ws us' ws' h.1 k.1 i j s)
+  before_kept [] b us ws us' ws' h k i j x5 = elim x5 [ ]
 
   -- where these variables have the same values, those that follow decide
   same_then : (a b : List Variable) (us us' ws' : Values A) → HasValues a us → Keeps us us' → Keeps us ws' → Before b us' ws' → Before (a ++ b) us' ws'
@@ -187,6 +188,14 @@ module _ {A : Type 0} (same : A → A → Bool) (of_law : Symbol → A) (is_symb
   match_keeps (brackets c p) (brackets d x) vs m w y h =
       let (ws, l, k) = in_each _ (all_or_first back (found c d vs)) m in
       match_keeps p x ws k w y (match_keeps c d vs (in_all_or_first back _ l) w y h)
+  match_keeps nothing nothing vs {us = us} (Memᴰ.tail x11) w y h = elim x11 [ ]
+  match_keeps nothing (symbol b x) vs {us = us} m w y h = elim m [ ]
+  match_keeps nothing (brackets d x) vs {us = us} m w y h = elim m [ ]
+  match_keeps (symbol (literal a) p) nothing vs {us = us} m w y h = elim m [ ]
+  match_keeps (symbol (literal a) p) (brackets d x) vs {us = us} m w y h = elim m [ ]
+  match_keeps (symbol other p) x vs {us = us} m w y h = elim m [ ]
+  match_keeps (brackets c p) nothing vs {us = us} m w y h = elim m [ ]
+  match_keeps (brackets c p) (symbol b x) vs {us = us} m w y h = elim m [ ]
 
   -- and gives a value to each variable of the pattern
   pub match_values : (p : Pattern) (x : Terms A) (vs : Values A) {us : Values A} → Memᴰ us (found p x vs) → HasValues (variables_in p) us
@@ -201,6 +210,13 @@ module _ {A : Type 0} (same : A → A → Bool) (of_law : Symbol → A) (is_symb
       values_append (variables_in c) (variables_in p) us
       (values_kept (variables_in c) ws us (match_keeps p x ws k) (match_values c d vs (in_all_or_first back _ l)))
       (match_values p x ws k)
+  match_values nothing (symbol b x) vs {us = us} m = elim m [ ]
+  match_values nothing (brackets d x) vs {us = us} m = elim m [ ]
+  match_values (symbol (literal a) p) nothing vs {us = us} m = elim m [ ]
+  match_values (symbol (literal a) p) (brackets d x) vs {us = us} m = elim m [ ]
+  match_values (symbol other p) x vs {us = us} m = elim m [ ]
+  match_values (brackets c p) nothing vs {us = us} m = elim m [ ]
+  match_values (brackets c p) (symbol b x) vs {us = us} m = elim m [ ]
 
   -- the matches are in order
   pub match_ordered : (p : Pattern) (x : Terms A) (vs : Values A) → InOrder (Before (variables_in p)) (found p x vs)

@@ -17,7 +17,7 @@ use Rattle.matching.specs.Pattern.{same_symbol, same_literal, Atom, literal, var
 use Rattle.matching.specs.Match.{same_terms}
 use Rattle.matching.specs.Shadow.{same_atom}
 
--- ---- tests. `T b` is empty where `b` is false: there the cases that a test leaves out need no line.
+-- ---- tests. `T b` is empty where `b` is false.
 
 -- no test is both true and false
 pub false_not_true : false ≡ true → ⊥
@@ -29,6 +29,7 @@ told e = rw e tt
 
 holds : (b : Bool) → T b → b ≡ true
 holds true h = refl
+holds false h = elim h [ ]
 
 -- ---- symbols of a law
 
@@ -37,6 +38,12 @@ symbol_told : (a b : Symbol) → T (same_symbol a b) → a ≡ b
 symbol_told (character a) (character b) h = ap character (eqb-true a b (holds _ h))
 symbol_told (identifier x) (identifier y) h = ap identifier (bytes.same_sound x y (holds _ h))
 symbol_told (number x) (number y) h = ap number (bytes.same_sound x y (holds _ h))
+symbol_told (character a) (identifier y) h = elim h [ ]
+symbol_told (character a) (number y) h = elim h [ ]
+symbol_told (identifier x) (character b) h = elim h [ ]
+symbol_told (identifier x) (number y) h = elim h [ ]
+symbol_told (number x) (character b) h = elim h [ ]
+symbol_told (number x) (identifier y) h = elim h [ ]
 
 -- the same is equal
 pub symbol_sound : (a b : Symbol) → same_symbol a b ≡ true → a ≡ b
@@ -55,6 +62,12 @@ literal_told : (a b : Literal) → T (same_literal a b) → a ≡ b
 literal_told (Literal.character a) (Literal.character b) h = ap Literal.character (eqb-true a b (holds _ h))
 literal_told (Literal.identifier x) (Literal.identifier y) h = ap Literal.identifier (bytes.same_sound x y (holds _ h))
 literal_told (Literal.number a) (Literal.number b) h = ap Literal.number (eqb-true a b (holds _ h))
+literal_told (Rattle.law.specs.Expression.character a) (Rattle.law.specs.Expression.identifier y) h = elim h [ ]
+literal_told (Rattle.law.specs.Expression.character a) (Rattle.law.specs.Expression.number b) h = elim h [ ]
+literal_told (Rattle.law.specs.Expression.identifier x) (Rattle.law.specs.Expression.character b) h = elim h [ ]
+literal_told (Rattle.law.specs.Expression.identifier x) (Rattle.law.specs.Expression.number b) h = elim h [ ]
+literal_told (Rattle.law.specs.Expression.number a) (Rattle.law.specs.Expression.character b) h = elim h [ ]
+literal_told (Rattle.law.specs.Expression.number a) (Rattle.law.specs.Expression.identifier y) h = elim h [ ]
 
 -- the same is equal
 pub literal_sound : (a b : Literal) → same_literal a b ≡ true → a ≡ b
@@ -73,6 +86,12 @@ kind_told : (k l : Kind) → T (same_kind k l) → k ≡ l
 kind_told symbol_kind symbol_kind h = refl
 kind_told term_kind term_kind h = refl
 kind_told expression_kind expression_kind h = refl
+kind_told symbol_kind term_kind h = elim h [ ]
+kind_told symbol_kind expression_kind h = elim h [ ]
+kind_told term_kind symbol_kind h = elim h [ ]
+kind_told term_kind expression_kind h = elim h [ ]
+kind_told expression_kind symbol_kind h = elim h [ ]
+kind_told expression_kind term_kind h = elim h [ ]
 
 -- a kind is the same as itself
 kind_refl : (k : Kind) → same_kind k k ≡ true
@@ -96,6 +115,11 @@ variable_refl v = rw (kind_refl v.kind) (bytes.same_refl v.index)
 atom_told : (a b : Atom) → T (same_atom a b) → a ≡ b
 atom_told (literal x) (literal y) h = ap literal (symbol_told x y h)
 atom_told (variable v) (variable w) h = ap variable (variable_sound v w (holds _ h))
+atom_told (literal x) (variable w) h = elim h [ ]
+atom_told (literal x) Rattle.matching.specs.Pattern.other h = elim h [ ]
+atom_told (variable v) (literal y) h = elim h [ ]
+atom_told (variable v) Rattle.matching.specs.Pattern.other h = elim h [ ]
+atom_told Rattle.matching.specs.Pattern.other b h = elim h [ ]
 
 -- the same is equal
 pub atom_sound : (a b : Atom) → same_atom a b ≡ true → a ≡ b
@@ -115,6 +139,12 @@ module _ {A : Type 0} (same : A → A → Bool) where
     terms_told (brackets c x) (brackets d y) h =
         let (e, q) = both_hold (same_terms same c d) (same_terms same x y) (holds _ h) in
         ap₂ brackets (terms_told c d (told e)) (terms_told x y (told q))
+    terms_told nothing (symbol b y) h = elim h [ ]
+    terms_told nothing (brackets d y) h = elim h [ ]
+    terms_told (symbol a x) nothing h = elim h [ ]
+    terms_told (symbol a x) (brackets d y) h = elim h [ ]
+    terms_told (brackets c x) nothing h = elim h [ ]
+    terms_told (brackets c x) (symbol b y) h = elim h [ ]
 
     -- the same is equal
     pub terms_sound : (x y : Terms A) → same_terms same x y ≡ true → x ≡ y

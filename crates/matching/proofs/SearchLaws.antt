@@ -21,6 +21,7 @@ module _ {X : Type 0} where
   -- a member of a list kept by a test
   pub in_when : (b : Bool) (l : List X) {x : X} → Memᴰ x (when b l) → (b ≡ true) × Memᴰ x l
   in_when true l m = (refl, m)
+  in_when false l m = elim m [ ]
 
   -- a list is kept by a test that holds
   pub when_in : (b : Bool) {l : List X} {x : X} → b ≡ true → Memᴰ x l → Memᴰ x (when b l)
@@ -30,6 +31,8 @@ module _ {X : Type 0} where
   pub in_all_or_first : (back : Bool) (l : List X) {x : X} → Memᴰ x (all_or_first back l) → Memᴰ x l
   in_all_or_first true l m = m
   in_all_or_first false (y ∷ l) (Memᴰ.head e) = Memᴰ.head e
+  in_all_or_first false [] m = elim m [ ]
+  in_all_or_first false (y ∷ l) (Memᴰ.tail x10) = elim x10 [ ]
 
   -- a member of the lists made from each member
   pub in_each : {Y : Type 0} (f : X → List Y) (l : List X) {y : Y} → Memᴰ y (each f l) → (x : X) × Memᴰ x l × Memᴰ y (f x)
@@ -39,9 +42,11 @@ module _ {X : Type 0} where
           → (z : X) × Memᴰ z (x ∷ l) × Memᴰ y (f z)
       go (inl k) below = (x, Memᴰ.head refl, k)
       go (inr k) below = let (z, i, j) = below k in (z, Memᴰ.tail i, j)
+  in_each {Y = Y} f [] {y = y} m = elim m [ ]
 
   -- what is made from a member is among all that is made
-  pub each_in : {Y : Type 0} (f : X → List Y) {l : List X} {x : X} {y : Y} → Memᴰ x l → Memᴰ y (f x) → Memᴰ y (each f l)
+  pub each_in : {Y : Type 0} (f : X → List Y) {x : X} {l : List X} {y : Y} → Memᴰ x l → Memᴰ y (f x) → Memᴰ y (each f l)
+  each_in f {l = []} m k = elim m [ ]
   each_in f {l = z ∷ l} (Memᴰ.head e) k = Memᴰ.append_left {s = f z} (each f l) (rw e at k)
   each_in f {l = z ∷ l} (Memᴰ.tail m) k = Memᴰ.append_right (f z) (each_in f m k)
 
@@ -49,6 +54,7 @@ module _ {X : Type 0} where
   pub in_map : {Y : Type 0} (f : X → Y) (l : List X) {y : Y} → Memᴰ y (map f l) → (x : X) × Memᴰ x l × (y ≡ f x)
   in_map f (x ∷ l) (Memᴰ.head e) = (x, Memᴰ.head refl, e)
   in_map f (x ∷ l) (Memᴰ.tail m) = let (z, k, q) = in_map f l m in (z, Memᴰ.tail k, q)
+  in_map {Y = Y} f [] {y = y} x' = elim x' [ ]
 
   -- a list that is not empty has a member
   pub some_member : (l : List X) → some_in l ≡ true → (x : X) × Memᴰ x l
@@ -71,6 +77,7 @@ module _ {A : Type 0} where
   in_splits (symbol a x) (Memᴰ.tail m) = let (z, k, e) = in_map _ (splits x) m in rw e (ap (symbol a) (in_splits x k))
   in_splits (brackets c x) (Memᴰ.head e) = rw e
   in_splits (brackets c x) (Memᴰ.tail m) = let (z, k, e) = in_map _ (splits x) m in rw e (ap (brackets c) (in_splits x k))
+  in_splits nothing {q = q} (Memᴰ.tail m) = elim m [ ]
 
   -- a row is cut between any two parts
   splits_in : (y r : Terms A) → Memᴰ (y, r) (splits (y ⊕ r))
@@ -92,6 +99,11 @@ module _ {A : Type 0} (same : A → A → Bool) where
   in_after sound (brackets c y) (brackets d x) m =
       let (h, k) = in_when (same_terms same c d) (after same y x) m in
       cc (terms_sound same sound c d h, in_after sound y x k)
+  in_after sound nothing x {r = r} (Memᴰ.tail x7) = elim x7 [ ]
+  in_after sound (symbol a y) nothing {r = r} m = elim m [ ]
+  in_after sound (symbol a y) (brackets d x) {r = r} m = elim m [ ]
+  in_after sound (brackets c y) nothing {r = r} m = elim m [ ]
+  in_after sound (brackets c y) (symbol b x) {r = r} m = elim m [ ]
 
   -- any row may follow a value
   after_in : ((a : A) → same a a ≡ true) → (y r : Terms A) → Memᴰ r (after same y (y ⊕ r))
@@ -160,6 +172,9 @@ module _ {A : Type 0} (same : A → A → Bool) (of_law : Symbol → A) (is_symb
   choices_kinded term_kind (symbol a x) m = let (h, l) = in_when (is_single a) _ m in rw (Memᴰ.eq_of_singleton l) h
   choices_kinded term_kind (brackets c x) m = rw (Memᴰ.eq_of_singleton m) tt
   choices_kinded expression_kind x m = tt
+  choices_kinded symbol_kind nothing {q = q} m = elim m [ ]
+  choices_kinded symbol_kind (brackets c x) {q = q} m = elim m [ ]
+  choices_kinded term_kind nothing {q = q} m = elim m [ ]
 
   -- so the values stay of the right kinds
   noted_kinded : (o : Option (Terms A)) (v : Variable) (x : Terms A) (vs : Values A) {q : Terms A × Terms A} → Memᴰ q (may o v.kind x)
@@ -176,6 +191,9 @@ module _ {A : Type 0} (same : A → A → Bool) (of_law : Symbol → A) (is_symb
     choices_sound none term_kind (symbol a x) m = rw (Memᴰ.eq_of_singleton (in_when (is_single a) _ m).1)
     choices_sound none term_kind (brackets c x) m = rw (Memᴰ.eq_of_singleton m)
     choices_sound none expression_kind x m = in_splits x m
+    choices_sound none symbol_kind nothing {q = q} m = elim m [ ]
+    choices_sound none symbol_kind (brackets c x) {q = q} m = elim m [ ]
+    choices_sound none term_kind nothing {q = q} m = elim m [ ]
 
     -- values that keep what was noted keep what was there, and the variable stands for what was chosen
     noted_sound : (σ : Variable → Terms A) (o : Option (Terms A)) (v : Variable) (x : Terms A) (vs : Values A) {q : Terms A × Terms A}
@@ -219,6 +237,14 @@ module _ {A : Type 0} (same : A → A → Bool) (of_law : Symbol → A) (is_symb
               let (g', e') = inside.fills σ g in
               (g', cc);
         }
+    match_sound nothing nothing vs {us = us} (Memᴰ.tail x8) = elim x8 [ ]
+    match_sound nothing (symbol b x) vs {us = us} m = elim m [ ]
+    match_sound nothing (brackets d x) vs {us = us} m = elim m [ ]
+    match_sound (symbol (literal a) p) nothing vs {us = us} m = elim m [ ]
+    match_sound (symbol (literal a) p) (brackets d x) vs {us = us} m = elim m [ ]
+    match_sound (symbol Rattle.matching.specs.Pattern.other p) x vs {us = us} m = elim m [ ]
+    match_sound (brackets c p) nothing vs {us = us} m = elim m [ ]
+    match_sound (brackets c p) (symbol b x) vs {us = us} m = elim m [ ]
 
 -- ---- completeness, where brackets are gone back into
 
@@ -230,6 +256,15 @@ module _ {A : Type 0} (same : A → A → Bool) (of_law : Symbol → A) (is_symb
   choices_free term_kind (symbol a nothing) r h = when_in (is_single a) h (Memᴰ.head refl)
   choices_free term_kind (brackets c nothing) r h = Memᴰ.head refl
   choices_free expression_kind y r h = splits_in y r
+  choices_free symbol_kind nothing r h = elim h [ ]
+  choices_free symbol_kind (symbol a (symbol _ _)) r h = elim h [ ]
+  choices_free symbol_kind (symbol a (brackets _ _)) r h = elim h [ ]
+  choices_free symbol_kind (brackets c _) r h = elim h [ ]
+  choices_free term_kind nothing r h = elim h [ ]
+  choices_free term_kind (symbol a (symbol _ _)) r h = elim h [ ]
+  choices_free term_kind (symbol a (brackets _ _)) r h = elim h [ ]
+  choices_free term_kind (brackets c (symbol _ _)) r h = elim h [ ]
+  choices_free term_kind (brackets c (brackets _ _)) r h = elim h [ ]
 
   module _ (σ : Variable → Terms A) (kinded : Kinded is_symbol is_single σ) where
     -- so may one with a value for the value that it has
@@ -259,3 +294,4 @@ module _ {A : Type 0} (same : A → A → Bool) (of_law : Symbol → A) (is_symb
         let (us, m, k) = match_complete c g.0 vs h in
         let (ws, m', k') = match_complete p g.1 us k in
         (ws, each_in _ m m', k')
+    match_complete (symbol Rattle.matching.specs.Pattern.other p) g vs h = elim g [ ]

@@ -50,6 +50,10 @@ as_term : (k : Kind) → kind_is_single k ≡ true → (y : Expression) → OfKi
 as_term symbol_kind e (symbol a nothing) h = refl
 as_term term_kind e y h = h
 as_term expression_kind e y h = absurd (false_not_true e)
+as_term symbol_kind e nothing h = elim h [ ]
+as_term symbol_kind e (symbol a (symbol _ _)) h = elim h [ ]
+as_term symbol_kind e (symbol a (brackets _ _)) h = elim h [ ]
+as_term symbol_kind e (brackets _ _) h = elim h [ ]
 
 -- a row of a pattern's terms that is of a kind is filled to an expression of that kind
 filled_kinded : (σ : Variable → Expression) → RunKinded σ → (k : Kind) (y : Pattern) → OfKind symbol_like single_term k y
@@ -62,6 +66,23 @@ filled_kinded σ kinded term_kind (symbol (variable v) nothing) h = rw (row_noth
 filled_kinded σ kinded term_kind (symbol other nothing) h = absurd (false_not_true h)
 filled_kinded σ kinded term_kind (brackets c nothing) h = tt
 filled_kinded σ kinded expression_kind y h = tt
+filled_kinded σ kinded symbol_kind nothing h = elim h [ ]
+filled_kinded σ kinded symbol_kind (symbol (literal a) (symbol _ _)) h = elim h [ ]
+filled_kinded σ kinded symbol_kind (symbol (literal a) (brackets _ _)) h = elim h [ ]
+filled_kinded σ kinded symbol_kind (symbol (variable v) (symbol _ _)) h = elim h [ ]
+filled_kinded σ kinded symbol_kind (symbol (variable v) (brackets _ _)) h = elim h [ ]
+filled_kinded σ kinded symbol_kind (symbol other (symbol _ _)) h = elim h [ ]
+filled_kinded σ kinded symbol_kind (symbol other (brackets _ _)) h = elim h [ ]
+filled_kinded σ kinded symbol_kind (brackets c _) h = elim h [ ]
+filled_kinded σ kinded term_kind nothing h = elim h [ ]
+filled_kinded σ kinded term_kind (symbol (literal a) (symbol _ _)) h = elim h [ ]
+filled_kinded σ kinded term_kind (symbol (literal a) (brackets _ _)) h = elim h [ ]
+filled_kinded σ kinded term_kind (symbol (variable v) (symbol _ _)) h = elim h [ ]
+filled_kinded σ kinded term_kind (symbol (variable v) (brackets _ _)) h = elim h [ ]
+filled_kinded σ kinded term_kind (symbol other (symbol _ _)) h = elim h [ ]
+filled_kinded σ kinded term_kind (symbol other (brackets _ _)) h = elim h [ ]
+filled_kinded σ kinded term_kind (brackets c (symbol _ _)) h = elim h [ ]
+filled_kinded σ kinded term_kind (brackets c (brackets _ _)) h = elim h [ ]
 
 -- ---- variables that already have a value
 

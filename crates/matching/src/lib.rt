@@ -1,4 +1,6 @@
 // Matching of a pattern, a part of the term records, with another part: what both matchers share.
+#![tactic(auto)]
+
 pub mod atoms;
 pub mod bound;
 pub mod front;

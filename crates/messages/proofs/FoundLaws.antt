@@ -14,7 +14,7 @@ use Rattle.file.specs.Word.{word_at}
 use Rattle.file.specs.Sections.{File}
 use Rattle.file.specs.Head.{term_from, term_at}
 use Rattle.file.specs.declared.Term.TheVariants.{Call as CallTerm}
-use Rattle.law.specs.Tree.{Name, Run, Sentences, sentence, Function, Law}
+use Rattle.law.specs.Tree.{Name, Run, Sentences, no_sentence, sentence, Function, Law}
 use Rattle.law.specs.Reading.{function_name, tree_of}
 use Rattle.law.specs.Definition.{definition}
 use Rattle.law.specs.Code.Index.{Readable}
@@ -94,6 +94,7 @@ module _ (file : File) where
 dead_form : (inside : Bool) (earlier : List Earlier) (n : ℕ) (ss : Sentences) (r : Remark) → Memᴰ r (dead_after inside [] earlier n ss)
     → (later first : ℕ) × (r.claim ≡ dead inside later first)
 unfolding dead_after
+dead_form inside earlier n no_sentence r i = elim i [ ]
 dead_form inside earlier n (sentence m p cs q ss) r i =
     go (earliest [] earlier (pattern_of p)) (Memᴰ.append_cases (dead_by inside m n (earliest [] earlier (pattern_of p))) i)
     (dead_form inside (earlier ++ unconditional cs n p) (suc n) ss r)
@@ -101,12 +102,15 @@ dead_form inside earlier n (sentence m p cs q ss) r i =
     go : (o : Option ℕ) → Memᴰ r (dead_by inside m n o) ⊎ Memᴰ r (dead_after inside [] (earlier ++ unconditional cs n p) (suc n) ss)
         → (Memᴰ r (dead_after inside [] (earlier ++ unconditional cs n p) (suc n) ss) → (later first : ℕ) × (r.claim ≡ dead inside later first))
         → (later first : ℕ) × (r.claim ≡ dead inside later first)
+    go none (inl x) below = elim x [ ]
     go (some k) (inl (Memᴰ.head e)) below = (n, k, ap (λ y. y.claim) e)
+    go (some k) (inl (Memᴰ.tail x)) below = elim x [ ]
     go o (inr j) below = below j
 
 -- a remark on an open pattern
 open_form : (ss : Sentences) (r : Remark) → Memᴰ r (open_in ss) → (n : ℕ) × (r.claim ≡ open_pattern n)
 unfolding open_in
+open_form no_sentence r i = elim i [ ]
 open_form (sentence m p cs q ss) r i =
     either (when (leb 2 (e_occurrences p)) here) (open_in ss) i (λ j. one (in_when (leb 2 (e_occurrences p)) here j).1) (λ j. open_form ss r j)
   where
@@ -115,11 +119,14 @@ open_form (sentence m p cs q ss) r i =
 
     one : Memᴰ r here → (n : ℕ) × (r.claim ≡ open_pattern n)
     one (Memᴰ.head e) = (e_occurrences p, ap (λ y. y.claim) e)
+    one (Memᴰ.tail x) = elim x [ ]
 
 -- a remark on a call of a builtin
 fails_form : (c : Call) (o : Option Failure) (r : Remark) → Memᴰ r (failed c o)
     → (r.subject ≡ c.mark) × ((why : Failure) × (r.claim ≡ fails c.name why))
+fails_form c none r x = elim x [ ]
 fails_form c (some why) r (Memᴰ.head e) = (ap (λ y. y.subject) e, (why, ap (λ y. y.claim) e))
+fails_form c (some why) r (Memᴰ.tail x) = elim x [ ]
 
 -- ---- calls that are compared
 
@@ -127,6 +134,7 @@ fails_form c (some why) r (Memᴰ.head e) = (ap (λ y. y.subject) e, (why, ap (�
 not_over : (limit : ℕ) (law : Law) (formats : Formats) (cs : List Call) → some_over limit law formats cs ≡ false
     → (c : Call) → Memᴰ c cs → compared law c ≡ true → size (passed formats c) ≤ limit
 unfolding some_over
+not_over limit law formats [] h c m is = elim m [ ]
 not_over limit law formats (d ∷ cs) h c m is =
     let (here, rest) = neither (compared law d && ltb limit (size (passed formats d))) (some_over limit law formats cs) h in
     go m here (λ i. not_over limit law formats cs rest c i is)

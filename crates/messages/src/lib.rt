@@ -1,5 +1,7 @@
 // The text of a finding, from its eight words: they name records of the law, where its names are spelled and its formats are found. What the text is
 // stands in the crate `lints`, specs/Message.antt; what the words are, there in specs/Finding.antt.
+#![tactic(auto)]
+
 ghost use Rattle.std.specs.Prelude.{◌≡◌, true, ℕ, ◌≤◌, ◌<◌, length, get_or};
 ghost use mathlib.Core.List.{Memᴰ};
 ghost use Rattle.file.specs.Sections.{file_of};

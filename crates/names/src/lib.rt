@@ -1,4 +1,6 @@
 // Names, identifiers, variables' indices and numbers, as a law spells them.
+#![tactic(auto)]
+
 ghost use Rattle.std.specs.Prelude.{◌≡◌, ◌+◌, ◌≤◌, length, take, drop};
 ghost use Rattle.names.specs.Name.{between, digit_byte, letter_byte, name_byte, upper_byte, fold_byte, folded, folded_index, same_bytes, order_bytes, every_byte, length_allowed, name_allowed, number_allowed};
 

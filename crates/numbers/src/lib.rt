@@ -1,5 +1,7 @@
 // The value of decimal digits, all at once and in one pass, and equality of numbers by it. What a value is stands in specs/Value.antt, what is kept
 // between digits in specs/OnePass.antt.
+#![tactic(auto)]
+
 ghost use Rattle.std.specs.Prelude.{◌≡◌, [], ◌∷◌, ◌-◌, ◌≤◌, ◌<◌, length};
 ghost use Rattle.names.specs.Name.{same_bytes, every_byte};
 ghost use Rattle.numbers.specs.Value.{value_after, is_macrodigit, stripped};

@@ -176,6 +176,7 @@ finding_lines settings (f ∷ fs) = (
 )
 
 line_in : (ls : List (List ℕ)) → Lines ls → (l : List ℕ) → Memᴰ l ls → Line l
+line_in [] _ l m = elim m [ ]
 line_in (x ∷ ls) (h, more) l (Memᴰ.head e) = rw e h
 line_in (x ∷ ls) (h, more) l (Memᴰ.tail m) = line_in ls more l m
 

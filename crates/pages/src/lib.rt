@@ -2,6 +2,8 @@
 // specs/Page.antt; what the words are, in the crate `lints`, specs/Finding.antt.
 //
 // Each function puts its bytes at a position as far as there is room, and gives the position after all of them in any case.
+#![tactic(auto)]
+
 ghost use Rattle.std.specs.Prelude.{◌≡◌, true, ◌+◌, ◌*◌, ◌≤◌, ◌<◌, length, get_or};
 ghost use mathlib.Core.List.{flatten};
 ghost use Rattle.file.specs.Sections.{file_of};

@@ -1,4 +1,6 @@
 // Reads a law typed as text: the law file of a text, in a lent buffer.
+#![tactic(auto)]
+
 ghost use Rattle.std.specs.Prelude.{◌≤◌, List, ◌≡◌, length};
 ghost use Rattle.file.specs.Answer.{given};
 ghost use Rattle.tokens.specs.Token.{Placed};

@@ -50,6 +50,8 @@ module _ {A : Type 0} (l : List Variable) where
   paired_append : (m n o p : List (Values A)) → Paired m n → Paired o p → Paired (m ++ o) (n ++ p)
   paired_append [] [] o p h k = k
   paired_append (vs ∷ m) (us ∷ n) o p h k = (h.0, paired_append m n o p h.1 k)
+  paired_append [] (us ∷ n) o p h k = elim h [ ]
+  paired_append (vs ∷ m) [] o p h k = elim h [ ]
 
   paired_when : (b : Bool) (m n : List (Values A)) → Paired m n → Paired (when b m) (when b n)
   paired_when true m n h = h
@@ -59,15 +61,21 @@ module _ {A : Type 0} (l : List Variable) where
   paired_first true m n h = h
   paired_first false [] [] h = tt
   paired_first false (vs ∷ m) (us ∷ n) h = (h.0, tt)
+  paired_first false [] (us ∷ n) h = elim h [ ]
+  paired_first false (vs ∷ m) [] h = elim h [ ]
 
   paired_some : (m n : List (Values A)) → Paired m n → some_in m ≡ some_in n
   paired_some [] [] h = refl
   paired_some (vs ∷ m) (us ∷ n) h = refl
+  paired_some [] (us ∷ n) h = elim h [ ]
+  paired_some (vs ∷ m) [] h = elim h [ ]
 
   paired_each : (f : Values A → List (Values A)) → ((vs us : Values A) → Agree l vs us → Paired (f vs) (f us))
       → (m n : List (Values A)) → Paired m n → Paired (each f m) (each f n)
   paired_each f alike [] [] h = tt
   paired_each f alike (vs ∷ m) (us ∷ n) h = paired_append (f vs) (f us) (each f m) (each f n) (alike vs us h.0) (paired_each f alike m n h.1)
+  paired_each f alike [] (us ∷ n) h = elim h [ ]
+  paired_each f alike (vs ∷ m) [] h = elim h [ ]
 
   paired_same : {X : Type 0} (f g : X → List (Values A)) → ((x : X) → Paired (f x) (g x)) → (xs : List X) → Paired (each f xs) (each g xs)
   paired_same f g alike [] = tt
@@ -112,6 +120,14 @@ module _ {A : Type 0} (same : A → A → Bool) (of_law : Symbol → A) (is_symb
       let (ws, l, k) = in_each _ (all_or_first back (found c d vs)) m in
       match_values w p x ws k (not_right w (variables_in c) (variables_in p) h)
       ∙ match_values w c d vs (in_all_or_first back _ l) (not_left w (variables_in c) (variables_in p) h)
+  match_values w nothing nothing vs {us = us} (mathlib.Core.List.Memᴰ.tail x11) h = elim x11 [ ]
+  match_values w nothing (symbol b x) vs {us = us} m h = elim m [ ]
+  match_values w nothing (brackets d x) vs {us = us} m h = elim m [ ]
+  match_values w (symbol (literal a) p) nothing vs {us = us} m h = elim m [ ]
+  match_values w (symbol (literal a) p) (brackets d x) vs {us = us} m h = elim m [ ]
+  match_values w (symbol other p) x vs {us = us} m h = elim m [ ]
+  match_values w (brackets c p) nothing vs {us = us} m h = elim m [ ]
+  match_values w (brackets c p) (symbol b x) vs {us = us} m h = elim m [ ]
 
   module _ (l : List Variable) where
     -- from values that agree, a pattern of these variables has matches that agree

@@ -38,6 +38,8 @@ holds_paired : (l : List Variable) (test : Values Atom → Bool) → ((vs us : V
 unfolding some_holds
 holds_paired l test alike [] [] h = refl
 holds_paired l test alike (vs ∷ m) (us ∷ n) h = ap₂ (λ a b. a || b) (alike vs us h.0) (holds_paired l test alike m n h.1)
+holds_paired l test alike [] (us ∷ n) h = elim h [ ]
+holds_paired l test alike (vs ∷ m) [] h = elim h [ ]
 
 -- what is around depends on the values of its variables alone
 resume_agree : (qs : List (Pattern × Pattern)) (l : List Variable) → ((w : Variable) → occurs w (coming_in qs) ≡ true → occurs w l ≡ true)

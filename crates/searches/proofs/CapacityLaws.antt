@@ -148,6 +148,14 @@ capacity_found back (brackets c p) (brackets d x) vs us coming m k =
     let (ws, i, j) = in_each _ (all_or_first back (found back c d vs)) m in
     capacity_found back p x ws us coming j
     (capacity_found back c d vs ws (variables_in p ++ coming) (in_all_or_first back _ i) (capacity_inside p coming vs c k))
+capacity_found back nothing nothing vs us coming (mathlib.Core.List.Memᴰ.tail x11) c = elim x11 [ ]
+capacity_found back nothing (symbol b x) vs us coming m c = elim m [ ]
+capacity_found back nothing (brackets d x) vs us coming m c = elim m [ ]
+capacity_found back (symbol (literal a) p) nothing vs us coming m c = elim m [ ]
+capacity_found back (symbol (literal a) p) (brackets d x) vs us coming m c = elim m [ ]
+capacity_found back (symbol other p) x vs us coming m c = elim m [ ]
+capacity_found back (brackets c p) nothing vs us coming m k = elim m [ ]
+capacity_found back (brackets c p) (symbol b x) vs us coming m k = elim m [ ]
 
 -- so does the first
 first_member : {X : Type 0} (l : List X) (x : X) → first_in l ≡ some x → Memᴰ x l

@@ -44,6 +44,15 @@ module _ {A : Type 0} (is_symbol is_single : A → Bool) where
   rest_filled term_kind f (symbol a nothing) r k h = rw (k, h)
   rest_filled term_kind f (brackets c nothing) r k h = h
   rest_filled expression_kind f y r k h = end_after f y r (end_whole f r h)
+  rest_filled symbol_kind f nothing r k h = elim k [ ]
+  rest_filled symbol_kind f (symbol a (symbol _ _)) r k h = elim k [ ]
+  rest_filled symbol_kind f (symbol a (brackets _ _)) r k h = elim k [ ]
+  rest_filled symbol_kind f (brackets c _) r k h = elim k [ ]
+  rest_filled term_kind f nothing r k h = elim k [ ]
+  rest_filled term_kind f (symbol a (symbol _ _)) r k h = elim k [ ]
+  rest_filled term_kind f (symbol a (brackets _ _)) r k h = elim k [ ]
+  rest_filled term_kind f (brackets c (symbol _ _)) r k h = elim k [ ]
+  rest_filled term_kind f (brackets c (brackets _ _)) r k h = elim k [ ]
 
 module _ {A : Type 0} (same : A → A → Bool) (of_law : Symbol → A) (is_symbol is_single : A → Bool) (same_refl : (a : Symbol) → same (of_law a) (of_law a) ≡ true) where
   -- what values of the right kinds make of a plain pattern passes the loose test
@@ -55,6 +64,7 @@ module _ {A : Type 0} (same : A → A → Bool) (of_law : Symbol → A) (is_symb
   filled_loosely σ k (symbol (variable v) p) g =
       rest_filled is_symbol is_single v.kind (λ y. loosely same of_law is_symbol is_single p y) (σ v) (filled of_law σ p) (k v) (filled_loosely σ k p g)
   filled_loosely σ k (brackets c p) g = rw (filled_loosely σ k c g.0) (filled_loosely σ k p g.1)
+  filled_loosely σ k (symbol other p) g = elim g [ ]
 
   -- L0: the loose test misses no match, whether or not brackets are gone back into
   pub loose_misses_nothing : (back : Bool) → ((a b : A) → same a b ≡ true → a ≡ b) → (a : A) → is_symbol a ≡ true → is_single a ≡ true

@@ -142,6 +142,15 @@ module _ {A : Type 0} (is_symbol is_single : A → Bool) where
   odd_single term_kind (symbol a nothing) i h = absurd (false_not_true h)
   odd_single term_kind (brackets c nothing) i h = absurd (false_not_true h)
   odd_single expression_kind y i h = refl
+  odd_single symbol_kind nothing i h = elim i [ ]
+  odd_single symbol_kind (symbol a (symbol _ _)) i h = elim i [ ]
+  odd_single symbol_kind (symbol a (brackets _ _)) i h = elim i [ ]
+  odd_single symbol_kind (brackets c _) i h = elim i [ ]
+  odd_single term_kind nothing i h = elim i [ ]
+  odd_single term_kind (symbol a (symbol _ _)) i h = elim i [ ]
+  odd_single term_kind (symbol a (brackets _ _)) i h = elim i [ ]
+  odd_single term_kind (brackets c (symbol _ _)) i h = elim i [ ]
+  odd_single term_kind (brackets c (brackets _ _)) i h = elim i [ ]
 
 module _ {A : Type 0} (of_law : Symbol → A) (σ : Variable → Terms A) where
   odd_filled : (p : Pattern) → Plain p → odd_terms (filled of_law σ p) ≡ differ (odd_terms p) (sum (λ v. not (odd_terms (σ v))) (outside p))
@@ -150,6 +159,7 @@ module _ {A : Type 0} (of_law : Symbol → A) (σ : Variable → Terms A) where
   odd_filled (symbol (literal a) p) g = rw (odd_filled p g) (not_differ (odd_terms p) _)
   odd_filled (symbol (variable v) p) g = odd_joined (σ v) (filled of_law σ p) ∙ rw (odd_filled p g) (differ_both (odd_terms (σ v)) (odd_terms p) _)
   odd_filled (brackets c p) g = rw (odd_filled p g.1) (not_differ (odd_terms p) _)
+  odd_filled (symbol Rattle.matching.specs.Pattern.other p) g = elim g [ ]
 
   module _ (is_symbol is_single : A → Bool) (kinded : Kinded is_symbol is_single σ) where
     even_filled : (p : Pattern) → Plain p → Evenly p → odd_terms (filled of_law σ p) ≡ odd_terms p

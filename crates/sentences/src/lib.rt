@@ -1,5 +1,7 @@
 // Matching within a law: the patterns of its sentences with each other and with the arguments of its calls. The loose test comes first; what it leaves open is
 // searched.
+#![tactic(auto)]
+
 ghost use Rattle.std.specs.Prelude.{◌≡◌, true, ◌≤◌, ◌<◌, length};
 ghost use Rattle.file.specs.Answer.{given};
 ghost use Rattle.file.specs.Sections.{file_of};

@@ -16,13 +16,16 @@ or_cases false b h = inr h
 
 nor_left : (a b : Bool) → T (not (a || b)) → T (not a)
 nor_left false b h = tt
+nor_left true b h = elim h [ ]
 
 nor_right : (a b : Bool) → T (not (a || b)) → T (not b)
 nor_right false b h = h
+nor_right true b h = elim h [ ]
 
 -- no and not no
 twice : (a : Bool) → T (not (not a)) → T a
 twice true h = tt
+twice false h = elim h [ ]
 
 -- shapes that are told apart share no expression
 disjoint_sound : (f g : Shapes) (x : Expression) → T (disjoint_rows f g) → Admits f x → Admits g x → ⊥
@@ -41,6 +44,25 @@ disjoint_sound (group a f) (item b g) (brackets c x) d h k =
     ⊎_elim (λ p. T_not (holds_brackets b) p k.0) (λ p. disjoint_sound f g x p h.1 k.1) (or_cases (not (holds_brackets b)) (disjoint_rows f g) d)
 disjoint_sound (group a f) (group b g) (brackets c x) d h k =
     ⊎_elim (λ p. disjoint_sound a b c p h.0 k.0) (λ p. disjoint_sound f g x p h.1 k.1) (or_cases (disjoint_rows a b) (disjoint_rows f g) d)
+disjoint_sound (end false) (end _) _ d h k = elim d [ ]
+disjoint_sound (end false) (item b g) nothing d h k = elim k [ ]
+disjoint_sound (end false) (item b g) (brackets s x) d h k = elim h [ ]
+disjoint_sound (end false) (group b g) nothing d h k = elim k [ ]
+disjoint_sound (end false) (group b g) (symbol s x) d h k = elim h [ ]
+disjoint_sound (end true) g _ d h k = elim d [ ]
+disjoint_sound (item a f) (end false) nothing d h k = elim h [ ]
+disjoint_sound (item a f) (end false) (brackets s x) d h k = elim k [ ]
+disjoint_sound (item a f) (end true) _ d h k = elim d [ ]
+disjoint_sound (item a f) (item b g) nothing d h k = elim h [ ]
+disjoint_sound (item a f) (group b g) nothing d h k = elim h [ ]
+disjoint_sound (item a f) (group b g) (symbol s x) d h k = elim k [ ]
+disjoint_sound (group a f) (end false) nothing d h k = elim h [ ]
+disjoint_sound (group a f) (end false) (symbol s x) d h k = elim h [ ]
+disjoint_sound (group a f) (end true) _ d h k = elim d [ ]
+disjoint_sound (group a f) (item b g) nothing d h k = elim h [ ]
+disjoint_sound (group a f) (item b g) (symbol s x) d h k = elim h [ ]
+disjoint_sound (group a f) (group b g) nothing d h k = elim h [ ]
+disjoint_sound (group a f) (group b g) (symbol s x) d h k = elim h [ ]
 
 -- shapes that are not told apart share an expression
 disjoint_complete : (f g : Shapes) → T (not (disjoint_rows f g)) → (x : Expression) × Admits f x × Admits g x
@@ -66,6 +88,10 @@ disjoint_complete (group a f) (group b g) n =
     let (c, p, q) = disjoint_complete a b (nor_left (disjoint_rows a b) (disjoint_rows f g) n) in
     let (x, h, k) = disjoint_complete f g (nor_right (disjoint_rows a b) (disjoint_rows f g) n) in
     (brackets c x, (p, h), (q, k))
+disjoint_complete (end false) (item b g) n = elim n [ ]
+disjoint_complete (end false) (group b g) n = elim n [ ]
+disjoint_complete (item a f) (end false) n = elim n [ ]
+disjoint_complete (group a f) (end false) n = elim n [ ]
 
 -- "Disjoint is yes exactly when no expression is in both."
 pub disjoint_exact : (f g : Format) → T (disjoint_formats f g) ↔ ((x : Expression) → FormatAdmits f x → FormatAdmits g x → ⊥)

@@ -8,7 +8,7 @@ use lib.ListN.{length, take, drop, get_or}
 use lib.Dec.{leb}
 use borrow.Author.Tests.{le-leb, lt-leb}
 use Rattle.shapes.specs.Leaf.{leaf_byte, leaf_at}
-use Rattle.shapes.specs.Format.{Shapes, end, of}
+use Rattle.shapes.specs.Format.{Shapes, of}
 use Rattle.shapes.specs.Words.{is_bracket, inside_open, shapes_end, shapes_in, read_format}
 use Rattle.shapes.specs.Code.Words.{row_end}
 use Rattle.buffers.specs.Code.Put.{Put}

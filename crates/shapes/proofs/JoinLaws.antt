@@ -47,6 +47,19 @@ below_sound (item a f) (item b g) (brackets d x) l h = (l.0.1 h.0, below_sound f
 below_sound (group c f) (end true) x l h = tt
 below_sound (group c f) (item b g) (brackets d x) l h = (l.0, below_sound f g x l.1 h.1)
 below_sound (group c f) (group d g) (brackets e x) l h = (below_sound c d e l.0 h.0, below_sound f g x l.1 h.1)
+below_sound (end false) (item b g) x l h = elim l [ ]
+below_sound (end false) (group d g) x l h = elim l [ ]
+below_sound (end true) (end false) x l h = elim l [ ]
+below_sound (end true) (item b g) x l h = elim l [ ]
+below_sound (end true) (group d g) x l h = elim l [ ]
+below_sound (item a f) (end false) x l h = elim l [ ]
+below_sound (item a f) (item b g) nothing l h = elim h [ ]
+below_sound (item a f) (group d g) x l h = elim l [ ]
+below_sound (group c f) (end false) x l h = elim l [ ]
+below_sound (group c f) (item b g) nothing l h = elim h [ ]
+below_sound (group c f) (item b g) (symbol s x) l h = elim h [ ]
+below_sound (group c f) (group d g) nothing l h = elim h [ ]
+below_sound (group c f) (group d g) (symbol s x) l h = elim h [ ]
 
 -- what admits no more is below
 below_complete : (f g : Shapes) → ((x : Expression) → Admits f x → Admits g x) → Below f g
@@ -79,6 +92,16 @@ below_same (end true) (end true) l m = refl
 below_same (end false) (end false) l m = refl
 below_same (item a f) (item b g) l m = cc (leaf_within_same a b l.0 m.0, below_same f g l.1 m.1)
 below_same (group c f) (group d g) l m = cc (below_same c d l.0 m.0, below_same f g l.1 m.1)
+below_same (end false) (end true) l m = elim m [ ]
+below_same (end false) (item b g) l m = elim l [ ]
+below_same (end false) (group d g) l m = elim l [ ]
+below_same (end true) (end false) l m = elim l [ ]
+below_same (end true) (item b g) l m = elim l [ ]
+below_same (end true) (group d g) l m = elim l [ ]
+below_same (item a f) (end _) l m = elim m [ ]
+below_same (item a f) (group d g) l m = elim l [ ]
+below_same (group c f) (end _) l m = elim m [ ]
+below_same (group c f) (item b g) l m = elim m [ ]
 
 -- ---- the join of shapes is over both, and the least such
 
@@ -131,6 +154,26 @@ below_least (group c f) (item b g) (item d h) l m = (unknown_within d l.0, below
 below_least (group c f) (group d g) (end o) l m = l
 below_least (group c f) (group d g) (item b h) l m = (l.0, below_least f g h l.1 m.1)
 below_least (group c f) (group d g) (group e h) l m = (below_least c d e l.0 m.0, below_least f g h l.1 m.1)
+below_least (end false) (end p) (item c h) l m = elim l [ ]
+below_least (end false) (end p) (group e h) l m = elim l [ ]
+below_least (end true) (end p) (end false) l m = elim l [ ]
+below_least (end true) (end p) (item c h) l m = elim l [ ]
+below_least (end true) (end p) (group e h) l m = elim l [ ]
+below_least (end o) (item b g) (end false) l m = elim m [ ]
+below_least (end o) (item b g) (item c h) l m = elim l [ ]
+below_least (end o) (item b g) (group e h) l m = elim l [ ]
+below_least (end o) (group d g) (end false) l m = elim m [ ]
+below_least (end o) (group d g) (item c h) l m = elim l [ ]
+below_least (end o) (group d g) (group e h) l m = elim l [ ]
+below_least (item a f) (end p) (end false) l m = elim l [ ]
+below_least (item a f) (end p) (item c h) l m = elim m [ ]
+below_least (item a f) (end p) (group e h) l m = elim l [ ]
+below_least (item a f) (item b g) (group e h) l m = elim l [ ]
+below_least (item a f) (group d g) (group e h) l m = elim l [ ]
+below_least (group c f) (end p) (end false) l m = elim l [ ]
+below_least (group c f) (end p) (item d h) l m = elim m [ ]
+below_least (group c f) (end p) (group e h) l m = elim m [ ]
+below_least (group c f) (item b g) (group e h) l m = elim m [ ]
 
 -- ---- formats
 
@@ -142,10 +185,13 @@ Within f g = (x : Expression) → FormatAdmits f x → FormatAdmits g x
 pub join_over_left : (f g : Format) (x : Expression) → FormatAdmits f x → FormatAdmits (join_formats f g) x
 join_over_left (of f) never x h = h
 join_over_left (of f) (of g) x h = below_sound f (join_rows f g) x (below_left f g) h
+join_over_left never g x h = elim h [ ]
 
 pub join_over_right : (f g : Format) (x : Expression) → FormatAdmits g x → FormatAdmits (join_formats f g) x
 join_over_right never (of g) x h = h
 join_over_right (of f) (of g) x h = below_sound g (join_rows f g) x (below_right f g) h
+join_over_right never never x h = elim h [ ]
+join_over_right (of f) never x h = elim h [ ]
 
 -- "Join is the least format over both"
 pub join_least : (f g h : Format) → ((x : Expression) → FormatAdmits f x → FormatAdmits h x) → ((x : Expression) → FormatAdmits g x → FormatAdmits h x)

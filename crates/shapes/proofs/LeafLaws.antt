@@ -57,6 +57,10 @@ leaf_within_unknown a = (λ x h. tt, λ h. tt)
 -- a shape that holds a bracket holds everything
 pub unknown_within : (c : Leaf) → T (holds_brackets c) → LeafWithin unknown c
 unknown_within unknown h = leaf_within_itself unknown
+unknown_within character h = elim h [ ]
+unknown_within number h = elim h [ ]
+unknown_within identifier h = elim h [ ]
+unknown_within any_symbol h = elim h [ ]
 
 -- tests that imply each other are the same
 test_same : (a b : Bool) → (T a → T b) → (T b → T a) → a ≡ b
@@ -92,6 +96,7 @@ within_any character h = (λ x k. tt, λ k. k)
 within_any number h = (λ x k. tt, λ k. k)
 within_any identifier h = (λ x k. tt, λ k. k)
 within_any any_symbol h = (λ x k. tt, λ k. k)
+within_any unknown h = elim h [ ]
 
 -- the join is over both shapes
 pub join_leaf_left : (a b : Leaf) → LeafWithin a (join_leaves a b)
@@ -144,14 +149,23 @@ join_leaf_right unknown b = leaf_within_unknown b
 any_character_number : (c : Leaf) → T (holds_symbol c some_character) → T (holds_symbol c some_number) → LeafWithin any_symbol c
 any_character_number any_symbol h k = leaf_within_itself any_symbol
 any_character_number unknown h k = leaf_within_unknown any_symbol
+any_character_number character h k = elim k [ ]
+any_character_number number h k = elim h [ ]
+any_character_number identifier h k = elim h [ ]
 
 any_character_identifier : (c : Leaf) → T (holds_symbol c some_character) → T (holds_symbol c some_identifier) → LeafWithin any_symbol c
 any_character_identifier any_symbol h k = leaf_within_itself any_symbol
 any_character_identifier unknown h k = leaf_within_unknown any_symbol
+any_character_identifier character h k = elim k [ ]
+any_character_identifier number h k = elim h [ ]
+any_character_identifier identifier h k = elim h [ ]
 
 any_number_identifier : (c : Leaf) → T (holds_symbol c some_number) → T (holds_symbol c some_identifier) → LeafWithin any_symbol c
 any_number_identifier any_symbol h k = leaf_within_itself any_symbol
 any_number_identifier unknown h k = leaf_within_unknown any_symbol
+any_number_identifier character h k = elim h [ ]
+any_number_identifier number h k = elim k [ ]
+any_number_identifier identifier h k = elim h [ ]
 
 -- and is the least such
 pub join_leaf_least : (a b c : Leaf) → LeafWithin a c → LeafWithin b c → LeafWithin (join_leaves a b) c
@@ -187,12 +201,37 @@ apart_symbol number character (expressions.Literal.number v) p h k = k
 apart_symbol number identifier (expressions.Literal.number v) p h k = k
 apart_symbol identifier character (expressions.Literal.identifier v) p h k = k
 apart_symbol identifier number (expressions.Literal.identifier v) p h k = k
+apart_symbol character character _ p h k = elim p [ ]
+apart_symbol character number (expressions.identifier v) p h k = elim h [ ]
+apart_symbol character number (expressions.number v) p h k = elim h [ ]
+apart_symbol character identifier (expressions.identifier v) p h k = elim h [ ]
+apart_symbol character identifier (expressions.number v) p h k = elim h [ ]
+apart_symbol character any_symbol _ p h k = elim p [ ]
+apart_symbol character unknown _ p h k = elim p [ ]
+apart_symbol number character (expressions.character v) p h k = elim h [ ]
+apart_symbol number character (expressions.identifier v) p h k = elim h [ ]
+apart_symbol number number _ p h k = elim p [ ]
+apart_symbol number identifier (expressions.character v) p h k = elim h [ ]
+apart_symbol number identifier (expressions.identifier v) p h k = elim h [ ]
+apart_symbol number any_symbol _ p h k = elim p [ ]
+apart_symbol number unknown _ p h k = elim p [ ]
+apart_symbol identifier character (expressions.character v) p h k = elim h [ ]
+apart_symbol identifier character (expressions.number v) p h k = elim h [ ]
+apart_symbol identifier number (expressions.character v) p h k = elim h [ ]
+apart_symbol identifier number (expressions.number v) p h k = elim h [ ]
+apart_symbol identifier identifier _ p h k = elim p [ ]
+apart_symbol identifier any_symbol _ p h k = elim p [ ]
+apart_symbol identifier unknown _ p h k = elim p [ ]
+apart_symbol any_symbol b _ p h k = elim p [ ]
+apart_symbol unknown b _ p h k = elim p [ ]
 
 -- and no bracket
 pub apart_brackets : (a b : Leaf) → T (leaves_apart a b) → T (holds_brackets a) → ⊥
 apart_brackets character b p h = h
 apart_brackets number b p h = h
 apart_brackets identifier b p h = h
+apart_brackets any_symbol b p h = elim p [ ]
+apart_brackets unknown b p h = elim p [ ]
 
 -- shapes that are not apart share a symbol
 pub shared_symbol : (a b : Leaf) → T (not (leaves_apart a b)) → (x : Literal) × T (holds_symbol a x) × T (holds_symbol b x)
@@ -207,6 +246,12 @@ shared_symbol identifier any_symbol p = (some_identifier, tt, tt)
 shared_symbol identifier unknown p = (some_identifier, tt, tt)
 shared_symbol any_symbol b p = (some_literal b, tt, some_literal_held b)
 shared_symbol unknown b p = (some_literal b, tt, some_literal_held b)
+shared_symbol character number p = elim p [ ]
+shared_symbol character identifier p = elim p [ ]
+shared_symbol number character p = elim p [ ]
+shared_symbol number identifier p = elim p [ ]
+shared_symbol identifier character p = elim p [ ]
+shared_symbol identifier number p = elim p [ ]
 
 -- ---- equality
 
@@ -217,6 +262,26 @@ leaf_same_equal number number h = refl
 leaf_same_equal identifier identifier h = refl
 leaf_same_equal any_symbol any_symbol h = refl
 leaf_same_equal unknown unknown h = refl
+leaf_same_equal character number h = elim h [ ]
+leaf_same_equal character identifier h = elim h [ ]
+leaf_same_equal character any_symbol h = elim h [ ]
+leaf_same_equal character unknown h = elim h [ ]
+leaf_same_equal number character h = elim h [ ]
+leaf_same_equal number identifier h = elim h [ ]
+leaf_same_equal number any_symbol h = elim h [ ]
+leaf_same_equal number unknown h = elim h [ ]
+leaf_same_equal identifier character h = elim h [ ]
+leaf_same_equal identifier number h = elim h [ ]
+leaf_same_equal identifier any_symbol h = elim h [ ]
+leaf_same_equal identifier unknown h = elim h [ ]
+leaf_same_equal any_symbol character h = elim h [ ]
+leaf_same_equal any_symbol number h = elim h [ ]
+leaf_same_equal any_symbol identifier h = elim h [ ]
+leaf_same_equal any_symbol unknown h = elim h [ ]
+leaf_same_equal unknown character h = elim h [ ]
+leaf_same_equal unknown number h = elim h [ ]
+leaf_same_equal unknown identifier h = elim h [ ]
+leaf_same_equal unknown any_symbol h = elim h [ ]
 
 -- a shape is the same as itself
 pub leaf_same_itself : (b : Leaf) → same_leaf b b ≡ true

@@ -10,6 +10,7 @@ use Rattle.shapes.proofs.LeafLaws.{leaf_same_equal, leaf_same_itself}
 
 both : (a b : Bool) → T (a && b) → T a × T b
 both true b h = (tt, h)
+both false b h = elim h [ ]
 
 -- shapes that pass the test are equal
 shapes_equal : (f g : Shapes) → T (same_shapes f g) → f ≡ g
@@ -22,6 +23,16 @@ shapes_equal (item a f) (item b g) h =
 shapes_equal (group c f) (group d g) h =
     let (p, q) = both (same_shapes c d) (same_shapes f g) h in
     cc (shapes_equal c d p, shapes_equal f g q)
+shapes_equal (end false) (end true) h = elim h [ ]
+shapes_equal (end false) (item b g) h = elim h [ ]
+shapes_equal (end false) (group d g) h = elim h [ ]
+shapes_equal (end true) (end false) h = elim h [ ]
+shapes_equal (end true) (item b g) h = elim h [ ]
+shapes_equal (end true) (group d g) h = elim h [ ]
+shapes_equal (item a f) (end _) h = elim h [ ]
+shapes_equal (item a f) (group d g) h = elim h [ ]
+shapes_equal (group c f) (end _) h = elim h [ ]
+shapes_equal (group c f) (item b g) h = elim h [ ]
 
 -- shapes pass the test with themselves
 shapes_itself : (f : Shapes) → same_shapes f f ≡ true
@@ -38,6 +49,8 @@ same_equal f g h = go f g (rw h tt)
     go : (f g : Format) → T (same_format f g) → f ≡ g
     go never never h = refl
     go (of f) (of g) h = ap of (shapes_equal f g h)
+    go never (of g) h = elim h [ ]
+    go (of f) never h = elim h [ ]
 
 -- a format is the same as itself
 pub same_itself : (f : Format) → same_format f f ≡ true

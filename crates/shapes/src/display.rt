@@ -48,7 +48,7 @@ fn show_shape(s: &[u32], out: &mut [u8], at: usize) -> usize
 fn show_row(s: &[u32], is_open: bool, first: bool, out: &mut [u8], at: usize) -> usize
     requires { at + 8 * length s.now + 3 ≤ largest }
     ensures { (result ≤ at + 8 * length s.now + 3)
-        × Put out.old at (shown first (shapes_in is_open_lem s.now)) result out.new }
+        × Put out.old at (shown first (shapes_in is_open s.now)) result out.new }
 {
     if s.len() < 1 {
         if is_open {

@@ -1,4 +1,6 @@
 // Formats as flat words: a header and its shapes, depth first.
+#![tactic(auto)]
+
 ghost use Rattle.std.specs.Prelude.{◌≡◌, true, false, cond, ◌+◌, ◌%◌, ◌≤◌, ◌<◌, length, take, drop, get_or, leb};
 ghost use Rattle.shapes.specs.Format.{end, size};
 ghost use Rattle.shapes.specs.Join.{join_rows, join_formats};
@@ -58,7 +60,7 @@ fn end_of(s: &[u32]) -> usize
 // The word of a bracket with so many shapes inside it.
 fn bracket_word(n: usize, is_open: bool) -> u32
     requires { n ≤ 127 }
-    ensures { result ≡ bracket_word n is_open_lem }
+    ensures { result ≡ bracket_word n is_open }
 {
     if is_open {
         5 + 8 * (n as u32) + 1024
@@ -70,7 +72,7 @@ fn bracket_word(n: usize, is_open: bool) -> u32
 // The header of a format with so many shapes.
 pub fn header_word(n: usize, is_open: bool) -> u32
     requires { n ≤ 127 }
-    ensures { result ≡ n + cond is_open_lem 256 0 }
+    ensures { result ≡ n + cond is_open 256 0 }
 {
     if is_open { (n as u32) + 256 } else { n as u32 }
 }

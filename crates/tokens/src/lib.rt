@@ -1,4 +1,6 @@
 // The tokens of a law typed as text.
+#![tactic(auto)]
+
 ghost use Rattle.std.specs.Prelude.{◌≤◌, ◌≡◌, length};
 ghost use Rattle.tokens.specs.Code.Arrays.{Long, LexedAs};
 

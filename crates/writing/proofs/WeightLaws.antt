@@ -9,7 +9,7 @@ use lib.Seq.{take-take, take_at, drop-drop}
 use lib.Dec.{ltb, eqb}
 use borrow.Author.Tests.{ne_eqb, lt-ltb, le-ltb}
 use Rattle.law.specs.Tree.{symbol_kind, term_kind, expression_kind}
-use Rattle.tokens.specs.Token.{characters_bytes, Sign, left_brace, right_brace, left_bracket, right_bracket, left_angle, right_angle, comma, colon, equals}
+use Rattle.tokens.specs.Token.{utf8, characters_bytes, Sign, left_brace, right_brace, left_bracket, right_bracket, left_angle, right_angle, comma, colon, equals}
 use Rattle.tokens.specs.Token.{semicolon, dollar_entry, dollar_extern, identifier, number, variable, quoted, Token, sign, atom, token_bytes, Placed}
 use Rattle.tokens.specs.Code.TokenKind.{sign_kind, token_kind}
 use Rattle.encoding.specs.Encode.{character_records}
@@ -34,7 +34,7 @@ by_kind k n = cond (eqb k 6) n (cond (ltb k 6) 1 0)
 characters_length : (at : ℕ) (cs : List ℕ) → length (character_records at cs) ≡ length cs
 unfolding character_records
 characters_length at [] = refl
-characters_length at (c ∷ cs) = ap suc (characters_length _ cs)
+characters_length at (c ∷ cs) = ap suc (characters_length (at + length (utf8 c)) cs)
 
 -- signs have other kinds than atoms
 pub sign_over : (g : Sign) → 6 < sign_kind g

@@ -2,6 +2,8 @@
 //
 // Bytes are put as far as there is room, and the position after them is given in any case: a section's number of records is known from
 // where its records end, and a file that is too large from where it ends.
+#![tactic(auto)]
+
 mod arrays;
 mod atoms;
 mod brackets;

@@ -1,12 +1,11 @@
 -- The invariant: so many first bytes of the piece were put.
 use Prim.Native.Nat.{◌+◌, ◌-◌, ◌≤◌}
-use mathlib.Core.Logic.{⊎_elim}
 use native.Mathlib.Omega.{arith}
 use native.Mathlib.Nat.{add-zero}
 use lib.ListN.{length, take}
-use borrow.Author.Tests.{ltb-true, ltb-false}
 use Rattle.buffers.specs.Code.Put.{Put}
 use Rattle.buffers.proofs.PutLaws.{put_none, put_length, put_next, put_all, put_full}
+use Rattle.buffers.proofs.put.Lts.{then-loop-i-test+else-at-i, else-loop-i-test}
 use Rattle.buffers.proofs.put.Statement.{statement}
 use Rattle.buffers.proofs.put.Tie as tie
 
@@ -26,19 +25,19 @@ put_spec =
     (λ c. omega arith)
     (λ c. omega arith)
     (λ c. omega arith)
-    (λ c. ltb-true _ _ c.if-at-i.true)
+    (λ c. c.if-at-i.true)
     (λ c. omega arith)
     (λ c. omega arith)
     (λ c.
     let x = c.args in
     let now = c.loop-i in
-    (omega arith, put_next x.out.now x.piece.now x.at now.i now.invariant.1 (omega arith) (ltb-true _ _ c.if-at-i.true)))
+    (omega arith, put_next x.out.now x.piece.now x.at now.i now.invariant.1 (omega arith) c.if-at-i.true))
     (λ c. omega arith)
     (λ c. put_length c.loop-i.invariant.1)
     (λ c.
     let x = c.args in
     let now = c.loop-i in
-    ⊎_elim
-    (λ w. put_full x.out.now x.piece.now x.at now.i now.invariant.1 now.invariant.0 (ltb-false _ _ w.1.left))
-    (λ w. put_all x.out.now x.piece.now x.at now.i now.invariant.1 w.left)
-    c.loop-i-test.branch))
+    elim c.loop-i-test.branch [
+      | then-loop-i-test+else-at-i w ↦ put_full x.out.now x.piece.now x.at now.i now.invariant.1 now.invariant.0 w.if-at-i.false
+      | else-loop-i-test w ↦ put_all x.out.now x.piece.now x.at now.i now.invariant.1 w.loop-i-test.false
+    ]))

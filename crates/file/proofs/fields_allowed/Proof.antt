@@ -1,7 +1,6 @@
 -- Every part lies inside the file, whose length follows from its counts.
 use native.Mathlib.Omega.{arith}
 use mathlib.Core.Path.{sym, ◌∙◌}
-use borrow.Author.Tests.{not-true, not-false}
 use Rattle.file.proofs.Below.{first_fails_lem}
 use Rattle.file.proofs.Parts.{counts_known, fields_parts}
 use borrow.Author.Rules.{rules}
@@ -79,5 +78,5 @@ fields_allowed_spec =
     let start = c.before.before.before.before.before.before.before.before.before.before.before.before.before in
     let the_functions_allowed = c.functions_allowed in
     let the_if1 = c.if-not-functions_allowed in
-    c.terms_allowed.ensures ∙ sym (rw (sym the_functions_allowed.ensures ∙ not-false _ the_if1.false) at
+    c.terms_allowed.ensures ∙ sym (rw (sym the_functions_allowed.ensures ∙ the_if1.false) at
     (fields_parts start.args.law.now start.args.sections start.requires.1))))

@@ -1,6 +1,6 @@
 -- `inside` decides whether there is a part to look at; then one law for each return (proofs/Fields.antt).
 use borrow.Author.Rules.{rules}
-use borrow.Author.Tests.{leb-true, not-true, not-false}
+use borrow.Author.Tests.{leb-true}
 use mathlib.Core.Path.{sym, ◌∙◌}
 use Rattle.names.specs.Name.{name_allowed}
 use Rattle.file.proofs.Fields.{spelled_past, spelled_named, spelled_test}
@@ -25,5 +25,5 @@ spelled_name_spec =
     let TheInside = c.inside in
     let the_if1 = c.if-not-inside in
     let s = c.args in
-    let fits = sym TheInside.ensures ∙ not-false _ the_if1.false in
+    let fits = sym TheInside.ensures ∙ the_if1.false in
     c.is_name.ensures ∙ spelled_test name_allowed s.text.now _ s.start s.len fits c.name_in.ensures))

@@ -1,6 +1,6 @@
 -- `inside` decides whether there is a part to look at; then one law for each return (proofs/Fields.antt).
 use borrow.Author.Rules.{rules}
-use borrow.Author.Tests.{leb-true, not-true, not-false}
+use borrow.Author.Tests.{leb-true}
 use mathlib.Core.Path.{sym, ◌∙◌}
 use Rattle.names.specs.Name.{number_allowed}
 use Rattle.file.proofs.Fields.{spelled_past, spelled_test}

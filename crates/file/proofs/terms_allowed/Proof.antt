@@ -4,7 +4,6 @@ use mathlib.Core.Bool.{true}
 use mathlib.Core.Path.{◌≡◌, sym, ◌∙◌}
 use native.Mathlib.Omega.{arith}
 use borrow.Author.Rules.{rules}
-use borrow.Author.Tests.{not-true, not-false}
 use Rattle.file.specs.Below.{every}
 use Rattle.file.specs.Fields.{term_fields_at}
 use Rattle.file.proofs.Below.{every_none, every_next, every_fails}

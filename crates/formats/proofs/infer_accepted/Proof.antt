@@ -17,11 +17,9 @@ infer_accepted_spec =
     (λ c. search rules)
     (λ c. search rules)
     (λ c. let the_if1 = c.if-store-lt-STORE in
-    let start = c.before.before.before.before.before.before.before.before.before.before.before in
     let inferred = c.infer_store in
-    outcome_over 64 _ start.args.store.now _ the_if1.false inferred.result inferred.ensures c.enum_told-1.given.1)
+    outcome_over 64 _ c.args.store.now _ the_if1.false inferred.result inferred.ensures c.in-TooWide.is)
     (λ c. search rules)
     (λ c. let the_if1 = c.if-store-lt-STORE in
-    let start = c.before.before.before.before.before.before.before.before.before.before.before.before in
     let inferred = c.infer_store in
-    outcome_formed 64 _ start.args.store.now _ the_if1.false inferred.result inferred.ensures _ _ c.rounds-1.given.1))
+    outcome_formed 64 _ c.args.store.now _ the_if1.false inferred.result inferred.ensures _ _ c.in-Ran.is))

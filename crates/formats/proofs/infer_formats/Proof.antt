@@ -12,18 +12,14 @@ infer_formats_spec =
     (λ c. search rules)
     (λ c. search rules)
     (λ c κs.
-    let the_enum_told = c.enum_told-1 in
-    let start = c.before.before.before.before.before.before.before.before in
     let read = c.read_law in
-    call_accepted start.args.law.now _ _ the_enum_told.given.1 read.ensures.0 read.ensures.1)
+    call_accepted c.args.law.now _ _ c.in-Accepted.is read.ensures.0 read.ensures.1)
     (λ c.
-    let start = c.before.before.before.before.before.before.before in
     let read = c.read_law in
-    outcome_refused 64 start.args.law.now _ _ read.result c.why-1.given.1 read.ensures.0)
+    outcome_refused 64 c.args.law.now _ _ read.result c.in-Refused.is read.ensures.0)
     (λ c. search rules)
-    (λ c. let the_enum_told = c.enum_told-1 in
-    let start = c.before.before.before.before.before.before.before.before.before.before.before in
+    (λ c.
     let read = c.read_law in
     let inferred = c.infer_accepted in
-    outcome_accepted 64 start.args.law.now start.args.store.now _ read.result the_enum_told.given.1 read.ensures.0
+    outcome_accepted 64 c.args.law.now c.args.store.now _ read.result c.in-Accepted.is read.ensures.0
     inferred.result inferred.ensures))

@@ -13,13 +13,6 @@ invariant_loop kinds stack₀ depth₀ mode₀ i₀ stack depth mode i = Left ki
 abbrev decreases_loop : tie.decreases-loop-i
 decreases_loop kinds stack₀ depth₀ mode₀ i₀ stack depth mode i = length kinds - i
 
--- the loop, from where a kind's move is known; where it was known, from where the move is done
-abbrev the_loop : tie.After-move_of-m invariant_loop decreases_loop → tie.At-loop-i invariant_loop decreases_loop
-the_loop c = c.before.before.before
-
-abbrev moved : tie.After-perform-step invariant_loop decreases_loop → tie.After-move_of-m invariant_loop decreases_loop
-moved c = c.before.before
-
 pub accepts_spec : {M : Type 1} → statement M
 accepts_spec =
     tie.close
@@ -29,17 +22,13 @@ accepts_spec =
     (λ c. left_start c.args.kinds.now c.args.stack.now c.requires.1)
     (λ c. omega arith)
     (λ c κs. search rules)
-    (λ c κs. let inv = (the_loop c.before).loop.inv in (omega (arith, inv.low), inv.long))
+    (λ c κs. let inv = c.loop-i.invariant in (omega (arith, inv.low), inv.long))
     (λ c. search rules)
-    (λ c.
-    let performed = c.before.before in
-    left_refused (the_loop (moved performed)).loop.inv (omega arith) (moved performed).move_of-m.ensures performed.perform-step.ensures.1 c.enum_told-1.given.1)
+    (λ c. left_refused c.loop-i.invariant (omega arith) c.move_of-m.ensures c.perform-step.ensures.1 c.in-Refused.is)
     (λ c. search rules)
     (λ c. omega arith)
     (λ c. omega arith)
-    (λ c.
-    let performed = c.before.before.before in
-    left_next (the_loop (moved performed)).loop.inv (omega arith) performed.perform-step.ensures.0 (moved performed).move_of-m.ensures performed.perform-step.ensures.1 c.step-1.given.1)
+    (λ c. left_next c.loop-i.invariant (omega arith) c.perform-step.ensures.0 c.move_of-m.ensures c.perform-step.ensures.1 c.in-On.is)
     (λ c. left_open c.loop-i.invariant c.loop-i-test.false c.if-depth-ne0.true)
     (λ c κs. search rules)
     (λ c.

@@ -14,26 +14,17 @@ perform_spec =
     (λ c. search rules)
     (λ c. search rules)
     (λ c. search rules)
-    (λ c.
-    let the_m2 = c.m-in-Leave-1 in
-    let start = c.before.before.before.before in (start.requires.1, done_inside start.args.stack.now the_m2.given.1 c.if-depth-ne0.true))
+    (λ c. (c.requires.1, done_inside c.args.stack.now c.in-Leave.is c.if-depth-ne0.true))
     (λ c. search rules)
     (λ c. search rules)
     (λ c. search rules)
     (λ c. search rules)
     (λ c κs. search rules)
-    (λ c. let start = c.before.before in (start.requires.1, done_refuse start.args.stack.now c.enum_told-1.given.1))
-    (λ c. let start = c.before.before.before in (start.requires.1, done_stay start.args.stack.now c.m-1.given.1))
-    (λ c.
-    let the_m2 = c.m-in-Leave-1 in
-    let start = c.before.before.before.before in (start.requires.1, done_leave start.args.stack.now the_m2.given.1 c.if-depth-ne0.false))
-    (λ c.
-    let the_m3 = c.m-in-Open-1 in
-    let start = c.before.before.before in (
-      length-set start.args.stack.now start.args.depth the_m3.given.0.0 ∙ start.requires.1,
-      done_open start.args.stack.now c.m-in-Open-1.given.1 (omega (arith, start.requires.1)),
+    (λ c. (c.requires.1, done_refuse c.args.stack.now c.in-Refuse.is))
+    (λ c. (c.requires.1, done_stay c.args.stack.now c.in-Stay.is))
+    (λ c. (c.requires.1, done_leave c.args.stack.now c.in-Leave.is c.if-depth-ne0.false))
+    (λ c. (
+      length-set c.args.stack.now c.args.depth c.in-Open.o ∙ c.requires.1,
+      done_open c.args.stack.now c.in-Open.is (omega (arith, c.requires.1)),
     ))
-    (λ c.
-    let known = c.before.before.before in
-    let start = known.before.before in
-    (start.requires.1, done_close start.args.stack.now known.m-in-Close-1.given.1 c.close.ensures)))
+    (λ c. (c.requires.1, done_close c.args.stack.now c.in-Close.is c.close.ensures)))

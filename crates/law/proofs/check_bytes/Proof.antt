@@ -13,15 +13,14 @@ check_bytes_spec =
     (λ c. search rules)
     (λ c. search rules)
     (λ c κs.
-    let the_sections = c.sections-1 in
-    let start = c.before.before.before.before.before.before in
+    let start = c in
     let the_sections_of = c.sections_of in
-    let cut = cut_whole start.args.law.now _ _ the_sections_of.ensures the_sections.given.1 in
+    let cut = cut_whole start.args.law.now _ _ the_sections_of.ensures c.in-Whole.is in
     (cut.file, cut.counts, start.requires))
     (λ c.
-    let start = c.before.before.before.before.before in
+    let start = c in
     let the_sections_of = c.sections_of in
     let law = start.args.law.now in
-    let refused = cut_refused law _ _ the_sections_of.ensures c.why-1.given.1 in
+    let refused = cut_refused law _ _ the_sections_of.ensures c.in-Refused.is in
     verdict.refused_filled law _ _ (verdict.sections_refused law _ refused))
     (λ c. search rules))

@@ -2,7 +2,6 @@
 use mathlib.Core.Path.{◌≡◌, sym, ◌∙◌}
 use mathlib.Core.Bool.{true}
 use lib.Dec.{leb}
-use borrow.Author.Tests.{not-true, not-false}
 use Rattle.file.proofs.SectionLaws.{sections_records}
 use Rattle.file.specs.Sections.{file_of}
 use Rattle.law.specs.Runs.{runs_allowed, blocks_allowed}
@@ -28,7 +27,7 @@ runs_told : (c : tie.Else-not-runs_fit) → runs_allowed (file_of (from_runs c).
 runs_told c =
     let start = from_runs c in
     verdict.runs_all start.args.law.now start.requires.0.sections start.requires.1 start.requires.0.used
-    (sym c.Runs-Fit.ensures ∙ c.if-not-runs_fit.false)
+    (sym c.runs_fit.ensures ∙ c.if-not-runs_fit.false)
 
 blocks_told : (c : tie.Else-not-blocks_allowed) → blocks_allowed (file_of (from_runs (from_blocks c)).args.law.now) ≡ true
 blocks_told c = sym c.blocks_allowed.ensures ∙ c.if-not-blocks_allowed.false
@@ -43,7 +42,7 @@ check_placed_spec =
     (λ c κs. search rules)
     (λ c.
     let start = c.before.before.before in
-    let unfit = sym c.Runs-Fit.ensures ∙ c.if-not-runs_fit.true in
+    let unfit = sym c.runs_fit.ensures ∙ c.if-not-runs_fit.true in
     sym (verdict.runs_refused start.args.law.now start.requires.0.sections start.requires.1 start.requires.0.used unfit))
     (λ c κs. search rules)
     (λ c.

@@ -13,11 +13,10 @@ read_law_spec =
     (λ c. search rules)
     (λ c. search rules)
     (λ c.
-    let start = c.before.before.before.before.before in
+    let start = c in
     let the_check_bytes = c.check_bytes-check in
-    verdict.accepted_checked start.args.law.now _ _ c.enum_told-1.given.1 the_check_bytes.ensures.1 the_check_bytes.ensures.0)
+    verdict.accepted_checked start.args.law.now _ _ c.in-Accepted.is the_check_bytes.ensures.1 the_check_bytes.ensures.0)
     (λ c.
-    let the_check = c.check-1 in
-    let start = c.before.before.before.before.before.before.before in
+    let start = c in
     let the_check_bytes = c.check_bytes-check in
-    (verdict.refused_checked start.args.law.now _ _ the_check.given.1 the_check_bytes.ensures.0, refl)))
+    (verdict.refused_checked start.args.law.now _ _ c.in-Refused.is the_check_bytes.ensures.0, refl)))

@@ -2,7 +2,6 @@
 use borrow.Author.Rules.{rules}
 use native.Mathlib.Omega.{arith}
 use Prim.Native.Nat.{◌-◌}
-use borrow.Author.Tests.{not-true, not-false}
 use lib.ListN.{length}
 use Rattle.names.specs.Name.{digit_byte}
 use Rattle.names.proofs.Laws.{allowed, allowed_length, PassedTo, passed_allowed, passed_next, passed_fails, passed_end}

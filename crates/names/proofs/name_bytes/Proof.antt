@@ -2,7 +2,6 @@
 use borrow.Author.Rules.{rules}
 use native.Mathlib.Omega.{arith}
 use Prim.Native.Nat.{◌-◌}
-use borrow.Author.Tests.{not-true, not-false}
 use lib.ListN.{length}
 use Rattle.names.specs.Name.{name_byte, every_byte}
 use Rattle.names.proofs.Laws.{PassedTo, passed_none, passed_next, passed_fails, passed_end}

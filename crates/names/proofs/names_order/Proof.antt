@@ -40,7 +40,8 @@ names_order_spec =
     (λ c.
     let inv = c.loop-i.invariant in
     elim c.if-a-i.branch [
-      then-a-i+else-x-y+else-y-x w ↦ order_next inv (omega arith) (omega arith) w.fold_byte-x.ensures w.fold_byte-y.ensures w.if-x-y.false w.if-y-x.false
-    | else-a-i w ↦ order_alike inv (omega arith) (omega arith) w.if-a-i.false ])
+      | then-a-i+else-x-y+else-y-x w ↦ order_next inv (omega arith) (omega arith) w.fold_byte-x.ensures w.fold_byte-y.ensures w.if-x-y.false w.if-y-x.false
+      | else-a-i w ↦ order_alike inv (omega arith) (omega arith) w.if-a-i.false
+    ])
     (λ c. order_shorter c.loop-i.invariant c.loop-i-test.false c.if-i-b.true)
     (λ c. order_end c.loop-i.invariant c.loop-i-test.false c.if-i-b.false))

@@ -3,7 +3,6 @@ use Prim.Native.Nat.{◌-◌}
 use native.Mathlib.Omega.{arith}
 use lib.ListN.{length}
 use borrow.Author.Rules.{rules}
-use borrow.Author.Tests.{ltb-false}
 use Rattle.numbers.proofs.LoopLaws.{StateFrom, state_start, state_next, state_past, state_end}
 use Rattle.numbers.proofs.capped_value.Statement.{statement}
 use Rattle.numbers.proofs.capped_value.Tie as tie
@@ -28,5 +27,5 @@ capped_value_spec =
     (λ c.
     let the_loop = c.loop-i in
     state_next the_loop.invariant (omega arith) c.with_digit-state.ensures)
-    (λ c. state_past c.loop-i.invariant (ltb-false _ _ c.if-state-lt4294967296.false))
+    (λ c. state_past c.loop-i.invariant c.if-state-lt4294967296.false)
     (λ c. state_end c.loop-i.invariant (omega arith)))

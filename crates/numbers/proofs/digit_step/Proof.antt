@@ -2,7 +2,6 @@
 use mathlib.Core.Path.{sym, ◌∙◌}
 use native.Mathlib.Omega.{arith}
 use borrow.Author.Rules.{rules}
-use borrow.Author.Tests.{not-true, not-false}
 use Rattle.numbers.proofs.StepLaws.{step_none, step_digit}
 use Rattle.numbers.proofs.digit_step.Statement.{statement}
 use Rattle.numbers.proofs.digit_step.Tie as tie

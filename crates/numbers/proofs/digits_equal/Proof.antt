@@ -20,18 +20,15 @@ digits_equal_spec =
     decreases_loop
     (λ c. (omega arith, agree_end c.args.a.now c.args.b.now))
     (λ c. omega arith)
-    (λ c. let at-loop = c.before.before in omega (arith, at-loop.loop.invariant.0))
-    (λ c. let at-loop = c.before.before.before in omega (arith, at-loop.loop.invariant.0, at-loop.requires))
+    (λ c. omega (arith, c.loop-i.invariant.0))
+    (λ c. omega (arith, c.loop-i.invariant.0, c.requires))
     (λ c.
-    let at-loop = c.before.before.before.before in
-    let start = at-loop.args in
+    let start = c.args in
     digits_differ start.a.now start.b.now _ c.if-a-i.true)
     (λ c. omega arith)
     (λ c.
-    let at-loop = c.before.before.before.before in
-    let start = at-loop.args in
-    (omega (arith, at-loop.loop.invariant.0), agree_before start.a.now start.b.now at-loop.loop.invariant.1 c.loop-i-test.true c.if-a-i.false))
+    let start = c.args in
+    (omega (arith, c.loop-i.invariant.0), agree_before start.a.now start.b.now c.loop-i.invariant.1 c.loop-i-test.true c.if-a-i.false))
     (λ c.
-    let at-loop = c.before in
-    let start = at-loop.before in
-    digits_agree start.args.a.now start.args.b.now start.requires at-loop.loop.invariant.1 (omega (arith, c.loop-i-test.false))))
+    let start = c.args in
+    digits_agree start.a.now start.b.now c.requires c.loop-i.invariant.1 (omega (arith, c.loop-i-test.false))))

@@ -12,7 +12,7 @@ numbers_equal_spec =
     (tie.spec
     (λ c κs. search rules)
     (λ c.
-    let start = c.before.before.before.before in
+    let start = c in
     c.digits_equal.ensures ∙ sym (same_length start.args.a.now start.args.b.now c.if-a-b.true))
     (λ c κs. search rules) (λ c. c.padded_equal.ensures ∙ same_flip _ _)
     (λ c κs. search rules) (λ c. search rules))

@@ -11,28 +11,15 @@ unfolding bytes_of left
 put_lint_spec =
     tie.close
     (tie.spec
-    (λ c. search rules)
     (λ c κs. search rules)
     (λ c. search rules)
-    (λ c.
-    let here = c.before.before.before.before.before in
-    rw here.if-lint-eq1.true c.put.ensures)
-    (λ c. search rules)
+    (λ c. rw c.if-lint-eq1.true c.put.ensures)
     (λ c κs. search rules)
     (λ c. search rules)
-    (λ c.
-    let here = c.before.before.before.before.before in
-    rw here.if-lint-eq2.true c.put-then-lint-eq2.ensures)
-    (λ c. search rules)
+    (λ c. rw c.if-lint-eq2.true c.put-then-lint-eq2.ensures)
     (λ c κs. search rules)
     (λ c. search rules)
-    (λ c.
-    let here = c.before.before.before.before.before in
-    rw here.if-lint-eq3.true c.put-then-lint-eq3.ensures)
-    (λ c. search rules)
+    (λ c. rw c.if-lint-eq3.true c.put-then-lint-eq3.ensures)
     (λ c κs. search rules)
     (λ c. search rules)
-    (λ c.
-    let here = c.before.before.before.before.before in
-    let args = here.args in
-    rw (other_lint args.lint here.if-lint-eq1.false here.if-lint-eq2.false here.if-lint-eq3.false) c.put-2.ensures))
+    (λ c. rw (other_lint c.args.lint c.if-lint-eq1.false c.if-lint-eq2.false c.if-lint-eq3.false) c.put-2.ensures))

@@ -11,28 +11,15 @@ unfolding bytes_of left
 put_severity_spec =
     tie.close
     (tie.spec
-    (λ c. search rules)
     (λ c κs. search rules)
     (λ c. search rules)
-    (λ c.
-    let here = c.before.before.before.before.before in
-    rw here.if-severity-eq0.true c.put.ensures)
-    (λ c. search rules)
+    (λ c. rw c.if-severity-eq0.true c.put.ensures)
     (λ c κs. search rules)
     (λ c. search rules)
-    (λ c.
-    let here = c.before.before.before.before.before in
-    rw here.if-severity-eq1.true c.put-then-severity-eq1.ensures)
-    (λ c. search rules)
+    (λ c. rw c.if-severity-eq1.true c.put-then-severity-eq1.ensures)
     (λ c κs. search rules)
     (λ c. search rules)
-    (λ c.
-    let here = c.before.before.before.before.before in
-    rw here.if-severity-eq2.true c.put-then-severity-eq2.ensures)
-    (λ c. search rules)
+    (λ c. rw c.if-severity-eq2.true c.put-then-severity-eq2.ensures)
     (λ c κs. search rules)
     (λ c. search rules)
-    (λ c.
-    let here = c.before.before.before.before.before in
-    let args = here.args in
-    rw (other_severity args.severity here.if-severity-eq0.false here.if-severity-eq1.false here.if-severity-eq2.false) c.put-2.ensures))
+    (λ c. rw (other_severity c.args.severity c.if-severity-eq0.false c.if-severity-eq1.false c.if-severity-eq2.false) c.put-2.ensures))

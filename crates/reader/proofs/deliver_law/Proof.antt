@@ -14,8 +14,6 @@ deliver_law_spec =
     (λ c κs. search rules)
     (λ c.
     let the_check_law = c.check_law in
-    law_refused _ _ _ _ c.why-1.given.1 the_check_law.ensures)
+    law_refused _ _ _ _ c.in-Refused.is the_check_law.ensures)
     (λ c. search rules)
-    (λ c.
-    let accepted = c.before.before.before.before in
-    law_accepted _ _ _ _ accepted.enum_told-1.given.1 accepted.check_law.ensures c.deliver.ensures))
+    (λ c. law_accepted _ _ _ _ c.in-Accepted.is c.check_law.ensures c.deliver.ensures))

@@ -5,10 +5,6 @@ use Rattle.reader.proofs.ReadLaws.{file_over, part_size, part_small, tokens_deli
 use Rattle.reader.proofs.deliver_tokens.Statement.{statement}
 use Rattle.reader.proofs.deliver_tokens.Tie as tie
 
--- the start, from where the file was put
-abbrev start : tie.After-put_file-end → tie.Start
-start c = c.before.before.before.before.before.before.before.before.before.before.before.before
-
 pub deliver_tokens_spec : {M : Type 1} → statement M
 deliver_tokens_spec =
     tie.close
@@ -23,10 +19,8 @@ deliver_tokens_spec =
     file_over _ _ (omega (arith, c.if-end-gt16384.true, put.end)))
     (λ c. search rules)
     (λ c.
-    let put = c.before.before.before.before.before.before.before.before in
-    let out-kept = put.put_file-end.auto.1.1.1.1.1.1.0 in
-    let begun = start put in
-    part_size put.put_file-end.result _ begun.args.file-1.now (omega (arith, c.if-end-gt16384.false)) begun.requires.2 out-kept)
+    let out-kept = c.put_file-end.auto.out in
+    part_size c.put_file-end.result _ c.args.file.now (omega (arith, c.if-end-gt16384.false)) c.requires.2 out-kept)
     (λ c κs.
     let put = c.put_file-end in
     part_small put.result _ (omega (arith, c.if-end-gt16384.false)))
@@ -35,7 +29,5 @@ deliver_tokens_spec =
     (λ c. search rules)
     (λ c. search rules)
     (λ c ts held stand.
-    let few = c.before.before.before.before.before in
-    let put = few.before.before.before.before.before.before.before in
-    tokens_delivered _ _ _ _ _ _ (put.put_file-end.ensures ts held stand) (omega (arith, few.if-end-gt16384.false, (start put).requires.2))
+    tokens_delivered _ _ _ _ _ _ (c.put_file-end.ensures ts held stand) (omega (arith, c.if-end-gt16384.false, c.requires.2))
     c.deliver_law.ensures))

@@ -16,6 +16,5 @@ read_spec =
     (λ c κs. search rules)
     (λ c. search rules)
     (λ c.
-    let lent = c.before.before.before.before.before in
-    let few = lent.if-text-gt4096.false in
-    text_read _ _ _ (omega (arith, few)) lent.read_lent.ensures))
+    let few = c.if-text-gt4096.false in
+    text_read _ _ _ (omega (arith, few)) c.read_lent.ensures))

@@ -2,7 +2,6 @@
 use mathlib.Core.Path.{refl}
 use Rattle.sentences.proofs.EntryLaws as laws
 use borrow.Author.Rules.{rules}
-use borrow.Author.Tests.{not-true, not-false}
 use Rattle.sentences.proofs.literal.Statement.{statement}
 use Rattle.sentences.proofs.literal.Tie as tie
 
@@ -11,22 +10,22 @@ literal_spec =
     tie.close
     (tie.spec
     (λ c κs. search rules)
-    (λ c. let start = c.before.before.before.before.before.before in
+    (λ c. let start = c in
     let a = start.args in
     laws.literal_not a.text.now a.pattern.now a.row.now refl start.requires.1.2 (c.parted.ensures c.if-parted.true))
     (λ c κs. search rules)
-    (λ c. let start = c.before.before.before.before.before.before.before.before in
+    (λ c. let start = c in
     let a = start.args in
     laws.literal_not a.text.now a.pattern.now a.row.now c.loose.ensures start.requires.1.2
-    (not-true c.loose.result c.if-not-loose.true))
+    c.if-not-loose.true)
     (λ c κs. search rules)
-    (λ c. let start = c.before.before.before.before.before.before.before.before.before.before in
+    (λ c. let start = c in
     let a = start.args in
     let loose = c.loose in
     laws.literal_once a.text.now a.pattern.now a.row.now loose.ensures start.requires.1.2
-    (not-false loose.result c.if-not-loose.false) (c.once.ensures c.if-once.true))
+    c.if-not-loose.false (c.once.ensures c.if-once.true))
     (λ c κs. search rules)
-    (λ c. let start = c.before.before.before.before.before.before.before.before.before.before.before.before in
+    (λ c. let start = c in
     let a = start.args in
     laws.literal_none a.text.now a.pattern.now a.row.now (c.uneven.ensures c.if-uneven.true) start.requires.1.2)
     (λ c κs. search rules)

@@ -13,11 +13,11 @@ matches_in_spec =
     (λ c. search rules)
     (λ c κs.
     let read = c.read_law in
-    law_asked _ _ read.ensures.0 _ read.ensures.1 c.enum_told-1.given.1)
+    law_asked _ _ read.ensures.0 _ read.ensures.1 c.in-Accepted.is)
     (λ c.
     let the_read_law = c.read_law in
-    recognise_refused _ _ the_read_law.ensures.0 _ _ _ c.why-1.given.1)
+    recognise_refused _ _ the_read_law.ensures.0 _ _ _ c.in-Refused.is)
     (λ c.
     let the_read_law = c.read_law in
-    let the_enum_told = c.enum_told-1 in
-    recognise_accepted _ _ the_read_law.ensures.0 _ _ c.recognise_accepted.result the_enum_told.given.1 c.recognise_accepted.ensures))
+    let the_enum_told = c.in-Accepted in
+    recognise_accepted _ _ the_read_law.ensures.0 _ _ c.recognise_accepted.result the_enum_told.is c.recognise_accepted.ensures))

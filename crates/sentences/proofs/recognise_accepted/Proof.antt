@@ -1,5 +1,4 @@
 use Rattle.sentences.proofs.SentenceLaws.{sentence_inside, call_is, recognise_none, recognise_other, recognise_answered}
-use borrow.Author.Tests.{not-true, not-false}
 use borrow.Author.Rules.{rules}
 use Rattle.sentences.proofs.recognise_accepted.Statement.{statement}
 use Rattle.sentences.proofs.recognise_accepted.Tie as tie

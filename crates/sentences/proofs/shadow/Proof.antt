@@ -2,7 +2,6 @@
 use mathlib.Core.Path.{refl}
 use Rattle.sentences.proofs.EntryLaws as laws
 use borrow.Author.Rules.{rules}
-use borrow.Author.Tests.{not-true, not-false}
 use Rattle.sentences.proofs.shadow.Statement.{statement}
 use Rattle.sentences.proofs.shadow.Tie as tie
 
@@ -15,11 +14,11 @@ shadow_spec =
     laws.shadow_not a.text.now a.earlier.now a.later.now refl (c.parted.ensures c.if-parted.true))
     (λ c κs. search rules)
     (λ c. let a = c.args in
-    laws.shadow_not a.text.now a.earlier.now a.later.now c.loose.ensures (not-true c.loose.result c.if-not-loose.true))
+    laws.shadow_not a.text.now a.earlier.now a.later.now c.loose.ensures c.if-not-loose.true)
     (λ c κs. search rules)
     (λ c. let a = c.args in
     let loose = c.loose in
-    laws.shadow_once a.text.now a.earlier.now a.later.now loose.ensures (not-false loose.result c.if-not-loose.false)
+    laws.shadow_once a.text.now a.earlier.now a.later.now loose.ensures c.if-not-loose.false
     (c.once.ensures c.if-once.true))
     (λ c κs. search rules)
     (λ c. let a = c.args in

@@ -13,11 +13,11 @@ shadows_in_spec =
     (λ c. search rules)
     (λ c κs.
     let read = c.read_law in
-    law_asked _ _ read.ensures.0 _ read.ensures.1 c.enum_told-1.given.1)
+    law_asked _ _ read.ensures.0 _ read.ensures.1 c.in-Accepted.is)
     (λ c.
     let the_read_law = c.read_law in
-    shadow_refused _ _ the_read_law.ensures.0 _ _ _ c.why-1.given.1)
+    shadow_refused _ _ the_read_law.ensures.0 _ _ _ c.in-Refused.is)
     (λ c.
     let the_read_law = c.read_law in
-    let the_enum_told = c.enum_told-1 in
-    shadow_accepted _ _ the_read_law.ensures.0 _ _ c.shadow_accepted.result the_enum_told.given.1 c.shadow_accepted.ensures))
+    let the_enum_told = c.in-Accepted in
+    shadow_accepted _ _ the_read_law.ensures.0 _ _ c.shadow_accepted.result the_enum_told.is c.shadow_accepted.ensures))

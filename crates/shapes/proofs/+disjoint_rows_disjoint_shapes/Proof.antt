@@ -69,16 +69,16 @@ pub +disjoint_rows_disjoint_shapes_spec : {M : Type 1} → statement M
     )
     (disjoint_rows_at t)
     disjoint-rows.Post
-    (λ c. let x = c.args in disjoint_none_none x.a.now x.a-open x.b.now x.b_open
+    (λ c. let x = c.args in disjoint_none_none x.a.now x.a_open x.b.now x.b_open
     c.if-a-lt1.true c.if-b-lt1.true)
-    (λ c. let x = c.args in disjoint_none_some x.a.now x.a-open x.b.now x.b_open
+    (λ c. let x = c.args in disjoint_none_some x.a.now x.a_open x.b.now x.b_open
     c.if-a-lt1.true c.if-b-lt1.false)
-    (λ c. let x = c.args in disjoint_some_none x.a.now x.a-open x.b.now x.b_open
+    (λ c. let x = c.args in disjoint_some_none x.a.now x.a_open x.b.now x.b_open
     c.if-a-lt1.false c.if-b-lt1-2.true)
     (λ c κs. (omega arith, (c.if-a-lt1.false, c.if-b-lt1-2.false)))
     (λ c.
     let the_if1 = c.if-a-lt1 in
-    let x = c.args in disjoint_first x.a.now x.a-open x.b.now x.b_open _ the_if1.false
+    let x = c.args in disjoint_first x.a.now x.a_open x.b.now x.b_open _ the_if1.false
     c.if-b-lt1-2.false c.disjoint_shapes.ensures c.if-disjoint_shapes.true)
     (λ c κs. omega arith)
     (λ c κs. omega arith)
@@ -102,7 +102,7 @@ pub +disjoint_rows_disjoint_shapes_spec : {M : Type 1} → statement M
     let the_if3 = c.if-b-lt1-2 in
     let the_disjoint_shapes = c.disjoint_shapes in
     let the_if4 = c.if-disjoint_shapes in
-    let x = c.args in disjoint_rest x.a.now x.a-open x.b.now
+    let x = c.args in disjoint_rest x.a.now x.a_open x.b.now
     x.b_open _ _ _ _ the_if1.false the_if3.false the_disjoint_shapes.ensures the_if4.false the_end_of.ensures.0 the_end_of2.ensures.0
     c.disjoint_rows.ensures))
     λ t. disjoint-shapes-lts.spec (
@@ -136,14 +136,13 @@ pub +disjoint_rows_disjoint_shapes_spec : {M : Type 1} → statement M
     (λ c. search rules)
     (λ c κs. search rules)
     (λ c κs. let the_end_of = c.end_of-ae in
-    let start = c.before.before.before.before.before.before.before.before.before.before.before.before.before.before in
-    (omega (arith, shapes_contents_falls start.args.a.now the_end_of.result start.requires.1.0 the_end_of.ensures.0), tt))
+    (omega (arith, shapes_contents_falls c.args.a.now the_end_of.result c.requires.1.0 the_end_of.ensures.0), tt))
     (λ c.
     let the_inside_open = c.inside_open in
     let the_is_bracket = c.is_bracket in
     let the_is_bracket2 = c.is_bracket-then-is_bracket in
-    let the_if1 = c.if-a-lt1 in
-    let the_if2 = c.if-b-lt1 in
+    let the_if1 = c.if-is_bracket in
+    let the_if2 = c.if-is_bracket-2 in
     let the_end_of = c.end_of-ae in
     let the_end_of2 = c.end_of-be in
     let x = c.args in
@@ -152,19 +151,19 @@ pub +disjoint_rows_disjoint_shapes_spec : {M : Type 1} → statement M
     (λ c κs. search rules)
     (λ c.
     let the_is_bracket = c.is_bracket in
-    let the_if1 = c.if-a-lt1 in
+    let the_if1 = c.if-is_bracket in
     let x = c.args in apart_bracket_leaf x.a.now x.b.now _ _
-    the_is_bracket.ensures c.is_bracket-then-is_bracket.ensures _ the_if1.true c.if-b-lt1.false c.holds_brackets.ensures)
+    the_is_bracket.ensures c.is_bracket-then-is_bracket.ensures _ the_if1.true c.if-is_bracket-2.false c.holds_brackets.ensures)
     (λ c κs. search rules)
     (λ c κs. search rules)
     (λ c.
     let the_is_bracket = c.is_bracket in
-    let the_if1 = c.if-a-lt1 in
+    let the_if1 = c.if-is_bracket in
     let x = c.args in apart_leaf_bracket x.a.now x.b.now _ _
-    the_is_bracket.ensures c.is_bracket-2.ensures _ the_if1.false c.if-b-lt1-2.true c.holds_brackets-then-is_bracket-3.ensures)
+    the_is_bracket.ensures c.is_bracket-2.ensures _ the_if1.false c.if-is_bracket-3.true c.holds_brackets-then-is_bracket-3.ensures)
     (λ c κs. search rules)
     (λ c.
     let the_is_bracket = c.is_bracket in
-    let the_if1 = c.if-a-lt1 in
+    let the_if1 = c.if-is_bracket in
     let x = c.args in apart_leaves x.a.now x.b.now _ _
-    the_is_bracket.ensures c.is_bracket-2.ensures _ the_if1.false c.if-b-lt1-2.false c.leaves_apart.ensures)
+    the_is_bracket.ensures c.is_bracket-2.ensures _ the_if1.false c.if-is_bracket-3.false c.leaves_apart.ensures)

@@ -26,7 +26,7 @@ disjoint_formats_spec =
     (λ c κs. search rules)
     (λ c κs. search rules)
     (λ c.
-    let the_row_open = c.row-Open in
+    let the_row_open = c.row_open in
     let rows = c.before.before.before.before in
     let tests = rows.before.before in
     let heads = tests.before.before.before in

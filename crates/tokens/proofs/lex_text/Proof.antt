@@ -13,17 +13,6 @@ invariant_loop text kinds₀ starts₀ ends₀ at₀ n₀ kinds starts ends at n
 abbrev decreases_loop : tie.decreases-loop-at
 decreases_loop text kinds₀ starts₀ ends₀ at₀ n₀ kinds starts ends at n = length text - at
 
--- the loop, from where a piece is found
-abbrev the_loop : tie.After-next_piece invariant_loop decreases_loop → tie.At-loop-at invariant_loop decreases_loop
-the_loop c = c.before.before
-
--- where it was found, from where it is known to be a blank or a comment, or a token
-abbrev skipping : tie.In-Between invariant_loop decreases_loop → tie.After-next_piece invariant_loop decreases_loop
-skipping c = c.before.before.before
-
-abbrev taking : tie.In-Token invariant_loop decreases_loop → tie.After-next_piece invariant_loop decreases_loop
-taking c = c.before.before.before
-
 pub lex_text_spec : {M : Type 1} → statement M
 lex_text_spec =
     tie.close
@@ -34,27 +23,20 @@ lex_text_spec =
     (λ c κs. (c.loop-at.invariant.short, omega arith))
     (λ c. search rules)
     (λ c.
-    let piece = c.before.before in
-    let inv = (the_loop piece).loop.invariant in
-    (inv.long, lexing_nothing inv (omega arith) piece.next_piece.ensures c.enum_told-1.given.1))
+    let inv = c.loop-at.invariant in
+    (inv.long, lexing_nothing inv (omega arith) c.next_piece.ensures c.in-Nothing.is))
     (λ c. search rules)
-    (λ c. omega (arith, between_within (the_loop (skipping c)).loop.inv (omega arith) (skipping c).next_piece.ensures c.e-1.given.1))
-    (λ c. lexing_between (the_loop (skipping c)).loop.inv (omega arith) (skipping c).next_piece.ensures c.e-1.given.1)
+    (λ c. omega (arith, between_within c.loop-at.invariant (omega arith) c.next_piece.ensures c.in-Between.is))
+    (λ c. lexing_between c.loop-at.invariant (omega arith) c.next_piece.ensures c.in-Between.is)
     (λ c. search rules)
-    (λ c. (lexing_room (the_loop (taking c)).loop.inv (omega arith)).0)
-    (λ c κs. omega (arith, (lexing_room (the_loop (taking c)).loop.inv (omega arith)).1))
-    (λ c. omega (arith, (lexing_room (the_loop (taking c.before)).loop.inv (omega arith)).0))
-    (λ c. (lexing_room (the_loop (taking c.before)).loop.inv (omega arith)).0)
-    (λ c κs.
-    let known = c.before in
-    omega (arith, token_within (the_loop (taking known)).loop.inv (omega arith) (taking known).next_piece.ensures known.k-1.given.1))
-    (λ c. omega (arith, (lexing_room (the_loop (taking c.before.before)).loop.inv (omega arith)).0))
-    (λ c. (lexing_room (the_loop (taking c.before.before)).loop.inv (omega arith)).0)
-    (λ c. omega (arith, (lexing_room (the_loop (taking c.before.before)).loop.inv (omega arith)).0))
-    (λ c.
-    let known = c.before.before in
-    omega (arith, token_within (the_loop (taking known)).loop.inv (omega arith) (taking known).next_piece.ensures known.k-1.given.1))
-    (λ c.
-    let known = c.before.before in
-    lexing_token (the_loop (taking known)).loop.inv (omega arith) (taking known).next_piece.ensures known.k-1.given.1 c.short.ensures c.short-in-Token.ensures)
+    (λ c. (lexing_room c.loop-at.invariant (omega arith)).0)
+    (λ c κs. omega (arith, (lexing_room c.loop-at.invariant (omega arith)).1))
+    (λ c. omega (arith, (lexing_room c.loop-at.invariant (omega arith)).0))
+    (λ c. (lexing_room c.loop-at.invariant (omega arith)).0)
+    (λ c κs. omega (arith, token_within c.loop-at.invariant (omega arith) c.next_piece.ensures c.in-Token.is))
+    (λ c. omega (arith, (lexing_room c.loop-at.invariant (omega arith)).0))
+    (λ c. (lexing_room c.loop-at.invariant (omega arith)).0)
+    (λ c. omega (arith, (lexing_room c.loop-at.invariant (omega arith)).0))
+    (λ c. omega (arith, token_within c.loop-at.invariant (omega arith) c.next_piece.ensures c.in-Token.is))
+    (λ c. lexing_token c.loop-at.invariant (omega arith) c.next_piece.ensures c.in-Token.is c.short.ensures c.short-in-Token.ensures)
     (λ c. let inv = c.loop-at.invariant in (inv.long, lexing_end inv c.loop-at-test.false)))

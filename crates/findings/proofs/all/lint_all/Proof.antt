@@ -25,12 +25,11 @@ lint_all_spec =
     invariant_loop
     decreases_loop
     (λ c. let a = c.args in
-    (refl, laws.linted_begun (settings_from a.mode a.overrides.now) a.room a.limit (file_of a.law.now) a.store.now (sink_of 2 a.out-1.now)))
+    (refl, laws.linted_begun (settings_from a.mode a.overrides.now) a.room a.limit (file_of a.law.now) a.store.now (sink_of 2 a.out.now)))
     (λ c κs. search rules)
     (λ c κs.
     let the_loop = c.loop-lint in
-    let start = c.before.before.before.before.before.before.before.before in
-    laws.linted_asks the_loop.invariant.1 c.loop-lint-test.true c.task_of-task.ensures start.requires)
+    laws.linted_asks the_loop.invariant.1 c.loop-lint-test.true c.task_of-task.ensures c.requires)
     (λ c. let the_loop_test = c.loop-lint-test in
     omega (arith, the_loop_test.true))
     (λ c. let the_loop_test = c.loop-lint-test in
@@ -39,7 +38,7 @@ lint_all_spec =
     let the_loop_test = c.loop-lint-test in
     let task = c.task_of-task in
     let lint-task = c.lint_task-tally in
-    let out-kept = lint-task.auto.1.1.1.1.1.0 in
+    let out-kept = lint-task.auto.out in
     (out-kept ∙ the_loop.invariant.0, laws.linted_next the_loop.invariant.1 the_loop_test.true task.ensures lint-task.ensures))
     (λ c. c.loop-lint.invariant.0)
     (λ c. laws.linted_all c.loop-lint.invariant.1 (λ h. omega (arith, h, c.loop-lint-test.false))))

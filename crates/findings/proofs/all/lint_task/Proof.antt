@@ -1,4 +1,3 @@
-use borrow.Author.Tests.{not-true, not-false}
 use Rattle.file.specs.Sections.{file_of}
 use Rattle.law.specs.Reading.{tree_of}
 use Rattle.lints.specs.Code.Records.{formats_in}
@@ -13,19 +12,17 @@ lint_task_spec =
     tie.close (tie.spec
     (λ c κs. search rules)
     (λ c.
-    let start = c.before.before.before.before.before in
-    let before = sink_of start.args.tally start.args.out-1.now in
-    let file = file_of start.args.law.now in
-    let formats = formats_in file start.args.task.limit start.args.store.now in
-    not_due (tree_of file) formats start.args.task start.args.task.room before c.is_due.ensures c.if-not-is_due.true)
+    let before = sink_of c.args.tally c.args.out.now in
+    let file = file_of c.args.law.now in
+    let formats = formats_in file c.args.task.limit c.args.store.now in
+    not_due (tree_of file) formats c.args.task c.args.task.room before c.is_due.ensures c.if-not-is_due.true)
     (λ c κs. search rules)
     (λ c. search rules)
     (λ c.
     let the_if1 = c.if-not-is_due in
     let the_is_due = c.is_due in
-    let start = c.before.before.before.before.before.before.before.before.before in
-    let before = sink_of start.args.tally start.args.out-1.now in
-    let file = file_of start.args.law.now in
-    let formats = formats_in file start.args.task.limit start.args.store.now in
-    is_due_lem (tree_of file) formats start.args.task start.args.task.room before the_is_due.ensures (not-false _ the_if1.false)
+    let before = sink_of c.args.tally c.args.out.now in
+    let file = file_of c.args.law.now in
+    let formats = formats_in file c.args.task.limit c.args.store.now in
+    is_due_lem (tree_of file) formats c.args.task c.args.task.room before the_is_due.ensures the_if1.false
     c.lint_law.ensures))

@@ -8,6 +8,5 @@ task_of_spec = tie.close (tie.spec
     (λ c κs. search rules)
     (λ c κs. search rules)
     (λ c.
-    let start = c.before.before.before in
-    task_is start.args.mode start.args.overrides.now start.args.room start.args.limit
+    task_is c.args.mode c.args.overrides.now c.args.room c.args.limit
     c.severity_of-severity.ensures c.is_shown-shown.ensures))

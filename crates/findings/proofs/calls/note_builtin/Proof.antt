@@ -31,7 +31,7 @@ note_builtin_spec =
     let the_name_in = c.name_in-name in
     let the_argument = c.argument in
     let a = c.args in
-    let before = sink_of a.tally a.out-1.now in
+    let before = sink_of a.tally a.out.now in
     let file = file_of a.law.now in
     builtin_met file a.t a.task (tree_of file) a.task.room before the_text.ensures the_term_word.ensures the_term_word2.ensures
     the_name_in.ensures the_argument.ensures the_builtin_fails.ensures c.note_failure.ensures))

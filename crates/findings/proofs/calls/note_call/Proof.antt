@@ -16,7 +16,7 @@ note_call_spec =
     (λ c κs. search rules)
     (λ c.
     let a = c.args in
-    let before = sink_of a.tally a.out-1.now in
+    let before = sink_of a.tally a.out.now in
     let file = file_of a.law.now in
     let formats = formats_in file a.task.limit a.store.now in
     met_none file a.t c.term_word.ensures a.task.room before (call_events (tree_of file) formats a.task) c.if-term_word-ne7.true)
@@ -32,7 +32,7 @@ note_call_spec =
     let the_term_word = c.term_word in
     let the_if1 = c.if-term_word-ne7 in
     let a = c.args in
-    let before = sink_of a.tally a.out-1.now in
+    let before = sink_of a.tally a.out.now in
     let file = file_of a.law.now in
     let formats = formats_in file a.task.limit a.store.now in
     met_recognition file a.t the_term_word.ensures (tree_of file) formats a.task the_if1.false a.task.room before the_if2.true
@@ -48,7 +48,7 @@ note_call_spec =
     let the_term_word = c.term_word in
     let the_if1 = c.if-term_word-ne7 in
     let a = c.args in
-    let before = sink_of a.tally a.out-1.now in
+    let before = sink_of a.tally a.out.now in
     let file = file_of a.law.now in
     let formats = formats_in file a.task.limit a.store.now in
     met_builtin file a.t the_term_word.ensures (tree_of file) formats a.task the_if1.false a.task.room before the_if3.true
@@ -57,7 +57,7 @@ note_call_spec =
     let the_if1 = c.if-term_word-ne7 in
     let the_term_word = c.term_word in
     let a = c.args in
-    let before = sink_of a.tally a.out-1.now in
+    let before = sink_of a.tally a.out.now in
     let file = file_of a.law.now in
     let formats = formats_in file a.task.limit a.store.now in
     met_other file a.t the_term_word.ensures (tree_of file) formats a.task the_if1.false a.task.room before

@@ -23,30 +23,27 @@ note_failure_spec =
     (λ c κs. search rules)
     (λ c.
     let a = c.args in
-    let before = sink_of a.tally a.out-1.now in
-    met_by (λ (x : Fails). failure_events (file_of a.law.now) a.task a.t (failure_in x)) a.task.room before c.enum_told-1.given.1
+    let before = sink_of a.tally a.out.now in
+    met_by (λ (x : Fails). failure_events (file_of a.law.now) a.task a.t (failure_in x)) a.task.room before c.in-No.is
     (collect_none a.task.room before))
     (λ c. search rules)
     (λ c.
-    let the_enum_told2 = c.enum_told-in-TwoIntegersWanted-1 in
     let a = c.args in
-    let before = sink_of a.tally a.out-1.now in
+    let before = sink_of a.tally a.out.now in
     let file = file_of a.law.now in
-    met_by (λ (x : Fails). failure_events file a.task a.t (failure_in x)) a.task.room before the_enum_told2.given.1
-    (collect_met a.task.room (call_found file a.task a.t 1) a.tally a.out-1.now c.put_call.ensures))
+    met_by (λ (x : Fails). failure_events file a.task a.t (failure_in x)) a.task.room before c.in-TwoIntegersWanted.is
+    (collect_met a.task.room (call_found file a.task a.t 1) a.tally a.out.now c.put_call.ensures))
     (λ c. search rules)
     (λ c.
-    let the_enum_told3 = c.enum_told-in-DivisionByZero-1 in
     let a = c.args in
-    let before = sink_of a.tally a.out-1.now in
+    let before = sink_of a.tally a.out.now in
     let file = file_of a.law.now in
-    met_by (λ (x : Fails). failure_events file a.task a.t (failure_in x)) a.task.room before the_enum_told3.given.1
-    (collect_met a.task.room (call_found file a.task a.t 2) a.tally a.out-1.now c.put_call-in-DivisionByZero.ensures))
+    met_by (λ (x : Fails). failure_events file a.task a.t (failure_in x)) a.task.room before c.in-DivisionByZero.is
+    (collect_met a.task.room (call_found file a.task a.t 2) a.tally a.out.now c.put_call-in-DivisionByZero.ensures))
     (λ c. search rules)
     (λ c.
-    let the_enum_told4 = c.enum_told-in-DigitsWanted-1 in
     let a = c.args in
-    let before = sink_of a.tally a.out-1.now in
+    let before = sink_of a.tally a.out.now in
     let file = file_of a.law.now in
-    met_by (λ (x : Fails). failure_events file a.task a.t (failure_in x)) a.task.room before the_enum_told4.given.1
-    (collect_met a.task.room (call_found file a.task a.t 3) a.tally a.out-1.now c.put_call-in-DigitsWanted.ensures)))
+    met_by (λ (x : Fails). failure_events file a.task a.t (failure_in x)) a.task.room before c.in-DigitsWanted.is
+    (collect_met a.task.room (call_found file a.task a.t 3) a.tally a.out.now c.put_call-in-DigitsWanted.ensures)))

@@ -19,7 +19,7 @@ note_recognition_spec =
     let a = c.args in
     let file = file_of a.law.now in
     let formats = formats_in file a.task.limit a.store.now in
-    collect_over a.task.room a.tally a.out-1.now (recognition_events (tree_of file) formats a.task (call_at file a.t))
+    collect_over a.task.room a.tally a.out.now (recognition_events (tree_of file) formats a.task (call_at file a.t))
     (sym c.is_over.ensures ∙ c.if-is_over.true))
     (λ c κs. search rules)
     (λ c κs. search rules)
@@ -27,7 +27,7 @@ note_recognition_spec =
     (λ c.
     let the_judge_call = c.judge_call-verdict in
     let a = c.args in
-    let before = sink_of a.tally a.out-1.now in
+    let before = sink_of a.tally a.out.now in
     let file = file_of a.law.now in
     let formats = formats_in file a.task.limit a.store.now in
     recognition_met file a.task formats (tree_of file) a.t a.task.room before the_judge_call.ensures c.note_verdict.ensures))

@@ -20,22 +20,20 @@ note_verdict_spec =
     (λ c κs. search rules)
     (λ c.
     let a = c.args in
-    let before = sink_of a.tally a.out-1.now in
-    met_by (verdict_events (file_of a.law.now) a.task a.t) a.task.room before c.enum_told-1.given.1 (collect_none a.task.room before))
+    let before = sink_of a.tally a.out.now in
+    met_by (verdict_events (file_of a.law.now) a.task a.t) a.task.room before c.in-Nothing.is (collect_none a.task.room before))
     (λ c.
     let a = c.args in
-    let before = sink_of a.tally a.out-1.now in
-    met_by (verdict_events (file_of a.law.now) a.task a.t) a.task.room before c.enum_told-in-TooWide-1.given.1
-    (collect_wide a.task.room a.tally a.out-1.now))
+    let before = sink_of a.tally a.out.now in
+    met_by (verdict_events (file_of a.law.now) a.task a.t) a.task.room before c.in-TooWide.is
+    (collect_wide a.task.room a.tally a.out.now))
     (λ c. search rules)
     (λ c.
-    let the_enum_told3 = c.enum_told-in-ByFormats-1 in
     let a = c.args in
-    let before = sink_of a.tally a.out-1.now in
-    met_by (verdict_events (file_of a.law.now) a.task a.t) a.task.room before the_enum_told3.given.1 c.put_shown.ensures)
+    let before = sink_of a.tally a.out.now in
+    met_by (verdict_events (file_of a.law.now) a.task a.t) a.task.room before c.in-ByFormats.is c.put_shown.ensures)
     (λ c. search rules)
     (λ c.
-    let the_enum_told4 = c.enum_told-in-ByLiterals-1 in
     let a = c.args in
-    let before = sink_of a.tally a.out-1.now in
-    met_by (verdict_events (file_of a.law.now) a.task a.t) a.task.room before the_enum_told4.given.1 c.put_shown-in-ByLiterals.ensures))
+    let before = sink_of a.tally a.out.now in
+    met_by (verdict_events (file_of a.law.now) a.task a.t) a.task.room before c.in-ByLiterals.is c.put_shown-in-ByLiterals.ensures))

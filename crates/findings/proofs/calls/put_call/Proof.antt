@@ -15,5 +15,5 @@ put_call_spec =
     (λ c.
     let the_call_note = c.call_note-note in
     let a = c.args in
-    put_met (file_of a.law.now) a.task a.t a.a a.task.room a.tally a.out-1.now the_call_note.ensures
+    put_met (file_of a.law.now) a.task a.t a.a a.task.room a.tally a.out.now the_call_note.ensures
     c.put_note.ensures))

@@ -13,23 +13,18 @@ field_spec =
     (λ c. search rules)
     (λ c κs. search rules)
     (λ c.
-    let start = c.before.before.before in
-    omega (arith, sentences_limit start.args.law.now start.args.index.now start.requires.0, start.requires.1, start.requires.2, c.wide-start.ensures.1))
+    omega (arith, sentences_limit c.args.law.now c.args.index.now c.requires.0, c.requires.1, c.requires.2, c.wide-start.ensures.1))
     (λ c.
-    let start = c.before.before.before in
-    omega (arith, sentences_limit start.args.law.now start.args.index.now start.requires.0, start.requires.1, start.requires.2, c.wide-start.ensures.1))
+    omega (arith, sentences_limit c.args.law.now c.args.index.now c.requires.0, c.requires.1, c.requires.2, c.wide-start.ensures.1))
     (λ c.
-    let start = c.before.before.before in
-    omega (arith, sentences_limit start.args.law.now start.args.index.now start.requires.0, start.requires.1, start.requires.2, c.wide-start.ensures.1))
+    omega (arith, sentences_limit c.args.law.now c.args.index.now c.requires.0, c.requires.1, c.requires.2, c.wide-start.ensures.1))
     (λ c κs.
-    let start = c.before.before.before in
     omega (
       arith,
-      laws.sentence_word_inside start.args.law.now start.args.index.now start.requires.0 start.args.s start.args.at start.requires.1
-          start.requires.2,
+      laws.sentence_word_inside c.args.law.now c.args.index.now c.requires.0 c.args.s c.args.at c.requires.1
+          c.requires.2,
       c.wide-start.ensures.0,
     ))
     (λ c.
-    let start = c.before.before.before.before in
     c.word_at.ensures ∙ rw c.wide-start.ensures.0
-    (laws.sentence_word start.args.law.now start.args.index.now start.requires.0 start.args.s start.args.at start.requires.1 start.requires.2)))
+    (laws.sentence_word c.args.law.now c.args.index.now c.requires.0 c.args.s c.args.at c.requires.1 c.requires.2)))

@@ -30,30 +30,26 @@ note_dead_spec =
     decreases_loop
     (λ c. (omega arith, refl, λ in_block. refl))
     (λ c κs.
-    let start = c.before.before.before.before.before in
-    (start.requires.0, start.requires.1, omega (arith, c.loop-later-test.true, start.requires.2)))
+    (c.requires.0, c.requires.1, omega (arith, c.loop-later-test.true, c.requires.2)))
     (λ c.
     let the_loop_test = c.loop-later-test in
-    let start = c.before.before.before.before.before.before.before.before in
-    omega (arith, the_loop_test.true, start.requires.2, sentences_limit start.args.law.now start.args.index.now start.requires.0))
+    omega (arith, the_loop_test.true, c.requires.2, sentences_limit c.args.law.now c.args.index.now c.requires.0))
     (λ c.
     let the_loop_test = c.loop-later-test in
     omega (arith, the_loop_test.true))
     (λ c.
     let the_loop_test = c.loop-later-test in
     let the_note_sentence = c.note_sentence-so_far in
-    let out-kept = the_note_sentence.auto.1.1.1.1.1.0 in
+    let out-kept = the_note_sentence.auto.out in
     let the_loop = c.loop-later in
-    let start = c.before.before.before.before.before.before.before.before in
-    let readable = accepted_readable start.args.law.now start.requires.1 in (
+    let readable = accepted_readable c.args.law.now c.requires.1 in (
       omega (arith, the_loop_test.true),
       out-kept ∙ the_loop.invariant.1,
-      laws.dead_again (file_of start.args.law.now) start.args.task start.args.first start.args.count readable the_loop.later
-          the_loop_test.true start.requires.2 _ _ _ the_loop.invariant.2 c.note_sentence-so_far.ensures,
+      laws.dead_again (file_of c.args.law.now) c.args.task c.args.first c.args.count readable the_loop.later
+          the_loop_test.true c.requires.2 _ _ _ the_loop.invariant.2 c.note_sentence-so_far.ensures,
     ))
     (λ c. c.loop-later.invariant.1)
     (λ c.
-    let start = c.before.before.before.before in
-    λ in_block. rw (laws.dead_starts (file_of start.args.law.now) start.args.task start.args.first start.args.count in_block)
-    (laws.dead_ends (file_of start.args.law.now) start.args.task start.args.first start.args.count c.loop-later.later
+    λ in_block. rw (laws.dead_starts (file_of c.args.law.now) c.args.task c.args.first c.args.count in_block)
+    (laws.dead_ends (file_of c.args.law.now) c.args.task c.args.first c.args.count c.loop-later.later
     (omega (arith, c.loop-later-test.false)) _ _ c.loop-later.invariant.2 in_block)))

@@ -9,9 +9,8 @@ note_sentence_spec =
     tie.close
     (tie.spec
     (λ c.
-    let start = c.before.before.before in
-    laws.sentence_ended (file_of start.args.law.now) start.args.task start.args.first start.args.out-1.now start.args.later
-    start.args.tally c.if-tally-lt-NONE.true)
+    laws.sentence_ended (file_of c.args.law.now) c.args.task c.args.first c.args.out.now c.args.later
+    c.args.tally c.if-tally-lt-NONE.true)
     (λ c κs. search rules)
     (λ c. search rules)
     (λ c. search rules))

@@ -13,13 +13,11 @@ put_sentence_spec =
     (λ c κs. search rules)
     (λ c κs. search rules)
     (λ c.
-    let start = c.before.before.before.before in
-    omega (arith, start.requires.1, sentences_limit start.args.law.now start.args.index.now start.requires.0))
+    omega (arith, c.requires.1, sentences_limit c.args.law.now c.args.index.now c.requires.0))
     (λ c κs. search rules)
     (λ c. search rules)
     (λ c.
     let the_field2 = c.field-end in
     let the_field = c.field-start in
-    let start = c.before.before.before.before.before.before.before.before in
-    laws.sentence_noted (file_of start.args.law.now) start.args.task start.args.s start.args.a start.args.b the_field.result
-    the_field2.result start.args.tally start.args.out-1.now the_field.ensures the_field2.ensures c.put_note.ensures))
+    laws.sentence_noted (file_of c.args.law.now) c.args.task c.args.s c.args.a c.args.b the_field.result
+    the_field2.result c.args.tally c.args.out.now the_field.ensures the_field2.ensures c.put_note.ensures))

@@ -27,42 +27,36 @@ note_open_spec =
     invariant_loop
     decreases_loop
     (λ c.
-    let start = c.before.before in
-    let readable = accepted_readable start.args.law.now start.requires.1 in
-    let before = sink_of start.args.tally start.args.out-1.now in (
+    let readable = accepted_readable c.args.law.now c.requires.1 in
+    let before = sink_of c.args.tally c.args.out.now in (
       omega arith,
       refl,
-      ap (collect start.args.task.room before) (laws.open_starts (file_of start.args.law.now) readable start.args.task
-          start.args.first start.args.count),
+      ap (collect c.args.task.room before) (laws.open_starts (file_of c.args.law.now) readable c.args.task
+          c.args.first c.args.count),
     ))
     (λ c.
-    let start = c.before.before.before.before in
-    omega (arith, c.loop-i-test.true, start.requires.2, sentences_limit start.args.law.now start.args.index.now start.requires.0))
+    omega (arith, c.loop-i-test.true, c.requires.2, sentences_limit c.args.law.now c.args.index.now c.requires.0))
     (λ c κs.
-    let start = c.before.before.before.before.before in
-    (start.requires.0, start.requires.1, omega (arith, c.loop-i-test.true, start.requires.2)))
+    (c.requires.0, c.requires.1, omega (arith, c.loop-i-test.true, c.requires.2)))
     (λ c.
     let the_loop_test = c.loop-i-test in
-    let start = c.before.before.before.before.before.before.before.before in
-    omega (arith, the_loop_test.true, start.requires.2, sentences_limit start.args.law.now start.args.index.now start.requires.0))
+    omega (arith, the_loop_test.true, c.requires.2, sentences_limit c.args.law.now c.args.index.now c.requires.0))
     (λ c.
     let the_loop_test = c.loop-i-test in
     omega (arith, the_loop_test.true))
     (λ c.
     let the_loop_test = c.loop-i-test in
     let the_note_pattern = c.note_pattern-so_far in
-    let out-kept = the_note_pattern.auto.1.1.1.1.0 in
+    let out-kept = the_note_pattern.auto.out in
     let the_loop = c.loop-i in
-    let start = c.before.before.before.before.before.before.before.before in
-    let readable = accepted_readable start.args.law.now start.requires.1 in (
+    let readable = accepted_readable c.args.law.now c.requires.1 in (
       omega (arith, the_loop_test.true),
       out-kept ∙ the_loop.invariant.1,
-      laws.open_again (file_of start.args.law.now) readable start.args.task start.args.first start.args.count the_loop.i
-          the_loop_test.true start.requires.2 _ _ _ the_loop.invariant.2 c.note_pattern-so_far.ensures,
+      laws.open_again (file_of c.args.law.now) readable c.args.task c.args.first c.args.count the_loop.i
+          the_loop_test.true c.requires.2 _ _ _ the_loop.invariant.2 c.note_pattern-so_far.ensures,
     ))
     (λ c. c.loop-i.invariant.1)
     (λ c.
-    let start = c.before.before.before.before in
-    let readable = accepted_readable start.args.law.now start.requires.1 in
-    laws.open_ends (file_of start.args.law.now) readable start.args.task start.args.first start.args.count c.loop-i.i
+    let readable = accepted_readable c.args.law.now c.requires.1 in
+    laws.open_ends (file_of c.args.law.now) readable c.args.task c.args.first c.args.count c.loop-i.i
     (omega (arith, c.loop-i-test.false)) _ _ c.loop-i.invariant.2))

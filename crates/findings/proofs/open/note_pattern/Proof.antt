@@ -13,16 +13,14 @@ note_pattern_spec =
     (λ c κs. search rules)
     (λ c κs. search rules)
     (λ c.
-    let start = c.before.before.before.before.before in
-    let readable = accepted_readable start.args.law.now start.requires.1 in
-    laws.open_few (file_of start.args.law.now) readable start.args.task start.args.s c.e_occurrences-occurrences.result _ start.args.out-1.now
-    start.args.tally start.requires.2 c.pattern.ensures c.e_occurrences-occurrences.ensures.0 c.if-occurrences-lt2.true)
+    let readable = accepted_readable c.args.law.now c.requires.1 in
+    laws.open_few (file_of c.args.law.now) readable c.args.task c.args.s c.e_occurrences-occurrences.result _ c.args.out.now
+    c.args.tally c.requires.2 c.pattern.ensures c.e_occurrences-occurrences.ensures.0 c.if-occurrences-lt2.true)
     (λ c.
-    let start = c.before.before.before.before.before in
-    let readable = accepted_readable start.args.law.now start.requires.1 in
+    let readable = accepted_readable c.args.law.now c.requires.1 in
     omega (
       arith,
-      laws.occurrences_few start.args.law.now start.args.index.now start.requires.0 readable start.args.s
+      laws.occurrences_few c.args.law.now c.args.index.now c.requires.0 readable c.args.s
           c.e_occurrences-occurrences.result _ c.pattern.ensures c.e_occurrences-occurrences.ensures.1,
     ))
     (λ c κs. search rules)
@@ -31,8 +29,7 @@ note_pattern_spec =
     let the_if1 = c.if-occurrences-lt2 in
     let the_e_occurrences = c.e_occurrences-occurrences in
     let the_pattern = c.pattern in
-    let start = c.before.before.before.before.before.before.before.before.before in
-    let readable = accepted_readable start.args.law.now start.requires.1 in
-    laws.open_many (file_of start.args.law.now) readable start.args.task start.args.s the_e_occurrences.result _ start.args.out-1.now
-    start.args.tally start.requires.2 the_pattern.ensures the_e_occurrences.ensures.0 _ (omega (arith, the_if1.false))
+    let readable = accepted_readable c.args.law.now c.requires.1 in
+    laws.open_many (file_of c.args.law.now) readable c.args.task c.args.s the_e_occurrences.result _ c.args.out.now
+    c.args.tally c.requires.2 the_pattern.ensures the_e_occurrences.ensures.0 _ (omega (arith, the_if1.false))
     c.put_sentence.ensures))

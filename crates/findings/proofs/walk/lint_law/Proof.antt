@@ -32,26 +32,23 @@ lint_law_spec =
     decreases_loop
     (λ c κs. search rules)
     (λ c.
-    let start = c.before.before.before.before in
-    let before = sink_of start.args.tally start.args.out-1.now in
-    let file = file_of start.args.law.now in
-    let formats = formats_in file start.args.task.limit start.args.store.now in
-    (omega arith, refl, steps.functions_start_lem file formats start.args.task before))
+    let before = sink_of c.args.tally c.args.out.now in
+    let file = file_of c.args.law.now in
+    let formats = formats_in file c.args.task.limit c.args.store.now in
+    (omega arith, refl, steps.functions_start_lem file formats c.args.task before))
     (λ c.
-    let start = c.before.before.before.before.before.before in
     let the_loop = c.loop-f in
     let the_loop_test = c.loop-f-test in
     let the_functions = c.functions-count in
     omega (
       arith,
-      steps.function_small start.requires the_loop.f
-          (omega (arith, the_loop_test.true, steps.functions_read start.requires the_functions.result the_functions.ensures)),
+      steps.function_small c.requires the_loop.f
+          (omega (arith, the_loop_test.true, steps.functions_read c.requires the_functions.result the_functions.ensures)),
     ))
     (λ c κs.
-    let start = c.before.before.before.before.before.before.before in
     let the_loop_test = c.loop-f-test in
     let the_functions = c.functions-count in
-    (start.requires, omega (arith, the_loop_test.true, steps.functions_read start.requires the_functions.result the_functions.ensures)))
+    (c.requires, omega (arith, the_loop_test.true, steps.functions_read c.requires the_functions.result the_functions.ensures)))
     (λ c.
     let the_loop_test = c.loop-f-test in
     omega (arith, the_loop_test.true))
@@ -59,36 +56,34 @@ lint_law_spec =
     let the_loop_test = c.loop-f-test in
     omega (arith, the_loop_test.true))
     (λ c.
-    let start = c.before.before.before.before.before.before.before.before.before.before in
-    let task = start.args.task in
-    let before = sink_of start.args.tally start.args.out-1.now in
-    let file = file_of start.args.law.now in
-    let formats = formats_in file start.args.task.limit start.args.store.now in
+    let task = c.args.task in
+    let before = sink_of c.args.tally c.args.out.now in
+    let file = file_of c.args.law.now in
+    let formats = formats_in file c.args.task.limit c.args.store.now in
     let the_loop_test = c.loop-f-test in
     let the_lint_function = c.lint_function-so_far in
-    let out-after = the_lint_function.new.1.1.1.1.1.1.0 in
-    let out-kept = the_lint_function.auto.1.1.1.1.1.1.0 in
+    let out-after = the_lint_function.new.out in
+    let out-kept = the_lint_function.auto.out in
     let the_loop = c.loop-f in
     let the_functions = c.functions-count in (
       omega (arith, the_loop_test.true),
       out-kept ∙ the_loop.invariant.1,
       steps.functions_next file formats task the_loop.f (steps.after file formats task before (lint_events (tree_of file) formats task))
-          (sink_of the_loop.so_far the_loop.out-1) (sink_of the_lint_function.result out-after)
-          (omega (arith, the_loop_test.true, steps.functions_read start.requires the_functions.result the_functions.ensures)) the_loop.invariant.2
+          (sink_of the_loop.so_far the_loop.out) (sink_of the_lint_function.result out-after)
+          (omega (arith, the_loop_test.true, steps.functions_read c.requires the_functions.result the_functions.ensures)) the_loop.invariant.2
           the_lint_function.ensures,
     ))
     (λ c.
     let the_loop = c.loop-f in
     the_loop.invariant.1)
     (λ c.
-    let start = c.before.before.before.before.before.before in
-    let task = start.args.task in
-    let before = sink_of start.args.tally start.args.out-1.now in
-    let file = file_of start.args.law.now in
-    let formats = formats_in file start.args.task.limit start.args.store.now in
+    let task = c.args.task in
+    let before = sink_of c.args.tally c.args.out.now in
+    let file = file_of c.args.law.now in
+    let formats = formats_in file c.args.task.limit c.args.store.now in
     let the_loop = c.loop-f in
     let the_loop_test = c.loop-f-test in
     let the_functions = c.functions-count in
     steps.functions_end file formats task the_loop.f (steps.after file formats task before (lint_events (tree_of file) formats task))
-    (sink_of the_loop.so_far the_loop.out-1)
-    (omega (arith, the_loop_test.false, steps.functions_read start.requires the_functions.result the_functions.ensures)) the_loop.invariant.2))
+    (sink_of the_loop.so_far the_loop.out)
+    (omega (arith, the_loop_test.false, steps.functions_read c.requires the_functions.result the_functions.ensures)) the_loop.invariant.2))

@@ -12,14 +12,13 @@ pub note_block_spec : {M : Type 1} → statement M
 note_block_spec =
     tie.close
     (tie.spec
-    (λ c. let start = c.before.before.before.before in
-    let before = sink_of start.args.tally start.args.out-1.now in
-    block_passed start.args.task (keep start.args.count (sentences_at (file_of start.args.law.now) start.args.first)) before c.if-task-ne1.true)
+    (λ c.
+    let before = sink_of c.args.tally c.args.out.now in
+    block_passed c.args.task (keep c.args.count (sentences_at (file_of c.args.law.now) c.args.first)) before c.if-task-ne1.true)
     (λ c κs. search rules)
     (λ c. search rules)
     (λ c.
     let the_if1 = c.if-task-ne1 in
-    let start = c.before.before.before.before.before.before.before.before in
-    let before = sink_of start.args.tally start.args.out-1.now in
-    block_noted start.args.task (keep start.args.count (sentences_at (file_of start.args.law.now) start.args.first)) before _ the_if1.false
+    let before = sink_of c.args.tally c.args.out.now in
+    block_noted c.args.task (keep c.args.count (sentences_at (file_of c.args.law.now) c.args.first)) before _ the_if1.false
     (c.note_dead.ensures true)))

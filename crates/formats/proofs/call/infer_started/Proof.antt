@@ -1,6 +1,5 @@
 -- `call::infer_started` meets its contract: the arguments (`started_arguments`), then the rounds (`started_rounds`), over a local buffer for one format.
 use borrow.Author.Rules.{rules}
-use borrow.Author.Tests.{not-true, not-false}
 use mathlib.Core.Path.{sym}
 use Rattle.formats.proofs.TurnLaws.{lent_length, back_inside, back_length}
 use native.Mathlib.Omega.{arith}
@@ -16,45 +15,37 @@ infer_started_spec =
     (λ c. search rules)
     (λ c. search rules)
     (λ c.
-    let start = c.before.before.before.before in
-    sym (lent_length start.args.limit start.requires.0.small))
+    sym (lent_length c.args.limit c.requires.0.small))
     (λ c κs.
-    let start = c.before.before.before.before in
-    (start.requires.0, holding start.requires.1.1, lent_length start.args.limit start.requires.0.small))
+    (c.requires.0, holding c.requires.1.1, lent_length c.args.limit c.requires.0.small))
     (λ c. search rules)
     (λ c.
-    let start = c.before.before.before.before.before.before.before.before.before in
     let arguments = c.infer_arguments in
-    λ tail h. started_over start.args.limit _ tail _ arguments.result c.if-not-infer_arguments.true (arguments.ensures _ _ tail h))
+    λ tail h. started_over c.args.limit _ tail _ arguments.result c.if-not-infer_arguments.true (arguments.ensures _ _ tail h))
     (λ c.
-    let start = c.before.before.before.before.before.before.before.before.before.before in
-    omega (arith, names_at_most start.requires.0))
+    omega (arith, names_at_most c.requires.0))
     (λ c.
-    let start = c.before.before.before.before.before.before.before.before.before.before in
     let arguments = c.infer_arguments in
-    let joined-kept = arguments.auto.1.1.1.1.1.1.0 in
-    let joined-after = arguments.new.1.1.1.1.1.1.0 in
-    back_inside start.requires.0.small joined-after _ joined-kept)
+    let joined-kept = arguments.auto.joined in
+    let joined-after = arguments.new.joined in
+    back_inside c.requires.0.small joined-after _ joined-kept)
     (λ c.
-    let start = c.before.before.before.before.before.before.before.before.before.before.before in
     let arguments = c.infer_arguments in
-    let joined-kept = arguments.auto.1.1.1.1.1.1.0 in
-    let joined-after = arguments.new.1.1.1.1.1.1.0 in
-    sym (back_length start.requires.0.small joined-after _ joined-kept))
+    let joined-kept = arguments.auto.joined in
+    let joined-after = arguments.new.joined in
+    sym (back_length c.requires.0.small joined-after _ joined-kept))
     (λ c κs.
-    let start = c.before.before.before.before.before.before.before.before.before.before.before in
     let arguments = c.infer_arguments in
-    let joined-kept = arguments.auto.1.1.1.1.1.1.0 in
-    let joined-after = arguments.new.1.1.1.1.1.1.0 in
-    let (found, is, held) = started_arguments start.args.limit _ start.requires.1.0 _ arguments.result c.if-not-infer_arguments.false
-    (arguments.ensures _ _ start.requires.1.0 start.requires.1.1) in
-    (start.requires.0, holding held, back_length start.requires.0.small joined-after _ joined-kept))
+    let joined-kept = arguments.auto.joined in
+    let joined-after = arguments.new.joined in
+    let (found, is, held) = started_arguments c.args.limit _ c.requires.1.0 _ arguments.result c.if-not-infer_arguments.false
+    (arguments.ensures _ _ c.requires.1.0 c.requires.1.1) in
+    (c.requires.0, holding held, back_length c.requires.0.small joined-after _ joined-kept))
     (λ c. search rules)
     (λ c.
-    let start = c.before.before.before.before.before.before.before.before.before.before.before.before.before.before.before in
     let arguments = c.infer_arguments in
     let tested = c.if-not-infer_arguments in
     let rounds = c.infer_rounds in
     λ tail h.
-    let (found, is, held) = started_arguments start.args.limit _ tail _ arguments.result (not-false _ tested.false) (arguments.ensures _ _ tail h) in
-    started_rounds start.args.limit _ tail found _ rounds.result _ (omega (arith, start.requires.0.names)) is (rounds.ensures found _ tail held)))
+    let (found, is, held) = started_arguments c.args.limit _ tail _ arguments.result tested.false (arguments.ensures _ _ tail h) in
+    started_rounds c.args.limit _ tail found _ rounds.result _ (omega (arith, c.requires.0.names)) is (rounds.ensures found _ tail held)))

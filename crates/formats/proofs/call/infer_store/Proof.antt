@@ -13,37 +13,32 @@ infer_store_spec =
     (λ c κs. search rules)
     (λ c. search rules)
     (λ c κs.
-    let start = c.before.before.before.before.before in
     let names = c.wide-count in (
-      start.requires.2,
-      omega (arith, store_few start.requires.0 start.requires.1 start.requires.4 start.requires.2 names.result names.ensures.0),
-      start.requires.3,
+      c.requires.2,
+      omega (arith, store_few c.requires.0 c.requires.1 c.requires.4 c.requires.2 names.result names.ensures.0),
+      c.requires.3,
     ))
     (λ c κs.
-    let start = c.before.before.before.before.before.before.before.before.before in
     let names = c.wide-count in
     let begun = c.start_store in (
-      store_asked start.requires.0 start.requires.1 start.requires.4 start.requires.2 names.result names.ensures.0,
-      (_, store_started start.requires.0 start.requires.1 start.requires.4 start.requires.2 names.result names.ensures.0 _ _ begun.ensures),
+      store_asked c.requires.0 c.requires.1 c.requires.4 c.requires.2 names.result names.ensures.0,
+      (_, store_started c.requires.0 c.requires.1 c.requires.4 c.requires.2 names.result names.ensures.0 _ _ begun.ensures),
     ))
     (λ c. search rules)
     (λ c κs. search rules)
     (λ c. search rules)
     (λ c. search rules)
     (λ c.
-    let the_enum_told = c.enum_told-1 in
-    let start = c.before.before.before.before.before.before.before.before.before.before.before.before.before.before.before.before.before.before in
     let names = c.wide-count in
     let begun = c.start_store in
     let started = c.infer_started in
-    let held = store_started start.requires.0 start.requires.1 start.requires.4 start.requires.2 names.result names.ensures.0 _ _ begun.ensures in
-    infer_cleared start.args.limit _ start.args.store.now _ started.result (started.ensures _ held) _ the_enum_told.given.1
+    let held = store_started c.requires.0 c.requires.1 c.requires.4 c.requires.2 names.result names.ensures.0 _ _ begun.ensures in
+    infer_cleared c.args.limit _ c.args.store.now _ started.result (started.ensures _ held) _ c.in-TooWide.is
     c.clear_store.ensures)
     (λ c. search rules)
     (λ c.
-    let start = c.before.before.before.before.before.before.before.before.before.before.before.before.before.before.before in
     let names = c.wide-count in
     let begun = c.start_store in
     let started = c.infer_started in
-    let held = store_started start.requires.0 start.requires.1 start.requires.4 start.requires.2 names.result names.ensures.0 _ _ begun.ensures in
-    infer_ran start.args.limit _ start.args.store.now _ started.result (started.ensures _ held) _ _ c.rounds-1.given.1))
+    let held = store_started c.requires.0 c.requires.1 c.requires.4 c.requires.2 names.result names.ensures.0 _ _ begun.ensures in
+    infer_ran c.args.limit _ c.args.store.now _ started.result (started.ensures _ held) _ _ c.in-Ran.is))

@@ -26,26 +26,24 @@ infer_arguments_spec =
     decreases_loop
     (λ c κs. tt)
     (λ c.
-    let start = c.before.before.before.before in
-    (arguments_start start.args.limit (file_of start.args.law.now) start.args.store.now, start.requires.2))
+    (arguments_start c.args.limit (file_of c.args.law.now) c.args.store.now, c.requires.2))
     (λ c κs.
     let the_functions = c.functions-most in
     let the_pre = c.requires in
-    let now = c.loop-f in
-    let start = c.before.before.before.before.before.before.before.before in (
-      start.requires.0,
-      arguments_holding now.invariant.0 start.requires.1,
+    let now = c.loop-f in (
+      c.requires.0,
+      arguments_holding now.invariant.0 c.requires.1,
       (omega (arith, c.loop-f-test.true, functions_read the_pre.0 the_functions.result the_functions.ensures)),
       now.invariant.1,
     ))
-    (λ c. c.in-Over.keys1)
+    (λ c. c.in-Over-1.keys1)
     (λ c. let the_function_turn = c.function_turn in
-    let store-Kept = the_function_turn.auto.1.1.1.0 in
+    let store-Kept = the_function_turn.auto.store in
     let the_loop = c.loop-f in
     let the_pre = c.requires in
     store-Kept ∙ arguments_long the_loop.invariant.0 the_pre.1)
     (λ c. let the_function_turn = c.function_turn in
-    let joined-kept = the_function_turn.auto.1.1.1.1.1.1.1.1.0 in
+    let joined-kept = the_function_turn.auto.joined in
     let the_loop = c.loop-f in
     let the_pre = c.requires in
     joined-kept ∙ the_loop.invariant.1 ∙ sym the_pre.2)
@@ -54,17 +52,16 @@ infer_arguments_spec =
     let the_pre = c.requires in
     let the_functions = c.functions-most in
     let turn = c.function_turn in
-    let store-after = turn.new.1.1.1.0 in
-    arguments_refused the_loop.invariant.0 store-after turn.result turn.ensures (tag_over _ c.in-Over.keys1)
+    let store-after = turn.new.store in
+    arguments_refused the_loop.invariant.0 store-after turn.result turn.ensures (tag_over _ c.in-Over.in-Over-own.keys1)
     (omega (arith, the_loop_test.true, functions_read the_pre.0 the_functions.result the_functions.ensures)))
     (λ c. let the_loop_test = c.loop-f-test in
     let the_functions = c.functions-most in
-    let start = c.before.before.before.before.before.before.before.before.before.before.before.before.before.before in
     omega (
       arith,
       the_loop_test.true,
-      functions_read start.requires.0 the_functions.result the_functions.ensures,
-      functions_limit start.args.law.now start.args.index.now start.requires.0.indexed,
+      functions_read c.requires.0 the_functions.result the_functions.ensures,
+      functions_limit c.args.law.now c.args.index.now c.requires.0.indexed,
     ))
     (λ c. let the_loop_test = c.loop-f-test in
     omega (arith, the_loop_test.true))
@@ -73,9 +70,9 @@ infer_arguments_spec =
     let the_pre = c.requires in
     let the_functions = c.functions-most in
     let turn = c.function_turn in
-    let joined-kept = turn.auto.1.1.1.1.1.1.1.1.0 in
-    let store-after = turn.new.1.1.1.0 in (
-      arguments_more the_loop.invariant.0 store-after turn.result turn.ensures (tag_not_over _ c.in-Over.keys2)
+    let joined-kept = turn.auto.joined in
+    let store-after = turn.new.store in (
+      arguments_more the_loop.invariant.0 store-after turn.result turn.ensures (tag_not_over _ c.in_default.in_default-own.keys2)
           (omega (arith, the_loop_test.true, functions_read the_pre.0 the_functions.result the_functions.ensures)) the_pre.0.small,
       joined-kept ∙ the_loop.invariant.1,
     ))

@@ -1,7 +1,7 @@
 -- `infer::infer_round` meets its contract. The invariant: after f functions the store holds entries, and the round is what the functions left make of
 -- them with the mark that a format changed (`RoundFrom`); the words lent for a join are as many as a format's.
 use Prim.Native.Nat.{◌+◌, ◌-◌}
-use mathlib.Core.Logic.{⊎_elim, inl, inr}
+use mathlib.Core.Logic.{inl, inr}
 use mathlib.Core.Path.{◌≡◌, sym, ◌∙◌}
 use native.Mathlib.Omega.{arith}
 use lib.ListN.{length}
@@ -11,6 +11,7 @@ use Rattle.formats.specs.declared.infer.Turn.TheVariants.{Changed, Same}
 use Rattle.formats.proofs.FunctionSteps.{RoundFrom, Marked, functions_read, tag_over, tag_changed, tag_same, round_start}
 use Rattle.formats.proofs.FunctionSteps.{round_holding, round_long, round_all, round_refused, round_more}
 use Rattle.formats.proofs.infer.infer_round.Statement.{statement}
+use Rattle.formats.proofs.infer.infer_round.Lts.{in-Changed, in-Same}
 use Rattle.formats.proofs.infer.infer_round.Tie as tie
 
 abbrev invariant_loop : tie.invariant-loop-f
@@ -28,26 +29,24 @@ infer_round_spec =
     decreases_loop
     (λ c κs. tt)
     (λ c.
-    let start = c.before.before.before.before in
-    (round_start start.args.limit (file_of start.args.law.now) start.args.store.now, start.requires.2))
+    (round_start c.args.limit (file_of c.args.law.now) c.args.store.now, c.requires.2))
     (λ c κs.
     let the_functions = c.functions-most in
     let the_pre = c.requires in
-    let now = c.loop-f in
-    let start = c.before.before.before.before.before.before.before.before in (
-      start.requires.0,
-      round_holding now.invariant.0 start.requires.1,
+    let now = c.loop-f in (
+      c.requires.0,
+      round_holding now.invariant.0 c.requires.1,
       (omega (arith, c.loop-f-test.true, functions_read the_pre.0 the_functions.result the_functions.ensures)),
       now.invariant.1,
     ))
-    (λ c. c.in-Over.keys1)
+    (λ c. c.in-Over-1.keys1)
     (λ c. let the_function_turn = c.function_turn in
-    let store-Kept = the_function_turn.auto.1.1.1.0 in
+    let store-Kept = the_function_turn.auto.store in
     let the_loop = c.loop-f in
     let the_pre = c.requires in
     store-Kept ∙ round_long the_loop.invariant.0 the_pre.1)
     (λ c. let the_function_turn = c.function_turn in
-    let joined-kept = the_function_turn.auto.1.1.1.1.1.1.1.1.0 in
+    let joined-kept = the_function_turn.auto.joined in
     let the_loop = c.loop-f in
     let the_pre = c.requires in
     joined-kept ∙ the_loop.invariant.1 ∙ sym the_pre.2)
@@ -56,19 +55,18 @@ infer_round_spec =
     let the_pre = c.requires in
     let the_functions = c.functions-most in
     let turn = c.function_turn in
-    let store-after = turn.new.1.1.1.0 in
-    round_refused the_loop.invariant.0 store-after turn.result turn.ensures (tag_over _ c.in-Over.keys1)
+    let store-after = turn.new.store in
+    round_refused the_loop.invariant.0 store-after turn.result turn.ensures (tag_over _ c.in-Over.in-Over-own.keys1)
     (omega (arith, the_loop_test.true, functions_read the_pre.0 the_functions.result the_functions.ensures)) the_pre.0.small)
-    (λ c. c.in-Over.keys2)
-    (λ c. c.in-Over.keys3)
+    (λ c. c.in-Changed-1.keys2)
+    (λ c. c.in-Same-1.keys3)
     (λ c. let the_loop_test = c.loop-f-test in
     let the_functions = c.functions-most in
-    let start = c.before.before.before.before.before.before.before.before.before.before.before.before.before.before in
     omega (
       arith,
       the_loop_test.true,
-      functions_read start.requires.0 the_functions.result the_functions.ensures,
-      functions_limit start.args.law.now start.args.index.now start.requires.0.indexed,
+      functions_read c.requires.0 the_functions.result the_functions.ensures,
+      functions_limit c.args.law.now c.args.index.now c.requires.0.indexed,
     ))
     (λ c. let the_loop_test = c.loop-f-test in
     omega (arith, the_loop_test.true))
@@ -77,11 +75,14 @@ infer_round_spec =
     let the_pre = c.requires in
     let the_functions = c.functions-most in
     let turn = c.function_turn in
-    let joined-kept = turn.auto.1.1.1.1.1.1.1.1.0 in
-    let store-after = turn.new.1.1.1.0 in
-    let marked : Marked turn.result the_loop.changed c.in-Over.changed =
-    ⊎_elim (λ w. inl (tag_changed _ w.0.keys2, w.2)) (λ w. inr (tag_same _ w.0.keys3, w.2)) c.in-Over.branch in (
-      round_more the_loop.invariant.0 store-after turn.result turn.ensures c.in-Over.changed marked
+    let joined-kept = turn.auto.joined in
+    let store-after = turn.new.store in
+    let marked : Marked turn.result the_loop.changed c.match-function_turn.changed =
+    elim c.match-function_turn.branch [
+      | in-Changed w ↦ inl (tag_changed _ w.in-Changed.in-Changed-own.keys2, w.changed-is)
+      | in-Same w ↦ inr (tag_same _ w.in-Same.in-Same-own.keys3, w.changed-is)
+    ] in (
+      round_more the_loop.invariant.0 store-after turn.result turn.ensures c.match-function_turn.changed marked
           (omega (arith, the_loop_test.true, functions_read the_pre.0 the_functions.result the_functions.ensures)) the_pre.0.small,
       joined-kept ∙ the_loop.invariant.1,
     ))

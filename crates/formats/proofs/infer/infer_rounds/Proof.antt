@@ -24,55 +24,55 @@ infer_rounds_spec =
     (tie.spec
     invariant_loop
     decreases_loop
-    (λ c. let start = c.before.before.before in
-    (start.requires.2, rounds_start start.args.limit start.args.most (tree_of (file_of start.args.law.now)) start.args.store.now))
+    (λ c.
+    (c.requires.2, rounds_start c.args.limit c.args.most (tree_of (file_of c.args.law.now)) c.args.store.now))
     (λ c κs.
     let the_loop = c.loop-done in
     let p = c.requires in (p.0, rounds_holding the_loop.invariant.1 p.1, the_loop.invariant.0))
     (λ c. search rules)
     (λ c. let the_infer_round = c.infer_round in
-    let store-Kept = the_infer_round.auto.1.1.1.0 in
+    let store-Kept = the_infer_round.auto.store in
     let the_loop = c.loop-done in
     store-Kept ∙ the_loop.invariant.1.long)
     (λ c. let the_infer_round = c.infer_round in
-    let joined-kept = the_infer_round.auto.1.1.1.1.1.1.0 in
+    let joined-kept = the_infer_round.auto.joined in
     let the_loop = c.loop-done in
     let the_pre = c.requires in
     joined-kept ∙ the_loop.invariant.0 ∙ sym the_pre.2)
     (λ c. let the_loop = c.loop-done in
     let the_loop_test = c.loop-done-test in
     let one = c.infer_round in
-    let store-after = one.new.1.1.1.0 in
-    rounds_wide the_loop.invariant.1 store-after one.result one.ensures c.enum_told-1.given.1 the_loop_test.true)
+    let store-after = one.new.store in
+    rounds_wide the_loop.invariant.1 store-after one.result one.ensures c.in-Over.is the_loop_test.true)
     (λ c. search rules)
     (λ c. search rules)
     (λ c. let the_loop_test = c.loop-done-test in
     omega (arith, the_loop_test.true))
     (λ c. let the_loop_test = c.loop-done-test in
     let one = c.infer_round in
-    let store-Kept = one.auto.1.1.1.0 in
-    let store-after = one.new.1.1.1.0 in
-    let joined-kept = one.auto.1.1.1.1.1.1.0 in
+    let store-Kept = one.auto.store in
+    let store-after = one.new.store in
+    let joined-kept = one.auto.joined in
     let inv = c.loop-done.invariant in (
       joined-kept ∙ inv.0,
-      rounds_more inv.1 store-after one.result one.ensures c.enum_told-in-Changed-1.given.1 the_loop_test.true store-Kept,
+      rounds_more inv.1 store-after one.result one.ensures c.in-Changed.is the_loop_test.true store-Kept,
     ))
     (λ c. search rules)
     (λ c. search rules)
     (λ c. let the_infer_round = c.infer_round in
-    let store-Kept = the_infer_round.auto.1.1.1.0 in
+    let store-Kept = the_infer_round.auto.store in
     let the_loop = c.loop-done in
     store-Kept ∙ the_loop.invariant.1.long)
     (λ c. let the_infer_round = c.infer_round in
-    let joined-kept = the_infer_round.auto.1.1.1.1.1.1.0 in
+    let joined-kept = the_infer_round.auto.joined in
     let the_loop = c.loop-done in
     let the_pre = c.requires in
     joined-kept ∙ the_loop.invariant.0 ∙ sym the_pre.2)
     (λ c. let the_loop = c.loop-done in
     let the_loop_test = c.loop-done-test in
     let one = c.infer_round in
-    let store-after = one.new.1.1.1.0 in
-    rounds_settled the_loop.invariant.1 store-after one.result one.ensures c.enum_told-in-Same-1.given.1 the_loop_test.true)
+    let store-after = one.new.store in
+    rounds_settled the_loop.invariant.1 store-after one.result one.ensures c.in-Same.is the_loop_test.true)
     (λ c.
     let the_loop = c.loop-done in
     the_loop.invariant.1.long)

@@ -14,31 +14,29 @@ join_into_spec =
     (λ c. search rules)
     (λ c. search rules)
     (λ c.
-    let start = c.before.before.before.before in
-    sym (lent_length start.args.limit start.requires.0))
+    sym (lent_length c.args.limit c.requires.0))
     (λ c κs.
     let the_args = c.args in
     let p = c.requires in (omega (arith, p.0), p.1, p.2, lent_length the_args.limit p.0))
     (λ c. let the_pre = c.requires in
     let joined = c.join_formats in
-    let out-kept = joined.auto.1.1.1.0 in
-    let out-after = joined.new.1.1.1.0 in
+    let out-kept = joined.auto.out in
+    let out-after = joined.new.out in
     back_inside the_pre.0 out-after _ out-kept)
     (λ c. let the_pre = c.requires in
     let joined = c.join_formats in
-    let out-kept = joined.auto.1.1.1.0 in
-    let out-after = joined.new.1.1.1.0 in
+    let out-kept = joined.auto.out in
+    let out-after = joined.new.out in
     sym (back_length the_pre.0 out-after _ out-kept))
     (λ c κs.
     let joined = c.join_formats in
-    let out-kept = joined.auto.1.1.1.0 in
-    let out-after = joined.new.1.1.1.0 in
-    let start = c.before.before.before.before.before.before.before.before in
-    let a = start.args in
-    back_length start.requires.0 out-after _ out-kept ∙ sym (format_in_length a.limit a.format-1.now start.requires.1))
+    let out-kept = joined.auto.out in
+    let out-after = joined.new.out in
+    let a = c.args in
+    back_length c.requires.0 out-after _ out-kept ∙ sym (format_in_length a.limit a.format.now c.requires.1))
     (λ c. search rules)
     (λ c. let the_pre = c.requires in
     let joined = c.join_formats in
-    let out-kept = joined.auto.1.1.1.0 in
-    let out-after = joined.new.1.1.1.0 in
+    let out-kept = joined.auto.out in
+    let out-after = joined.new.out in
     c.copy_words.ensures ∙ (back_front the_pre.0 out-after _ out-kept ∙ joined.ensures)))

@@ -7,7 +7,6 @@ use mathlib.Core.Path.{◌≡◌, refl, sym, ◌∙◌}
 use native.Mathlib.Omega.{arith}
 use lib.ListN.{length, take, drop}
 use lib.Seq.{length-take-le, length_front}
-use borrow.Author.Tests.{not-true, not-false}
 use Rattle.file.specs.Sections.{file_of}
 use Rattle.law.proofs.IndexLaws.{sentences_limit}
 use Rattle.shapes.specs.Words.{read_format}
@@ -45,27 +44,23 @@ join_sentences_spec =
     (λ c.
     let the_pre = c.requires in
     omega (arith, the_pre.0.small))
-    (λ c. let start = c.before.before.before in (refl, rows_start start.requires.0.small start.requires.3))
+    (λ c. (refl, rows_start c.requires.0.small c.requires.3))
     (λ c.
-    let start = c.before.before.before.before.before in
-    omega (arith, c.loop-i-test.true, start.requires.2, sentences_limit start.args.law.now start.args.index.now start.requires.0.indexed))
+    omega (arith, c.loop-i-test.true, c.requires.2, sentences_limit c.args.law.now c.args.index.now c.requires.0.indexed))
     (λ c. let the_pre = c.requires in
     omega (arith, c.loop-i.invariant.0, the_pre.0.small))
     (λ c.
     let now = c.loop-i in
-    let start = c.before.before.before.before.before.before in
-    sym (lent_length start.args.limit now.row start.requires.0.small now.invariant.0))
+    sym (lent_length c.args.limit now.row c.requires.0.small now.invariant.0))
     (λ c κs.
-    let now = c.loop-i in
-    let start = c.before.before.before.before.before.before in (
-      start.requires.0,
-      start.requires.1,
-      omega (arith, c.loop-i-test.true, start.requires.2),
-      lent_length start.args.limit now.row start.requires.0.small now.invariant.0,
+    let now = c.loop-i in (
+      c.requires.0,
+      c.requires.1,
+      omega (arith, c.loop-i-test.true, c.requires.2),
+      lent_length c.args.limit now.row c.requires.0.small now.invariant.0,
     ))
     (λ c. let the_loop = c.loop-i in
-    let start = c.before.before.before.before.before.before.before.before.before in
-    rows_length the_loop.invariant.1 ∙ sym (format_in_length start.args.limit start.args.joined-1.now start.requires.3))
+    rows_length the_loop.invariant.1 ∙ sym (format_in_length c.args.limit c.args.joined.now c.requires.3))
     (λ c.
     let the_loop_test = c.loop-i-test in
     let the_loop = c.loop-i in
@@ -74,31 +69,28 @@ join_sentences_spec =
     the_loop_test.true)
     (λ c.
     let made = c.sentence_format in
-    let out-kept = made.auto.1.1.1.1.1.1.1.1.0 in
-    let out-after = made.new.1.1.1.1.1.1.1.1.0 in
+    let out-kept = made.auto.out in
+    let out-after = made.new.out in
     let now = c.loop-i in
-    let start = c.before.before.before.before.before.before.before.before.before.before in
     omega (
       arith,
-      back_length start.args.limit now.row out-after out-kept now.invariant.0,
-      start.requires.0.small,
+      back_length c.args.limit now.row out-after out-kept now.invariant.0,
+      c.requires.0.small,
     ))
     (λ c.
     let made = c.sentence_format in
-    let out-kept = made.auto.1.1.1.1.1.1.1.1.0 in
+    let out-kept = made.auto.out in
     let now = c.loop-i in
-    let start = c.before.before.before.before.before.before.before.before.before.before.before in
-    let new = made.new.1.1.1.1.1.1.1.1.0 in
+    let new = made.new.out in
     sym
-    (lent_length start.args.limit (new ++ drop (start.args.limit + 1) now.row) start.requires.0.small
-    (back_length start.args.limit now.row new out-kept now.invariant.0)))
+    (lent_length c.args.limit (new ++ drop (c.args.limit + 1) now.row) c.requires.0.small
+    (back_length c.args.limit now.row new out-kept now.invariant.0)))
     (λ c κs.
     let made = c.sentence_format in
-    let now = c.loop-i in
-    let start = c.before.before.before.before.before.before.before.before.before.before.before in (
-      start.requires.0.small,
+    let now = c.loop-i in (
+      c.requires.0.small,
       rows_format now.invariant.1,
-      row_format now.invariant.1 made.ensures c.if-not-sentence_format.false (drop (start.args.limit + 1) now.row),
+      row_format now.invariant.1 made.ensures c.if-not-sentence_format.false (drop (c.args.limit + 1) now.row),
     ))
     (λ c. let the_loop_test = c.loop-i-test in
     let the_fits = c.ranges in
@@ -108,17 +100,15 @@ join_sentences_spec =
     (λ c. let the_if1 = c.if-not-sentence_format in
     let the_loop_test = c.loop-i-test in
     let made = c.sentence_format in
-    let out-kept = made.auto.1.1.1.1.1.1.1.1.0 in
-    let out-after = made.new.1.1.1.1.1.1.1.1.0 in
-    let good : made.result ≡ true = not-false made.result the_if1.false in
+    let out-kept = made.auto.out in
+    let out-after = made.new.out in
+    let good : made.result ≡ true = the_if1.false in
     let now = c.loop-i in
-    let start = c.before.before.before.before.before.before.before.before.before.before.before.before.before.before in
-    let a = start.args in (
+    let a = c.args in (
       back_length a.limit now.row out-after out-kept now.invariant.0,
-      rows_more now.invariant.1 made.ensures good (drop (a.limit + 1) now.row) start.requires.0.small start.requires.0.readable start.requires.2
+      rows_more now.invariant.1 made.ensures good (drop (a.limit + 1) now.row) c.requires.0.small c.requires.0.readable c.requires.2
           the_loop_test.true refl c.join_into.ensures,
     ))
     (λ c.
-    let start = c.before.before.before.before.before in
-    rows_length c.loop-i.invariant.1 ∙ sym (format_in_length start.args.limit start.args.joined-1.now start.requires.3))
+    rows_length c.loop-i.invariant.1 ∙ sym (format_in_length c.args.limit c.args.joined.now c.requires.3))
     (λ c. rows_all c.loop-i.invariant.1 c.loop-i-test.false))

@@ -20,21 +20,20 @@ renew_joined_spec =
     (λ c. search rules)
     (λ c. search rules)
     (λ c.
-    let start = c.before.before.before.before.before in
-    sym (lent_length start.args.limit start.requires.0))
+    sym (lent_length c.args.limit c.requires.0))
     (λ c κs.
     let p = c.requires in
     let a = c.args in
     (omega (arith, p.0), lent_format a.limit a.store.now a.k p.3, p.4, lent_length a.limit p.0))
     (λ c. let the_pre = c.requires in
     let joined = c.join_formats in
-    let out-kept = joined.auto.1.1.1.0 in
-    let out-after = joined.new.1.1.1.0 in
+    let out-kept = joined.auto.out in
+    let out-after = joined.new.out in
     back_inside the_pre.0 out-after _ out-kept)
     (λ c. let the_pre = c.requires in
     let joined = c.join_formats in
-    let out-kept = joined.auto.1.1.1.0 in
-    let out-after = joined.new.1.1.1.0 in
+    let out-kept = joined.auto.out in
+    let out-after = joined.new.out in
     sym (back_length the_pre.0 out-after _ out-kept))
     (λ c. search rules)
     (λ c. search rules)
@@ -43,13 +42,13 @@ renew_joined_spec =
     (λ c κs. search rules)
     (λ c. let the_pre = c.requires in
     let joined = c.join_formats in
-    let out-kept = joined.auto.1.1.1.0 in
-    let out-after = joined.new.1.1.1.0 in
+    let out-kept = joined.auto.out in
+    let out-after = joined.new.out in
     back_inside the_pre.0 out-after _ out-kept)
     (λ c. let the_pre = c.requires in
     let joined = c.join_formats in
-    let out-kept = joined.auto.1.1.1.0 in
-    let out-after = joined.new.1.1.1.0 in
+    let out-kept = joined.auto.out in
+    let out-after = joined.new.out in
     sym (back_length the_pre.0 out-after _ out-kept))
     (λ c. search rules)
     (λ c. search rules)
@@ -57,17 +56,16 @@ renew_joined_spec =
     (λ c. search rules)
     (λ c κs.
     let joined = c.join_formats in
-    let out-kept = joined.auto.1.1.1.0 in
-    let out-after = joined.new.1.1.1.0 in
-    let start = c.before.before.before.before.before.before.before.before.before.before.before.before.before in
-    let a = start.args in
-    back_length start.requires.0 out-after _ out-kept ∙ sym (lent_format_length a.limit a.store.now a.k start.requires.3))
+    let out-kept = joined.auto.out in
+    let out-after = joined.new.out in
+    let a = c.args in
+    back_length c.requires.0 out-after _ out-kept ∙ sym (lent_format_length a.limit a.store.now a.k c.requires.3))
     (λ c. search rules)
     (λ c. let the_same_words = c.same_words-same in
     let p = c.requires in
     let a = c.args in
     let joined = c.join_formats in
-    let out-kept = joined.auto.1.1.1.0 in (
+    let out-kept = joined.auto.out in (
       renewed_words a.limit a.store.now a.k p.3 _ p.0 p.4 out-kept joined.ensures c.copy_words.ensures,
       renewed_test a.limit a.store.now a.k p.3 _ p.0 p.4 out-kept joined.ensures the_same_words.ensures.0
           the_same_words.ensures.1,

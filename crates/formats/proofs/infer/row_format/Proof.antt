@@ -16,35 +16,30 @@ row_format_spec =
     (λ c. search rules)
     (λ c κs.
     let the_clear_words = c.clear_words in
-    let p = c.requires in (row_cleared p.0 the_clear_words.auto.0 refl, p.2))
+    let p = c.requires in (row_cleared p.0 the_clear_words.auto.words refl, p.2))
     (λ c. search rules)
     (λ c κs. search rules)
     (λ c. search rules)
     (λ c. let the_write_row = c.write_row in
-    omega (arith, ends_between c.next-1.given.1 the_write_row.ensures.0))
+    omega (arith, ends_between c.in-Ends.is the_write_row.ensures.0))
     (λ c κs. let the_write_row = c.write_row in
     let the_pre = c.requires in
-    omega (arith, ends_between c.next-1.given.1 the_write_row.ensures.0, the_pre.0.stored.limited))
+    omega (arith, ends_between c.in-Ends.is the_write_row.ensures.0, the_pre.0.stored.limited))
     (λ c. search rules)
     (λ c. search rules)
     (λ c.
-    let told = c.before.before.before.before in
-    let row = told.before.before.before.before in
-    let first = row.before.before.before.before in
-    let start = first.before.before.before.before.before.before in
-    let out-kept = row.write_row.auto.1.1.1.1.1.1.1.0 in
-    λ t knows. made_over start.args.limit _ _ _ refl told.enum_told-1.given.1 (row.write_row.ensures.1 t knows)
-    (out-kept ∙ first.clear_words.auto.0 ∙ start.requires.1) c.clear_words-in-Over.ensures)
+    let out-kept = c.write_row.auto.out in
+    λ t knows. made_over c.args.limit _ _ _ refl c.in-Over.is (c.write_row.ensures.1 t knows)
+    (out-kept ∙ c.clear_words.auto.words ∙ c.requires.1) c.clear_words-in-Over.ensures)
     (λ c. let the_write_row = c.write_row in
-    let out-kept = the_write_row.auto.1.1.1.1.1.1.1.0 in
-    let out-after = the_write_row.new.1.1.1.1.1.1.1.0 in
+    let out-kept = the_write_row.auto.out in
+    let out-after = the_write_row.new.out in
     let the_clear_words = c.clear_words in
-    length-set out-after _ _ ∙ out-kept ∙ the_clear_words.auto.0)
+    length-set out-after _ _ ∙ out-kept ∙ the_clear_words.auto.words)
     (λ c.
-    let the_next = c.next-1 in
     let the_args = c.args in
     let the_clear_words = c.clear_words in
     let the_write_row = c.write_row in
     let p = c.requires in
-    λ t knows. made_written the_args.limit _ _ _ (the_clear_words.ensures ∙ ap (λ n. replicate n 0) p.1) refl the_next.given.1
+    λ t knows. made_written the_args.limit _ _ _ (the_clear_words.ensures ∙ ap (λ n. replicate n 0) p.1) refl c.in-Ends.is
     c.header_word.ensures (the_write_row.ensures.1 t knows)))

@@ -2,7 +2,6 @@
 use mathlib.Core.Path.{◌∙◌}
 use native.Mathlib.Omega.{arith}
 use borrow.Author.Rules.{rules}
-use borrow.Author.Tests.{not-true, not-false}
 use lib.ListN.{length, length-set}
 use Rattle.file.specs.Sections.{file_of}
 use Rattle.law.proofs.IndexLaws.{sentences_limit}
@@ -21,74 +20,67 @@ sentences_format_spec =
     (λ c.
     let the_clear_words = c.clear_words in
     let the_pre = c.requires in
-    omega (arith, the_clear_words.auto.0, the_pre.3))
+    omega (arith, the_clear_words.auto.words, the_pre.3))
     (λ c.
     let the_clear_words = c.clear_words in
-    length-set the_clear_words.new.0 _ _ ∙ the_clear_words.auto.0)
+    length-set the_clear_words.new.words _ _ ∙ the_clear_words.auto.words)
     (λ c.
     let the_if1 = c.if-number-eq0 in
-    let start = c.before.before.before.before.before.before.before.before in
-    let file = file_of start.args.law.now in
-    let known = find (results_in start.args.limit (file_names file) start.args.store.now) in
-    rows_none start.args.limit file start.args.patterns known start.args.from start.args.number (length start.args.out-1.now)
-    the_if1.true c.clear_words.ensures start.requires.3)
+    let file = file_of c.args.law.now in
+    let known = find (results_in c.args.limit (file_names file) c.args.store.now) in
+    rows_none c.args.limit file c.args.patterns known c.args.from c.args.number (length c.args.out.now)
+    the_if1.true c.clear_words.ensures c.requires.3)
     (λ c κs.
-    let start = c.before.before.before.before.before in
-    (start.requires.0, start.requires.1, omega (arith, c.if-number-eq0.false, start.requires.2), start.requires.3))
+    (c.requires.0, c.requires.1, omega (arith, c.if-number-eq0.false, c.requires.2), c.requires.3))
     (λ c.
     let the_sentence_format = c.sentence_format in
-    let out-kept = the_sentence_format.auto.1.1.1.1.1.1.1.1.0 in
+    let out-kept = the_sentence_format.auto.out in
     out-kept)
     (λ c.
     let the_sentence_format = c.sentence_format in
     let the_if1 = c.if-number-eq0 in
-    let start = c.before.before.before.before.before.before.before.before.before in
-    let file = file_of start.args.law.now in
-    let known = find (results_in start.args.limit (file_names file) start.args.store.now) in
-    first_refused start.args.limit file start.args.patterns known start.args.from start.args.number the_sentence_format.ensures
-    start.requires.0.readable start.requires.2 (omega (arith, the_if1.false)) c.if-not-sentence_format.true)
+    let file = file_of c.args.law.now in
+    let known = find (results_in c.args.limit (file_names file) c.args.store.now) in
+    first_refused c.args.limit file c.args.patterns known c.args.from c.args.number the_sentence_format.ensures
+    c.requires.0.readable c.requires.2 (omega (arith, the_if1.false)) c.if-not-sentence_format.true)
     (λ c.
     let the_sentence_format = c.sentence_format in
-    let out-kept = the_sentence_format.auto.1.1.1.1.1.1.1.1.0 in
+    let out-kept = the_sentence_format.auto.out in
     out-kept)
     (λ c.
     let the_sentence_format = c.sentence_format in
     let the_if1 = c.if-number-eq0 in
-    let start = c.before.before.before.before.before.before.before.before.before.before in
-    let file = file_of start.args.law.now in
-    let known = find (results_in start.args.limit (file_names file) start.args.store.now) in
-    first_alone start.args.limit file start.args.patterns known start.args.from start.args.number the_sentence_format.ensures
-    start.requires.0.readable start.requires.2 (omega (arith, the_if1.false)) start.requires.0.small c.if-not-sentence_format.false c.if-number-eq1.true)
+    let file = file_of c.args.law.now in
+    let known = find (results_in c.args.limit (file_names file) c.args.store.now) in
+    first_alone c.args.limit file c.args.patterns known c.args.from c.args.number the_sentence_format.ensures
+    c.requires.0.readable c.requires.2 (omega (arith, the_if1.false)) c.requires.0.small c.if-not-sentence_format.false c.if-number-eq1.true)
     (λ c. let the_if1 = c.if-number-eq0 in
-    let start = c.before.before.before.before.before.before.before.before.before.before in
-    omega (arith, the_if1.false, start.requires.2, sentences_limit start.args.law.now start.args.index.now start.requires.0.indexed))
+    omega (arith, the_if1.false, c.requires.2, sentences_limit c.args.law.now c.args.index.now c.requires.0.indexed))
     (λ c. let the_if1 = c.if-number-eq0 in
     omega (arith, the_if1.false))
     (λ c κs. let the_if1 = c.if-number-eq0 in
     let the_sentence_format = c.sentence_format in
-    let start = c.before.before.before.before.before.before.before.before.before.before.before in
-    let file = file_of start.args.law.now in
-    let known = find (results_in start.args.limit (file_names file) start.args.store.now) in (
-      start.requires.0,
-      start.requires.1,
-      omega (arith, the_if1.false, start.requires.2),
-      first_format start.args.limit file start.args.patterns known start.args.from start.args.number the_sentence_format.ensures
-          start.requires.0.readable start.requires.2 (omega (arith, the_if1.false)) start.requires.0.small c.if-not-sentence_format.false,
+    let file = file_of c.args.law.now in
+    let known = find (results_in c.args.limit (file_names file) c.args.store.now) in (
+      c.requires.0,
+      c.requires.1,
+      omega (arith, the_if1.false, c.requires.2),
+      first_format c.args.limit file c.args.patterns known c.args.from c.args.number the_sentence_format.ensures
+          c.requires.0.readable c.requires.2 (omega (arith, the_if1.false)) c.requires.0.small c.if-not-sentence_format.false,
     ))
     (λ c.
     let the_join_sentences = c.join_sentences in
-    let joined-kept = the_join_sentences.auto.1.1.1.1.1.1.1.1.1.0 in
+    let joined-kept = the_join_sentences.auto.joined in
     let the_sentence_format = c.sentence_format in
-    let out-kept = the_sentence_format.auto.1.1.1.1.1.1.1.1.0 in
+    let out-kept = the_sentence_format.auto.out in
     joined-kept ∙ out-kept)
     (λ c. let the_sentence_format = c.sentence_format in
     let the_if1 = c.if-number-eq0 in
     let the_if2 = c.if-not-sentence_format in
-    let start = c.before.before.before.before.before.before.before.before.before.before.before.before.before.before in
-    let file = file_of start.args.law.now in
-    let known = find (results_in start.args.limit (file_names file) start.args.store.now) in
+    let file = file_of c.args.law.now in
+    let known = find (results_in c.args.limit (file_names file) c.args.store.now) in
     let others = c.join_sentences in
-    let joined-after = others.new.1.1.1.1.1.1.1.1.1.0 in
-    first_joined start.args.limit file start.args.patterns known start.args.from start.args.number the_sentence_format.ensures
-    start.requires.0.readable start.requires.2 (omega (arith, the_if1.false)) start.requires.0.small (not-false _ the_if2.false) others.result
+    let joined-after = others.new.joined in
+    first_joined c.args.limit file c.args.patterns known c.args.from c.args.number the_sentence_format.ensures
+    c.requires.0.readable c.requires.2 (omega (arith, the_if1.false)) c.requires.0.small the_if2.false others.result
     joined-after others.ensures))

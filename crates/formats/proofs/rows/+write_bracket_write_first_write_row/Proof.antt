@@ -80,61 +80,55 @@ pub +write_bracket_write_first_write_row_spec : {M : Type 1} → statement M
     )
     (write_bracket_at t)
     write-bracket.Post
-    (λ c. let start = c.before.before.before.before.before in
-    (tt, λ results knows. laws.group_none _ start.args.out-1.now start.args.to start.args.most c.if-most-to.true))
+    (λ c.
+    (tt, λ results knows. laws.group_none _ c.args.out.now c.args.to c.args.most c.if-most-to.true))
     (λ c κs. search rules)
     (λ c. search rules)
     (λ c. search rules)
     (λ c. search rules)
-    (λ c. let start = c.before.before.before.before.before.before.before in
-    omega (arith, laws.asked_small start.requires.1.0 start.requires.1.1))
-    (λ c. let start = c.before.before.before.before.before.before.before in
-    omega (arith, c.if-most-to.false, start.requires.1.0.small))
+    (λ c.
+    omega (arith, laws.asked_small c.requires.1.0 c.requires.1.1))
+    (λ c.
+    omega (arith, c.if-most-to.false, c.requires.1.0.small))
     (λ c κs.
     let the_if1 = c.if-most-to in
-    let start = c.before.before.before.before.before.before.before.before in
     let the_end = c.end_of-end in
-    let part = start.args.part.now in (
-      omega (arith, inside_falls part the_end.result (length part) start.requires.1.1 the_end.ensures.0 refl, start.requires.0),
-      (laws.asked_inside start.requires.1.0 start.requires.1.1 the_end.ensures.0 the_if1.false, start.requires.1.2),
+    let part = c.args.part.now in (
+      omega (arith, inside_falls part the_end.result (length part) c.requires.1.1 the_end.ensures.0 refl, c.requires.0),
+      (laws.asked_inside c.requires.1.0 c.requires.1.1 the_end.ensures.0 the_if1.false, c.requires.1.2),
     ))
     (λ c. search rules)
     (λ c. search rules)
     (λ c. let the_write_row = c.write_row in
-    omega (arith, laws.ends_between c.next-1.given.1 the_write_row.ensures.0))
+    omega (arith, laws.ends_between c.in-Ends.is the_write_row.ensures.0))
     (λ c κs. let the_write_row = c.write_row in
-    let start = c.before.before.before.before.before.before.before.before.before.before.before.before.before.before in
-    omega (arith, laws.ends_between c.next-1.given.1 the_write_row.ensures.0, start.requires.1.0.small))
+    omega (arith, laws.ends_between c.in-Ends.is the_write_row.ensures.0, c.requires.1.0.small))
     (λ c. let the_if1 = c.if-most-to in
-    let start = c.before.before.before.before.before.before.before.before.before.before.before.before.before.before.before in
-    omega (arith, the_if1.false, start.requires.1.0.small))
+    omega (arith, the_if1.false, c.requires.1.0.small))
     (λ c. let the_if1 = c.if-most-to in
     let the_write_row = c.write_row in
-    let out-kept = the_write_row.auto.1.1.1.1.1.1.1.0 in
-    let start = c.before.before.before.before.before.before.before.before.before.before.before.before.before.before.before in
-    omega (arith, the_if1.false, start.requires.1.0.room, out-kept))
+    let out-kept = the_write_row.auto.out in
+    omega (arith, the_if1.false, c.requires.1.0.room, out-kept))
     (λ c.
     let the_write_row = c.write_row in
-    let out-kept = the_write_row.auto.1.1.1.1.1.1.1.0 in
+    let out-kept = the_write_row.auto.out in
     out-kept)
     (λ c. let the_end_of = c.end_of-end in
-    let start = c.before.before.before.before.before.before.before.before.before.before.before.before.before in
     let inside = c.write_row in (
       tt,
-      λ results knows. laws.bracket_over start.requires.1.0 start.requires.1.1 results the_end_of.ensures.0 c.enum_told-1.given.1
+      λ results knows. laws.bracket_over c.requires.1.0 c.requires.1.1 results the_end_of.ensures.0 c.in-Over.is
           (inside.ensures.1 results knows),
     ))
     (λ c. let inside = c.write_row in
-    let out-kept = inside.auto.1.1.1.1.1.1.1.0 in
-    let out-after = inside.new.1.1.1.1.1.1.1.0 in
+    let out-kept = inside.auto.out in
+    let out-after = inside.new.out in
     length-set out-after _ _ ∙ out-kept)
     (λ c. let the_end_of = c.end_of-end in
-    let start = c.before.before.before.before.before.before.before.before.before.before.before.before.before.before.before in
     let inside = c.write_row in
-    let ends = c.next-1.given.1 in
+    let ends = c.in-Ends.is in
     let between = laws.ends_between ends inside.ensures.0 in (
       (omega arith, omega arith),
-      λ results knows. laws.bracket_written start.requires.1.0 start.requires.1.1 results the_end_of.ensures.0 ends c.bracket_word.ensures
+      λ results knows. laws.bracket_written c.requires.1.0 c.requires.1.1 results the_end_of.ensures.0 ends c.bracket_word.ensures
           (inside.ensures.1 results knows),
     )))
     (λ t. write-first-lts.spec (
@@ -158,76 +152,69 @@ pub +write_bracket_write_first_write_row_spec : {M : Type 1} → statement M
     (λ c. search rules)
     (λ c κs.
     let the_step_of = c.step_of in
-    let the_word = c.word-1 in
+    let the_word = c.in-Leaf in
     let the_term_at = c.term_at in
-    let start = c.before.before.before.before.before.before.before.before.before.before in
-    let part = start.args.part.now in (
-      laws.step_leaf_word part _ (laws.step_is part the_term_at.ensures the_step_of.ensures the_word.given.1),
-      start.requires.1.0.begins,
-      start.requires.1.0.room,
+    let part = c.args.part.now in (
+      laws.step_leaf_word part _ (laws.step_is part the_term_at.ensures the_step_of.ensures the_word.is),
+      c.requires.1.0.begins,
+      c.requires.1.0.room,
     ))
     (λ c. search rules)
     (λ c. search rules)
-    (λ c κs. let start = c.before.before.before.before.before.before.before.before.before in
-    (omega (arith, start.requires.0), start.requires.1))
+    (λ c κs.
+    (omega (arith, c.requires.0), c.requires.1))
     (λ c. search rules)
-    (λ c. let start = c.before.before.before.before.before.before.before.before in
-    omega (arith, laws.asked_small start.requires.1.0 start.requires.1.1))
-    (λ c. let start = c.before.before.before.before.before.before.before.before in
-    omega (arith, laws.asked_small start.requires.1.0 start.requires.1.1))
+    (λ c.
+    omega (arith, laws.asked_small c.requires.1.0 c.requires.1.1))
+    (λ c.
+    omega (arith, laws.asked_small c.requires.1.0 c.requires.1.1))
     (λ c κs. search rules)
-    (λ c κs. let start = c.before.before.before.before.before.before.before.before.before.before.before in
-    (start.requires.1.0.stored, c.wide.ensures.1, start.requires.1.0.begins, start.requires.1.0.room))
+    (λ c κs.
+    (c.requires.1.0.stored, c.wide.ensures.1, c.requires.1.0.begins, c.requires.1.0.room))
     (λ c.
     let the_write_leaf = c.write_leaf in
-    the_write_leaf.auto.1.0)
+    the_write_leaf.auto.out)
     (λ c.
     let the_write_leaf = c.write_leaf in
     let the_term_at = c.term_at in
     let the_step_of = c.step_of in
-    let the_word = c.word-1 in
-    let start = c.before.before.before.before.before.before.before.before.before.before.before.before.before in
-    let step = laws.step_is start.args.part.now the_term_at.ensures the_step_of.ensures the_word.given.1 in (
+    let the_word = c.in-Leaf in
+    let step = laws.step_is c.args.part.now the_term_at.ensures the_step_of.ensures the_word.is in (
       the_write_leaf.ensures.0,
-      λ results knows. laws.first_leaf start.requires.1.0 start.requires.1.1 results step the_write_leaf.ensures.1,
+      λ results knows. laws.first_leaf c.requires.1.0 c.requires.1.1 results step the_write_leaf.ensures.1,
     ))
     (λ c.
     let the_term_at = c.term_at in
-    let start = c.before.before.before.before.before.before.before.before in
-    let a = start.args in
-    let asked = start.requires.1.0 in
-    let step = laws.step_is a.part.now the_term_at.ensures c.step_of.ensures c.enum_told-1.given.1 in (
+    let a = c.args in
+    let asked = c.requires.1.0 in
+    let step = laws.step_is a.part.now the_term_at.ensures c.step_of.ensures c.in-Open.is in (
       (omega arith, asked.begins),
-      λ results knows. laws.first_open _ results _ a.part.now a.out-1.now a.to a.most asked.begins asked.room step,
+      λ results knows. laws.first_open _ results _ a.part.now a.out.now a.to a.most asked.begins asked.room step,
     ))
     (λ c.
     let the_write_bracket = c.write_bracket in
-    let out-kept = the_write_bracket.auto.1.1.1.1.1.1.1.0 in
+    let out-kept = the_write_bracket.auto.out in
     out-kept)
     (λ c.
-    let the_enum_told2 = c.enum_told-in-Bracket-1 in
     let the_write_bracket = c.write_bracket in
     let the_term_at = c.term_at in
     let the_step_of = c.step_of in
-    let start = c.before.before.before.before.before.before.before.before.before.before.before.before in
-    let step = laws.step_is start.args.part.now the_term_at.ensures the_step_of.ensures the_enum_told2.given.1 in (
+    let step = laws.step_is c.args.part.now the_term_at.ensures the_step_of.ensures c.in-Bracket.is in (
       the_write_bracket.ensures.0,
-      λ results knows. laws.first_bracket start.requires.1.0 start.requires.1.1 results step (the_write_bracket.ensures.1 results knows),
+      λ results knows. laws.first_bracket c.requires.1.0 c.requires.1.1 results step (the_write_bracket.ensures.1 results knows),
     ))
     (λ c.
     let the_write_call = c.write_call in
-    let out-kept = the_write_call.auto.1.1.1.1.0 in
+    let out-kept = the_write_call.auto.out in
     out-kept)
     (λ c.
     let the_wide = c.wide in
     let the_write_call = c.write_call in
     let the_term_at = c.term_at in
     let the_step_of = c.step_of in
-    let the_enum_told3 = c.enum_told-in-Call-1 in
-    let start = c.before.before.before.before.before.before.before.before.before.before.before.before.before.before in
-    let step = laws.step_is start.args.part.now the_term_at.ensures the_step_of.ensures the_enum_told3.given.1 in (
+    let step = laws.step_is c.args.part.now the_term_at.ensures the_step_of.ensures c.in-Call.is in (
       the_write_call.ensures.0,
-      λ results knows. laws.first_call start.requires.1.0 start.requires.1.1 results step the_wide.ensures.0 knows the_write_call.ensures.1,
+      λ results knows. laws.first_call c.requires.1.0 c.requires.1.1 results step the_wide.ensures.0 knows the_write_call.ensures.1,
     )))
     λ t. write-row-lts.spec (
       write-leaves-reads.Asked,
@@ -253,55 +240,53 @@ pub +write_bracket_write_first_write_row_spec : {M : Type 1} → statement M
     the_write_leaves.ensures.0)
     (λ c. search rules)
     (λ c. search rules)
-    (λ c. let start = c.before.before.before.before.before.before.before.before.before in
+    (λ c.
     let leaves = c.write_leaves-n in
-    let onward = leaves.ensures.2 _ start.args.at start.args.store.now start.args.limit start.args.count start.requires.1.0 in
+    let onward = leaves.ensures.2 _ c.args.at c.args.store.now c.args.limit c.args.count c.requires.1.0 in
     omega (arith, laws.asked_place onward.asked))
     (λ c.
     let the_write_leaves = c.write_leaves-n in
     omega (arith, the_write_leaves.ensures.1))
     (λ c.
     let the_write_leaves = c.write_leaves-n in
-    the_write_leaves.auto.1.0)
-    (λ c. let start = c.before.before.before.before.before.before.before.before.before.before in
+    the_write_leaves.auto.out)
+    (λ c.
     let leaves = c.write_leaves-n in
-    let onward = leaves.ensures.2 _ start.args.at start.args.store.now start.args.limit start.args.count start.requires.1.0 in
+    let onward = leaves.ensures.2 _ c.args.at c.args.store.now c.args.limit c.args.count c.requires.1.0 in
     let asked = onward.asked in (
       (omega arith, asked.begins),
-      λ results knows. onward.goes results _ _ (laws.row_none _ results _ (left_of leaves.result start.args.part.now) leaves.new.1.0
-          (start.args.to + leaves.result) start.args.most c.if-most-to.true asked.begins asked.room),
+      λ results knows. onward.goes results _ _ (laws.row_none _ results _ (left_of leaves.result c.args.part.now) leaves.new.out
+          (c.args.to + leaves.result) c.args.most c.if-left-lt24.true asked.begins asked.room),
     ))
-    (λ c κs. let start = c.before.before.before.before.before.before.before.before.before.before.before in
+    (λ c κs.
     let leaves = c.write_leaves-n in
-    let onward = leaves.ensures.2 _ start.args.at start.args.store.now start.args.limit start.args.count start.requires.1.0 in
-    (omega (arith, laws.left_length leaves.result start.args.part.now, start.requires.0), (onward.asked, c.if-most-to.false, start.requires.1.1)))
+    let onward = leaves.ensures.2 _ c.args.at c.args.store.now c.args.limit c.args.count c.requires.1.0 in
+    (omega (arith, laws.left_length leaves.result c.args.part.now, c.requires.0), (onward.asked, c.if-left-lt24.false, c.requires.1.1)))
     (λ c. search rules)
     (λ c. search rules)
     (λ c.
     let the_write_first = c.write_first-first in
-    let out-kept = the_write_first.auto.1.1.1.1.1.1.1.0 in
+    let out-kept = the_write_first.auto.out in
     let the_write_leaves = c.write_leaves-n in
-    out-kept ∙ the_write_leaves.auto.1.0)
+    out-kept ∙ the_write_leaves.auto.out)
     (λ c.
     let the_write_first = c.write_first-first in
-    let the_if1 = c.if-most-to in
-    let start = c.before.before.before.before.before.before.before.before.before.before.before.before.before.before.before.before in
+    let the_if1 = c.if-left-lt24 in
     let leaves = c.write_leaves-n in
-    let onward = leaves.ensures.2 _ start.args.at start.args.store.now start.args.limit start.args.count start.requires.1.0 in (
+    let onward = leaves.ensures.2 _ c.args.at c.args.store.now c.args.limit c.args.count c.requires.1.0 in (
       tt,
-      λ results knows. onward.goes results _ _ (laws.row_first_over onward.asked the_if1.false results c.enum_told-1.given.1
+      λ results knows. onward.goes results _ _ (laws.row_first_over onward.asked the_if1.false results c.in_default.is
           (the_write_first.ensures.1 results knows)),
     ))
     (λ c. let the_write_first = c.write_first-first in
-    let out-kept = the_write_first.auto.1.1.1.1.1.1.1.0 in
+    let out-kept = the_write_first.auto.out in
     let the_write_leaves = c.write_leaves-n in
-    out-kept ∙ the_write_leaves.auto.1.0)
-    (λ c. let the_if1 = c.if-most-to in
-    let start = c.before.before.before.before.before.before.before.before.before.before.before.before.before.before.before.before.before.before in
+    out-kept ∙ the_write_leaves.auto.out)
+    (λ c. let the_if1 = c.if-left-lt24 in
     let leaves = c.write_leaves-n in
-    let onward = leaves.ensures.2 _ start.args.at start.args.store.now start.args.limit start.args.count start.requires.1.0 in
+    let onward = leaves.ensures.2 _ c.args.at c.args.store.now c.args.limit c.args.count c.requires.1.0 in
     let first = c.write_first-first in
-    let ends = c.first-1.given.1 in
+    let ends = c.in-Ends.is in
     let between = laws.ends_between ends first.ensures.0 in (
       (omega (arith, between.0), between.1),
       λ results knows. onward.goes results _ _ (laws.row_first_open onward.asked the_if1.false results ends c.if-opened.true
@@ -311,59 +296,54 @@ pub +write_bracket_write_first_write_row_spec : {M : Type 1} → statement M
     (λ c. search rules)
     (λ c. search rules)
     (λ c. search rules)
-    (λ c. let the_if1 = c.if-most-to in
-    let start = c.before.before.before.before.before.before.before.before.before.before.before.before.before.before.before.before.before.before.before.before in
+    (λ c. let the_if1 = c.if-left-lt24 in
     let leaves = c.write_leaves-n in
-    let onward = leaves.ensures.2 _ start.args.at start.args.store.now start.args.limit start.args.count start.requires.1.0 in
+    let onward = leaves.ensures.2 _ c.args.at c.args.store.now c.args.limit c.args.count c.requires.1.0 in
     omega (arith, laws.asked_small onward.asked the_if1.false))
     (λ c κs. search rules)
     (λ c. search rules)
-    (λ c. let the_if1 = c.if-most-to in
-    let start = c.before.before.before.before.before.before.before.before.before.before.before.before.before.before.before.before.before.before.before.before.before in
+    (λ c. let the_if1 = c.if-left-lt24 in
     let leaves = c.write_leaves-n in
-    let onward = leaves.ensures.2 _ start.args.at start.args.store.now start.args.limit start.args.count start.requires.1.0 in
+    let onward = leaves.ensures.2 _ c.args.at c.args.store.now c.args.limit c.args.count c.requires.1.0 in
     omega (arith, laws.rest_small onward.asked the_if1.false c.word_at.ensures))
-    (λ c κs. let the_first = c.first-1 in
-    let start = c.before.before.before.before.before.before.before.before.before.before.before.before.before.before.before.before.before.before.before.before.before.before in
+    (λ c κs. let the_first = c.in-Ends in
     let leaves = c.write_leaves-n in
-    let onward = leaves.ensures.2 _ start.args.at start.args.store.now start.args.limit start.args.count start.requires.1.0 in
+    let onward = leaves.ensures.2 _ c.args.at c.args.store.now c.args.limit c.args.count c.requires.1.0 in
     let the_end = c.end_of-end in
     let first = c.write_first-first in
-    let out-kept = first.auto.1.1.1.1.1.1.1.0 in
-    let some = c.if-most-to.false in
-    let left = left_of leaves.result start.args.part.now in (
+    let out-kept = first.auto.out in
+    let some = c.if-left-lt24.false in
+    let left = left_of leaves.result c.args.part.now in (
       omega (
         arith,
         after_falls left the_end.result (length left) some the_end.ensures.0 refl,
-        laws.left_length leaves.result start.args.part.now,
-        start.requires.0,
+        laws.left_length leaves.result c.args.part.now,
+        c.requires.0,
       ),
       (
-        laws.asked_rest onward.asked some the_end.ensures.0 c.word_at.ensures (laws.ends_between the_first.given.1 first.ensures.0).1
+        laws.asked_rest onward.asked some the_end.ensures.0 c.word_at.ensures (laws.ends_between the_first.is first.ensures.0).1
             out-kept,
-        start.requires.1.1,
+        c.requires.1.1,
       ),
     ))
     (λ c.
     let the_write_row = c.write_row in
-    let out-kept-by-write-row = the_write_row.auto.1.1.1.1.1.1.1.0 in
+    let out-kept-by-write-row = the_write_row.auto.out in
     let the_write_first = c.write_first-first in
-    let out-kept-by-write-first = the_write_first.auto.1.1.1.1.1.1.1.0 in
+    let out-kept-by-write-first = the_write_first.auto.out in
     let the_write_leaves = c.write_leaves-n in
-    out-kept-by-write-row ∙ out-kept-by-write-first ∙ the_write_leaves.auto.1.0)
+    out-kept-by-write-row ∙ out-kept-by-write-first ∙ the_write_leaves.auto.out)
     (λ c.
     let the_word_at = c.word_at in
-    let the_if1 = c.if-most-to in
+    let the_if1 = c.if-left-lt24 in
     let the_if2 = c.if-opened in
     let the_end_of = c.end_of-end in
-    let at-write-leaves = c.before.before.before.before.before.before.before.before.before.before.before.before.before.before.before.before.before.before.before in
-    let start = at-write-leaves.before.before.before.before.before.before in
-    let leaves = at-write-leaves.write_leaves-n in
-    let onward = leaves.ensures.2 _ start.args.at start.args.store.now start.args.limit start.args.count start.requires.1.0 in
+    let leaves = c.write_leaves-n in
+    let onward = leaves.ensures.2 _ c.args.at c.args.store.now c.args.limit c.args.count c.requires.1.0 in
     let first = c.write_first-first in
     let rest = c.write_row in
-    let ends = c.first-1.given.1 in (
-      laws.between_later _ start.args.most _ rest.result (omega (arith, (laws.ends_between ends first.ensures.0).0)) rest.ensures.0,
+    let ends = c.in-Ends.is in (
+      laws.between_later _ c.args.most _ rest.result (omega (arith, (laws.ends_between ends first.ensures.0).0)) rest.ensures.0,
       λ results knows. onward.goes results _ _ (laws.row_first_rest onward.asked the_if1.false results ends the_if2.false the_end_of.ensures.0
           the_word_at.ensures (first.ensures.1 results knows) (rest.ensures.1 results knows)),
     ))

@@ -13,7 +13,7 @@ write_call_spec =
     (λ c.
     let a = c.args in (
       (omega arith, omega arith),
-      row_unknown a.store.now a.limit a.count a.place a.out-1.now a.to a.most c.if-count-place.true
+      row_unknown a.store.now a.limit a.count a.place a.out.now a.to a.most c.if-count-place.true
           (omega arith) (omega arith),
     ))
     (λ c. search rules)
@@ -35,7 +35,7 @@ write_call_spec =
     let start = c.before.before.before.before.before in
     let a = start.args in (
       (omega arith, omega arith),
-      row_never a.store.now a.limit a.count a.place start.requires.0 c.if-count-place.false a.out-1.now a.to
+      row_never a.store.now a.limit a.count a.place start.requires.0 c.if-count-place.false a.out.now a.to
           a.most (omega arith) (omega arith) c.if-header-ge512.true,
     ))
     (λ c. search rules)
@@ -45,7 +45,7 @@ write_call_spec =
     let start = c.before.before.before.before.before.before in
     let a = start.args in (
       tt,
-      row_callee_over a.store.now a.limit a.count a.place start.requires.0 the_if1.false a.out-1.now a.to a.most (omega arith)
+      row_callee_over a.store.now a.limit a.count a.place start.requires.0 the_if1.false a.out.now a.to a.most (omega arith)
           (omega arith) c.if-header-ge512.false c.if-most-to.true,
     ))
     (λ c.
@@ -67,12 +67,12 @@ write_call_spec =
     (λ c.
     let the_if3 = c.if-most-to in
     let the_copy_row = c.copy_row in
-    let out-after = the_copy_row.new.1.1.1.0 in
+    let out-after = the_copy_row.new.out in
     let the_if1 = c.if-count-place in
     let the_if2 = c.if-header-ge512 in
     let start = c.before.before.before.before.before.before.before.before.before.before in
     let a = start.args in (
       (omega arith, omega arith),
-      row_callee a.store.now a.limit a.count a.place start.requires.0 the_if1.false a.out-1.now a.to a.most
+      row_callee a.store.now a.limit a.count a.place start.requires.0 the_if1.false a.out.now a.to a.most
           (omega arith) (omega arith) out-after the_if2.false the_if3.false c.copy_row.ensures,
     )))

@@ -3,7 +3,6 @@ use Prim.Native.Nat.{◌+◌, ◌*◌, ◌-◌, ◌≤◌}
 use mathlib.Core.Path.{◌≡◌, refl, ◌∙◌}
 use native.Mathlib.Omega.{arith}
 use borrow.Author.Rules.{rules}
-use borrow.Author.Tests.{leb-true}
 use lib.ListN.{length, length-set}
 use Rattle.formats.specs.Code.Rows.{LeavesAre}
 use Rattle.formats.proofs.RowLaws.{left_length, leaves_none, leaves_next}
@@ -35,7 +34,7 @@ write_leaves_spec =
     (λ c κs.
     let the_loop = c.loop-n in
     let the_args = c.args in
-    omega (arith, leb-true (24 * the_loop.n + 24) (length the_args.part.now) c.if-n-part.true, left_length the_loop.n the_args.part.now))
+    omega (arith, c.if-n-part.true, left_length the_loop.n the_args.part.now))
     (λ c. let the_loop = c.loop-n in
     the_loop.invariant.2)
     (λ c.
@@ -52,7 +51,7 @@ write_leaves_spec =
     let a = c.args in
     let loop = c.loop-n in
     let kind = c.word_at-kind in
-    let enough = leb-true (24 * loop.n + 24) (length a.part.now) the_if1.true in (
+    let enough = the_if1.true in (
       omega (arith, enough),
       omega arith,
       length-set loop.out _ _ ∙ loop.invariant.2,

@@ -1,6 +1,5 @@
 -- The invariant: the slots hold with the calls of the term records passed (`slots_next`).
 use Prim.Native.Nat.{◌+◌, ◌-◌, ◌≤◌}
-use mathlib.Core.Logic.{⊎_elim}
 use mathlib.Core.Path.{◌≡◌, ◌∙◌}
 use native.Mathlib.Omega.{arith}
 use lib.ListN.{length, set, length-set}
@@ -9,6 +8,7 @@ use Rattle.law.proofs.IndexLaws.{functions_limit, terms_limit}
 use Rattle.formats.specs.Code.Slots.{SlotsUpTo}
 use Rattle.formats.proofs.SlotLaws.{kind_read, slots_pass, slots_next}
 use Rattle.formats.proofs.slots.fill_calls.Statement.{statement}
+use Rattle.formats.proofs.slots.fill_calls.Lts.{then-term_word-eq7, else-term_word-eq7}
 use Rattle.formats.proofs.slots.fill_calls.Tie as tie
 
 abbrev invariant_loop : tie.invariant-loop-t
@@ -25,16 +25,17 @@ passed : (c : tie.Joined-term_word-eq7 invariant_loop decreases_loop) → (let s
 passed c =
     let start = c.before.before.before.before.before.before in
     let the_loop = c.loop-t in
-    ⊎_elim
-    (λ w.
-    let wide = length-set the_loop.slots 577 1 ∙ the_loop.invariant.2 in
-    rw w.3 (
-      length-set (set the_loop.slots 577 1) _ _ ∙ wide,
-      slots_next _ the_loop.slots the_loop.t _ (functions_limit _ _ start.requires.0) (terms_limit _ _ start.requires.0) the_loop.invariant.2 the_loop.invariant.3
-          (omega arith) (kind_read (file_of start.args.law.now) _ _ c.term_word.ensures ∙ w.0.taken) w.1.ensures,
-    ))
-    (λ w. rw w.1 (the_loop.invariant.2, slots_pass _ the_loop.slots the_loop.t _ the_loop.invariant.3 c.term_word.ensures w.0.left))
-    c.if-term_word-eq7.branch
+    elim c.if-term_word-eq7.branch [
+      | then-term_word-eq7 w ↦
+          let wide = length-set the_loop.slots 577 1 ∙ the_loop.invariant.2 in
+          rw w.slots-is (
+            length-set (set the_loop.slots 577 1) _ _ ∙ wide,
+            slots_next _ the_loop.slots the_loop.t _ (functions_limit _ _ start.requires.0) (terms_limit _ _ start.requires.0) the_loop.invariant.2 the_loop.invariant.3
+                (omega arith) (kind_read (file_of start.args.law.now) _ _ c.term_word.ensures ∙ w.if-term_word-eq7.true) w.callee_slot-from.ensures,
+          )
+      | else-term_word-eq7 w ↦
+          rw w.slots-is (the_loop.invariant.2, slots_pass _ the_loop.slots the_loop.t _ the_loop.invariant.3 c.term_word.ensures w.if-term_word-eq7.false)
+    ]
 
 pub fill_calls_spec : {M : Type 1} → statement M
 fill_calls_spec =

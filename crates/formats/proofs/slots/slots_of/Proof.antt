@@ -17,7 +17,7 @@ slots_of_spec =
     (λ c κs.
     let the_fill_weights = c.fill_weights-count in
     let the_fill_functions = c.fill_functions in
-    let slots-after = the_fill_functions.new.1.1.1.0 in
+    let slots-after = the_fill_functions.new.slots in
     let p = c.requires in
     let f = c.fill_functions.ensures in (
       p.0,

@@ -4,7 +4,6 @@ use Prim.Native.Nat.{◌≤◌, ◌-◌}
 use mathlib.Core.Bool.{true}
 use mathlib.Core.Path.{◌≡◌, sym, ◌∙◌}
 use native.Mathlib.Omega.{arith}
-use borrow.Author.Tests.{not-true, not-false}
 use Rattle.file.specs.Below.{every}
 use Rattle.file.specs.Sections.{file_of}
 use Rattle.file.proofs.Below.{every_none, every_next}
@@ -32,18 +31,16 @@ blocks_allowed_spec =
     (λ c κs. let p = c.requires in omega (arith, p.words.functions, c.functions.ensures, functions_limit _ _ p))
     (λ c.
     let the_sentences = c.sentences-count in
-    let start = c.before.before.before.before.before in
+    let start = c in
     functions_have_all _ _ start.requires _ _ _ c.functions.ensures c.first_sentence.ensures
     the_sentences.ensures c.if-first_sentence-count.true)
     (λ c. (omega arith, every_none _))
     (λ c κs.
-    let called = c.before.before.before.before.before in
-    let p = called.requires in
-    (p, omega (arith, p.words.sentences, called.sentences.ensures)))
+    let p = c.requires in
+    (p, omega (arith, p.words.sentences, c.sentences-count.ensures)))
     (λ c.
-    let called = c.before.before.before.before.before.before.before in
-    let start = called.before.before in
-    sentences_fail _ _ start.requires (sentence_blocks (file_of start.args.law.now)) _ _ _ called.sentences.ensures
+    let start = c in
+    sentences_fail _ _ start.requires (sentence_blocks (file_of start.args.law.now)) _ _ _ c.sentences-count.ensures
     c.loop-s-test.true c.sentence_blocks.ensures c.if-not-sentence_blocks.true)
     (λ c. omega arith)
     (λ c. omega arith)
@@ -51,6 +48,6 @@ blocks_allowed_spec =
     let the_loop = c.loop-s in
     (omega arith, every_next the_loop.s _ the_loop.invariant.1 (sym c.sentence_blocks.ensures ∙ c.if-not-sentence_blocks.false)))
     (λ c.
-    let called = c.before.before.before.before.before in
+    let called = c in
     let inv = c.loop-s.invariant in
-    sentences_hold _ _ called.requires _ _ _ called.sentences.ensures inv.0 c.loop-s-test.false inv.1))
+    sentences_hold _ _ called.requires _ _ _ c.sentences-count.ensures inv.0 c.loop-s-test.false inv.1))

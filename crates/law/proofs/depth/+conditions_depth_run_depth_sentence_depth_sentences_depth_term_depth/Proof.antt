@@ -5,7 +5,6 @@ use native.Mathlib.Omega.{arith}
 use native.Mathlib.Nat.{le_of_lt}
 use mathlib.Core.Path.{◌≡◌, refl, sym, ap, ◌∙◌}
 use borrow.Author.Rules.{rules}
-use borrow.Author.Tests.{not-true, not-false}
 use lib.ListN.{length}
 use Rattle.file.specs.Sections.{File, file_of}
 use Rattle.law.specs.Places.{
@@ -136,7 +135,7 @@ abbrev term_depth_below : ℕ → In 3 term-depth-kinds.ps
 term_depth_below t =
     and 3 term-depth-kinds.ps (falls 3 term-depth-kinds.ps ◌<◌ μ-term-depth t) term-depth.Pre
 
-abbrev conditions-depth-Inv-loop : conditions-depth-lts.invariant_loop
+abbrev conditions-depth-Inv-loop : conditions-depth-lts.invariant-loop-i
 conditions-depth-Inv-loop law index s depth first count i₀ i =
     (first ≡ first_condition (file_of law) s)
     × (count ≡ conditions_of (file_of law) s)
@@ -144,21 +143,21 @@ conditions-depth-Inv-loop law index s depth first count i₀ i =
     × (steps.conditions_within (file_of law) s (conditions_of (file_of law) s) (first_condition (file_of law) s) depth
     ≡ steps.conditions_within (file_of law) s (count - i) (first + i) depth)
 
-abbrev conditions-depth-μ-loop : conditions-depth-lts.decreases_loop
+abbrev conditions-depth-μ-loop : conditions-depth-lts.decreases-loop-i
 conditions-depth-μ-loop law index s depth first count i₀ i = count - i
 
-abbrev run-depth-Inv-loop : run-depth-lts.invariant_loop
+abbrev run-depth-Inv-loop : run-depth-lts.invariant-loop-k
 run-depth-Inv-loop law index part at depth k₀ k = steps.LeftWithin (file_of law) at depth part k
 
-abbrev run-depth-μ-loop : run-depth-lts.decreases_loop
+abbrev run-depth-μ-loop : run-depth-lts.decreases-loop-k
 run-depth-μ-loop law index part at depth k₀ k = length part - 24 * k
 
-abbrev sentences-depth-Inv-loop : sentences-depth-lts.invariant_loop
+abbrev sentences-depth-Inv-loop : sentences-depth-lts.invariant-loop-i
 sentences-depth-Inv-loop law index first count depth i₀ i =
     (i ≤ count)
     × (steps.sentences_within (file_of law) count first depth ≡ steps.sentences_within (file_of law) (count - i) (first + i) depth)
 
-abbrev sentences-depth-μ-loop : sentences-depth-lts.decreases_loop
+abbrev sentences-depth-μ-loop : sentences-depth-lts.decreases-loop-i
 sentences-depth-μ-loop law index first count depth i₀ i = count - i
 
 -- the functions that conditions_depth calls
@@ -187,22 +186,22 @@ module _ (t : ℕ) where
 
   abbrev Conditions-counted : Type 0
   Conditions-counted =
-      conditions-depth-lts.After-first-condition2 (conditions_depth_claims t) (conditions_depth_at t) conditions-depth.Post
+      conditions-depth-lts.After-first_condition (conditions_depth_claims t) (conditions_depth_at t) conditions-depth.Post
       conditions-depth-Inv-loop conditions-depth-μ-loop
 
   abbrev Condition-round : Type 0
   Condition-round =
-      conditions-depth-lts.In-loop (conditions_depth_claims t) (conditions_depth_at t) conditions-depth.Post
+      conditions-depth-lts.In-loop-i (conditions_depth_claims t) (conditions_depth_at t) conditions-depth.Post
       conditions-depth-Inv-loop conditions-depth-μ-loop
 
   abbrev Result-known : Type 0
   Result-known =
-      conditions-depth-lts.After-run-depth (conditions_depth_claims t) (conditions_depth_at t) conditions-depth.Post
+      conditions-depth-lts.After-run_depth (conditions_depth_claims t) (conditions_depth_at t) conditions-depth.Post
       conditions-depth-Inv-loop conditions-depth-μ-loop
 
   abbrev Pattern-known : Type 0
   Pattern-known =
-      conditions-depth-lts.After-run-depth2 (conditions_depth_claims t) (conditions_depth_at t) conditions-depth.Post
+      conditions-depth-lts.After-run_depth-in-loop-i (conditions_depth_claims t) (conditions_depth_at t) conditions-depth.Post
       conditions-depth-Inv-loop conditions-depth-μ-loop
 
   -- the way back
@@ -295,13 +294,13 @@ pub +conditions_depth_run_depth_sentence_depth_sentences_depth_term_depth_spec :
     conditions-depth-Inv-loop
     conditions-depth-μ-loop
     (λ c κs.
-    let start = c.before in
+    let start = c in
     omega (arith, laws.sentences_limit _ _ start.requires.1.0, start.requires.1.2))
     (λ c.
-    let start = c.before.before in
+    let start = c in
     omega (arith, laws.sentences_limit _ _ start.requires.1.0, start.requires.1.2))
     (λ c κs.
-    let start = c.before.before in
+    let start = c in
     omega (arith, laws.sentences_limit _ _ start.requires.1.0, start.requires.1.2))
     (λ c. omega (arith, first_is_lem t c, next_is t c))
     (λ c.
@@ -332,7 +331,7 @@ pub +conditions_depth_run_depth_sentence_depth_sentences_depth_term_depth_spec :
     let round = result_round t c.before in
     let start = condition_call t round in
     let loop = round.loop-i in
-    let left = loop.inv.3 ∙ steps.conditions_next (condition_file t round) start.args.s _ _ loop.i start.args.depth round.loop-i-test.taken in
+    let left = loop.invariant.3 ∙ steps.conditions_next (condition_file t round) start.args.s _ _ loop.i start.args.depth round.loop-i-test.true in
     sym (rw (sym (result_is t c.before) ∙ c.if-not-run_depth.true) at left))
     (λ c. omega (arith, condition_limit t (result_round t c.before)))
     (λ c κs.
@@ -367,8 +366,8 @@ pub +conditions_depth_run_depth_sentence_depth_sentences_depth_term_depth_spec :
     let start = condition_call t round in
     let loop = round.loop-i in
     let the_if1 = pattern.if-not-run_depth in
-    let left = loop.inv.3 ∙ steps.conditions_next (condition_file t round) start.args.s _ _ loop.i start.args.depth round.loop-i-test.taken in
-    let result = sym (result_is t (pattern_result t pattern)) ∙ not-false _ the_if1.false in
+    let left = loop.invariant.3 ∙ steps.conditions_next (condition_file t round) start.args.s _ _ loop.i start.args.depth round.loop-i-test.true in
+    let result = sym (result_is t (pattern_result t pattern)) ∙ the_if1.false in
     sym (rw (result, sym (pattern_is t pattern) ∙ c.if-not-run_depth-2.true) at left))
     (λ c. omega arith)
     (λ c. omega arith)
@@ -378,11 +377,11 @@ pub +conditions_depth_run_depth_sentence_depth_sentences_depth_term_depth_spec :
     let start = condition_call t round in
     let loop = round.loop-i in
     let the_if1 = pattern.if-not-run_depth in
-    let left = loop.inv.3 ∙ steps.conditions_next (condition_file t round) start.args.s _ _ loop.i start.args.depth round.loop-i-test.taken in
-    let result = sym (result_is t (pattern_result t pattern)) ∙ not-false _ the_if1.false in
-    (loop.inv.0, loop.inv.1, omega arith, rw (result, sym (pattern_is t pattern) ∙ c.if-not-run_depth-2.false) at left))
+    let left = loop.invariant.3 ∙ steps.conditions_next (condition_file t round) start.args.s _ _ loop.i start.args.depth round.loop-i-test.true in
+    let result = sym (result_is t (pattern_result t pattern)) ∙ the_if1.false in
+    (loop.invariant.0, loop.invariant.1, omega arith, rw (result, sym (pattern_is t pattern) ∙ c.if-not-run_depth-2.false) at left))
     (λ c.
-    let start = c.before.before.before.before.before in
+    let start = c in
     let loop = c.loop-i in
     let the_first_condition = c.first_condition-first in
     let file = file_of start.args.law.now in
@@ -400,79 +399,79 @@ pub +conditions_depth_run_depth_sentence_depth_sentences_depth_term_depth_spec :
     run-depth-Inv-loop
     run-depth-μ-loop
     (λ c.
-    let start = c.before.before.before in
-    sym (steps.run_none (file_of start.args.law.now) start.args.at start.args.depth start.args.part.now c.if-not-run_depth.true))
+    let start = c in
+    sym (steps.run_none (file_of start.args.law.now) start.args.at start.args.depth start.args.part.now c.if-part-lt24.true))
     (λ c.
-    let start = c.before.before.before.before in
+    let start = c in
     sym
     (steps.run_over (file_of start.args.law.now) start.args.at start.args.depth start.args.part.now
-    c.if-not-run_depth.false (omega (arith, c.if-not-run_depth-2.true))))
+    c.if-part-lt24.false (omega (arith, c.if-depth-gt32.true))))
     (λ c.
-    let start = c.before.before.before.before in
+    let start = c in
     steps.left_whole (file_of start.args.law.now) start.args.at start.args.depth start.args.part.now start.requires.1.2)
-    (λ c. omega (arith, c.loop-i.invariant.within))
-    (λ c. omega (arith, c.loop-i.invariant.within))
+    (λ c. omega (arith, c.loop-k.invariant.within))
+    (λ c. omega (arith, c.loop-k.invariant.within))
     (λ c κs.
-    let start = c.before.before.before.before.before.before in
-    omega (arith, steps.left_room (file_of start.args.law.now) start.requires.1.1 c.loop-i.invariant c.loop-i-test.true))
+    let start = c in
+    omega (arith, steps.left_room (file_of start.args.law.now) start.requires.1.1 c.loop-k.invariant c.loop-k-test.true))
     (λ c.
-    let the_loop = c.loop-i in
+    let the_loop = c.loop-k in
     omega (arith, the_loop.invariant.within))
-    (λ c. omega (arith, c.loop-i-test.true))
+    (λ c. omega (arith, c.loop-k-test.true))
     (λ c.
-    let the_if2 = c.if-not-run_depth-2 in
-    let the_loop = c.loop-i in
-    let start = c.before.before.before.before.before.before.before.before in
-    steps.left_leaf _ start.requires.1.1 the_loop.invariant c.loop-i-test.true
+    let the_if2 = c.if-depth-gt32 in
+    let the_loop = c.loop-k in
+    let start = c in
+    steps.left_leaf _ start.requires.1.1 the_loop.invariant c.loop-k-test.true
     (omega (arith, the_if2.false)) c.word_at.ensures c.if-word_at-lt6.true)
     (λ c.
-    let the_loop = c.loop-i in
+    let the_loop = c.loop-k in
     omega (arith, the_loop.invariant.within))
     (λ c.
-    let the_loop = c.loop-i in
+    let the_loop = c.loop-k in
     the_loop.invariant.within)
     (λ c.
-    let the_loop = c.loop-i in
+    let the_loop = c.loop-k in
     omega (arith, the_loop.invariant.within))
     (λ c. search rules)
     (λ c.
-    let the_loop = c.loop-i in
-    let start = c.before.before.before.before.before.before.before.before.before in
+    let the_loop = c.loop-k in
+    let start = c in
     omega (arith, the_loop.invariant.part.inside, laws.terms_limit _ _ start.requires.1.0))
     (λ c κs.
-    let the_loop_test = c.loop-i-test in
-    let the_if2 = c.if-not-run_depth-2 in
-    let start = c.before.before.before.before.before.before.before.before.before in
-    let the_loop = c.loop-i in
+    let the_loop_test = c.loop-k-test in
+    let the_if2 = c.if-depth-gt32 in
+    let start = c in
+    let the_loop = c.loop-k in
     let some = steps.left_some _ start.requires.1.1 the_loop.invariant the_loop_test.true in (
       omega (arith, start.requires.0),
       (start.requires.1.0, start.requires.1.1, the_loop.invariant.part, some, omega (arith, the_if2.false)),
     ))
-    (λ c. let the_loop = c.loop-i in
-    let the_loop_test = c.loop-i-test in
-    let start = c.before.before.before.before.before.before.before.before.before.before.before in
+    (λ c. let the_loop = c.loop-k in
+    let the_loop_test = c.loop-k-test in
+    let start = c in
     let over = sym c.term_depth.ensures ∙ c.if-not-term_depth.true in
     steps.left_over _ start.requires.1.1 the_loop.invariant the_loop_test.true over)
-    (λ c κs. let the_loop = c.loop-i in
-    let the_loop_test = c.loop-i-test in
-    let start = c.before.before.before.before.before.before.before.before.before.before.before in
+    (λ c κs. let the_loop = c.loop-k in
+    let the_loop_test = c.loop-k-test in
+    let start = c in
     omega (arith, steps.left_some (file_of start.args.law.now) start.requires.1.1 the_loop.invariant the_loop_test.true))
     (λ c. omega arith)
     (λ c. omega arith)
-    (λ c. let the_loop = c.loop-i in
-    let the_loop_test = c.loop-i-test in
-    let start = c.before.before.before.before.before.before.before.before.before.before.before.before in
+    (λ c. let the_loop = c.loop-k in
+    let the_loop_test = c.loop-k-test in
+    let start = c in
     omega (arith, steps.left_end (file_of start.args.law.now) start.requires.1.1 the_loop.invariant the_loop_test.true c.word_at-else-word_at-lt6.ensures))
-    (λ c. let the_loop_test = c.loop-i-test in
+    (λ c. let the_loop_test = c.loop-k-test in
     omega (arith, the_loop_test.true))
-    (λ c. let the_loop = c.loop-i in
-    let the_loop_test = c.loop-i-test in
-    let start = c.before.before.before.before.before.before.before.before.before.before.before.before in
+    (λ c. let the_loop = c.loop-k in
+    let the_loop_test = c.loop-k-test in
+    let start = c in
     let within = sym c.term_depth.ensures ∙ c.if-not-term_depth.false in
     steps.left_after_lem _ start.requires.1.1 the_loop.invariant the_loop_test.true c.word_at-else-word_at-lt6.ensures within)
     (λ c.
-    let start = c.before.before.before.before.before.before in
-    steps.left_none (file_of start.args.law.now) start.requires.1.1 c.loop-i.invariant c.loop-i-test.false))
+    let start = c in
+    steps.left_none (file_of start.args.law.now) start.requires.1.1 c.loop-k.invariant c.loop-k-test.false))
     (λ t. sentence-depth-lts.spec (
       pattern_reads.Asked,
       pattern_reads.Learnt,
@@ -491,26 +490,26 @@ pub +conditions_depth_run_depth_sentence_depth_sentences_depth_term_depth_spec :
     sentence_depth.Post
     (λ c κs. (c.requires.1.0, c.requires.1.2))
     (λ c κs.
-    let start = c.before.before in
+    let start = c in
     (start.requires.1.0, le_of_lt start.requires.1.2))
     (λ c κs.
-    let start = c.before.before.before in
+    let start = c in
     let part = parts.pattern_part_lem (file_of start.args.law.now) start.requires.1.1 start.args.s start.requires.1.2 in (
       omega (arith, start.requires.0),
       (start.requires.1.0, start.requires.1.1, rw (c.pattern_at.ensures, c.pattern.ensures) part, start.requires.1.3),
     ))
     (λ c.
-    let start = c.before.before.before.before.before in
+    let start = c in
     let the_pattern_at = c.pattern_at in
     let the_pattern = c.pattern in
     let step = steps.sentence_step _ start.requires.1.1 start.args.s start.args.depth start.requires.1.2 in
     let pattern = rw (the_pattern_at.ensures, the_pattern.ensures) at c.run_depth.ensures in
     sym (rw (sym pattern ∙ c.if-not-run_depth.true) at step))
     (λ c κs.
-    let start = c.before.before.before.before.before in
+    let start = c in
     (omega (arith, start.requires.0), (start.requires.1.0, start.requires.1.1, start.requires.1.2, start.requires.1.3)))
     (λ c.
-    let start = c.before.before.before.before.before.before.before in
+    let start = c in
     let the_pattern_at = c.pattern_at in
     let the_pattern = c.pattern in
     let the_run_depth = c.run_depth in
@@ -518,33 +517,33 @@ pub +conditions_depth_run_depth_sentence_depth_sentences_depth_term_depth_spec :
     let step = steps.sentence_step _ start.requires.1.1 start.args.s start.args.depth start.requires.1.2 in
     let pattern = rw (the_pattern_at.ensures, the_pattern.ensures) at the_run_depth.ensures in
     let conditions = c.conditions_depth.ensures in
-    sym (rw (sym pattern ∙ not-false _ the_if1.false, sym conditions ∙ c.if-not-run_depth-2.true) at step))
+    sym (rw (sym pattern ∙ the_if1.false, sym conditions ∙ c.if-not-conditions_depth.true) at step))
     (λ c κs.
-    let start = c.before.before.before.before.before.before.before in
+    let start = c in
     (start.requires.1.0, start.requires.1.2))
     (λ c κs.
-    let start = c.before.before.before.before.before.before.before.before in
+    let start = c in
     (start.requires.1.0, start.requires.1.2))
     (λ c κs.
-    let start = c.before.before.before.before.before.before.before.before.before in
+    let start = c in
     let part = parts.result_part_lem (file_of start.args.law.now) start.requires.1.1 start.args.s start.requires.1.2 in (
       omega (arith, start.requires.0),
       (start.requires.1.0, start.requires.1.1, rw (c.result_at.ensures, c.result.ensures) part, start.requires.1.3),
     ))
     (λ c.
-    let start = c.before.before.before.before.before.before.before.before.before.before in
+    let start = c in
     let the_result = c.result in
     let the_pattern_at = c.pattern_at in
     let the_pattern = c.pattern in
     let the_run_depth = c.run_depth in
     let the_if1 = c.if-not-run_depth in
     let the_conditions_depth = c.conditions_depth in
-    let the_if2 = c.if-not-run_depth-2 in
+    let the_if2 = c.if-not-conditions_depth in
     let step = steps.sentence_step _ start.requires.1.1 start.args.s start.args.depth start.requires.1.2 in
     let pattern = rw (the_pattern_at.ensures, the_pattern.ensures) at the_run_depth.ensures in
     let conditions = the_conditions_depth.ensures in
-    let result = rw (c.result_at.ensures, the_result.ensures) at c.run_depth-in-loop-i.ensures in
-    result ∙ sym (rw (sym pattern ∙ not-false _ the_if1.false, sym conditions ∙ not-false _ the_if2.false) at step)))
+    let result = rw (c.result_at.ensures, the_result.ensures) at c.run_depth-2.ensures in
+    result ∙ sym (rw (sym pattern ∙ the_if1.false, sym conditions ∙ the_if2.false) at step)))
     (λ t. sentences-depth-lts.spec
     (sentence_depth_below t, sentence_depth.Post)
     (sentences_depth_at t)
@@ -552,36 +551,36 @@ pub +conditions_depth_run_depth_sentence_depth_sentences_depth_term_depth_spec :
     sentences-depth-Inv-loop
     sentences-depth-μ-loop
     (λ c.
-    let start = c.before in
+    let start = c in
     (omega arith, steps.sentences_same (file_of start.args.law.now) _ _ _ _ start.args.depth (omega arith) (omega arith)))
     (λ c.
-    let start = c.before.before.before in
+    let start = c in
     omega (arith, laws.sentences_limit _ _ start.requires.1.0, start.requires.1.2, c.loop-i-test.true))
     (λ c κs.
-    let start = c.before.before.before in (
+    let start = c in (
       omega (arith, start.requires.0),
       (start.requires.1.0, start.requires.1.1, omega (arith, start.requires.1.2, c.loop-i-test.true), start.requires.1.3),
     ))
     (λ c.
-    let start = c.before.before.before.before.before in
+    let start = c in
     let loop = c.loop-i in
     let the_loop_test = c.loop-i-test in
     let next =
     steps.sentences_next _ start.requires.1.1 start.args.count start.args.first loop.i start.args.depth
     the_loop_test.true start.requires.1.2 in
-    sym (rw (sym c.sentence_depth.ensures ∙ c.if-not-run_depth.true) at (loop.invariant.1 ∙ next)))
+    sym (rw (sym c.sentence_depth.ensures ∙ c.if-not-sentence_depth.true) at (loop.invariant.1 ∙ next)))
     (λ c. omega arith)
     (λ c. omega arith)
     (λ c.
-    let start = c.before.before.before.before.before in
+    let start = c in
     let loop = c.loop-i in
     let the_loop_test = c.loop-i-test in
     let next =
     steps.sentences_next _ start.requires.1.1 start.args.count start.args.first loop.i start.args.depth
     the_loop_test.true start.requires.1.2 in
-    (omega arith, rw (sym c.sentence_depth.ensures ∙ c.if-not-run_depth.false) at (loop.invariant.1 ∙ next)))
+    (omega arith, rw (sym c.sentence_depth.ensures ∙ c.if-not-sentence_depth.false) at (loop.invariant.1 ∙ next)))
     (λ c.
-    let start = c.before.before.before in
+    let start = c in
     let loop = c.loop-i in
     let file = file_of start.args.law.now in
     sym (loop.invariant.1
@@ -610,47 +609,47 @@ pub +conditions_depth_run_depth_sentence_depth_sentences_depth_term_depth_spec :
     (λ c. omega arith)
     (λ c. omega arith)
     (λ c.
-    let start = c.before.before.before.before in
+    let start = c in
     let inside = parts.part_at _ start.requires.1.1 start.args.at start.args.part.now start.requires.1.2 start.requires.1.3 in
     omega (arith, inside, laws.terms_limit _ _ start.requires.1.0))
     (λ c.
-    let start = c.before.before.before.before in
+    let start = c in
     omega (arith, start.requires.1.4))
     (λ c κs.
-    let start = c.before.before.before.before in
+    let start = c in
     let contents = parts.contents_part _ start.requires.1.1 start.args.at start.args.part.now start.requires.1.2 start.requires.1.3 in (
       omega (arith, start.requires.0, start.requires.1.4),
       (start.requires.1.0, start.requires.1.1, rw c.end_of-end.ensures.0 contents, omega (arith, start.requires.1.4)),
     ))
     (λ c.
     let the_end_of = c.end_of-end in
-    let start = c.before.before.before.before.before.before in
+    let start = c in
     let over = c.if-not-run_depth.true in
     steps.term_over _ start.requires.1.1 start.requires.1.2 start.requires.1.3 start.requires.1.4 the_end_of.ensures.0
     c.run_depth.ensures over)
     (λ c κs.
-    let start = c.before.before.before.before.before.before in
+    let start = c in
     omega (arith, start.requires.1.3))
     (λ c κs. search rules)
     (λ c.
     let the_run_depth = c.run_depth in
     let the_if1 = c.if-not-run_depth in
     let the_end_of = c.end_of-end in
-    let start = c.before.before.before.before.before.before.before.before.before in
-    let inside = not-false _ the_if1.false in
+    let start = c in
+    let inside = the_if1.false in
     let counted = c.sentences_in-count.ensures ∙ ap sentences_in c.term_at.ensures in
     steps.term_alone _ start.requires.1.1 start.requires.1.2 start.requires.1.3 start.requires.1.4 the_end_of.ensures.0
-    the_run_depth.ensures inside counted c.if-not-run_depth-2.true)
+    the_run_depth.ensures inside counted c.if-count-eq0.true)
     (λ c κs.
-    let start = c.before.before.before.before.before.before.before.before.before in
+    let start = c in
     let inside = parts.part_at _ start.requires.1.1 start.args.at start.args.part.now start.requires.1.2 start.requires.1.3 in
     omega (arith, inside, laws.terms_limit _ _ start.requires.1.0))
     (λ c.
-    let start = c.before.before.before.before.before.before.before.before.before.before in
+    let start = c in
     omega (arith, start.requires.1.4))
     (λ c κs.
     let the_term_at = c.term_at in
-    let start = c.before.before.before.before.before.before.before.before.before.before in
+    let start = c in
     let indexed = start.requires.1.0 in
     let stands = parts.part_at _ start.requires.1.1 start.args.at start.args.part.now start.requires.1.2 start.requires.1.3 in
     let first = c.block_first.ensures ∙ indexed.words.blocks start.args.at stands in
@@ -665,11 +664,11 @@ pub +conditions_depth_run_depth_sentence_depth_sentences_depth_term_depth_spec :
     let the_if1 = c.if-not-run_depth in
     let the_end_of = c.end_of-end in
     let the_run_depth = c.run_depth in
-    let start = c.before.before.before.before.before.before.before.before.before.before.before in
+    let start = c in
     let indexed = start.requires.1.0 in
     let stands = parts.part_at _ start.requires.1.1 start.args.at start.args.part.now start.requires.1.2 start.requires.1.3 in
     let first = c.block_first.ensures ∙ indexed.words.blocks start.args.at stands in
-    let inside = not-false _ the_if1.false in
+    let inside = the_if1.false in
     let counted = the_sentences_in.ensures ∙ ap sentences_in the_term_at.ensures in
     steps.term_sentences _ start.requires.1.1 start.requires.1.2 start.requires.1.3 start.requires.1.4 the_end_of.ensures.0
     the_run_depth.ensures inside counted first c.sentences_depth.ensures)

@@ -4,7 +4,6 @@ use native.Mathlib.Omega.{arith}
 use native.Mathlib.Nat.{le_of_lt}
 use mathlib.Core.Path.{◌≡◌, sym, ◌∙◌}
 use borrow.Author.Rules.{rules}
-use borrow.Author.Tests.{not-true, not-false}
 use lib.Dec.{leb}
 use Rattle.file.specs.Sections.{File, file_of}
 use Rattle.law.specs.Places.{sentences_of, first_sentence}
@@ -84,8 +83,8 @@ depth_allowed_spec =
     let start = c.before.before in
     (c.functions-count.ensures ∙ start.requires.0.words.functions, omega arith, steps.functions_start_lem (file_of start.args.law.now)))
     (λ c κs. omega (arith, laws.functions_limit _ _ (begun c).requires.0, is_function c))
-    (λ c. omega (arith, laws.functions_limit _ _ (begun c.before).pre.0, is_function c.before))
-    (λ c κs. omega (arith, laws.functions_limit _ _ (begun c.before).pre.0, is_function c.before))
+    (λ c. omega (arith, laws.functions_limit _ _ (begun c.before).requires.0, is_function c.before))
+    (λ c κs. omega (arith, laws.functions_limit _ _ (begun c.before).requires.0, is_function c.before))
     (λ c. omega (arith, first_is_lem c, next_is c))
     (λ c κs.
     let round = c.before.before in

@@ -1,6 +1,5 @@
 use Rattle.law.specs.Places.{condition_result_part}
 use native.Mathlib.Omega.{arith}
-use Prim.Native.Nat.{◌-◌}
 use mathlib.Core.Path.{◌∙◌}
 use Rattle.law.proofs.IndexLaws as laws
 use Rattle.law.proofs.places.condition_result.Statement.{statement}

@@ -1,4 +1,3 @@
-use Prim.Native.Nat.{◌-◌}
 use mathlib.Core.Path.{◌∙◌}
 use Rattle.law.proofs.IndexLaws as laws
 use borrow.Author.Rules.{rules}

@@ -1,5 +1,4 @@
 use native.Mathlib.Omega.{arith}
-use Prim.Native.Nat.{◌-◌}
 use Rattle.law.proofs.IndexLaws as laws
 use borrow.Author.Rules.{rules}
 use Rattle.law.proofs.places.pattern_at.Statement.{statement}

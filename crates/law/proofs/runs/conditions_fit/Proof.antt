@@ -3,7 +3,6 @@ use Prim.Native.Nat.{ℕ, ◌+◌, ◌-◌, ◌≤◌, ◌<◌}
 use native.Mathlib.Omega.{arith}
 use native.Mathlib.Nat.{le_of_lt}
 use borrow.Author.Rules.{rules}
-use borrow.Author.Tests.{not-true, not-false}
 use mathlib.Core.Path.{◌≡◌, sym, ap, ◌∙◌}
 use mathlib.Core.Bool.{true}
 use Rattle.file.specs.Below.{every}
@@ -140,7 +139,7 @@ conditions_fit_spec =
     (λ c. omega arith)
     (λ c.
     let round = round_of c.before in
-    let inv = round.loop-i.inv in
+    let inv = round.loop-i.invariant in
     let asked = c.before.before.before in
     let result = sym (result_is asked.before) ∙ asked.if-not-run_fits.false in
     let pattern = sym (pattern_is c.before) ∙ c.if-not-run_fits-2.false in

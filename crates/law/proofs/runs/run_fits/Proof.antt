@@ -1,11 +1,10 @@
 -- The loop's invariant: the records before k fit.
 use Prim.Native.Nat.{◌*◌, ◌-◌}
 use mathlib.Core.Path.{sym, ◌∙◌}
-use mathlib.Core.Logic.{⊎_elim}
 use native.Mathlib.Omega.{arith}
-use borrow.Author.Tests.{not-true, not-false}
 use lib.ListN.{length}
 use Rattle.law.proofs.LevelLaws as levels
+use Rattle.law.proofs.runs.run_fits.Lts.{then-n-ne0+else-part-i+else-not-level_fits, else-n-ne0}
 use Rattle.law.proofs.runs.run_fits.Statement.{statement}
 use Rattle.law.proofs.runs.run_fits.Tie as tie
 
@@ -49,9 +48,9 @@ run_fits_spec =
     let the_loop = c.loop-k in
     let the_loop_test = c.loop-k-test in
     levels.records_next _ the_loop.invariant the_loop_test.true
-    (⊎_elim
-    (λ w. levels.record_fits _ the_loop.invariant the_loop_test.true c.word_at-n.ensures w.1.left
-    (sym w.2.ensures ∙ not-false _ w.3.left))
-    (λ w. levels.record_leaf _ the_loop.invariant the_loop_test.true c.word_at-n.ensures (omega (arith, w.left)))
-    c.if-n-ne0.branch))
+    (elim c.if-n-ne0.branch [
+      | then-n-ne0+else-part-i+else-not-level_fits w ↦ levels.record_fits _ the_loop.invariant the_loop_test.true c.word_at-n.ensures
+          w.if-part-i.false (sym w.level_fits.ensures ∙ w.if-not-level_fits.false)
+      | else-n-ne0 w ↦ levels.record_leaf _ the_loop.invariant the_loop_test.true c.word_at-n.ensures w.if-n-ne0.false
+    ]))
     (λ c. levels.records_end _ c.loop-k.invariant c.loop-k-test.false))

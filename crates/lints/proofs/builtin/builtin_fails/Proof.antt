@@ -16,10 +16,9 @@ builtin_fails_spec =
     (λ c. search rules)
     (λ c.
     let the_domain_of = c.domain_of in
-    let the_divides = c.divides-1 in
-    c.integers_fail.ensures ∙ rw (← the_domain_of.ensures, the_divides.given.1))
+    c.integers_fail.ensures ∙ rw (← the_domain_of.ensures, c.in-Integers.is))
     (λ c.
     let the_domain_of = c.domain_of in
     let text = c.args.text.now in
-    c.digits_fail.ensures text ∙ rw (← the_domain_of.ensures, c.enum_told-1.given.1))
-    (λ c. rw (← c.domain_of.ensures, c.enum_told-in-Anything-1.given.1)))
+    c.digits_fail.ensures text ∙ rw (← the_domain_of.ensures, c.in-Digits.is))
+    (λ c. rw (← c.domain_of.ensures, c.in-Anything.is)))

@@ -15,10 +15,10 @@ digits_fail_spec =
     (λ c. search rules)
     (λ c.
     let the_if1 = c.if-part-lt24 in
-    digits_long _ the_if1.false c.all_digits.ensures c.enum_told-1.given.1)
+    digits_long _ the_if1.false c.all_digits.ensures c.in-Undecided.is)
     (λ c.
     let the_if1 = c.if-part-lt24 in
-    digits_long _ the_if1.false c.all_digits.ensures c.enum_told-in-Yes-1.given.1)
+    digits_long _ the_if1.false c.all_digits.ensures c.in-Yes.is)
     (λ c.
     let the_if1 = c.if-part-lt24 in
-    digits_long _ the_if1.false c.all_digits.ensures c.enum_told-in-No-1.given.1))
+    digits_long _ the_if1.false c.all_digits.ensures c.in-No.is))

@@ -21,23 +21,20 @@ first_fails_spec =
     (λ c κs. search rules)
     (λ c. search rules)
     (λ c.
-    let start = c.before.before.before.before.before.before.before.before in
     let some = c.if-part-lt24.false in
     let the_end = c.end_of-end in
     let term = c.term_at in
-    first_sign _ start.args.part.now some the_end.ensures.0 term.ensures c.operand_of.ensures _ c.enum_told-1.given.1)
+    first_sign _ c.args.part.now some the_end.ensures.0 term.ensures c.operand_of.ensures _ c.in-Sign.is)
     (λ c.
-    let start = c.before.before.before.before.before.before.before.before.before.before.before in
     let some = c.if-part-lt24.false in
     let the_end = c.end_of-end in
     let term = c.term_at in
     let first = c.operand_of in
-    let told = c.enum_told-in-Macrodigit-1.given.1 in
-    first_macrodigit _ start.args.part.now some the_end.ensures.0 term.ensures first.ensures
+    let told = c.in-Macrodigit.is in
+    first_macrodigit _ c.args.part.now some the_end.ensures.0 term.ensures first.ensures
     _ _ told c.without_sign.ensures c.second_fails.ensures)
     (λ c.
-    let start = c.before.before.before.before.before.before.before.before in
     let some = c.if-part-lt24.false in
     let the_end = c.end_of-end in
     let term = c.term_at in
-    first_other _ start.args.part.now some the_end.ensures.0 term.ensures c.operand_of.ensures _ c.enum_told-in-Other-1.given.1))
+    first_other _ c.args.part.now some the_end.ensures.0 term.ensures c.operand_of.ensures _ c.in-Other.is))

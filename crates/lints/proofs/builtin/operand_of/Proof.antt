@@ -17,8 +17,7 @@ operand_of_spec =
     (λ c. search rules)
     (λ c. search rules)
     (λ c.
-    let the_term = c.term-1 in
-    c.symbol_operand.ensures ∙ rw the_term.given.1)
+    c.symbol_operand.ensures ∙ rw c.in-Symbol.is)
     (λ c. search rules)
     (λ c. search rules)
     (λ c. search rules)

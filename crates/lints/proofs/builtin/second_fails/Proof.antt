@@ -1,5 +1,4 @@
 -- No macrodigit, a function that does not divide, and one that does: `second_none`, `second_decides` and `second_zeros`.
-use borrow.Author.Tests.{not-true, not-false}
 use Rattle.lints.proofs.PartLaws.{second_none, second_decides, second_zeros}
 use borrow.Author.Rules.{rules}
 use Rattle.lints.proofs.builtin.second_fails.Statement.{statement}
@@ -18,20 +17,11 @@ second_fails_spec =
     (λ c. search rules)
     (λ c. search rules)
     (λ c.
-    let the_if2 = c.if-not-divides in
-    let start = c.before.before.before.before.before.before.before in
     let some = c.if-part-lt24.false in
-    let divides = not-false _ the_if2.false in
-    second_zeros _ start.args.part.now some divides c.zeros.ensures c.enum_told-1.given.1)
+    second_zeros _ c.args.part.now some c.if-not-divides.false c.zeros.ensures c.in-Undecided.is)
     (λ c.
-    let the_if2 = c.if-not-divides in
-    let start = c.before.before.before.before.before.before.before in
     let some = c.if-part-lt24.false in
-    let divides = not-false _ the_if2.false in
-    second_zeros _ start.args.part.now some divides c.zeros.ensures c.enum_told-in-Yes-1.given.1)
+    second_zeros _ c.args.part.now some c.if-not-divides.false c.zeros.ensures c.in-Yes.is)
     (λ c.
-    let the_if2 = c.if-not-divides in
-    let start = c.before.before.before.before.before.before.before in
     let some = c.if-part-lt24.false in
-    let divides = not-false _ the_if2.false in
-    second_zeros _ start.args.part.now some divides c.zeros.ensures c.enum_told-in-No-1.given.1))
+    second_zeros _ c.args.part.now some c.if-not-divides.false c.zeros.ensures c.in-No.is))

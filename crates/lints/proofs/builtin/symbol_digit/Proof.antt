@@ -12,8 +12,6 @@ symbol_digit_spec =
     (λ c κs. search rules)
     (λ c. search rules)
     (λ c. search rules)
-    (λ c.
-    let the_symbol = c.symbol-1 in
-    c.decided_by.ensures ∙ rw (c.is_digit.ensures, the_symbol.given.1))
+    (λ c. c.decided_by.ensures ∙ rw (c.is_digit.ensures, c.in-Character.is))
     (λ c. search rules)
     (λ c. search rules))

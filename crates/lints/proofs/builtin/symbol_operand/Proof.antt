@@ -15,9 +15,7 @@ symbol_operand_spec =
     (λ c κs. search rules)
     (λ c κs. search rules)
     (λ c.
-    let the_symbol = c.symbol-1 in
-    c.sign_operand.ensures ∙ rw the_symbol.given.1)
+    c.sign_operand.ensures ∙ rw c.in-Character.is)
     (λ c. search rules)
     (λ c.
-    let the_symbol2 = c.symbol-in-Number-1 in
-    c.number_operand.ensures ∙ rw (c.spelled.ensures, the_symbol2.given.1)))
+    c.number_operand.ensures ∙ rw (c.spelled.ensures, c.in-Number.is)))

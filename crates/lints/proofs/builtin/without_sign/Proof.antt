@@ -20,19 +20,15 @@ without_sign_spec =
     (λ c. search rules)
     (λ c. search rules)
     (λ c.
-    let the_enum_told = c.enum_told-1 in
-    let start = c.before.before.before.before.before.before.before.before.before in
     let some = c.if-part-lt24.false in
     let term = c.term_at in
     let first = c.operand_of in
-    sign_taken _ start.args.part.now some c.end_of-end.ensures.0 term.ensures first.ensures the_enum_told.given.1)
+    sign_taken _ c.args.part.now some c.end_of-end.ensures.0 term.ensures first.ensures c.in-Sign.is)
     (λ c.
-    let start = c.before.before.before.before.before.before.before in
     let some = c.if-part-lt24.false in
     let term = c.term_at in
-    macrodigit_kept _ start.args.part.now some refl term.ensures c.operand_of.ensures c.enum_told-in-Macrodigit-1.given.1)
+    macrodigit_kept _ c.args.part.now some refl term.ensures c.operand_of.ensures c.in-Macrodigit.is)
     (λ c.
-    let start = c.before.before.before.before.before.before.before in
     let some = c.if-part-lt24.false in
     let term = c.term_at in
-    other_kept _ start.args.part.now some refl term.ensures c.operand_of.ensures c.enum_told-in-Other-1.given.1))
+    other_kept _ c.args.part.now some refl term.ensures c.operand_of.ensures c.in-Other.is))

@@ -12,7 +12,5 @@ zero_of_spec =
     (λ c κs. search rules)
     (λ c. search rules)
     (λ c. search rules)
-    (λ c.
-    let the_operand = c.operand-1 in
-    c.decided_by.ensures ∙ rw the_operand.given.1)
+    (λ c. c.decided_by.ensures ∙ rw c.in-Macrodigit.is)
     (λ c. search rules))

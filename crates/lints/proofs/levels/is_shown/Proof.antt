@@ -13,9 +13,7 @@ is_shown_spec =
     (λ c. search rules)
     (λ c.
     let the_level_of = c.level_of in
-    let start = c.before.before.before.before.before in
-    shown_own start.args.overrides.now the_level_of.ensures start.args.mode c.enum_told-1.given.1 c.is_shown_itself.ensures)
+    shown_own c.args.overrides.now the_level_of.ensures c.args.mode c.in-Unsaid.is c.is_shown_itself.ensures)
     (λ c.
     let the_level_of = c.level_of in
-    let start = c.before.before.before.before.before in
-    shown_said start.args.overrides.now the_level_of.ensures start.args.mode c.severity-1.given.1))
+    shown_said c.args.overrides.now the_level_of.ensures c.args.mode c.in-Severity.is))

@@ -14,8 +14,8 @@ severity_of_spec =
     (λ c.
     let the_level_of = c.level_of in
     let the_args = c.args in
-    severity_own the_args.overrides.now the_level_of.ensures c.enum_told-1.given.1 c.own_severity.ensures)
+    severity_own the_args.overrides.now the_level_of.ensures c.in-Unsaid.is c.own_severity.ensures)
     (λ c.
     let the_level_of = c.level_of in
     let the_args = c.args in
-    severity_said the_args.overrides.now the_level_of.ensures c.severity-1.given.1))
+    severity_said the_args.overrides.now the_level_of.ensures c.in-Severity.is))

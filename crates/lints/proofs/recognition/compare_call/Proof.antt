@@ -4,7 +4,6 @@ use mathlib.Core.Path.{refl, sym}
 use native.Mathlib.Omega.{arith}
 use lib.ListN.{drop, replicate}
 use borrow.Author.Rules.{rules}
-use borrow.Author.Tests.{not-true, not-false}
 use Rattle.law.proofs.IndexLaws.{terms_limit}
 use Rattle.formats.proofs.TurnLaws.{lent_length, back_inside, back_length}
 use Rattle.lints.proofs.RecognitionLaws.{argument_asked, argument_made, compared_wide, accepted_inside, accepted_few, compared_apart, compared_literal, compared_silent}
@@ -52,15 +51,15 @@ compare_call_spec =
     omega (arith, accepted_few p.0.0 a.t p.1.0 p.1.1))
     (λ c.
     let the_row_format = c.row_format in
-    let out-kept = the_row_format.auto.1.1.1.1.1.1.1.0 in
-    let out-after = the_row_format.new.1.1.1.1.1.1.1.0 in
+    let out-kept = the_row_format.auto.out in
+    let out-after = the_row_format.new.out in
     let p = c.requires in
     let a = c.args in
     back_inside p.0.0.asked.small out-after _ out-kept)
     (λ c.
     let the_row_format = c.row_format in
-    let out-kept = the_row_format.auto.1.1.1.1.1.1.1.0 in
-    let out-after = the_row_format.new.1.1.1.1.1.1.1.0 in
+    let out-kept = the_row_format.auto.out in
+    let out-after = the_row_format.new.out in
     let p = c.requires in
     let a = c.args in
     sym (back_length p.0.0.asked.small out-after _ out-kept))
@@ -83,7 +82,7 @@ compare_call_spec =
     let p = c.requires in
     let a = c.args in
     let made = argument_made p.0.0 a.t refl the_argument.ensures the_wide.ensures.0 the_row_format.ensures in
-    compared_apart p.0.0 a.t p.1.0 p.1.1 (drop (a.limit + 1) (replicate 65 0)) made (not-false _ the_if1.false)
+    compared_apart p.0.0 a.t p.1.0 p.1.1 (drop (a.limit + 1) (replicate 65 0)) made the_if1.false
     c.disjoint_formats.ensures p.0.2 c.if-disjoint_formats.true)
     (λ c. let the_argument = c.argument-part in
     let the_wide = c.wide-all in
@@ -92,7 +91,7 @@ compare_call_spec =
     let p = c.requires in
     let a = c.args in
     let made = argument_made p.0.0 a.t refl the_argument.ensures the_wide.ensures.0 the_row_format.ensures in
-    compared_literal p.0.0 a.t p.1.0 p.1.1 (drop (a.limit + 1) (replicate 65 0)) made (not-false _ the_if1.false)
+    compared_literal p.0.0 a.t p.1.0 p.1.1 (drop (a.limit + 1) (replicate 65 0)) made the_if1.false
     c.disjoint_formats.ensures p.0.2 c.if-disjoint_formats.false c.if-literal.true)
     (λ c. let the_argument = c.argument-part in
     let the_wide = c.wide-all in
@@ -101,5 +100,5 @@ compare_call_spec =
     let p = c.requires in
     let a = c.args in
     let made = argument_made p.0.0 a.t refl the_argument.ensures the_wide.ensures.0 the_row_format.ensures in
-    compared_silent p.0.0 a.t p.1.0 p.1.1 (drop (a.limit + 1) (replicate 65 0)) made (not-false _ the_if1.false)
+    compared_silent p.0.0 a.t p.1.0 p.1.1 (drop (a.limit + 1) (replicate 65 0)) made the_if1.false
     c.disjoint_formats.ensures p.0.2 c.if-disjoint_formats.false c.if-literal.false))

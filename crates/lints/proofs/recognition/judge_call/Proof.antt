@@ -1,7 +1,6 @@
 -- `recognition::judge_call` meets its contract: the last definition of the call's name is the last function of its place, and a law for each return.
 use native.Mathlib.Omega.{arith}
 use borrow.Author.Rules.{rules}
-use borrow.Author.Tests.{not-true, not-false}
 use Rattle.file.specs.Sections.{file_of}
 use Rattle.law.proofs.IndexLaws.{functions_limit, terms_limit}
 use Rattle.lints.proofs.RecognitionLaws.{literal_read, place_is, function_here_lem, place_inside, verdict_undefined, verdict_silent, verdict_compared}

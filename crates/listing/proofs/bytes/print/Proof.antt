@@ -12,12 +12,12 @@ print_spec =
     (λ c.
     let counted = c.before in
     let x = counted.args in
-    print_short x.law.now x.own.now x.count x.page-1.now counted.page_length-length.result counted.page_length-length.ensures c.if-page-length.true)
+    print_short x.law.now x.own.now x.count x.page.now counted.page_length-length.result counted.page_length-length.ensures c.if-page-length.true)
     (λ c κs. search rules)
     (λ c. search rules)
     (λ c.
     let tested = c.before.before.before.before in
     let counted = tested.before in
     let x = counted.args in
-    print_written x.law.now x.own.now x.count x.page-1.now counted.page_length-length.result counted.page_length-length.ensures tested.if-page-length.false
+    print_written x.law.now x.own.now x.count x.page.now counted.page_length-length.result counted.page_length-length.ensures tested.if-page-length.false
     c.put_page.ensures))

@@ -12,12 +12,12 @@ print_none_spec =
     (λ c.
     let counted = c.before in
     let x = counted.args in
-    λ settings. none_short settings x.buffer-1.now counted.page_length-length.result counted.page_length-length.ensures c.if-buffer-length.true)
+    λ settings. none_short settings x.buffer.now counted.page_length-length.result counted.page_length-length.ensures c.if-buffer-length.true)
     (λ c κs. search rules)
     (λ c. search rules)
     (λ c.
     let tested = c.before.before.before.before in
     let counted = tested.before in
     let x = counted.args in
-    λ settings. none_written settings x.buffer-1.now counted.page_length-length.result counted.page_length-length.ensures tested.if-buffer-length.false
+    λ settings. none_written settings x.buffer.now counted.page_length-length.result counted.page_length-length.ensures tested.if-buffer-length.false
     c.put_heading.ensures))

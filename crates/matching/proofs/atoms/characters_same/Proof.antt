@@ -12,10 +12,10 @@ characters_same_spec =
     (λ c κs. search rules)
     (λ c κs. search rules)
     (λ c.
-    let at-kind = c.before.before.before in
+    let at-kind = c in
     let start = at-kind.before.before.before in
     λ text. laws.characters_same start.args.x.now start.args.y.now start.requires.2 at-kind.word_at.ensures text
     c.if-word_at-eq0.true c.word_at-then-word_at-eq0.ensures c.word_at-then-word_at-eq0-2.ensures)
     (λ c.
-    let start = c.before.before.before.before in
+    let start = c in
     λ text. laws.character_differs start.args.x.now start.args.y.now start.requires.2 c.word_at.ensures text c.if-word_at-eq0.false))

@@ -14,6 +14,6 @@ spelled_spec =
     (λ c. search rules)
     (λ c. search rules)
     (λ c. search rules)
-    (λ c. let start = c.before.before.before.before in
+    (λ c. let start = c in
     laws.spelled_part start.args.text.now start.args.start start.args.len c.lesser-from.ensures
     c.lesser-end.ensures))

@@ -12,12 +12,12 @@ symbols_same_spec =
     (λ c κs. search rules)
     (λ c κs. search rules)
     (λ c.
-    let at-kind = c.before.before in
+    let at-kind = c in
     let start = at-kind.before.before.before.before in
     c.characters_same.ensures start.args.text.now)
     (λ c κs. search rules)
     (λ c.
-    let at-kind = c.before.before.before in
+    let at-kind = c in
     let start = at-kind.before.before.before.before in
     laws.kinds_differ start.args.text.now start.args.x.now start.args.y.now at-kind.word_at-kind.ensures c.word_at.ensures
     c.if-kind-word_at.true)
@@ -29,7 +29,7 @@ symbols_same_spec =
     (λ c κs. search rules)
     (λ c κs. search rules)
     (λ c.
-    let at_second = c.before.before in
+    let at_second = c in
     let at_first = at_second.before.before.before in
     let at-kinds = at_first.before.before.before in
     let at-kind = at-kinds.before.before.before in
@@ -42,7 +42,7 @@ symbols_same_spec =
     c.if-kind-eq1.true c.names_equal.ensures)
     (λ c κs. search rules)
     (λ c.
-    let at_second = c.before.before in
+    let at_second = c in
     let at_first = at_second.before.before.before in
     let at-kinds = at_first.before.before.before in
     let at-kind = at-kinds.before.before.before in

@@ -11,7 +11,7 @@ variables_same_spec =
     (λ c κs. search rules)
     (λ c κs. search rules)
     (λ c.
-    let at-kind = c.before.before in
+    let at-kind = c in
     let start = at-kind.before.before.before.before in
     λ k. laws.kinds_differ start.args.text.now start.args.x.now start.args.y.now at-kind.word_at-kind.ensures c.word_at.ensures
     c.if-kind-word_at.true)
@@ -23,7 +23,7 @@ variables_same_spec =
     (λ c κs. search rules)
     (λ c κs. search rules)
     (λ c.
-    let at_second = c.before.before in
+    let at_second = c in
     let at_first = at_second.before.before.before in
     let at-kinds = at_first.before.before.before in
     let at-kind = at-kinds.before.before in
@@ -35,7 +35,7 @@ variables_same_spec =
     at_second.word_at-5.ensures)
     c.if-kind-lt6.true c.indices_equal.ensures)
     (λ c.
-    let at-kinds = c.before.before.before.before.before.before.before in
+    let at-kinds = c in
     let at-kind = at-kinds.before.before in
     let start = at-kind.before.before.before.before in
     λ k. laws.others_differ start.args.text.now start.args.x.now start.args.y.now at-kind.word_at-kind.ensures at-kinds.word_at.ensures

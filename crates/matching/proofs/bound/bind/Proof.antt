@@ -20,7 +20,7 @@ bind_spec =
     (λ c. search rules)
     (λ c. search rules)
     (λ c. search rules)
-    (λ c. let start = c.before.before.before in
+    (λ c. let start = c in
     record {
       more = omega arith;
       keys = ap (set start.args.b.keys start.args.b.count) c.narrow.ensures;

@@ -37,19 +37,19 @@ known_front_spec =
     (λ c.
     let the_first_of = c.first_of in
     let the_loop = c.loop-left in
-    omega (arith, (laws.passed_falls the_loop.invariant the_first_of.ensures _ _ c.m-1.given.1).1))
+    omega (arith, (laws.passed_falls the_loop.invariant the_first_of.ensures _ _ c.in-Goes.is).1))
     (λ c.
     let the_first_of = c.first_of in
     let the_loop = c.loop-left in
-    omega (arith, (laws.passed_falls the_loop.invariant the_first_of.ensures _ _ c.m-1.given.1).2))
+    omega (arith, (laws.passed_falls the_loop.invariant the_first_of.ensures _ _ c.in-Goes.is).2))
     (λ c.
     let the_first_of = c.first_of in
     let the_loop = c.loop-left in
-    (laws.passed_falls the_loop.invariant the_first_of.ensures _ _ c.m-1.given.1).0)
+    (laws.passed_falls the_loop.invariant the_first_of.ensures _ _ c.in-Goes.is).0)
     (λ c.
     let the_first_of = c.first_of in
     let the_loop = c.loop-left in
-    laws.passed_more the_loop.invariant the_first_of.ensures _ _ c.m-1.given.1)
+    laws.passed_more the_loop.invariant the_first_of.ensures _ _ c.in-Goes.is)
     (λ c. search rules)
     (λ c. search rules)
     (λ c. search rules)
@@ -58,17 +58,17 @@ known_front_spec =
     let the_loop = c.loop-left in
     record { front = (the_loop.invariant, c.if-left-lt24.true) })
     (λ c. let the_loop = c.loop-left in
-    record { front = laws.passed_fails the_loop.invariant c.first_of.ensures c.enum_told-1.given.1 })
+    record { front = laws.passed_fails the_loop.invariant c.first_of.ensures c.in-Fails.is })
     (λ c.
     let the_if1 = c.if-left-lt24 in
     let the_first_of = c.first_of in
     let the_loop = c.loop-left in
-    laws.passed_stop the_loop.invariant the_first_of.ensures the_if1.false _ c.n-1.given.1 tt)
+    laws.passed_stop the_loop.invariant the_first_of.ensures the_if1.false _ c.in-Binds.is tt)
     (λ c.
     let the_if1 = c.if-left-lt24 in
     let the_loop = c.loop-left in
-    laws.passed_stop the_loop.invariant c.first_of.ensures the_if1.false _ c.enum_told-in-Tries-1.given.1 tt)
+    laws.passed_stop the_loop.invariant c.first_of.ensures the_if1.false _ c.in-Tries.is tt)
     (λ c.
     let the_if1 = c.if-left-lt24 in
     let the_loop = c.loop-left in
-    laws.passed_stop the_loop.invariant c.first_of.ensures the_if1.false _ c.enum_told-in-Inside-1.given.1 tt))
+    laws.passed_stop the_loop.invariant c.first_of.ensures the_if1.false _ c.in-Inside.is tt))

@@ -1,5 +1,4 @@
 -- `bracket_first` meets its contract, by a law of proofs/StepLaws.antt for each return.
-use borrow.Author.Tests.{not-true, not-false}
 use Rattle.matching.proofs.StepLaws as laws
 use borrow.Author.Rules.{rules}
 use Rattle.matching.proofs.step.bracket_first.Statement.{statement}
@@ -11,9 +10,9 @@ bracket_first_spec = tie.close (tie.spec
     let the_args = c.args in
     λ text pattern vs some e. laws.bracket_short text pattern the_args.row.now vs some e c.if-row-lt24.true)
     (λ c κs. search rules)
-    (λ c. let start = c.before.before.before.before in
+    (λ c. let start = c in
     λ text pattern vs some e. laws.bracket_differs text pattern start.args.row.now vs some e c.if-row-lt24.false
-    c.is_bracket.ensures (not-true c.is_bracket.result c.if-not-is_bracket.true))
-    (λ c. let start = c.before.before.before.before in
+    c.is_bracket.ensures c.if-not-is_bracket.true)
+    (λ c. let start = c in
     λ text pattern vs some e. laws.bracket_inside text pattern start.args.row.now vs some e c.if-row-lt24.false
-    c.is_bracket.ensures (not-false c.is_bracket.result c.if-not-is_bracket.false)))
+    c.is_bracket.ensures c.if-not-is_bracket.false))

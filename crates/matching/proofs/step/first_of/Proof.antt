@@ -23,29 +23,29 @@ first_of_spec =
     (λ c κs. search rules)
     (λ c. search rules)
     (λ c. search rules)
-    (λ c. let start = c.before.before.before.before.before.before.before.before in
+    (λ c. let start = c in
     let term-at = c.term_at in
     c.symbols_first.ensures _ _
-    (sym term-at.ensures ∙ c.enum_told-1.given.1))
-    (λ c. let start = c.before.before.before.before.before.before.before.before in
+    (sym term-at.ensures ∙ c.in-Symbol.is))
+    (λ c. let start = c in
     let term-at = c.term_at in
-    c.variable_first.ensures _ (ap (atom_of start.args.text.now) (sym term-at.ensures ∙ c.enum_told-in-SVariable-1.given.1)))
-    (λ c. let start = c.before.before.before.before.before.before.before.before in
+    c.variable_first.ensures _ (ap (atom_of start.args.text.now) (sym term-at.ensures ∙ c.in-SVariable.is)))
+    (λ c. let start = c in
     let term-at = c.term_at in
-    c.variable_first-in-TVariable.ensures _ (ap (atom_of start.args.text.now) (sym term-at.ensures ∙ c.enum_told-in-TVariable-1.given.1)))
-    (λ c. let start = c.before.before.before.before.before.before.before.before in
+    c.variable_first-in-TVariable.ensures _ (ap (atom_of start.args.text.now) (sym term-at.ensures ∙ c.in-TVariable.is)))
+    (λ c. let start = c in
     let term-at = c.term_at in
-    c.variable_first-in-EVariable.ensures _ (ap (atom_of start.args.text.now) (sym term-at.ensures ∙ c.enum_told-in-EVariable-1.given.1)))
-    (λ c. let start = c.before.before.before.before.before.before.before.before in
+    c.variable_first-in-EVariable.ensures _ (ap (atom_of start.args.text.now) (sym term-at.ensures ∙ c.in-EVariable.is)))
+    (λ c. let start = c in
     let term-at = c.term_at in
     c.bracket_first.ensures start.args.text.now start.args.pattern.now
     _ start.requires.1
-    (sym term-at.ensures ∙ c.enum_told-in-Bracket-1.given.1))
-    (λ c. let start = c.before.before.before.before.before.before.before in
+    (sym term-at.ensures ∙ c.in-Bracket.is))
+    (λ c. let start = c in
     laws.call_fails start.args.text.now start.args.pattern.now start.args.row.now
     _ start.requires.1
-    (sym c.term_at.ensures ∙ c.enum_told-in-Call-1.given.1))
-    (λ c. let start = c.before.before.before.before.before.before.before in
+    (sym c.term_at.ensures ∙ c.in-Call.is))
+    (λ c. let start = c in
     laws.block_fails start.args.text.now start.args.pattern.now start.args.row.now
     _ start.requires.1
-    (sym c.term_at.ensures ∙ c.enum_told-in-Block-1.given.1)))
+    (sym c.term_at.ensures ∙ c.in-Block.is)))

@@ -1,5 +1,4 @@
 -- `free_first` meets its contract, by a law of proofs/StepLaws.antt for each return.
-use borrow.Author.Tests.{not-true, not-false}
 use Rattle.matching.proofs.StepLaws as laws
 use borrow.Author.Rules.{rules}
 use Rattle.matching.proofs.step.free_first.Statement.{statement}
@@ -11,16 +10,16 @@ free_first_spec =
     (tie.spec
     (λ c κs. search rules)
     (λ c κs. search rules)
-    (λ c. let start = c.before.before.before.before.before in
+    (λ c. let start = c in
     λ text v vs e without. laws.free_tries text start.args.pattern.now start.args.row.now v vs start.requires e without
     (laws.open_told c.term_at-variable.ensures c.is_open.ensures) c.if-is_open.true)
-    (λ c. let start = c.before.before.before.before.before.before in
+    (λ c. let start = c in
     let term-at = c.term_at-variable in
     λ text v vs e without. laws.free_short text start.args.pattern.now start.args.row.now v vs start.requires e without
     (laws.open_told term-at.ensures c.is_open.ensures) c.if-is_open.false c.if-row-lt24.true)
     (λ c κs. search rules)
     (λ c κs. search rules)
-    (λ c. let start = c.before.before.before.before.before.before.before.before.before in
+    (λ c. let start = c in
     let term-at = c.term_at-variable in
     let is_open_lem = c.is_open in
     let if1 = c.if-is_open in
@@ -28,9 +27,9 @@ free_first_spec =
     λ text v vs e without. laws.free_differs text start.args.pattern.now start.args.row.now v vs start.requires e without
     (laws.open_told term-at.ensures is_open_lem.ensures) if1.false if2.false
     (laws.stand_told term-at.ensures c.term_at.ensures c.may_stand.ensures)
-    (not-true c.may_stand.result c.if-not-may_stand.true))
+    c.if-not-may_stand.true)
     (λ c κs. search rules)
-    (λ c. let start = c.before.before.before.before.before.before.before.before.before.before in
+    (λ c. let start = c in
     let term-at = c.term_at-variable in
     let is_open_lem = c.is_open in
     let if1 = c.if-is_open in
@@ -39,4 +38,4 @@ free_first_spec =
     λ text v vs e without. laws.free_binds text start.args.pattern.now start.args.row.now v vs start.requires e without
     (laws.open_told term-at.ensures is_open_lem.ensures) if1.false if2.false
     (laws.stand_told term-at.ensures term-at2.ensures c.may_stand.ensures)
-    (not-false c.may_stand.result c.if-not-may_stand.false) c.end_of.ensures.0 c.end_of.ensures.2))
+    c.if-not-may_stand.false c.end_of.ensures.0 c.end_of.ensures.2))

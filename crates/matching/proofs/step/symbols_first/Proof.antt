@@ -2,7 +2,6 @@
 use Prim.Native.Nat.{◌-◌}
 use native.Mathlib.Omega.{arith}
 use borrow.Author.Rules.{rules}
-use borrow.Author.Tests.{not-true, not-false}
 use lib.ListN.{length}
 use Rattle.matching.proofs.CutLaws.{from_length}
 use Rattle.matching.proofs.StepLaws as laws
@@ -56,7 +55,7 @@ symbols_first_spec =
     let the_if2 = c.if-word_at-gt2 in
     let same = c.atoms_same in
     laws.symbols_next the_loop.invariant the_if1.false the_word_at.ensures the_if2.false the_if3.false same.ensures
-    (not-false same.result c.if-not-atoms_same.false) c.end_of-i.ensures.0 c.end_of-j.ensures.0)
+    c.if-not-atoms_same.false c.end_of-i.ensures.0 c.end_of-j.ensures.0)
     (λ c.
     let the_loop = c.loop-left in
     let the_pre = c.requires in
@@ -74,4 +73,4 @@ symbols_first_spec =
     let the_if1 = c.if-left-lt24 in
     let same = c.atoms_same in
     λ x vs first. laws.symbols_differ the_loop.invariant the_if1.false the_word_at.ensures the_if2.false c.if-right-lt24.false same.ensures
-    (not-true same.result c.if-not-atoms_same.true) vs))
+    c.if-not-atoms_same.true vs))

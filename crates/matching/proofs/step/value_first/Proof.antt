@@ -18,12 +18,11 @@ value_first_spec =
     (λ c. search rules)
     (λ c.
     let the_begins = c.begins in
-    let the_n = c.n-1 in
     let the_pre = c.requires in
     let a = c.args in
     λ v vs first value. laws.value_begins a.text.now a.pattern.now a.row.now v vs the_pre.1 first
-    (laws.value_cut a.text.now a.terms.now a.start a.size value) the_begins.ensures the_n.given.1 c.end_of.ensures.0)
+    (laws.value_cut a.text.now a.terms.now a.start a.size value) the_begins.ensures c.in-After.is c.end_of.ensures.0)
     (λ c. let the_pre = c.requires in
     let a = c.args in
     λ v vs first value. laws.value_differs a.text.now a.pattern.now a.row.now v vs the_pre.1 first
-    (laws.value_cut a.text.now a.terms.now a.start a.size value) c.begins.ensures c.enum_told-1.given.1))
+    (laws.value_cut a.text.now a.terms.now a.start a.size value) c.begins.ensures c.in-Differs.is))

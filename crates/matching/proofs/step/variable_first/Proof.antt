@@ -16,64 +16,64 @@ variable_first_spec =
     (λ c. search rules)
     (λ c.
     let the_place_of = c.place_of in
-    let start = c.before.before.before.before.before.before.before.before in
+    let start = c in
     omega (
       arith,
       start.requires.0.few,
-      (places.place_is start.args.pattern.now start.requires.0 c.i-1.given.1 (the_place_of.ensures
+      (places.place_is start.args.pattern.now start.requires.0 c.in-At.is (the_place_of.ensures
           _ _ start.requires.0)).0,
     ))
     (λ c.
     let the_place_of = c.place_of in
-    let start = c.before.before.before.before.before.before.before.before in
+    let start = c in
     omega (
       arith,
       start.requires.0.few,
-      (places.place_is start.args.pattern.now start.requires.0 c.i-1.given.1 (the_place_of.ensures
+      (places.place_is start.args.pattern.now start.requires.0 c.in-At.is (the_place_of.ensures
           _ _ start.requires.0)).0,
     ))
     (λ c κs. search rules)
     (λ c.
-    let the_i = c.i-1 in
+    let the_i = c.in-At in
     let the_place_of = c.place_of in
-    let start = c.before.before.before.before.before.before.before.before.before.before in
+    let start = c in
     omega (
       arith,
       start.requires.0.few,
-      (places.place_is start.args.pattern.now start.requires.0 the_i.given.1 (the_place_of.ensures
+      (places.place_is start.args.pattern.now start.requires.0 the_i.is (the_place_of.ensures
           _ _ start.requires.0)).0,
     ))
     (λ c.
-    let the_i = c.i-1 in
+    let the_i = c.in-At in
     let the_place_of = c.place_of in
-    let start = c.before.before.before.before.before.before.before.before.before.before in
+    let start = c in
     omega (
       arith,
       start.requires.0.few,
-      (places.place_is start.args.pattern.now start.requires.0 the_i.given.1 (the_place_of.ensures
+      (places.place_is start.args.pattern.now start.requires.0 the_i.is (the_place_of.ensures
           _ _ start.requires.0)).0,
     ))
     (λ c κs. search rules)
     (λ c κs.
     let the_wide = c.wide-start in
-    let the_i = c.i-1 in
+    let the_i = c.in-At in
     let the_place_of = c.place_of in
-    let start = c.before.before.before.before.before.before.before.before.before.before.before.before in
-    let inside = start.requires.0.inside the_i.given.0.0
-    (places.place_is start.args.pattern.now start.requires.0 the_i.given.1 (the_place_of.ensures _ _ start.requires.0)).0 in
+    let start = c in
+    let inside = start.requires.0.inside the_i.i
+    (places.place_is start.args.pattern.now start.requires.0 the_i.is (the_place_of.ensures _ _ start.requires.0)).0 in
     (omega (arith, the_wide.ensures.0, c.wide.ensures.0, inside), start.requires.1))
     (λ c. search rules)
     (λ c κs. search rules)
     (λ c.
     let the_wide = c.wide-start in
-    let the_i = c.i-1 in
+    let the_i = c.in-At in
     let the_place_of = c.place_of in
-    let start = c.before.before.before.before.before.before.before.before.before.before.before.before.before in
+    let start = c in
     λ v first. c.value_first.ensures v _ first (rw (the_wide.ensures.0, c.wide.ensures.0)
-    ((places.place_is start.args.pattern.now start.requires.0 the_i.given.1 (the_place_of.ensures _ _ start.requires.0)).1 v first)))
+    ((places.place_is start.args.pattern.now start.requires.0 the_i.is (the_place_of.ensures _ _ start.requires.0)).1 v first)))
     (λ c.
     let the_place_of = c.place_of in
-    let start = c.before.before.before.before.before.before.before.before in
+    let start = c in
     λ v first. c.free_first.ensures _ v _ first
-    (sym ((places.place_is start.args.pattern.now start.requires.0 c.enum_told-1.given.1
+    (sym ((places.place_is start.args.pattern.now start.requires.0 c.in-Free.is
     (the_place_of.ensures _ _ start.requires.0)).1 v first))))

@@ -1,10 +1,9 @@
--- `begins` and `same_first_lem` meet their contracts, by a law of proofs/BeginLaws.antt for each return. The measure is twice the value's length, and one more
+-- `begins` and `same_first` meet their contracts, by a law of proofs/BeginLaws.antt for each return. The measure is twice the value's length, and one more
 -- for `begins`, which hands what is left of the value on; the contents of a bracket are shorter.
 use Prim.Native.Nat.{ℕ, ◌+◌, ◌*◌, ◌-◌, ◌<◌}
 use native.Mathlib.Omega.{arith}
 use mathlib.Core.Path.{refl}
 use borrow.Author.Rules.{rules}
-use borrow.Author.Tests.{not-true, not-false}
 use lib.ListN.{length, take, drop}
 use Rattle.law.proofs.Forests.{inside_falls}
 use Rattle.matching.proofs.BeginLaws as laws
@@ -43,10 +42,10 @@ abbrev same_first_below : ℕ → In 3 same-first-kinds.ps
 same_first_below t =
     and 3 same-first-kinds.ps (falls 3 same-first-kinds.ps ◌<◌ μ-same-first t) same_first_lem.Pre
 
-abbrev begins-Inv-loop : begins-lts.invariant_loop
+abbrev begins-Inv-loop : begins-lts.invariant-loop-left
 begins-Inv-loop text value row i₀ j₀ i j = laws.Begun text value row i j
 
-abbrev begins-μ-loop : begins-lts.decreases_loop
+abbrev begins-μ-loop : begins-lts.decreases-loop-left
 begins-μ-loop text value row i₀ j₀ i j = length value - i
 
 pub +begins_same_first_spec : {M : Type 1} → statement M
@@ -60,38 +59,33 @@ pub +begins_same_first_spec : {M : Type 1} → statement M
     begins.Post
     begins-Inv-loop
     begins-μ-loop
-    (λ c. let start = c.before.before.before in
-    laws.begun start.args.text.now start.args.value.now start.args.row.now)
+    (λ c. laws.begun c.args.text.now c.args.value.now c.args.row.now)
     (λ c. c.loop-left.invariant.value_within)
     (λ c. c.loop-left.invariant.value_within)
     (λ c. search rules)
     (λ c. c.loop-left.invariant.row_within)
     (λ c. c.loop-left.invariant.row_within)
     (λ c. search rules)
-    (λ c κs. let start = c.before.before.before.before.before.before.before.before in
-    let at-loop = c.loop-left in
-    (omega (arith, from_length at-loop.i start.args.value.now, start.requires.0), (c.if-left-lt24.false, c.if-right-lt24.false)))
+    (λ c κs. let at-loop = c.loop-left in
+    (omega (arith, from_length at-loop.i c.args.value.now, c.requires.0), (c.if-left-lt24.false, c.if-right-lt24.false)))
     (λ c κs.
     let the_if1 = c.if-left-lt24 in
     the_if1.false)
-    (λ c. let start = c.before.before.before.before.before.before.before.before.before.before.before in
-    let at-loop = c.loop-left in
-    omega (arith, from_length at-loop.i start.args.value.now, c.end_of-i.ensures.2))
+    (λ c. let at-loop = c.loop-left in
+    omega (arith, from_length at-loop.i c.args.value.now, c.end_of-i.ensures.2))
     (λ c κs.
     let the_if2 = c.if-right-lt24 in
     the_if2.false)
-    (λ c. let start = c.before.before.before.before.before.before.before.before.before.before.before.before in
-    let at-loop = c.loop-left in
-    omega (arith, from_length at-loop.j start.args.row.now, c.end_of-j.ensures.2))
-    (λ c. let start = c.before.before.before.before.before.before.before.before.before.before.before.before in
-    let at-loop = c.loop-left in
+    (λ c. let at-loop = c.loop-left in
+    omega (arith, from_length at-loop.j c.args.row.now, c.end_of-j.ensures.2))
+    (λ c. let at-loop = c.loop-left in
     let if1 = c.if-left-lt24 in
-    omega (arith, from_length at-loop.i start.args.value.now, if1.false, c.end_of-i.ensures.1))
+    omega (arith, from_length at-loop.i c.args.value.now, if1.false, c.end_of-i.ensures.1))
     (λ c. let at-loop = c.loop-left in
     let if1 = c.if-left-lt24 in
     let if2 = c.if-right-lt24 in
     let same_first_lem = c.same_first in
-    laws.begins_next at-loop.invariant if1.false if2.false same_first_lem.ensures (not-false same_first_lem.result c.if-not-same_first.false)
+    laws.begins_next at-loop.invariant if1.false if2.false same_first_lem.ensures c.if-not-same_first.false
     c.end_of-i.ensures.0 c.end_of-i.ensures.2 c.end_of-j.ensures.0 c.end_of-j.ensures.2)
     (λ c.
     let the_loop = c.loop-left in
@@ -102,7 +96,7 @@ pub +begins_same_first_spec : {M : Type 1} → statement M
     (λ c. let at-loop = c.loop-left in
     let if1 = c.if-left-lt24 in
     laws.begins_differs at-loop.invariant if1.false c.if-right-lt24.false c.same_first.ensures
-    (not-true c.same_first.result c.if-not-same_first.true)))
+    c.if-not-same_first.true))
     λ t. same-first-lts.spec (
       is-bracket-reads.Asked,
       is-bracket-reads.Learnt,
@@ -120,16 +114,14 @@ pub +begins_same_first_spec : {M : Type 1} → statement M
     the_pre.1.0)
     (λ c κs. let the_pre = c.requires in
     the_pre.1)
-    (λ c. let start = c.before.before.before.before.before.before in
-    laws.first_atoms start.args.text.now start.args.value.now start.args.row.now c.is_bracket.ensures
-    (not-true c.is_bracket.result c.if-left-lt24.true) c.atoms_same.ensures)
+    (λ c. laws.first_atoms c.args.text.now c.args.value.now c.args.row.now c.is_bracket.ensures
+    c.if-not-is_bracket.true c.atoms_same.ensures)
     (λ c κs. let the_pre = c.requires in
     the_pre.1.1)
-    (λ c. let start = c.before.before.before.before.before.before.before in
-    let is_bracket_lem = c.is_bracket in
-    laws.first_differ start.args.text.now start.args.value.now start.args.row.now is_bracket_lem.ensures
-    c.is_bracket-2.ensures (not-false is_bracket_lem.result c.if-left-lt24.false)
-    (not-true c.is_bracket-2.result c.if-right-lt24.true))
+    (λ c. let is_bracket_lem = c.is_bracket in
+    laws.first_differ c.args.text.now c.args.value.now c.args.row.now is_bracket_lem.ensures
+    c.is_bracket-2.ensures c.if-not-is_bracket.false
+    c.if-not-is_bracket-2.true)
     (λ c κs. let the_pre = c.requires in
     the_pre.1.0)
     (λ c κs. let the_pre = c.requires in
@@ -140,40 +132,36 @@ pub +begins_same_first_spec : {M : Type 1} → statement M
     (λ c. search rules)
     (λ c. search rules)
     (λ c. search rules)
-    (λ c κs. let start = c.before.before.before.before.before.before.before.before.before.before.before in
-    let end_of_lem = c.end_of-i in (
+    (λ c κs. let end_of_lem = c.end_of-m in (
       omega (
         arith,
-        inside_falls start.args.value.now end_of_lem.result (length start.args.value.now) start.requires.1.0
+        inside_falls c.args.value.now end_of_lem.result (length c.args.value.now) c.requires.1.0
             end_of_lem.ensures.0 refl,
-        start.requires.0,
+        c.requires.0,
       ),
       tt,
     ))
     (λ c. search rules)
-    (λ c. let start = c.before.before.before.before.before.before.before.before.before.before.before.before.before.before.before in
-    let end-of2 = c.end_of-j in
+    (λ c. let end-of2 = c.end_of-n in
     let begins = c.begins in
-    omega (arith, laws.begins_within (take (end-of2.result - 24) (drop 24 start.args.row.now)) c.k-1.given.1 begins.ensures.0))
+    omega (arith, laws.begins_within (take (end-of2.result - 24) (drop 24 c.args.row.now)) c.in-After.is begins.ensures.0))
     (λ c. search rules)
-    (λ c. let start = c.before.before.before.before.before.before.before.before.before.before.before.before.before.before.before in
-    let is_bracket_lem = c.is_bracket in
+    (λ c. let is_bracket_lem = c.is_bracket in
     let is-bracket2 = c.is_bracket-2 in
-    let if1 = c.if-left-lt24 in
-    let if2 = c.if-right-lt24 in
-    let end_of_lem = c.end_of-i in
-    let end-of2 = c.end_of-j in
+    let if1 = c.if-not-is_bracket in
+    let if2 = c.if-not-is_bracket-2 in
+    let end_of_lem = c.end_of-m in
+    let end-of2 = c.end_of-n in
     let begins = c.begins in
-    laws.inside_begins start.args.text.now start.args.value.now start.args.row.now is_bracket_lem.ensures is-bracket2.ensures
-    (not-false is_bracket_lem.result if1.false) (not-false is-bracket2.result if2.false) end_of_lem.ensures.0 end-of2.ensures.0
-    c.k-1.given.1 begins.ensures)
-    (λ c. let start = c.before.before.before.before.before.before.before.before.before.before.before.before.before.before in
-    let is_bracket_lem = c.is_bracket in
+    laws.inside_begins c.args.text.now c.args.value.now c.args.row.now is_bracket_lem.ensures is-bracket2.ensures
+    if1.false if2.false end_of_lem.ensures.0 end-of2.ensures.0
+    c.in-After.is begins.ensures)
+    (λ c. let is_bracket_lem = c.is_bracket in
     let is-bracket2 = c.is_bracket-2 in
-    let if1 = c.if-left-lt24 in
-    let if2 = c.if-right-lt24 in
-    let end_of_lem = c.end_of-i in
-    let end-of2 = c.end_of-j in
-    laws.inside_differs start.args.text.now start.args.value.now start.args.row.now is_bracket_lem.ensures is-bracket2.ensures
-    (not-false is_bracket_lem.result if1.false) (not-false is-bracket2.result if2.false) end_of_lem.ensures.0 end-of2.ensures.0
-    c.enum_told-1.given.1 c.begins.ensures)
+    let if1 = c.if-not-is_bracket in
+    let if2 = c.if-not-is_bracket-2 in
+    let end_of_lem = c.end_of-m in
+    let end-of2 = c.end_of-n in
+    laws.inside_differs c.args.text.now c.args.value.now c.args.row.now is_bracket_lem.ensures is-bracket2.ensures
+    if1.false if2.false end_of_lem.ensures.0 end-of2.ensures.0
+    c.in-Differs.is c.begins.ensures)

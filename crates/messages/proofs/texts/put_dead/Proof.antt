@@ -11,23 +11,18 @@ unfolding bytes_of claim_text
 put_dead_spec =
     tie.close
     (tie.spec
-    (λ c. search rules)
     (λ c κs. search rules)
     (λ c κs. search rules)
-    (λ c. search rules)
     (λ c κs. search rules)
     (λ c κs. search rules)
-    (λ c. search rules)
     (λ c κs. search rules)
     (λ c κs. search rules)
-    (λ c. search rules)
     (λ c κs. search rules)
     (λ c. search rules)
     (λ c.
-    let at-put2 = c.before.before.before.before.before.before.before.before.before.before.before.before.before.before.before.before.before.before.before.before in
-    let first = at-put2.put-number in
-    let later = at-put2.put_decimal-of in
-    let second = at-put2.put-name in
+    let first = c.put-number in
+    let later = c.put_decimal-of in
+    let second = c.put-name in
     let owner = c.put_owner-why in
     let third = c.put-second in
     let earlier = c.put_decimal-last in

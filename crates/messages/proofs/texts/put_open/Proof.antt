@@ -11,20 +11,16 @@ unfolding bytes_of claim_text
 put_open_spec =
     tie.close
     (tie.spec
-    (λ c. search rules)
     (λ c κs. search rules)
     (λ c κs. search rules)
-    (λ c. search rules)
     (λ c κs. search rules)
     (λ c κs. search rules)
-    (λ c. search rules)
     (λ c κs. search rules)
     (λ c κs. search rules)
     (λ c. search rules)
     (λ c.
-    let at-put2 = c.before.before.before.before.before.before.before.before.before.before.before.before.before.before.before.before.before.before.before.before in
-    let first = at-put2.put-name in
-    let owner = at-put2.put-has in
+    let first = c.put-name in
+    let owner = c.put-has in
     let second = c.put-number in
     let count = c.put_decimal-power in
     let third = c.put-again in

@@ -30,28 +30,28 @@ put_number_spec =
     (λ c.
     let now = c.loop-rest in
     let x = c.before.before.before in
-    place_left x.args.n x.requires.0 now.rest now.i now.field-1 now.invariant c.loop-rest-test.true)
+    place_left x.args.n x.requires.0 now.rest now.i now.field now.invariant c.loop-rest-test.true)
     (λ c. omega (arith, c.loop-rest-test.true))
     (λ c.
     let now = c.loop-rest in
     let x = c.before.before.before in
-    one_more x.args.n x.requires.0 now.rest now.i now.field-1 now.invariant c.loop-rest-test.true)
+    one_more x.args.n x.requires.0 now.rest now.i now.field now.invariant c.loop-rest-test.true)
     (λ c. search rules)
     (λ c. search rules)
     (λ c. omega (arith, c.loop-rest.invariant.size))
     (λ c.
     let now = c.loop-rest in
     let x = c.before.before.before.before in
-    let found = all_found_lem x.args.n x.requires.0 now.rest now.i now.field-1 now.invariant (omega (arith, c.loop-rest-test.false)) in
+    let found = all_found_lem x.args.n x.requires.0 now.rest now.i now.field now.invariant (omega (arith, c.loop-rest-test.false)) in
     sym (ap (λ (l : List ℕ). length l) found ∙ ap suc (right_columns 10 (decimal x.args.n))))
     (λ c κs.
     let now = c.loop-rest in
     let x = c.before.before.before.before.before in
-    let found = all_found_lem x.args.n x.requires.0 now.rest now.i now.field-1 now.invariant (omega (arith, c.loop-rest-test.false)) in
+    let found = all_found_lem x.args.n x.requires.0 now.rest now.i now.field now.invariant (omega (arith, c.loop-rest-test.false)) in
     omega (arith, x.requires.1, ap (λ (l : List ℕ). length l) found, right_columns 10 (decimal x.args.n)))
     (λ c. search rules)
     (λ c.
     let left = c.before.before.before.before.before in
     let now = left.loop-rest in
     let x = left.before.before.before in
-    rw (all_found_lem x.args.n x.requires.0 now.rest now.i now.field-1 now.invariant (omega (arith, left.loop-rest-test.false))) at c.put.ensures))
+    rw (all_found_lem x.args.n x.requires.0 now.rest now.i now.field now.invariant (omega (arith, left.loop-rest-test.false))) at c.put.ensures))

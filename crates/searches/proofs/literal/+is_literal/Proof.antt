@@ -2,10 +2,8 @@
 -- contents of a bracket are shorter.
 use Prim.Native.Nat.{ℕ, ◌-◌, ◌<◌}
 use mathlib.Core.Path.{refl}
-use mathlib.Core.Logic.{⊎_elim}
 use native.Mathlib.Omega.{arith}
 use borrow.Author.Rules.{rules}
-use borrow.Author.Tests.{not-true, not-false}
 use lib.ListN.{length}
 use Rattle.law.proofs.Forests.{inside_falls}
 use Rattle.matching.specs.Code.Part.{from}
@@ -16,6 +14,7 @@ use borrow.Fn.PlainCycle.{Measures, is, falls, and}
 use Rattle.searches.proofs.literal.is_literal.Reads as is-literal
 use Rattle.searches.proofs.literal.is_literal.Kinds as is-literal-kinds
 use Rattle.searches.proofs.literal.+is_literal.Lts-is_literal as is-literal-lts
+use Rattle.searches.proofs.literal.+is_literal.Lts-is_literal.{then-kind-gt2+else-kind-ne6+else-not-is_literal, else-kind-gt2}
 use Rattle.file.proofs.word_at.Reads as word-at-reads
 use Rattle.law.proofs.runs.end_of.Reads as end-of-reads
 use Rattle.searches.proofs.literal.+is_literal.{statement}
@@ -32,10 +31,10 @@ abbrev is_literal_below : ℕ → In 1 is-literal-kinds.ps
 is_literal_below t =
     and 1 is-literal-kinds.ps (falls 1 is-literal-kinds.ps ◌<◌ μ-is-literal t) is-literal.Pre
 
-abbrev is-literal-Inv-loop : is-literal-lts.invariant_loop
+abbrev is-literal-Inv-loop : is-literal-lts.invariant-loop-rest
 is-literal-Inv-loop part i₀ i = laws.SoFar part i
 
-abbrev is-literal-μ-loop : is-literal-lts.decreases_loop
+abbrev is-literal-μ-loop : is-literal-lts.decreases-loop-rest
 is-literal-μ-loop part i₀ i = length part - i
 
 pub +is_literal_spec : {M : Type 1} → statement M
@@ -68,7 +67,7 @@ pub +is_literal_spec : {M : Type 1} → statement M
     the_end_of.ensures.2)
     (λ c κs. let the_loop = c.loop-rest in
     let the_if1 = c.if-rest-lt24 in
-    let start = c.before.before.before.before.before.before.before.before.before in
+    let start = c in
     let rest = from the_loop.i start.args.part.now in
     let the_end = c.end_of-end in (
       omega (
@@ -90,10 +89,10 @@ pub +is_literal_spec : {M : Type 1} → statement M
     let some = c.if-rest-lt24.false in
     let kind = c.word_at-kind.ensures in
     let ends = c.end_of-end.ensures.0 in
-    ⊎_elim
-    (λ w. laws.after_bracket so_far some kind ends w.1.left w.3.ensures (not-false w.3.result w.4.left))
-    (λ w. laws.after_symbol so_far some kind ends w.left)
-    c.if-kind-gt2.branch)
+    elim c.if-kind-gt2.branch [
+      | then-kind-gt2+else-kind-ne6+else-not-is_literal w ↦ laws.after_bracket so_far some kind ends w.if-kind-ne6.false w.is_literal.ensures w.if-not-is_literal.false
+      | else-kind-gt2 w ↦ laws.after_symbol so_far some kind ends w.if-kind-gt2.false
+    ])
     (λ c. laws.literal_all c.loop-rest.invariant c.if-rest-lt24.true)
     (λ c.
     let the_if1 = c.if-rest-lt24 in
@@ -108,4 +107,4 @@ pub +is_literal_spec : {M : Type 1} → statement M
     let the_word_at = c.word_at-kind in
     let the_end_of = c.end_of-end in
     laws.inside_no the_loop.invariant the_if1.false the_word_at.ensures the_end_of.ensures.0
-    the_if3.false c.is_literal.ensures (not-true c.is_literal.result c.if-not-is_literal.true))
+    the_if3.false c.is_literal.ensures c.if-not-is_literal.true)

@@ -7,7 +7,6 @@ use mathlib.Core.List.{List}
 use mathlib.Core.Path.{◌≡◌, refl, ◌∙◌}
 use native.Mathlib.Omega.{arith}
 use borrow.Author.Rules.{rules}
-use borrow.Author.Tests.{not-true, not-false}
 use lib.ListN.{length}
 use Rattle.matching.specs.Pattern.{Atom}
 use Rattle.matching.specs.Match.{Values}
@@ -231,13 +230,13 @@ literal_tries_below t =
 abbrev outside : List ℕ → List ℕ → Pending → List ℕ → ℕ → List ℕ → ℕ → Values Atom → Bool
 outside text terms pending pattern at row start = resume (levels_of text terms pending (at + length pattern) (start + length row))
 
-abbrev literal-lengths-Inv-loop : literal-lengths-lts.invariant_loop
+abbrev literal-lengths-Inv-loop : literal-lengths-lts.invariant-loop-rest
 literal-lengths-Inv-loop text terms pattern at row start outer b sure failed₀ end rest next n₀ failed n =
     Begin row n × (some_holds (outside text terms outer pattern at row start) (each_length text true pattern row (values_of text terms b))
     ≡ some_holds (outside text terms outer pattern at row start) (left_at text true pattern row (values_of text terms b) n))
     × Remembered text terms (levels_of text terms outer (at + length pattern) (start + length row)) b sure failed₀ failed
 
-abbrev literal-lengths-μ-loop : literal-lengths-lts.decreases_loop
+abbrev literal-lengths-μ-loop : literal-lengths-lts.decreases-loop-rest
 literal-lengths-μ-loop text terms pattern at row start outer b sure failed₀ end rest next n₀ failed n = length row - n
 
 pub +literal_anew_literal_apart_literal_bracket_literal_end_literal_first_literal_inside_literal_lengths_literal_out_literal_run_literal_tries_spec :
@@ -281,15 +280,15 @@ pub +literal_anew_literal_apart_literal_bracket_literal_end_literal_first_litera
     (λ c. search rules)
     (λ c. search rules)
     (λ c. let start = c.requires.1.0 in
-    omega (arith, start.0.asked.pattern_stands.inside-1, start.0.asked.small, start.1))
+    omega (arith, start.0.asked.pattern_stands.inside, start.0.asked.small, start.1))
     (λ c. let start = c.requires.1.0 in
-    omega (arith, start.0.asked.row_stands.inside-1, start.0.asked.small, start.2.some))
+    omega (arith, start.0.asked.row_stands.inside, start.0.asked.small, start.2.some))
     (λ c κs.
     let the_end_of = c.end_of-m in
     let the_end_of2 = c.end_of-n in
     let the_pre = c.requires in
     let start = c.requires.1.0 in (
-      omega (arith, the_pre.0, start.0.asked.pattern_stands.inside-1, start.1),
+      omega (arith, the_pre.0, start.0.asked.pattern_stands.inside, start.1),
       (
         alone.contents_alone start.0 the_pre.1.1.0 start.1 start.2 _ _ the_end_of.ensures.0 the_end_of2.ensures.0,
         alone.remembering_inside start.0 the_pre.1.1.0 start.1 start.2 _ the_end_of2.result the_end_of.ensures.0 start.3,
@@ -313,10 +312,10 @@ pub +literal_anew_literal_apart_literal_bracket_literal_end_literal_first_litera
     (λ c. search rules)
     (λ c. let the_end_of = c.end_of-m in
     let asked = c.requires.1.0.0.asked in
-    omega (arith, asked.pattern_stands.inside-1, asked.small, the_end_of.ensures.2))
+    omega (arith, asked.pattern_stands.inside, asked.small, the_end_of.ensures.2))
     (λ c. let the_end_of2 = c.end_of-n in
     let asked = c.requires.1.0.0.asked in
-    omega (arith, asked.row_stands.inside-1, asked.small, the_end_of2.ensures.2))
+    omega (arith, asked.row_stands.inside, asked.small, the_end_of2.ensures.2))
     (λ c κs.
     let the_literal_run = c.literal_run in
     let the_pre = c.requires in
@@ -324,7 +323,7 @@ pub +literal_anew_literal_apart_literal_bracket_literal_end_literal_first_litera
     let start = c.requires.1.0 in
     let ends = c.end_of-m.ensures in
     let begins = sure.begin_second start.1 ends.0 in (
-      omega (arith, the_pre.0, start.0.asked.pattern_stands.inside-1, ends.1, ends.2),
+      omega (arith, the_pre.0, start.0.asked.pattern_stands.inside, ends.1, ends.2),
       (
         level.literal_later start.0 _ _ begins the_end_of2.ensures.2,
         around.remembering_later start.0 _ _ ends.2 the_end_of2.ensures.2 begins
@@ -340,7 +339,7 @@ pub +literal_anew_literal_apart_literal_bracket_literal_end_literal_first_litera
     let the_literal_run = c.literal_run in
     let start = the_pre.1.0 in (
       alone.bracket_some _ _ _ the_pre.1.1.0 _ _ _ _ _ the_end_of.ensures.0 the_end_of2.ensures.0 the_pre.1.1.1
-          _ _ _ _ _ _ the_literal_run.ensures.0 (not-false _ the_if1.false) c.literal_run-2.ensures.0,
+          _ _ _ _ _ _ the_literal_run.ensures.0 the_if1.false c.literal_run-2.ensures.0,
       around.remembered_then (alone.remembered_inside start.0 the_pre.1.1.0 start.1 start.2 _ _ the_literal_run.ensures.1)
           (around.remembered_later start.0 _ _ the_end_of.ensures.2 the_end_of2.ensures.2 c.literal_run-2.ensures.1),
     )))
@@ -368,7 +367,7 @@ pub +literal_anew_literal_apart_literal_bracket_literal_end_literal_first_litera
     (λ c κs. tt)
     (λ c κs. let the_end_of = c.end_of-m in
     let start = c.requires in
-    let apart = c.stands_apart.ensures c.if-not-literal_run.true in
+    let apart = c.stands_apart.ensures c.if-stands_apart.true in
     (omega (arith, start.0), (start.1, (apart.0, rw the_end_of.ensures.0 at apart.1))))
     (λ c. c.literal_apart.ensures)
     (λ c κs. let start = c.requires in
@@ -392,33 +391,33 @@ pub +literal_anew_literal_apart_literal_bracket_literal_end_literal_first_litera
     (λ c. let start = c.requires.1 in omega (arith, start.0.3))
     (λ c κs. let start = c.requires.1 in (start.1.1.0.few, start.0.2.few, start.0.2.keyed, (_, (_, start.0.1))))
     (λ c κs.
-    let at-around = c.before.before in
+    let at-around = c in
     let start = at-around.requires in
     (omega (arith, start.0), ((start.1.0.0, start.1.0.1, start.1.0.2), start.1.1.0)))
     (λ c.
-    let at-around = c.before.before.before in
+    let at-around = c in
     let start = at-around.requires.1 in
     (c.literal_out.ensures.0, around.remembered_unchanged start.1.1.1 c.literal_out.ensures.1))
     (λ c κs. tt)
     (λ c.
-    let at-around = c.before.before.before.before in
-    let at_start = at-around.before.before.before.before.before.before.before.before in
+    let at-around = c in
+    let at_start = at-around in
     let start = at_start.requires.1 in
-    let (known, closed) = at-around.holds_here.ensures c.if-not-literal_run.false in (
+    let (known, closed) = at-around.holds_here.ensures c.if-not-holds_here.false in (
       around.out_known _ _ _ _ _ (around.closed_levels at_start.args.at (closed _ _ _ _ start.0.2) start.1.1.0) (start.1.1.1 known) _ _
           (c.failed_before.ensures c.if-failed_before.true),
       around.remembered_unchanged start.1.1.1 refl,
     ))
     (λ c κs.
-    let at-around = c.before.before.before.before.before in
+    let at-around = c in
     let start = at-around.requires in
     (omega (arith, start.0), ((start.1.0.0, start.1.0.1, start.1.0.2), start.1.1.0)))
     (λ c κs.
     let the_literal_out2 = c.literal_out-found in
-    let at-if1 = c.before.before.before.before.before.before.before in
-    let at-around = at-if1.before in
+    let at-if1 = c in
+    let at-around = at-if1 in
     let start = at-around.requires.1 in
-    let (known, closed) = at-around.holds_here.ensures at-if1.if-not-literal_run.false in (
+    let (known, closed) = at-around.holds_here.ensures at-if1.if-not-holds_here.false in (
       omega arith,
       omega arith,
       omega (arith, start.0.0, start.0.3),
@@ -426,12 +425,12 @@ pub +literal_anew_literal_apart_literal_bracket_literal_end_literal_first_litera
       (remembers_same (start.1.1.1 known) the_literal_out2.ensures.1).long,
     ))
     (λ c.
-    let at-if1 = c.before.before.before.before.before.before.before.before in
-    let at-around = at-if1.before in
-    let at_start = at-around.before.before.before.before.before.before.before.before in
+    let at-if1 = c in
+    let at-around = at-if1 in
+    let at_start = at-around in
     let start = at_start.requires.1 in
     let out = c.literal_out-found.ensures in
-    let (known, closed) = at-around.holds_here.ensures at-if1.if-not-literal_run.false in (
+    let (known, closed) = at-around.holds_here.ensures at-if1.if-not-holds_here.false in (
       out.0,
       around.remembered_here known
           (around.out_noted _ _ _ _ _ (around.closed_levels at_start.args.at (closed _ _ _ _ start.0.2) start.1.1.0) out.0
@@ -439,7 +438,7 @@ pub +literal_anew_literal_apart_literal_bracket_literal_end_literal_first_litera
           (remembers_same (start.1.1.1 known) out.1) _ _ c.note_failed.ensures),
     ))
     (λ c.
-    let at-around = c.before.before.before.before.before.before.before in
+    let at-around = c in
     let start = at-around.requires.1 in
     let out = c.literal_out-found.ensures in
     (out.0, around.remembered_unchanged start.1.1.1 out.1)))
@@ -462,48 +461,48 @@ pub +literal_anew_literal_apart_literal_bracket_literal_end_literal_first_litera
     (λ c. search rules)
     (λ c κs. let the_pre = c.requires in
     the_pre.1.1.some)
-    (λ c. c.end_of-m.ensures.2)
+    (λ c. c.end_of-end.ensures.2)
     (λ c. search rules)
     (λ c. search rules)
     (λ c.
-    let the_first = c.first-1 in
+    let the_first = c.in-Binds in
     let the_pre = c.requires in
-    (first-record.binds_within the_pre.1.1.leaves true _ the_first.given.1).0)
+    (first-record.binds_within the_pre.1.1.leaves true _ the_first.is).0)
     (λ c.
-    let the_first = c.first-1 in
+    let the_first = c.in-Binds in
     let the_pre = c.requires in
-    (first-record.binds_within the_pre.1.1.leaves true _ the_first.given.1).0)
+    (first-record.binds_within the_pre.1.1.leaves true _ the_first.is).0)
     (λ c. search rules)
     (λ c.
-    let the_end_of = c.end_of-m in
+    let the_end_of = c.end_of-end in
     let asked = c.requires.1.0.0.asked in
-    omega (arith, asked.pattern_stands.inside-1, asked.small, the_end_of.ensures.2))
+    omega (arith, asked.pattern_stands.inside, asked.small, the_end_of.ensures.2))
     (λ c κs.
-    let the_first = c.first-1 in
+    let the_first = c.in-Binds in
     let start = c.requires in
     let asked = start.1.0.0.asked in
-    let binds = first-record.binds_within start.1.1.leaves true _ the_first.given.1 in (
+    let binds = first-record.binds_within start.1.1.leaves true _ the_first.is in (
       (
-        omega (arith, asked.pattern_stands.inside-1, asked.small, start.1.1.some),
-        omega (arith, asked.row_stands.inside-1, asked.small),
-        omega (arith, asked.row_stands.inside-1, asked.small, binds.0),
+        omega (arith, asked.pattern_stands.inside, asked.small, start.1.1.some),
+        omega (arith, asked.row_stands.inside, asked.small),
+        omega (arith, asked.row_stands.inside, asked.small, binds.0),
         calls.place_ready asked start.1.1.some binds.1,
       ),
-      (asked.kept.keys-1, asked.kept.starts, asked.kept.sizes),
+      (asked.kept.keys, asked.kept.starts, asked.kept.sizes),
     ))
-    (λ c. let the_first = c.first-1 in
+    (λ c. let the_first = c.in-Binds in
     let start = c.requires in
     let asked = start.1.0.0.asked in
-    omega (arith, asked.row_stands.inside-1, asked.small, (first-record.binds_within start.1.1.leaves true _ the_first.given.1).0))
-    (λ c κs. let the_first = c.first-1 in
+    omega (arith, asked.row_stands.inside, asked.small, (first-record.binds_within start.1.1.leaves true _ the_first.is).0))
+    (λ c κs. let the_first = c.in-Binds in
     let start = c.requires in
     let stopped = start.1.1 in
     let asked = start.1.0.0.asked in
-    let ends = c.end_of-m in
-    let binds = first-record.binds_within start.1.1.leaves true _ the_first.given.1 in (
-      omega (arith, start.0, ends.ensures.1, ends.ensures.2, asked.pattern_stands.inside-1),
+    let ends = c.end_of-end in
+    let binds = first-record.binds_within start.1.1.leaves true _ the_first.is in (
+      omega (arith, start.0, ends.ensures.1, ends.ensures.2, asked.pattern_stands.inside),
       (
-        level.literal_more start.1.0.0 stopped.some binds.1 binds.0 c.bind-more.ensures ends.result the_first.given.0.0
+        level.literal_more start.1.0.0 stopped.some binds.1 binds.0 c.bind-more.ensures ends.result the_first.n
             ends.ensures.0 binds.0,
         around.remembering_later start.1.0.0 _ _ ends.ensures.2 binds.0 (sure.begin_second stopped.some ends.ensures.0)
             (around.remembering_bound start.1.0.1 c.bind-more.ensures),
@@ -512,7 +511,7 @@ pub +literal_anew_literal_apart_literal_bracket_literal_end_literal_first_litera
     (λ c. search rules)
     (λ c κs. let start = c.requires in
     let stopped = start.1.1 in
-    let told = c.enum_told-in-Tries-1.given.1 in (
+    let told = c.in-Tries.is in (
       omega (arith, start.0),
       (
         (start.1.0.0, stopped.some, start.1.0.1),
@@ -526,38 +525,38 @@ pub +literal_anew_literal_apart_literal_bracket_literal_end_literal_first_litera
       (
         start.1.0.0,
         stopped.some,
-        first-record.inside_facing stopped.leaves true c.enum_told-in-Inside-1.given.1,
+        first-record.inside_facing stopped.leaves true c.in-Inside.is,
         start.1.0.1,
       ),
     ))
     (λ c. let the_pre = c.requires in
-    absurd (known.stops_fails the_pre.1.1 c.enum_told-1.given.1))
+    absurd (known.stops_fails the_pre.1.1 c.in-Fails.is))
     (λ c. let the_pre = c.requires in
-    absurd (known.stops_not the_pre.1.1 _ _ c.enum_told-in-Goes-1.given.1))
-    (λ c. let the_first = c.first-1 in
+    absurd (known.stops_not the_pre.1.1 _ _ c.in-Goes.is))
+    (λ c. let the_first = c.in-Binds in
     let start = c.requires in
     let stopped = start.1.1 in
-    let ends = c.end_of-m in
-    let binds = first-record.binds_within start.1.1.leaves true _ the_first.given.1 in
+    let ends = c.end_of-end in
+    let binds = first-record.binds_within start.1.1.leaves true _ the_first.is in
     let values = calls.values_more start.1.0.0.asked stopped.some binds.1 binds.0 c.bind-more.ensures in (
-      level.run_rest start.1.0.0 c.literal_run.result ends.result the_first.given.0.0 c.bind-more.result
+      level.run_rest start.1.0.0 c.literal_run.result ends.result the_first.n c.bind-more.result
           ends.ensures.2 binds.0
-          (first-record.step_binds stopped.leaves true _ _ _ the_first.given.1 ends.ensures.0 values) c.literal_run.ensures.0,
+          (first-record.step_binds stopped.leaves true _ _ _ the_first.is ends.ensures.0 values) c.literal_run.ensures.0,
       around.remembered_bound start.1.0.1 c.bind-more.ensures (around.remembered_later start.1.0.0 _ _ ends.ensures.2 binds.0
           c.literal_run.ensures.1),
     ))
     (λ c.
-    let the_enum_told3 = c.enum_told-in-Tries-1 in
+    let the_enum_told3 = c.in-Tries in
     let the_pre = c.requires in (
       level.run_same the_pre.1.0.0 c.literal_tries.result _ c.literal_tries.ensures.0 (first-record.step_tries the_pre.1.1.leaves true
-          the_enum_told3.given.1),
+          the_enum_told3.is),
       c.literal_tries.ensures.1,
     ))
     (λ c.
-    let the_enum_told4 = c.enum_told-in-Inside-1 in
+    let the_enum_told4 = c.in-Inside in
     let the_pre = c.requires in (
       level.run_same the_pre.1.0.0 c.literal_bracket.result _ c.literal_bracket.ensures.0 (first-record.step_inside the_pre.1.1.leaves true
-          the_enum_told4.given.1),
+          the_enum_told4.is),
       c.literal_bracket.ensures.1,
     )))
     (λ t. literal-inside-lts.spec (
@@ -578,13 +577,13 @@ pub +literal_anew_literal_apart_literal_bracket_literal_end_literal_first_litera
     (λ c κs. let the_pre = c.requires in
     the_pre.1.2.some)
     (λ c. let asked = c.requires.1.0.asked in
-    omega (arith, asked.pattern_stands.inside-1, asked.small))
+    omega (arith, asked.pattern_stands.inside, asked.small))
     (λ c. let asked = c.requires.1.0.asked in
-    omega (arith, asked.row_stands.inside-1, asked.small))
+    omega (arith, asked.row_stands.inside, asked.small))
     (λ c κs. let start = c.requires in
     let asked = start.1.0.asked in (
-      omega (arith, asked.pattern_stands.inside-1, asked.small),
-      omega (arith, asked.row_stands.inside-1, asked.small),
+      omega (arith, asked.pattern_stands.inside, asked.small),
+      omega (arith, asked.row_stands.inside, asked.small),
       level.level_ready start.1.0 start.1.1 start.1.2 _ _ c.end_of-m.ensures.0 c.end_of-n.ensures.0,
       start.1.0.around.patterns,
       start.1.0.around.rows,
@@ -601,10 +600,10 @@ pub +literal_anew_literal_apart_literal_bracket_literal_end_literal_first_litera
     (λ c. search rules)
     (λ c. let start = c.requires in
     let asked = start.1.0.asked in
-    omega (arith, asked.pattern_stands.inside-1, asked.small, start.1.1))
+    omega (arith, asked.pattern_stands.inside, asked.small, start.1.1))
     (λ c. let start = c.requires in
     let asked = start.1.0.asked in
-    omega (arith, asked.row_stands.inside-1, asked.small, start.1.2.some))
+    omega (arith, asked.row_stands.inside, asked.small, start.1.2.some))
     (λ c κs. tt)
     (λ c κs.
     let the_push = c.push-around in
@@ -614,7 +613,7 @@ pub +literal_anew_literal_apart_literal_bracket_literal_end_literal_first_litera
     let asked = start.1.0.asked in
     let more = c.push-around.ensures in
     let unsure = c.unsure-sure.ensures in (
-      omega (arith, start.0, more.0, asked.pattern_stands.inside-1, start.1.1),
+      omega (arith, start.0, more.0, asked.pattern_stands.inside, start.1.1),
       (
         level.literal_inside start.1.0 start.1.1 start.1.2 _ _ the_end_of.ensures.0 the_end_of2.ensures.0 the_push.result more.0
             more.1 more.2,
@@ -648,11 +647,11 @@ pub +literal_anew_literal_apart_literal_bracket_literal_end_literal_first_litera
     (λ c κs.
     let the_pre = c.requires in
     the_pre.1.0.1)
-    (λ c. c.end_of-m.ensures.2)
+    (λ c. c.end_of-end.ensures.2)
     (λ c. search rules)
     (λ c. search rules)
     (λ c. let asked = c.requires.1.0.0.asked in
-    omega (arith, asked.pattern_stands.inside-1, asked.small, c.end_of-m.ensures.2))
+    omega (arith, asked.pattern_stands.inside, asked.small, c.end_of-end.ensures.2))
     (λ c. let start = c.requires in
     (at_start, level.lengths_start start.1.0.0 start.1.0.1 start.1.1, around.remembered_same start.1.0.2 refl))
     (λ c. begin_inside c.loop-rest.invariant.0)
@@ -661,24 +660,24 @@ pub +literal_anew_literal_apart_literal_bracket_literal_end_literal_first_litera
     (λ c κs. let start = c.requires in
     let asked = start.1.0.0.asked in (
       (
-        omega (arith, asked.pattern_stands.inside-1, asked.small, start.1.0.1),
-        omega (arith, asked.row_stands.inside-1, asked.small),
-        omega (arith, asked.row_stands.inside-1, asked.small, begin_inside c.loop-rest.invariant.0),
+        omega (arith, asked.pattern_stands.inside, asked.small, start.1.0.1),
+        omega (arith, asked.row_stands.inside, asked.small),
+        omega (arith, asked.row_stands.inside, asked.small, begin_inside c.loop-rest.invariant.0),
         calls.place_ready asked start.1.0.1 start.1.1,
       ),
-      (asked.kept.keys-1, asked.kept.starts, asked.kept.sizes),
+      (asked.kept.keys, asked.kept.starts, asked.kept.sizes),
     ))
     (λ c.
     let the_loop = c.loop-rest in
     let asked = c.requires.1.0.0.asked in
-    omega (arith, asked.row_stands.inside-1, asked.small, begin_inside the_loop.invariant.0))
+    omega (arith, asked.row_stands.inside, asked.small, begin_inside the_loop.invariant.0))
     (λ c κs.
     let the_loop = c.loop-rest in
     let start = c.requires in
     let asked = start.1.0.0.asked in
-    let ends = c.end_of-m in
+    let ends = c.end_of-end in
     let inside = begin_inside the_loop.invariant.0 in (
-      omega (arith, start.0, ends.ensures.1, ends.ensures.2, asked.pattern_stands.inside-1),
+      omega (arith, start.0, ends.ensures.1, ends.ensures.2, asked.pattern_stands.inside),
       (
         level.literal_more start.1.0.0 start.1.0.1 start.1.1 inside c.bind-more.ensures ends.result the_loop.n ends.ensures.0
             inside,
@@ -686,13 +685,13 @@ pub +literal_anew_literal_apart_literal_bracket_literal_end_literal_first_litera
             (around.remembering_bound (around.remembering_then start.1.0.2 the_loop.invariant.2) c.bind-more.ensures),
       ),
     ))
-    (λ c κs. c.if-failed_before.false)
+    (λ c κs. c.if-left-lt24.false)
     (λ c. let the_loop = c.loop-rest in
     let the_args = c.args in
     let asked = c.requires.1.0.0.asked in
     omega (
       arith,
-      asked.row_stands.inside-1,
+      asked.row_stands.inside,
       asked.small,
       c.end_of-n.ensures.2,
       from_length the_loop.n the_args.row.now,
@@ -704,36 +703,36 @@ pub +literal_anew_literal_apart_literal_bracket_literal_end_literal_first_litera
     (λ c.
     let the_literal_run = c.literal_run in
     let the_loop = c.loop-rest in
-    let the_end_of = c.end_of-m in
+    let the_end_of = c.end_of-end in
     let the_bind = c.bind-more in
     let start = c.requires in (
-      rw c.end_of-n.ensures.0 (one_on c.if-failed_before.false the_loop.invariant.0),
+      rw c.end_of-n.ensures.0 (one_on c.if-left-lt24.false the_loop.invariant.0),
       rw c.end_of-n.ensures.0 (level.length_next start.1.0.0 start.1.0.1 start.1.1 the_end_of.ensures.0
           the_loop.invariant.0 the_bind.ensures
-          the_literal_run.result the_literal_run.ensures.0 the_loop.invariant.1 c.if-not-literal_run.false c.if-failed_before.false),
+          the_literal_run.result the_literal_run.ensures.0 the_loop.invariant.1 c.if-literal_run.false c.if-left-lt24.false),
       around.remembered_then the_loop.invariant.2 (around.remembered_bound (around.remembering_then start.1.0.2 the_loop.invariant.2) the_bind.ensures
           (around.remembered_later start.1.0.0 _ _ the_end_of.ensures.2 (begin_inside the_loop.invariant.0) the_literal_run.ensures.1)),
     ))
     (λ c.
     let the_bind = c.bind-more in
-    let the_end_of = c.end_of-m in
+    let the_end_of = c.end_of-end in
     let the_loop = c.loop-rest in
     let start = c.requires in (
       level.length_found start.1.0.0 start.1.0.1 start.1.1 the_end_of.ensures.0 the_loop.invariant.0 the_bind.ensures
           c.literal_run.result
-          c.literal_run.ensures.0 the_loop.invariant.1 c.if-not-literal_run.true,
+          c.literal_run.ensures.0 the_loop.invariant.1 c.if-literal_run.true,
       around.remembered_then the_loop.invariant.2 (around.remembered_bound (around.remembering_then start.1.0.2 the_loop.invariant.2) the_bind.ensures
           (around.remembered_later start.1.0.0 _ _ the_end_of.ensures.2 (begin_inside the_loop.invariant.0) c.literal_run.ensures.1)),
     ))
     (λ c.
     let the_bind = c.bind-more in
     let the_literal_run = c.literal_run in
-    let the_end_of = c.end_of-m in
+    let the_end_of = c.end_of-end in
     let the_loop = c.loop-rest in
     let start = c.requires in (
       level.length_none start.1.0.0 start.1.0.1 start.1.1 the_end_of.ensures.0 the_loop.invariant.0 the_bind.ensures
           c.literal_run.result
-          the_literal_run.ensures.0 the_loop.invariant.1 c.if-not-literal_run.false c.if-failed_before.true,
+          the_literal_run.ensures.0 the_loop.invariant.1 c.if-literal_run.false c.if-left-lt24.true,
       around.remembered_then the_loop.invariant.2 (around.remembered_bound (around.remembering_then start.1.0.2 the_loop.invariant.2) the_bind.ensures
           (around.remembered_later start.1.0.0 _ _ the_end_of.ensures.2 (begin_inside the_loop.invariant.0) the_literal_run.ensures.1)),
     )))
@@ -747,60 +746,60 @@ pub +literal_anew_literal_apart_literal_bracket_literal_end_literal_first_litera
     )
     (literal_out_at t)
     literal_out.Post
-    (λ c. (level.out_none _ _ _ _ _ _ c.if-not-literal_run.true, refl))
-    (λ c. omega (arith, c.if-not-literal_run.false))
+    (λ c. (level.out_none _ _ _ _ _ _ c.if-n-eq0.true, refl))
+    (λ c. omega (arith, c.if-n-eq0.false))
     (λ c.
     let the_pre = c.requires in
     omega (arith, the_pre.1.0.1.few))
     (λ c.
     let the_pre = c.requires in
-    omega (arith, the_pre.1.0.1.few, c.if-not-literal_run.false))
+    omega (arith, the_pre.1.0.1.few, c.if-n-eq0.false))
     (λ c κs. tt)
     (λ c. let the_pre = c.requires in
     omega (arith, the_pre.1.0.1.few))
     (λ c. let the_pre = c.requires in
-    omega (arith, the_pre.1.0.1.few, c.if-not-literal_run.false))
+    omega (arith, the_pre.1.0.1.few, c.if-n-eq0.false))
     (λ c κs. tt)
     (λ c.
-    let the_if1 = c.if-not-literal_run in
+    let the_if1 = c.if-n-eq0 in
     let the_wide = c.wide-end in
     let start = c.requires in
     (level.out_pattern start.1.0.0 start.1.0.1 start.1.0.2 start.1.1 (omega (arith, the_if1.false)) the_wide.ensures.0
     c.wide-row_end.ensures.0).0)
     (λ c.
-    let the_if1 = c.if-not-literal_run in
+    let the_if1 = c.if-n-eq0 in
     let the_wide = c.wide-end in
     let start = c.requires in
     (level.out_pattern start.1.0.0 start.1.0.1 start.1.0.2 start.1.1 (omega (arith, the_if1.false)) the_wide.ensures.0
     c.wide-row_end.ensures.0).0)
     (λ c.
-    let the_if1 = c.if-not-literal_run in
+    let the_if1 = c.if-n-eq0 in
     let the_wide = c.wide-end in
     let start = c.requires in
     (level.out_pattern start.1.0.0 start.1.0.1 start.1.0.2 start.1.1 (omega (arith, the_if1.false)) the_wide.ensures.0
     c.wide-row_end.ensures.0).1)
     (λ c.
     let the_wide = c.wide-end in
-    let the_if1 = c.if-not-literal_run in
+    let the_if1 = c.if-n-eq0 in
     let start = c.requires in
     (level.out_row start.1.0.0 start.1.0.1 start.1.0.2 start.1.1 (omega (arith, the_if1.false)) the_wide.ensures.0
     c.wide-row_end.ensures.0).0)
     (λ c.
     let the_wide = c.wide-end in
-    let the_if1 = c.if-not-literal_run in
+    let the_if1 = c.if-n-eq0 in
     let start = c.requires in
     (level.out_row start.1.0.0 start.1.0.1 start.1.0.2 start.1.1 (omega (arith, the_if1.false)) the_wide.ensures.0
     c.wide-row_end.ensures.0).0)
     (λ c.
     let the_wide = c.wide-end in
-    let the_if1 = c.if-not-literal_run in
+    let the_if1 = c.if-n-eq0 in
     let start = c.requires in
     (level.out_row start.1.0.0 start.1.0.1 start.1.0.2 start.1.1 (omega (arith, the_if1.false)) the_wide.ensures.0
     c.wide-row_end.ensures.0).1)
     (λ c κs. tt)
     (λ c κs.
     let the_wide2 = c.wide-row_end in
-    let the_if1 = c.if-not-literal_run in
+    let the_if1 = c.if-n-eq0 in
     let the_wide = c.wide-end in
     let start = c.requires in
     let unsure = c.unsure-sure.ensures in (
@@ -813,7 +812,7 @@ pub +literal_anew_literal_apart_literal_bracket_literal_end_literal_first_litera
     ))
     (λ c.
     let the_unsure = c.unsure-sure in
-    let the_if1 = c.if-not-literal_run in
+    let the_if1 = c.if-n-eq0 in
     let the_wide = c.wide-end in
     let the_wide2 = c.wide-row_end in
     let start = c.requires in (
@@ -838,65 +837,65 @@ pub +literal_anew_literal_apart_literal_bracket_literal_end_literal_first_litera
     (λ c. search rules)
     (λ c.
     let the_known_front = c.known_front in
-    (known.known_end the_known_front.ensures _ _ c.n-1.given.1).0.within)
+    (known.known_end the_known_front.ensures _ _ c.in-End.is).0.within)
     (λ c.
     let the_known_front = c.known_front in
-    (known.known_end the_known_front.ensures _ _ c.n-1.given.1).0.within)
+    (known.known_end the_known_front.ensures _ _ c.in-End.is).0.within)
     (λ c. search rules)
     (λ c. let asked = c.requires.1.0.asked in
-    omega (arith, asked.pattern_stands.inside-1, asked.small))
+    omega (arith, asked.pattern_stands.inside, asked.small))
     (λ c. let asked = c.requires.1.0.asked in
-    omega (arith, asked.row_stands.inside-1, asked.small))
+    omega (arith, asked.row_stands.inside, asked.small))
     (λ c κs. let start = c.requires in
     let asked = start.1.0 in (
       omega (arith, start.0),
       (
-        (asked.asked.small, asked.around, asked.asked.kept, asked.asked.pattern_stands.inside-1),
+        (asked.asked.small, asked.around, asked.asked.kept, asked.asked.pattern_stands.inside),
         (level.out_capacity asked, (around.settled_around start.1.1, start.1.1.here)),
       ),
     ))
     (λ c. let the_known_front = c.known_front in
-    let the_n = c.n-1 in
+    let the_n = c.in-End in
     let the_pre = c.requires in
-    let (passed, short) = known.known_end the_known_front.ensures _ _ the_n.given.1 in (
-      level.run_one the_pre.1.0 c.literal_end.result (passed.search true ∙ step.end_both _ _ _ true _ short c.if-not-literal_run.true)
+    let (passed, short) = known.known_end the_known_front.ensures _ _ the_n.is in (
+      level.run_one the_pre.1.0 c.literal_end.result (passed.search true ∙ step.end_both _ _ _ true _ short c.if-left-lt24.true)
           c.literal_end.ensures.0,
       c.literal_end.ensures.1,
     ))
     (λ c. search rules)
     (λ c.
     let the_known_front = c.known_front in
-    begin_inside (known.known_stop the_known_front.ensures _ _ _ c.m-1.given.1).0.begins)
+    begin_inside (known.known_stop the_known_front.ensures _ _ _ c.in-Stop.is).0.begins)
     (λ c.
     let the_known_front = c.known_front in
-    begin_inside (known.known_stop the_known_front.ensures _ _ _ c.m-1.given.1).0.begins)
+    begin_inside (known.known_stop the_known_front.ensures _ _ _ c.in-Stop.is).0.begins)
     (λ c. search rules)
     (λ c.
     let the_known_front = c.known_front in
-    let the_m = c.m-1 in
-    (known.known_stop the_known_front.ensures _ _ _ the_m.given.1).0.within)
+    let the_m = c.in-Stop in
+    (known.known_stop the_known_front.ensures _ _ _ the_m.is).0.within)
     (λ c.
     let the_known_front = c.known_front in
-    let the_m = c.m-1 in
-    (known.known_stop the_known_front.ensures _ _ _ the_m.given.1).0.within)
+    let the_m = c.in-Stop in
+    (known.known_stop the_known_front.ensures _ _ _ the_m.is).0.within)
     (λ c. search rules)
     (λ c.
-    let the_m = c.m-1 in
+    let the_m = c.in-Stop in
     let the_known_front = c.known_front in
     let asked = c.requires.1.0.asked in
-    omega (arith, asked.pattern_stands.inside-1, asked.small, begin_inside (known.known_stop the_known_front.ensures _ _ _ the_m.given.1).0.begins))
+    omega (arith, asked.pattern_stands.inside, asked.small, begin_inside (known.known_stop the_known_front.ensures _ _ _ the_m.is).0.begins))
     (λ c.
-    let the_m = c.m-1 in
+    let the_m = c.in-Stop in
     let the_known_front = c.known_front in
     let asked = c.requires.1.0.asked in
-    omega (arith, asked.row_stands.inside-1, asked.small, (known.known_stop the_known_front.ensures _ _ _ the_m.given.1).0.within))
+    omega (arith, asked.row_stands.inside, asked.small, (known.known_stop the_known_front.ensures _ _ _ the_m.is).0.within))
     (λ c κs.
-    let the_m = c.m-1 in
+    let the_m = c.in-Stop in
     let the_known_front = c.known_front in
     let start = c.requires in
     let asked = start.1.0.asked in
-    let (passed, stopped) = known.known_stop the_known_front.ensures _ _ _ the_m.given.1 in (
-      omega (arith, start.0, begin_inside passed.begins, asked.pattern_stands.inside-1),
+    let (passed, stopped) = known.known_stop the_known_front.ensures _ _ _ the_m.is in (
+      omega (arith, start.0, begin_inside passed.begins, asked.pattern_stands.inside),
       (
         (
           level.literal_later start.1.0 _ _ passed.begins passed.within,
@@ -906,19 +905,19 @@ pub +literal_anew_literal_apart_literal_bracket_literal_end_literal_first_litera
       ),
     ))
     (λ c. let the_pre = c.requires in (
-      level.run_none the_pre.1.0 (known.known_fails c.known_front.ensures c.enum_told-1.given.1 true),
+      level.run_none the_pre.1.0 (known.known_fails c.known_front.ensures c.in-Fails.is true),
       around.remembered_same the_pre.1.1 refl,
     ))
     (λ c.
-    let the_n = c.n-1 in
+    let the_n = c.in-End in
     let the_known_front = c.known_front in
     let the_pre = c.requires in
-    let (passed, short) = known.known_end the_known_front.ensures _ _ the_n.given.1 in
-    (level.run_none the_pre.1.0 (passed.search true ∙ step.end_one _ _ _ true _ short c.if-not-literal_run.false), around.remembered_same the_pre.1.1 refl))
+    let (passed, short) = known.known_end the_known_front.ensures _ _ the_n.is in
+    (level.run_none the_pre.1.0 (passed.search true ∙ step.end_one _ _ _ true _ short c.if-left-lt24.false), around.remembered_same the_pre.1.1 refl))
     (λ c. let the_known_front = c.known_front in
-    let the_m = c.m-1 in
+    let the_m = c.in-Stop in
     let the_pre = c.requires in
-    let passed = (known.known_stop the_known_front.ensures _ _ _ the_m.given.1).0 in (
+    let passed = (known.known_stop the_known_front.ensures _ _ _ the_m.is).0 in (
       level.run_rest the_pre.1.0 c.literal_first.result _ _ _ (begin_inside passed.begins) passed.within (passed.search true)
           c.literal_first.ensures.0,
       around.remembered_later the_pre.1.0 _ _ (begin_inside passed.begins) passed.within
@@ -938,61 +937,61 @@ pub +literal_anew_literal_apart_literal_bracket_literal_end_literal_first_litera
     )
     (literal_tries_at t)
     literal-tries.Post
-    (λ c. let asked = c.requires.1.0.0.asked in omega (arith, asked.pattern_stands.inside-1, asked.small))
-    (λ c. let asked = c.requires.1.0.0.asked in omega (arith, asked.row_stands.inside-1, asked.small))
+    (λ c. let asked = c.requires.1.0.0.asked in omega (arith, asked.pattern_stands.inside, asked.small))
+    (λ c. let asked = c.requires.1.0.0.asked in omega (arith, asked.row_stands.inside, asked.small))
     (λ c κs. let start = c.requires.1.0 in
     (start.2.settled.few, start.0.asked.kept.few, start.0.asked.kept.keyed, (_, (_, start.0.around))))
     (λ c κs.
-    let at_here = c.before.before in
+    let at_here = c in
     let start = at_here.requires in
     (omega (arith, start.0), ((start.1.0.0, start.1.0.1), start.1.1.0)))
     (λ c.
-    let at_here = c.before.before.before in
+    let at_here = c in
     let start = at_here.requires.1 in
     (c.literal_anew.ensures, around.remembered_same start.0.2 refl))
     (λ c κs. tt)
     (λ c.
-    let at_here = c.before.before.before.before in
+    let at_here = c in
     let start = at_here.requires.1 in
-    let (known, closed) = at_here.holds_here.ensures c.if-not-literal_run.false in
+    let (known, closed) = at_here.holds_here.ensures c.if-not-holds_here.false in
     let settled = around.closed_fixed (closed _ _ _ _ start.0.0.asked.kept) start.0.2.settled in (
       around.lengths_known start.0.0.asked _ _ settled start.1.1 start.0.1 (start.0.2.here known)
           (c.failed_before.ensures c.if-failed_before.true),
       around.remembered_same start.0.2 refl,
     ))
     (λ c κs.
-    let at_here = c.before.before.before.before.before in
+    let at_here = c in
     let start = at_here.requires in
-    let (known, closed) = at_here.holds_here.ensures c.if-not-literal_run.false in
+    let (known, closed) = at_here.holds_here.ensures c.if-not-holds_here.false in
     let settled = around.closed_fixed (closed _ _ _ _ start.1.0.0.asked.kept) start.1.0.2.settled in (
       omega (arith, start.0),
       ((start.1.0.0, start.1.0.1, around.remembering_all start.1.0.2 known settled), start.1.1.0),
     ))
     (λ c κs.
-    let the_literal_lengths = c.literal_lengths in
-    let at_here = c.before.before.before.before.before.before.before.before in
+    let the_literal_lengths = c.literal_lengths-found in
+    let at_here = c in
     let start = at_here.requires.1.0 in
     let asked = start.0.asked in (
-      omega (arith, asked.pattern_stands.inside-1, asked.small, start.1),
-      omega (arith, asked.pattern_stands.inside-1, asked.small),
-      omega (arith, asked.row_stands.inside-1, asked.small),
-      omega (arith, asked.row_stands.inside-1, asked.small),
+      omega (arith, asked.pattern_stands.inside, asked.small, start.1),
+      omega (arith, asked.pattern_stands.inside, asked.small),
+      omega (arith, asked.row_stands.inside, asked.small),
+      omega (arith, asked.row_stands.inside, asked.small),
       (the_literal_lengths.ensures.1.here refl).long,
     ))
     (λ c.
-    let at-if1 = c.before.before.before.before.before.before.before.before in
-    let at_here = at-if1.before in
+    let at-if1 = c in
+    let at_here = at-if1 in
     let start = at_here.requires.1 in
-    let (known, closed) = at_here.holds_here.ensures at-if1.if-not-literal_run.false in
+    let (known, closed) = at_here.holds_here.ensures at-if1.if-not-holds_here.false in
     let settled = around.closed_fixed (closed _ _ _ _ start.0.0.asked.kept) start.0.2.settled in
-    let lengths = c.literal_lengths in (
+    let lengths = c.literal_lengths-found in (
       lengths.ensures.0,
       around.remembered_here known
           (around.lengths_noted start.0.0.asked _ _ settled start.1.1 lengths.ensures.0
           c.if-not-found.true (lengths.ensures.1.here refl) c.note_failed.ensures),
     ))
     (λ c.
-    let the_literal_lengths = c.literal_lengths in
-    let at-if1 = c.before.before.before.before.before.before in
-    let (known, closed) = at-if1.holds_here.ensures at-if1.if-not-literal_run.false in
+    let the_literal_lengths = c.literal_lengths-found in
+    let at-if1 = c in
+    let (known, closed) = at-if1.holds_here.ensures at-if1.if-not-holds_here.false in
     (the_literal_lengths.ensures.0, around.remembered_here known (the_literal_lengths.ensures.1.here refl)))

@@ -3,7 +3,6 @@ use Prim.Native.Nat.{ℕ}
 use mathlib.Core.List.{List}
 use native.Mathlib.Omega.{arith}
 use Rattle.matching.proofs.SameLaws.{false_not_true}
-use borrow.Author.Tests.{not-false}
 use Rattle.searches.specs.Code.Asked.{pending}
 use Rattle.searches.proofs.AroundLaws as around
 use Rattle.searches.proofs.AroundLaws.{Looked}

@@ -14,10 +14,8 @@ holds_here_spec =
     (λ c κs. c.requires)
     (λ c. λ e. absurd (false_not_true e))
     (λ c κs. let start = c.requires in (start.0, start.1, start.2))
-    (λ c.
-    let at-around = c.before.before in
-    λ e. (
-      at-around.if-not-sure.false,
+    (λ c. λ e. (
+      not-false c.args.sure.here c.if-not-sure.false,
       λ rows start starts sizes kept. around.closed_both _ _ _ _ (λ vs. c.closed.ensures e starts sizes vs kept)
-          (λ vs. at-around.closed_around.ensures c.if-not-closed_around.false rows start starts sizes vs kept),
+          (λ vs. c.closed_around.ensures c.if-not-closed_around.false rows start starts sizes vs kept),
     )))

@@ -17,7 +17,7 @@ push_spec =
     (λ c. search rules)
     (λ c. search rules)
     (λ c.
-    let start = c.before.before in (
+    let start = c in (
       omega arith,
       ap (set start.args.pending.patterns start.args.pending.count) c.narrow.ensures,
       ap (set start.args.pending.rows start.args.pending.count) c.narrow-2.ensures,

@@ -12,7 +12,7 @@ search_literal_spec =
     (tie.spec
     (λ c κs. search rules)
     (λ c κs. search rules)
-    (λ c κs. let start = c.before.before.before.before.before.before.before in
+    (λ c κs. let start = c in
     let a = start.args in
     let around = c.alone-outer.ensures in
     let (kept, unbound) = c.none.ensures a.text.now a.terms.now in (
@@ -20,7 +20,7 @@ search_literal_spec =
           start.requires.0.0 start.requires.0.1 start.requires.0.2 start.requires.1.0 start.requires.1.1 around.1 around.2 kept,
       remembering_none _ _ _ 0 (omega arith),
     ))
-    (λ c. let start = c.before.before.before.before.before.before.before.before in
+    (λ c. let start = c in
     let a = start.args in
     let around = c.alone-outer.ensures in
     let (kept, unbound) = c.none.ensures a.text.now a.terms.now in

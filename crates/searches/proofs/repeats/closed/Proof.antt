@@ -39,7 +39,7 @@ closed_spec =
     (tie.spec
     invariant_loop
     decreases_loop
-    (λ c. let start = c.before.before.before in (start.requires.0, λ starts sizes vs kept known. known))
+    (λ c. let start = c in (start.requires.0, λ starts sizes vs kept known. known))
     (λ c. let the_pre = c.requires in
     omega (arith, c.loop-i.invariant.0, the_pre.1))
     (λ c. let the_args = c.args in

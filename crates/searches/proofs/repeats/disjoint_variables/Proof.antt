@@ -1,6 +1,5 @@
 -- `disjoint_variables` meets its contract, by a law of proofs/RecordLaws.antt for each turn and each way out of the loop.
 use Prim.Native.Nat.{◌-◌}
-use mathlib.Core.Logic.{⊎_elim}
 use native.Mathlib.Omega.{arith}
 use borrow.Author.Rules.{rules}
 use lib.ListN.{length}
@@ -9,6 +8,7 @@ use Rattle.matching.proofs.SameLaws.{false_not_true}
 use Rattle.searches.proofs.RecordLaws as laws
 use Rattle.searches.proofs.repeats.disjoint_variables.Statement.{statement}
 use Rattle.searches.proofs.repeats.disjoint_variables.Tie as tie
+use Rattle.searches.proofs.repeats.disjoint_variables.Lts.{then-word_at-gt2+else-again, else-word_at-gt2}
 
 abbrev invariant_loop : tie.invariant-loop-left
 invariant_loop text part behind i₀ i = laws.Across text part behind i
@@ -36,9 +36,10 @@ disjoint_variables_spec =
     omega (arith, from_length at-loop.i the_args.part.now, c.if-left-lt24.false))
     (λ c. let so_far = c.loop-left.invariant in
     let long = c.if-left-lt24.false in
-    ⊎_elim
-    (λ w. laws.across_alone so_far long ((w.1.ensures (omega (arith, c.word_at.ensures, w.0.taken))).0 w.2.left))
-    (λ w. laws.across_symbol so_far long c.word_at.ensures (omega (arith, w.left-1)))
-    c.if-word_at-gt2.branch)
+    elim c.if-word_at-gt2.branch [
+      | then-word_at-gt2+else-again w ↦
+          laws.across_alone so_far long ((w.again.ensures (omega (arith, c.word_at.ensures, w.if-word_at-gt2.true))).0 w.if-again.false)
+      | else-word_at-gt2 w ↦ laws.across_symbol so_far long c.word_at.ensures w.if-word_at-gt2.false
+    ])
     (λ c. λ e. laws.across_all c.loop-left.invariant c.if-left-lt24.true)
     (λ c. λ e. absurd (false_not_true e)))

@@ -141,12 +141,12 @@ shadow_tries_below t =
     (falls 5 shadow-tries-kinds.ps ◌<◌ μ-shadow-tries t)
     shadow-tries.Pre
 
-abbrev shadow-lengths-Inv-loop : shadow-lengths-lts.invariant_loop
+abbrev shadow-lengths-Inv-loop : shadow-lengths-lts.invariant-loop-rest
 shadow-lengths-Inv-loop text terms pattern at row start b sure failed₀ end rest next n₀ failed n =
     Begin row n × (first_in (each_length text false pattern row (values_of text terms b)) ≡ first_in (left_at text false pattern row (values_of text terms b) n))
     × Remembers (Failed text terms (first_values text terms b sure.fixed)) failed
 
-abbrev shadow-lengths-μ-loop : shadow-lengths-lts.decreases_loop
+abbrev shadow-lengths-μ-loop : shadow-lengths-lts.decreases-loop-rest
 shadow-lengths-μ-loop text terms pattern at row start b sure failed₀ end rest next n₀ failed n = length row - n
 
 pub +shadow_anew_shadow_first_shadow_inside_shadow_lengths_shadow_run_shadow_tries_spec :
@@ -195,23 +195,23 @@ pub +shadow_anew_shadow_first_shadow_inside_shadow_lengths_shadow_run_shadow_tri
     (λ c. search rules)
     (λ c. search rules)
     (λ c.
-    let the_first = c.first-1 in
+    let the_first = c.in-Binds in
     let the_pre = c.requires in
-    (first-record.binds_within the_pre.1.1.leaves false _ the_first.given.1).0)
+    (first-record.binds_within the_pre.1.1.leaves false _ the_first.is).0)
     (λ c.
-    let the_first = c.first-1 in
+    let the_first = c.in-Binds in
     let the_pre = c.requires in
-    (first-record.binds_within the_pre.1.1.leaves false _ the_first.given.1).0)
+    (first-record.binds_within the_pre.1.1.leaves false _ the_first.is).0)
     (λ c. search rules)
     (λ c κs.
-    let the_first = c.first-1 in
+    let the_first = c.in-Binds in
     let start = c.requires in
     let asked = start.1.0.0 in
-    let binds = first-record.binds_within start.1.1.leaves false _ the_first.given.1 in (
+    let binds = first-record.binds_within start.1.1.leaves false _ the_first.is in (
       (
-        omega (arith, asked.pattern_stands.inside-1, asked.small, start.1.1.some),
-        omega (arith, asked.row_stands.inside-1, asked.small),
-        omega (arith, asked.row_stands.inside-1, asked.small, binds.0),
+        omega (arith, asked.pattern_stands.inside, asked.small, start.1.1.some),
+        omega (arith, asked.row_stands.inside, asked.small),
+        omega (arith, asked.row_stands.inside, asked.small, binds.0),
         calls.place_ready asked start.1.1.some binds.1,
       ),
       (asked.kept.keys, asked.kept.starts, asked.kept.sizes),
@@ -219,23 +219,23 @@ pub +shadow_anew_shadow_first_shadow_inside_shadow_lengths_shadow_run_shadow_tri
     (λ c.
     let the_end_of = c.end_of-end in
     let asked = c.requires.1.0.0 in
-    omega (arith, asked.pattern_stands.inside-1, asked.small, the_end_of.ensures.2))
-    (λ c. let the_first = c.first-1 in
+    omega (arith, asked.pattern_stands.inside, asked.small, the_end_of.ensures.2))
+    (λ c. let the_first = c.in-Binds in
     let start = c.requires in
     let asked = start.1.0.0 in
-    omega (arith, asked.row_stands.inside-1, asked.small, (first-record.binds_within start.1.1.leaves false _ the_first.given.1).0))
-    (λ c κs. let the_first = c.first-1 in
-    let start = c.before.before.before.before.before.before.before.before.before.before.before.before in
+    omega (arith, asked.row_stands.inside, asked.small, (first-record.binds_within start.1.1.leaves false _ the_first.is).0))
+    (λ c κs. let the_first = c.in-Binds in
+    let start = c in
     let stopped = start.requires.1.1 in
     let ends = c.end_of-end in
-    let binds = first-record.binds_within start.requires.1.1.leaves false _ the_first.given.1 in (
+    let binds = first-record.binds_within start.requires.1.1.leaves false _ the_first.is in (
       omega (
         arith,
         after_falls start.args.pattern.now ends.result (length start.args.pattern.now) stopped.some ends.ensures.0 refl,
         start.requires.0,
       ),
       (
-        calls.asked_more start.requires.1.0.0 stopped.some binds.1 binds.0 c.bind-more.ensures ends.result the_first.given.0.0
+        calls.asked_more start.requires.1.0.0 stopped.some binds.1 binds.0 c.bind-more.ensures ends.result the_first.n
             ends.ensures.0 binds.0,
         sure.settled_later _ (sure.settled_more start.requires.1.0.1 c.bind-more.ensures) (sure.begin_second stopped.some ends.ensures.0),
         sure.remembers_fixed (sure.fixed_bound c.bind-more.ensures _ (sure.settled_low start.requires.1.0.1)) start.requires.1.0.2,
@@ -244,7 +244,7 @@ pub +shadow_anew_shadow_first_shadow_inside_shadow_lengths_shadow_run_shadow_tri
     (λ c. search rules)
     (λ c κs. let start = c.requires in
     let stopped = start.1.1 in
-    let told = c.enum_told-in-Tries-1.given.1 in (
+    let told = c.in-Tries.is in (
       omega (arith, start.0),
       (
         (start.1.0.0, stopped.some, start.1.0.1, start.1.0.2),
@@ -258,42 +258,42 @@ pub +shadow_anew_shadow_first_shadow_inside_shadow_lengths_shadow_run_shadow_tri
       (
         start.1.0.0,
         stopped.some,
-        first-record.inside_facing stopped.leaves false c.enum_told-in-Inside-1.given.1,
+        first-record.inside_facing stopped.leaves false c.in-Inside.is,
         start.1.0.1,
         start.1.0.2,
       ),
     ))
     (λ c. let the_pre = c.requires in
-    absurd (known.stops_fails the_pre.1.1 c.enum_told-1.given.1))
+    absurd (known.stops_fails the_pre.1.1 c.in-Fails.is))
     (λ c. let the_pre = c.requires in
-    absurd (known.stops_not the_pre.1.1 _ _ c.enum_told-in-Goes-1.given.1))
-    (λ c. let the_first = c.first-1 in
+    absurd (known.stops_not the_pre.1.1 _ _ c.in-Goes.is))
+    (λ c. let the_first = c.in-Binds in
     let the_end_of = c.end_of-end in
     let start = c.requires in
     let stopped = start.1.1 in
-    let binds = first-record.binds_within start.1.1.leaves false _ the_first.given.1 in
+    let binds = first-record.binds_within start.1.1.leaves false _ the_first.is in
     let values = calls.values_more start.1.0.0 stopped.some binds.1 binds.0 c.bind-more.ensures in (
       c.shadow_run.ensures.0,
       c.shadow_run.ensures.1 ∙ sym (ap first_in
-          (first-record.step_binds stopped.leaves false _ _ _ the_first.given.1 the_end_of.ensures.0 values)),
+          (first-record.step_binds stopped.leaves false _ _ _ the_first.is the_end_of.ensures.0 values)),
       sure.remembers_back (sure.fixed_bound c.bind-more.ensures _ (sure.settled_low start.1.0.1)) c.shadow_run.ensures.2,
       sure.fixed_more c.bind-more.ensures (sure.settled_low start.1.0.1) c.shadow_run.ensures.3,
     ))
     (λ c.
-    let the_enum_told3 = c.enum_told-in-Tries-1 in
+    let the_enum_told3 = c.in-Tries in
     let the_pre = c.requires in (
       c.shadow_tries.ensures.0,
       c.shadow_tries.ensures.1
-          ∙ sym (ap first_in (first-record.step_tries the_pre.1.1.leaves false the_enum_told3.given.1)),
+          ∙ sym (ap first_in (first-record.step_tries the_pre.1.1.leaves false the_enum_told3.is)),
       c.shadow_tries.ensures.2,
       c.shadow_tries.ensures.3,
     ))
     (λ c.
-    let the_enum_told4 = c.enum_told-in-Inside-1 in
+    let the_enum_told4 = c.in-Inside in
     let the_pre = c.requires in (
       c.shadow_inside.ensures.0,
       c.shadow_inside.ensures.1
-          ∙ sym (ap first_in (first-record.step_inside the_pre.1.1.leaves false the_enum_told4.given.1)),
+          ∙ sym (ap first_in (first-record.step_inside the_pre.1.1.leaves false the_enum_told4.is)),
       c.shadow_inside.ensures.2,
       c.shadow_inside.ensures.3,
     )))
@@ -310,21 +310,21 @@ pub +shadow_anew_shadow_first_shadow_inside_shadow_lengths_shadow_run_shadow_tri
     the_pre.1.1)
     (λ c κs. let the_pre = c.requires in
     the_pre.1.2.some)
-    (λ c. c.end_of-end.ensures.1)
+    (λ c. c.end_of-m.ensures.1)
     (λ c. search rules)
     (λ c. search rules)
     (λ c. c.end_of-n.ensures.1)
     (λ c. search rules)
     (λ c. search rules)
     (λ c. let start = c.requires in
-    omega (arith, start.1.0.pattern_stands.inside-1, start.1.0.small, start.1.1))
+    omega (arith, start.1.0.pattern_stands.inside, start.1.0.small, start.1.1))
     (λ c. let start = c.requires in
-    omega (arith, start.1.0.row_stands.inside-1, start.1.0.small, start.1.2.some))
+    omega (arith, start.1.0.row_stands.inside, start.1.0.small, start.1.2.some))
     (λ c κs.
     let the_end_of2 = c.end_of-n in
     let the_args = c.args in
     let start = c.requires in
-    let ends = c.end_of-end in (
+    let ends = c.end_of-m in (
       omega (arith, inside_falls the_args.pattern.now ends.result (length the_args.pattern.now) start.1.1 ends.ensures.0 refl, start.0),
       (
         calls.asked_alone (calls.asked_inside start.1.0 start.1.1 start.1.2 ends.result the_end_of2.result ends.ensures.0
@@ -333,16 +333,16 @@ pub +shadow_anew_shadow_first_shadow_inside_shadow_lengths_shadow_run_shadow_tri
         start.1.4,
       ),
     ))
-    (λ c. let the_end_of = c.end_of-end in
+    (λ c. let the_end_of = c.end_of-m in
     let the_end_of2 = c.end_of-n in
     let start = c.requires in
-    let inner = c.shadow_run in (
+    let inner = c.shadow_run-first in (
       inner.ensures.0,
-      returns.inside_none start.1.0 the_end_of.ensures.0 the_end_of2.ensures.0 inner.result inner.ensures.1 c.if-not-first.true,
+      returns.inside_none start.1.0 the_end_of.ensures.0 the_end_of2.ensures.0 inner.result inner.ensures.1 (not-true _ c.if-not-first.true),
       inner.ensures.2,
       inner.ensures.3,
     ))
-    (λ c. let the_end_of = c.end_of-end in
+    (λ c. let the_end_of = c.end_of-m in
     the_end_of.ensures.2)
     (λ c. search rules)
     (λ c. search rules)
@@ -350,19 +350,19 @@ pub +shadow_anew_shadow_first_shadow_inside_shadow_lengths_shadow_run_shadow_tri
     the_end_of2.ensures.2)
     (λ c. search rules)
     (λ c. search rules)
-    (λ c. let the_end_of = c.end_of-end in
+    (λ c. let the_end_of = c.end_of-m in
     let start = c.requires in
-    omega (arith, start.1.0.pattern_stands.inside-1, start.1.0.small, the_end_of.ensures.2))
+    omega (arith, start.1.0.pattern_stands.inside, start.1.0.small, the_end_of.ensures.2))
     (λ c. let the_end_of2 = c.end_of-n in
     let start = c.requires in
-    omega (arith, start.1.0.row_stands.inside-1, start.1.0.small, the_end_of2.ensures.2))
+    omega (arith, start.1.0.row_stands.inside, start.1.0.small, the_end_of2.ensures.2))
     (λ c κs.
     let the_if1 = c.if-not-first in
     let the_args = c.args in
     let the_end_of2 = c.end_of-n in
     let start = c.requires in
-    let ends = c.end_of-end in
-    let inner = c.shadow_run in (
+    let ends = c.end_of-m in
+    let inner = c.shadow_run-first in (
       omega (arith, after_falls the_args.pattern.now ends.result (length the_args.pattern.now) start.1.1 ends.ensures.0 refl, start.0),
       (
         calls.asked_after start.1.0 start.1.1 start.1.2 inner.result.bindings inner.ensures.0
@@ -372,11 +372,11 @@ pub +shadow_anew_shadow_first_shadow_inside_shadow_lengths_shadow_run_shadow_tri
         sure.remembers_fixed inner.ensures.3 inner.ensures.2,
       ),
     ))
-    (λ c. let the_end_of = c.end_of-end in
+    (λ c. let the_end_of = c.end_of-m in
     let the_end_of2 = c.end_of-n in
     let the_if1 = c.if-not-first in
     let start = c.requires in
-    let inner = c.shadow_run in (
+    let inner = c.shadow_run-first in (
       c.shadow_run.ensures.0,
       returns.inside_some start.1.0 the_end_of.ensures.0 the_end_of2.ensures.0 inner.result inner.ensures.1 _ (not-false _ the_if1.false)
           c.shadow_run.ensures.1,
@@ -402,7 +402,7 @@ pub +shadow_anew_shadow_first_shadow_inside_shadow_lengths_shadow_run_shadow_tri
     (λ c. search rules)
     (λ c. search rules)
     (λ c. let asked = c.requires.1.0.0 in
-    omega (arith, asked.pattern_stands.inside-1, asked.small, c.end_of-end.ensures.2))
+    omega (arith, asked.pattern_stands.inside, asked.small, c.end_of-end.ensures.2))
     (λ c. let start = c.requires in
     (at_start, returns.lengths_start start.1.0.0 start.1.0.1 start.1.1, start.1.0.3))
     (λ c. begin_inside c.loop-rest.invariant.0)
@@ -411,9 +411,9 @@ pub +shadow_anew_shadow_first_shadow_inside_shadow_lengths_shadow_run_shadow_tri
     (λ c κs. let start = c.requires in
     let asked = start.1.0.0 in (
       (
-        omega (arith, asked.pattern_stands.inside-1, asked.small, start.1.0.1),
-        omega (arith, asked.row_stands.inside-1, asked.small),
-        omega (arith, asked.row_stands.inside-1, asked.small, begin_inside c.loop-rest.invariant.0),
+        omega (arith, asked.pattern_stands.inside, asked.small, start.1.0.1),
+        omega (arith, asked.row_stands.inside, asked.small),
+        omega (arith, asked.row_stands.inside, asked.small, begin_inside c.loop-rest.invariant.0),
         calls.place_ready asked start.1.0.1 start.1.1,
       ),
       (asked.kept.keys, asked.kept.starts, asked.kept.sizes),
@@ -421,7 +421,7 @@ pub +shadow_anew_shadow_first_shadow_inside_shadow_lengths_shadow_run_shadow_tri
     (λ c.
     let the_loop = c.loop-rest in
     let asked = c.requires.1.0.0 in
-    omega (arith, asked.row_stands.inside-1, asked.small, begin_inside the_loop.invariant.0))
+    omega (arith, asked.row_stands.inside, asked.small, begin_inside the_loop.invariant.0))
     (λ c κs.
     let the_loop = c.loop-rest in
     let the_args = c.args in
@@ -442,7 +442,7 @@ pub +shadow_anew_shadow_first_shadow_inside_shadow_lengths_shadow_run_shadow_tri
     let asked = c.requires.1.0.0 in
     omega (
       arith,
-      asked.row_stands.inside-1,
+      asked.row_stands.inside,
       asked.small,
       c.end_of-n.ensures.2,
       from_length the_loop.n the_args.row.now,
@@ -452,7 +452,7 @@ pub +shadow_anew_shadow_first_shadow_inside_shadow_lengths_shadow_run_shadow_tri
     let the_loop = c.loop-rest in
     omega (arith, c.end_of-n.ensures.1, c.end_of-n.ensures.2, from_length the_loop.n the_args.row.now, begin_inside the_loop.invariant.0))
     (λ c.
-    let the_shadow_run = c.shadow_run in
+    let the_shadow_run = c.shadow_run-m in
     let the_loop = c.loop-rest in
     let the_end_of = c.end_of-end in
     let the_bind = c.bind-more in
@@ -460,7 +460,7 @@ pub +shadow_anew_shadow_first_shadow_inside_shadow_lengths_shadow_run_shadow_tri
       rw c.end_of-n.ensures.0 (one_on c.if-left-lt24.false the_loop.invariant.0),
       rw c.end_of-n.ensures.0 (returns.length_next start.1.0.0 start.1.0.1 start.1.1 the_end_of.ensures.0
           the_loop.invariant.0 the_bind.ensures
-          the_shadow_run.result the_shadow_run.ensures.1 the_loop.invariant.1 c.if-not-first.false c.if-left-lt24.false),
+          the_shadow_run.result the_shadow_run.ensures.1 the_loop.invariant.1 c.if-m.false c.if-left-lt24.false),
       sure.remembers_back (sure.fixed_bound the_bind.ensures _ (sure.settled_low start.1.0.2)) the_shadow_run.ensures.2,
     ))
     (λ c.
@@ -468,21 +468,21 @@ pub +shadow_anew_shadow_first_shadow_inside_shadow_lengths_shadow_run_shadow_tri
     let the_end_of = c.end_of-end in
     let the_loop = c.loop-rest in
     let start = c.requires in (
-      c.shadow_run.ensures.0,
+      c.shadow_run-m.ensures.0,
       returns.length_found start.1.0.0 start.1.0.1 start.1.1 the_end_of.ensures.0 the_loop.invariant.0 the_bind.ensures
-          c.shadow_run.result c.shadow_run.ensures.1 the_loop.invariant.1 c.if-not-first.true,
-      sure.remembers_back (sure.fixed_bound the_bind.ensures _ (sure.settled_low start.1.0.2)) c.shadow_run.ensures.2,
-      sure.fixed_more the_bind.ensures (sure.settled_low start.1.0.2) c.shadow_run.ensures.3,
+          c.shadow_run-m.result c.shadow_run-m.ensures.1 the_loop.invariant.1 c.if-m.true,
+      sure.remembers_back (sure.fixed_bound the_bind.ensures _ (sure.settled_low start.1.0.2)) c.shadow_run-m.ensures.2,
+      sure.fixed_more the_bind.ensures (sure.settled_low start.1.0.2) c.shadow_run-m.ensures.3,
     ))
     (λ c.
     let the_bind = c.bind-more in
-    let the_shadow_run = c.shadow_run in
+    let the_shadow_run = c.shadow_run-m in
     let the_end_of = c.end_of-end in
     let the_loop = c.loop-rest in
     let start = c.requires in (
       the_shadow_run.ensures.0,
       returns.length_none start.1.0.0 start.1.0.1 start.1.1 the_end_of.ensures.0 the_loop.invariant.0 the_bind.ensures
-          c.shadow_run.result the_shadow_run.ensures.1 the_loop.invariant.1 c.if-not-first.false c.if-left-lt24.true,
+          c.shadow_run-m.result the_shadow_run.ensures.1 the_loop.invariant.1 c.if-m.false c.if-left-lt24.true,
       sure.remembers_back (sure.fixed_bound the_bind.ensures _ (sure.settled_low start.1.0.2)) the_shadow_run.ensures.2,
       sure.fixed_more the_bind.ensures (sure.settled_low start.1.0.2) the_shadow_run.ensures.3,
     )))
@@ -500,66 +500,66 @@ pub +shadow_anew_shadow_first_shadow_inside_shadow_lengths_shadow_run_shadow_tri
     (λ c. search rules)
     (λ c.
     let the_known_front = c.known_front in
-    (known.known_end the_known_front.ensures _ _ c.n-1.given.1).0.within)
+    (known.known_end the_known_front.ensures _ _ c.in-End.is).0.within)
     (λ c.
     let the_known_front = c.known_front in
-    (known.known_end the_known_front.ensures _ _ c.n-1.given.1).0.within)
+    (known.known_end the_known_front.ensures _ _ c.in-End.is).0.within)
     (λ c. search rules)
     (λ c. search rules)
     (λ c.
     let the_known_front = c.known_front in
-    begin_inside (known.known_stop the_known_front.ensures _ _ _ c.m-1.given.1).0.begins)
+    begin_inside (known.known_stop the_known_front.ensures _ _ _ c.in-Stop.is).0.begins)
     (λ c.
     let the_known_front = c.known_front in
-    begin_inside (known.known_stop the_known_front.ensures _ _ _ c.m-1.given.1).0.begins)
+    begin_inside (known.known_stop the_known_front.ensures _ _ _ c.in-Stop.is).0.begins)
     (λ c. search rules)
     (λ c.
     let the_known_front = c.known_front in
-    let the_m = c.m-1 in
-    (known.known_stop the_known_front.ensures _ _ _ the_m.given.1).0.within)
+    let the_m = c.in-Stop in
+    (known.known_stop the_known_front.ensures _ _ _ the_m.is).0.within)
     (λ c.
     let the_known_front = c.known_front in
-    let the_m = c.m-1 in
-    (known.known_stop the_known_front.ensures _ _ _ the_m.given.1).0.within)
+    let the_m = c.in-Stop in
+    (known.known_stop the_known_front.ensures _ _ _ the_m.is).0.within)
     (λ c. search rules)
     (λ c.
-    let the_m = c.m-1 in
+    let the_m = c.in-Stop in
     let the_known_front = c.known_front in
     let asked = c.requires.1.0 in
-    omega (arith, asked.pattern_stands.inside-1, asked.small, begin_inside (known.known_stop the_known_front.ensures _ _ _ the_m.given.1).0.begins))
+    omega (arith, asked.pattern_stands.inside, asked.small, begin_inside (known.known_stop the_known_front.ensures _ _ _ the_m.is).0.begins))
     (λ c.
-    let the_m = c.m-1 in
+    let the_m = c.in-Stop in
     let the_known_front = c.known_front in
     let asked = c.requires.1.0 in
-    omega (arith, asked.row_stands.inside-1, asked.small, (known.known_stop the_known_front.ensures _ _ _ the_m.given.1).0.within))
+    omega (arith, asked.row_stands.inside, asked.small, (known.known_stop the_known_front.ensures _ _ _ the_m.is).0.within))
     (λ c κs.
-    let the_m = c.m-1 in
+    let the_m = c.in-Stop in
     let the_known_front = c.known_front in
     let the_args = c.args in
     let start = c.requires in
-    let (passed, stopped) = known.known_stop the_known_front.ensures _ _ _ the_m.given.1 in (
-      omega (arith, start.0, begin_inside passed.begins, from_length the_m.given.0.0 the_args.pattern.now),
+    let (passed, stopped) = known.known_stop the_known_front.ensures _ _ _ the_m.is in (
+      omega (arith, start.0, begin_inside passed.begins, from_length the_m.m the_args.pattern.now),
       ((calls.asked_later start.1.0 _ _ passed.begins passed.within, sure.settled_later _ start.1.1 passed.begins, start.1.2), stopped),
     ))
     (λ c. let the_pre = c.requires in (
       the_pre.1.0.kept,
-      sym (ap first_in (known.known_fails c.known_front.ensures c.enum_told-1.given.1 false)),
+      sym (ap first_in (known.known_fails c.known_front.ensures c.in-Fails.is false)),
       the_pre.1.2,
       sure.fixed_same _ _ (sure.settled_low the_pre.1.1),
     ))
     (λ c.
     let the_known_front = c.known_front in
-    let the_n = c.n-1 in
+    let the_n = c.in-End in
     let the_pre = c.requires in
-    let (passed, short) = known.known_end the_known_front.ensures _ _ the_n.given.1 in (
+    let (passed, short) = known.known_end the_known_front.ensures _ _ the_n.is in (
       the_pre.1.0.kept,
       returns.run_end _ _ _ _ _ short ∙ sym (ap first_in (passed.search false)),
       the_pre.1.2,
       sure.fixed_same _ _ (sure.settled_low the_pre.1.1),
     ))
     (λ c. let the_known_front = c.known_front in
-    let the_m = c.m-1 in
-    let passed = (known.known_stop the_known_front.ensures _ _ _ the_m.given.1).0 in (
+    let the_m = c.in-Stop in
+    let passed = (known.known_stop the_known_front.ensures _ _ _ the_m.is).0 in (
       c.shadow_first.ensures.0,
       c.shadow_first.ensures.1 ∙ sym (ap first_in (passed.search false)),
       c.shadow_first.ensures.2,
@@ -586,48 +586,48 @@ pub +shadow_anew_shadow_first_shadow_inside_shadow_lengths_shadow_run_shadow_tri
     (λ c. let start = c.requires.1.0 in
     (c.shadow_anew.ensures.0, c.shadow_anew.ensures.1, start.3, sure.fixed_fewer c.shadow_anew.ensures.2 _ (sure.settled_low start.2)))
     (λ c. let asked = c.requires.1.0.0 in
-    omega (arith, asked.pattern_stands.inside-1, asked.small))
+    omega (arith, asked.pattern_stands.inside, asked.small))
     (λ c. let asked = c.requires.1.0.0 in
-    omega (arith, asked.row_stands.inside-1, asked.small))
+    omega (arith, asked.row_stands.inside, asked.small))
     (λ c κs. tt)
     (λ c.
     let the_closed = c.closed in
-    let the_if1 = c.if-not-first in
+    let the_if1 = c.if-not-closed in
     let start = c.requires.1 in
     let asked = start.0.0 in
-    let free = the_closed.ensures (not-false _ the_if1.false) _ _ _ asked.kept start.0.2.same in (
+    let free = the_closed.ensures the_if1.false _ _ _ asked.kept start.0.2.same in (
       asked.kept,
-      sym (ap first_in (failed.lengths_known asked _ free start.1.1 start.0.1 start.0.3 (c.failed_before.ensures c.if-left-lt24.true))),
+      sym (ap first_in (failed.lengths_known asked _ free start.1.1 start.0.1 start.0.3 (c.failed_before.ensures c.if-failed_before.true))),
       start.0.3,
       sure.fixed_same _ _ (sure.settled_low start.0.2),
     ))
     (λ c κs.
-    let the_if1 = c.if-not-first in
+    let the_if1 = c.if-not-closed in
     let the_closed = c.closed in
     let start = c.requires in
     let asked = start.1.0.0 in
-    let free = the_closed.ensures (not-false _ the_if1.false) _ _ _ asked.kept start.1.0.2.same in
+    let free = the_closed.ensures the_if1.false _ _ _ asked.kept start.1.0.2.same in
     (omega (arith, start.0), ((asked, start.1.0.1, sure.settled_all start.1.0.2 _ free, start.1.0.3), start.1.1.0)))
     (λ c κs.
-    let the_shadow_lengths = c.shadow_lengths in
+    let the_shadow_lengths = c.shadow_lengths-m in
     let start = c.requires.1.0 in
     let asked = start.0 in (
-      omega (arith, asked.pattern_stands.inside-1, asked.small, start.1),
-      omega (arith, asked.pattern_stands.inside-1, asked.small),
-      omega (arith, asked.row_stands.inside-1, asked.small),
-      omega (arith, asked.row_stands.inside-1, asked.small),
+      omega (arith, asked.pattern_stands.inside, asked.small, start.1),
+      omega (arith, asked.pattern_stands.inside, asked.small),
+      omega (arith, asked.row_stands.inside, asked.small),
+      omega (arith, asked.row_stands.inside, asked.small),
       the_shadow_lengths.ensures.2.long,
     ))
     (λ c. let the_closed = c.closed in
-    let the_if1 = c.if-not-first in
+    let the_if1 = c.if-not-closed in
     let start = c.requires.1 in
     let asked = start.0.0 in
-    let free = the_closed.ensures (not-false _ the_if1.false) _ _ _ asked.kept start.0.2.same in
-    let lengths = c.shadow_lengths in (
+    let free = the_closed.ensures the_if1.false _ _ _ asked.kept start.0.2.same in
+    let lengths = c.shadow_lengths-m in (
       lengths.ensures.0,
       lengths.ensures.1,
       failed.lengths_noted asked _ free start.1.1 (failed.none_matched _ _ lengths.result _ lengths.ensures.1
-          c.if-not-m.true) lengths.ensures.2 c.note_failed.ensures,
+          (not-true _ c.if-not-m.true)) lengths.ensures.2 c.note_failed.ensures,
       lengths.ensures.3,
     ))
-    (λ c. c.shadow_lengths.ensures)
+    (λ c. c.shadow_lengths-m.ensures)

@@ -11,7 +11,7 @@ pub search_shadow_spec : {M : Type 1} → statement M
 search_shadow_spec =
     tie.close (tie.spec
     (λ c κs. search rules)
-    (λ c κs. let start = c.before.before.before.before.before.before in
+    (λ c κs. let start = c in
     let a = start.args in
     let (kept, unbound) = c.none.ensures a.text.now a.terms.now in (
       shadow_start a.text.now a.terms.now _ unbound a.earlier.now a.at a.later.now a.start
@@ -19,7 +19,7 @@ search_shadow_spec =
       settled_fixed _ _ 0 _ (omega arith),
       shadow_none a.text.now a.terms.now _,
     ))
-    (λ c. let start = c.before.before.before.before.before.before.before in
+    (λ c. let start = c in
     let a = start.args in
     let (kept, unbound) = c.none.ensures a.text.now a.terms.now in
     shadow_answer_lem a.text.now a.terms.now _ unbound a.earlier.now a.later.now c.shadow_run.result c.shadow_run.ensures.1))

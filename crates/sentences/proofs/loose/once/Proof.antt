@@ -1,6 +1,5 @@
 -- `once` meets its contract, by a law of proofs/OnceLaws.antt for each turn and for the way out of the loop.
 use Prim.Native.Nat.{◌-◌}
-use mathlib.Core.Logic.{⊎_elim}
 use native.Mathlib.Omega.{arith}
 use borrow.Author.Rules.{rules}
 use lib.ListN.{length}
@@ -9,6 +8,7 @@ use Rattle.matching.proofs.SameLaws.{false_not_true}
 use Rattle.sentences.proofs.OnceLaws as laws
 use Rattle.sentences.proofs.loose.once.Statement.{statement}
 use Rattle.sentences.proofs.loose.once.Tie as tie
+use Rattle.sentences.proofs.loose.once.Lts.{then-kind-gt2+then-kind-lt6+else-again, then-kind-gt2+else-kind-lt6, else-kind-gt2}
 
 abbrev invariant_loop : tie.invariant-loop-left
 invariant_loop text pattern i₀ i = laws.Apart text pattern i
@@ -46,12 +46,11 @@ once_spec =
     (λ c. let so_far = c.loop-left.invariant in
     let long = c.if-left-lt24.false in
     let kind = c.word_at-kind.ensures in
-    ⊎_elim
-    (λ w. laws.apart_variable so_far long ((w.3.ensures (omega (arith, kind, w.0.taken))).0 w.4.left))
-    (λ u. ⊎_elim
-    (λ w. laws.apart_other so_far long kind (omega (arith, w.1.left)))
-    (λ w. laws.apart_symbol so_far long kind (omega (arith, w.left-1)))
-    u)
-    c.if-kind-gt2.branch)
+    elim c.if-kind-gt2.branch [
+      | then-kind-gt2+then-kind-lt6+else-again w ↦
+          laws.apart_variable so_far long ((w.again.ensures (omega (arith, kind, w.if-kind-gt2.true))).0 w.if-again.false)
+      | then-kind-gt2+else-kind-lt6 w ↦ laws.apart_other so_far long kind (omega (arith, w.if-kind-lt6.false))
+      | else-kind-gt2 w ↦ laws.apart_symbol so_far long kind (omega (arith, w.if-kind-gt2.false))
+    ])
     (λ c. λ e. laws.apart_all c.loop-left.invariant c.if-left-lt24.true)
     (λ c. λ e. absurd (false_not_true e)))

@@ -1,6 +1,5 @@
 -- `evenly` meets its contract, by a law of proofs/ParityLaws.antt for each turn and for the way out of the loop.
 use Prim.Native.Nat.{◌-◌}
-use mathlib.Core.Logic.{⊎_elim}
 use native.Mathlib.Omega.{arith}
 use borrow.Author.Rules.{rules}
 use lib.ListN.{length}
@@ -9,6 +8,7 @@ use Rattle.matching.proofs.SameLaws.{false_not_true}
 use Rattle.sentences.proofs.ParityLaws as laws
 use Rattle.sentences.proofs.parity.evenly.Statement.{statement}
 use Rattle.sentences.proofs.parity.evenly.Tie as tie
+use Rattle.sentences.proofs.parity.evenly.Lts.{then-word_at-eq5+else-odd_times, else-word_at-eq5}
 
 abbrev invariant_loop : tie.invariant-loop-left
 invariant_loop text pattern i₀ i = laws.EvenSoFar text pattern i
@@ -38,9 +38,9 @@ evenly_spec =
     (λ c. let so_far = c.loop-left.invariant in
     let long = c.if-left-lt24.false in
     let kind = c.word_at.ensures in
-    ⊎_elim
-    (λ w. laws.even_open so_far long kind c.end_of-i.ensures.0 w.1.ensures w.2.left)
-    (λ w. laws.even_other so_far long kind c.end_of-i.ensures.0 w.left-1)
-    c.if-word_at-eq5.branch)
+    elim c.if-word_at-eq5.branch [
+      | then-word_at-eq5+else-odd_times w ↦ laws.even_open so_far long kind c.end_of-i.ensures.0 w.odd_times.ensures w.if-odd_times.false
+      | else-word_at-eq5 w ↦ laws.even_other so_far long kind c.end_of-i.ensures.0 w.if-word_at-eq5.false
+    ])
     (λ c. λ e. laws.even_all c.loop-left.invariant c.if-left-lt24.true)
     (λ c. λ e. absurd (false_not_true e)))

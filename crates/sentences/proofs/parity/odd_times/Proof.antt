@@ -1,6 +1,5 @@
 -- `odd_times` meets its contract, by a law of proofs/ParityLaws.antt for each turn and for the way out of the loop.
 use Prim.Native.Nat.{◌-◌}
-use mathlib.Core.Logic.{⊎_elim}
 use native.Mathlib.Omega.{arith}
 use borrow.Author.Rules.{rules}
 use lib.ListN.{length}
@@ -8,6 +7,7 @@ use Rattle.matching.proofs.CutLaws.{from_length}
 use Rattle.sentences.proofs.ParityLaws as laws
 use Rattle.sentences.proofs.parity.odd_times.Statement.{statement}
 use Rattle.sentences.proofs.parity.odd_times.Tie as tie
+use Rattle.sentences.proofs.parity.odd_times.Lts.{then-variables_same, else-variables_same}
 
 abbrev invariant_loop : tie.invariant-loop-left
 invariant_loop text first pattern odd₀ i₀ odd i = laws.TimesSoFar text first pattern odd i
@@ -37,8 +37,8 @@ odd_times_spec =
     (λ c. let so_far = c.loop-left.invariant in
     let long = c.if-left-lt24.false in
     let same = c.variables_same.ensures in
-    ⊎_elim
-    (λ w. laws.times_one so_far long c.end_of-i.ensures.0 same w.0.taken w.1)
-    (λ w. laws.times_none so_far long c.end_of-i.ensures.0 same w.0.left w.1)
-    c.if-variables_same.branch)
+    elim c.if-variables_same.branch [
+      | then-variables_same w ↦ laws.times_one so_far long c.end_of-i.ensures.0 same w.if-variables_same.true w.odd-is
+      | else-variables_same w ↦ laws.times_none so_far long c.end_of-i.ensures.0 same w.if-variables_same.false w.odd-is
+    ])
     (λ c. laws.times_all c.loop-left.invariant c.if-left-lt24.true))

@@ -61,11 +61,9 @@ pub +show_row_show_shape_spec : {M : Type 1} → statement M
     (show_row_at t)
     show-row.Post
     (λ c κs. omega arith)
-    (λ c. search rules)
     (λ c κs.
     let the_put_space = c.put_space-start in
-    let start = c.before.before.before.before.before.before.before.before.before.before in
-    omega (arith, the_put_space.ensures.end, space_length start.args.first, start.requires))
+    omega (arith, the_put_space.ensures.end, space_length c.args.first, c.requires))
     (λ c. search rules)
     (λ c.
     let the_put = c.put in
@@ -74,16 +72,15 @@ pub +show_row_show_shape_spec : {M : Type 1} → statement M
     let the_if2 = c.if-is_open in
     let x = c.args in (
       omega (arith, the_put.ensures.end, the_put_space.ensures.end, space_length x.first),
-      show_none_open x.is_open x.first x.s.now x.out-1.now x.at _ _ _ _ the_if1.true the_if2.true the_put_space.ensures
+      show_none_open x.is_open x.first x.s.now x.out.now x.at _ _ _ _ the_if1.true the_if2.true the_put_space.ensures
           c.put.ensures,
     ))
     (λ c. let x = c.args in
-    (omega arith, show_none_closed x.is_open x.first x.s.now x.out-1.now x.at c.if-s-lt1.true c.if-is_open.false))
+    (omega arith, show_none_closed x.is_open x.first x.s.now x.out.now x.at c.if-s-lt1.true c.if-is_open.false))
     (λ c κs. omega arith)
     (λ c κs.
     let the_put_space2 = c.put_space-start-2 in
-    let start = c.before.before.before.before.before.before.before.before in
-    (omega arith, (omega arith, omega (arith, the_put_space2.ensures.end, space_length start.args.first, start.requires))))
+    (omega arith, (omega arith, omega (arith, the_put_space2.ensures.end, space_length c.args.first, c.requires))))
     (λ c κs. omega arith)
     (λ c. search rules)
     (λ c. omega arith)
@@ -93,10 +90,9 @@ pub +show_row_show_shape_spec : {M : Type 1} → statement M
     let the_end_of = c.end_of-e in
     let the_if1 = c.if-s-lt1 in
     let the_show_shape = c.show_shape-next in
-    let the_put_space2 = c.put_space-start-2 in
-    let start = c.before.before.before.before.before.before.before.before.before.before.before.before.before.before in (
-      omega (arith, shapes_rest_falls start.args.s.now c.end_of-e.result the_if1.false the_end_of.ensures.0),
-      omega (arith, c.end_of-e.ensures, the_show_shape.ensures.0, the_put_space2.ensures.end, space_length start.args.first, start.requires),
+    let the_put_space2 = c.put_space-start-2 in (
+      omega (arith, shapes_rest_falls c.args.s.now c.end_of-e.result the_if1.false the_end_of.ensures.0),
+      omega (arith, c.end_of-e.ensures, the_show_shape.ensures.0, the_put_space2.ensures.end, space_length c.args.first, c.requires),
     ))
     (λ c. omega arith)
     (λ c.
@@ -107,7 +103,7 @@ pub +show_row_show_shape_spec : {M : Type 1} → statement M
     let the_if1 = c.if-s-lt1 in
     let x = c.args in (
       omega (arith, the_show_row.ensures.0, the_end_of.ensures, the_show_shape.ensures.0, the_put_space2.ensures.end, space_length x.first),
-      show_some x.is_open x.first x.s.now x.out-1.now x.at _ _ _ _ _ _ _ the_if1.false the_end_of.ensures.0 the_put_space2.ensures
+      show_some x.is_open x.first x.s.now x.out.now x.at _ _ _ _ _ _ _ the_if1.false the_end_of.ensures.0 the_put_space2.ensures
           the_show_shape.ensures.1 the_show_row.ensures.1,
     )))
     λ t. show-shape-lts.spec (
@@ -131,37 +127,34 @@ pub +show_row_show_shape_spec : {M : Type 1} → statement M
     (λ c. omega arith)
     (λ c κs. omega arith)
     (λ c κs. search rules)
-    (λ c. search rules)
     (λ c κs. omega arith)
     (λ c. omega arith)
     (λ c. omega arith)
     (λ c. search rules)
     (λ c κs. search rules)
     (λ c κs. let the_end_of = c.end_of-e in
-    let the_put = c.put in
-    let start = c.before.before.before.before.before.before.before.before.before.before.before.before.before.before in (
-      omega (arith, shapes_contents_falls start.args.s.now the_end_of.result start.requires.1.0 the_end_of.ensures.0),
-      omega (arith, the_end_of.ensures, the_put.ensures.end, start.requires),
+    let the_put = c.put-start in (
+      omega (arith, shapes_contents_falls c.args.s.now the_end_of.result c.requires.1.0 the_end_of.ensures.0),
+      omega (arith, the_end_of.ensures, the_put.ensures.end, c.requires),
     ))
-    (λ c. search rules)
     (λ c κs.
-    let the_show_row = c.show_row in
+    let the_show_row = c.show_row-next in
     let the_end_of = c.end_of-e in
-    let the_put = c.put in
+    let the_put = c.put-start in
     let the_pre = c.requires in
     omega (arith, the_show_row.ensures.0, the_end_of.ensures, the_put.ensures.end, the_pre))
     (λ c. search rules)
     (λ c.
     let the_put2 = c.put in
-    let the_show_row = c.show_row in
+    let the_show_row = c.show_row-next in
     let the_end_of = c.end_of-e in
-    let the_put = c.put in
+    let the_put = c.put-start in
     let the_is_bracket = c.is_bracket in
-    let the_if1 = c.if-s-lt1 in
+    let the_if1 = c.if-is_bracket in
     let the_inside_open = c.inside_open in
     let x = c.args in (
       omega (arith, the_put2.ensures.end, the_show_row.ensures.0, the_end_of.ensures, the_put.ensures.end),
-      show_bracket x.s.now _ the_is_bracket.ensures x.out-1.now x.at _ _ _ _ _ _ _ _ the_if1.true the_inside_open.ensures
+      show_bracket x.s.now _ the_is_bracket.ensures x.out.now x.at _ _ _ _ _ _ _ _ the_if1.true the_inside_open.ensures
           the_end_of.ensures.0 the_put.ensures the_show_row.ensures.1 c.put.ensures,
     ))
     (λ c κs. search rules)
@@ -172,9 +165,9 @@ pub +show_row_show_shape_spec : {M : Type 1} → statement M
     let the_put_byte = c.put_byte in
     let the_pre = c.requires in
     let the_is_bracket = c.is_bracket in
-    let the_if1 = c.if-s-lt1 in
+    let the_if1 = c.if-is_bracket in
     let x = c.args in (
       omega (arith, the_put_byte.ensures.end, shapes_end_low x.s.now the_pre.1.0),
-      show_leaf x.s.now _ the_is_bracket.ensures x.out-1.now x.at _ _ _ the_if1.false the_leaf_byte.ensures
+      show_leaf x.s.now _ the_is_bracket.ensures x.out.now x.at _ _ _ the_if1.false the_leaf_byte.ensures
           c.put_byte.ensures,
     ))

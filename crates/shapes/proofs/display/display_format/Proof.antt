@@ -18,7 +18,7 @@ display_format_spec =
     (tie.spec
     (λ c.
     let x = c.args in
-    text_past x.out-1.now x.at (text x.format.now) c.if-room-at.true)
+    text_past x.out.now x.at (text x.format.now) c.if-room-at.true)
     (λ c. search rules)
     (λ c. search rules)
     (λ c κs. search rules)
@@ -26,12 +26,12 @@ display_format_spec =
     (λ c.
     let x = c.args in
     let measured = c.show_format-next in
-    text_over x.out-1.now x.at (text x.format.now) measured.new.1.0 measured.auto.1.0 _ measured.ensures.end c.if-room-next.true)
+    text_over x.out.now x.at (text x.format.now) measured.new.out measured.auto.out _ measured.ensures.end c.if-room-next.true)
     (λ c κs. search rules)
     (λ c. search rules)
     (λ c.
     let the_if2 = c.if-room-next in
     let x = c.args in
     let measured = c.show_format-next in
-    text_fits x.out-1.now x.at (text x.format.now) measured.new.1.0 measured.auto.1.0 _ _ _ measured.ensures.end the_if2.false
+    text_fits x.out.now x.at (text x.format.now) measured.new.out measured.auto.out _ _ _ measured.ensures.end the_if2.false
     c.show_format.ensures))

@@ -6,7 +6,7 @@ use Rattle.shapes.proofs.display.put_space.Tie as tie
 
 pub put_space_spec : {M : Type 1} → statement M
 put_space_spec = tie.close (tie.spec
-    (λ c. let x = c.args in rw c.if-first.true (put_none x.out-1.now x.at))
+    (λ c. let x = c.args in rw c.if-first.true (put_none x.out.now x.at))
     (λ c κs. search rules)
     (λ c. search rules)
     (λ c.

@@ -11,6 +11,6 @@ leaf_byte_spec = tie.close (tie.spec
     (λ c. search rules)
     (λ c. search rules)
     (λ c.
-    let none-to-three = c.in-0.rest in
+    let none-to-three = c.in_default.in_default-own.rest in
     rw (leaf_high c.args.w (leaf_word_past c.args.w none-to-three.0.0.0.1 none-to-three.0.0.1
     none-to-three.0.1 none-to-three.1))))

@@ -3,7 +3,6 @@ use Prim.Native.Nat.{◌-◌}
 use native.Mathlib.Omega.{arith}
 use lib.ListN.{length}
 use borrow.Author.Rules.{rules}
-use borrow.Author.Tests.{not-true, not-false}
 use Rattle.tokens.specs.Code.Found.{goes_on}
 use Rattle.tokens.proofs.AtomLaws.{LeadingTo, leading_start, leading_next, leading_stops, leading_ends}
 use Rattle.tokens.proofs.atoms.leading_end.Statement.{statement}

@@ -4,7 +4,6 @@ use mathlib.Core.List.{List}
 use mathlib.Core.Path.{sym, ◌∙◌}
 use lib.ListN.{drop}
 use borrow.Author.Rules.{rules}
-use borrow.Author.Tests.{not-true, not-false}
 use Rattle.tokens.proofs.Utf8.{scalar_bound}
 use Rattle.tokens.proofs.CharacterLaws.{no_scalar, not_standing, whole_character}
 use Rattle.tokens.proofs.characters.character_at.Statement.{statement}

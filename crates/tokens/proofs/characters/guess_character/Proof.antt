@@ -43,7 +43,7 @@ guess_character_spec =
     let two = second three in
     let x = (start (first two)).args in
     guess_three x.text.now x.at (first two).byte_at-b.ensures.0 two.byte_at.ensures.0 two.less-c.ensures three.byte_at-2.ensures.0 three.less-d.ensures
-    two.if-b-lt128.left three.if-b-lt224.false c.if-b-lt240.true)
+    two.if-b-lt128.false three.if-b-lt224.false c.if-b-lt240.true)
     (λ c. search rules)
     (λ c κs. search rules)
     (λ c κs. search rules)
@@ -58,4 +58,4 @@ guess_character_spec =
     let two = second three in
     let x = (start (first two)).args in
     guess_four x.text.now x.at (first two).byte_at-b.ensures.0 two.byte_at.ensures.0 two.less-c.ensures three.byte_at-2.ensures.0 three.less-d.ensures
-    c.byte_at-3.ensures.0 c.less-e.ensures two.if-b-lt128.left three.if-b-lt224.false c.if-b-lt240.false))
+    c.byte_at-3.ensures.0 c.less-e.ensures two.if-b-lt128.false three.if-b-lt224.false c.if-b-lt240.false))

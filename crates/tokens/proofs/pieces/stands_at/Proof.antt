@@ -12,10 +12,6 @@ invariant_loop text at bytes i₀ i = Standing bytes text at i
 abbrev decreases_loop : tie.decreases-loop-i
 decreases_loop text at bytes i₀ i = length bytes - i
 
--- the loop, from where two bytes are compared
-abbrev the_loop : tie.After-shared_slice_known-in-loop-i-1 invariant_loop decreases_loop → tie.At-loop-i invariant_loop decreases_loop
-the_loop c = c.before.before.before.before
-
 pub stands_at_spec : {M : Type 1} → statement M
 stands_at_spec =
     tie.close
@@ -28,8 +24,8 @@ stands_at_spec =
     (λ c. omega arith)
     (λ c. omega arith)
     (λ c. omega arith)
-    (λ c. standing_differs (the_loop c.before).loop.inv (omega arith) (omega arith) c.if-bytes-i.true)
+    (λ c. standing_differs c.loop-i.invariant (omega arith) (omega arith) c.if-bytes-i.true)
     (λ c. omega arith)
     (λ c. omega arith)
-    (λ c. standing_next (the_loop c.before).loop.inv (omega arith) (omega arith) c.if-bytes-i.false)
+    (λ c. standing_next c.loop-i.invariant (omega arith) (omega arith) c.if-bytes-i.false)
     (λ c. standing_end c.loop-i.invariant c.loop-i-test.false))

@@ -13,10 +13,6 @@ invariant_loop k stop from kinds n₀ i₀ n i = Counting k stop kinds from i n
 abbrev decreases_loop : tie.decreases-loop-i
 decreases_loop k stop from kinds n₀ i₀ n i = length kinds - i
 
--- the loop, from where a kind was compared
-abbrev the_loop : tie.After-one_if-n invariant_loop decreases_loop → tie.At-loop-i invariant_loop decreases_loop
-the_loop c = c.before.before.before.before.before
-
 pub count_kinds_spec : {M : Type 1} → statement M
 count_kinds_spec =
     tie.close
@@ -30,8 +26,8 @@ count_kinds_spec =
     counting_stop the_loop.invariant (omega arith) c.if-kinds-i.true)
     (λ c. omega arith)
     (λ c κs. search rules)
-    (λ c. omega (arith, (the_loop c).loop.invariant.few, c.one_if-n.ensures.1, (the_loop c).before.requires.1))
+    (λ c. omega (arith, c.loop-i.invariant.few, c.one_if-n.ensures.1, c.requires.1))
     (λ c. omega arith)
     (λ c. omega arith)
-    (λ c. counting_next (the_loop c).loop.invariant (omega arith) c.if-kinds-i.false c.one_if-n.ensures.0 c.one_if-n.ensures.1)
+    (λ c. counting_next c.loop-i.invariant (omega arith) c.if-kinds-i.false c.one_if-n.ensures.0 c.one_if-n.ensures.1)
     (λ c. counting_end c.loop-i.invariant c.loop-i-test.false))

@@ -19,20 +19,6 @@ invariant_loop text from to out₀ at next₀ i₀ out next i =
 abbrev decreases_loop : tie.decreases-loop-i
 decreases_loop text from to out₀ at next₀ i₀ out next i = to - i
 
--- the start, from the loop; the loop, from where a character is found; where it was found, from where it is known
-abbrev start : tie.At-loop-i invariant_loop decreases_loop → tie.Start invariant_loop decreases_loop
-start c = c.before.before.before
-
-abbrev the_loop : tie.After-character_at invariant_loop decreases_loop → tie.At-loop-i invariant_loop decreases_loop
-the_loop c = c.before.before
-
-abbrev taking : tie.In-Whole invariant_loop decreases_loop → tie.After-character_at invariant_loop decreases_loop
-taking c = c.before.before.before
-
--- the bytes from that character on
-abbrev text_left : tie.In-Whole invariant_loop decreases_loop → List ℕ
-text_left c = let round = the_loop (taking c) in drop round.loop.i (start round).args.text.now
-
 pub put_characters_spec : {M : Type 1} → statement M
 put_characters_spec =
     tie.close
@@ -48,44 +34,37 @@ put_characters_spec =
     (λ c. search rules)
     (λ c. search rules)
     (λ c.
-    let found = c.before.before in
-    let round = (the_loop found).loop in (
-      round.inv.1,
-      omega (arith, round.inv.0, round.inv.2),
-      λ cs h. spelling_broken (round.inv.4 cs h) (omega arith) found.character_at.ensures c.enum_told-1.given.1,
+    let round = c.loop-i in (
+      round.invariant.1,
+      omega (arith, round.invariant.0, round.invariant.2),
+      λ cs h. spelling_broken (round.invariant.4 cs h) (omega arith) c.character_at.ensures c.in-Broken.is,
     ))
     (λ c. search rules)
-    (λ c κs. omega (arith, (the_loop (taking c)).loop.inv.0))
-    (λ c. let known = c.before in omega (
+    (λ c κs. omega (arith, c.loop-i.invariant.0))
+    (λ c. omega (
       arith,
-      (the_loop (taking known)).loop.inv.0,
-      (whole_width (text_left known) (taking known).character_at.ensures known.c-1.given.1).1,
+      c.loop-i.invariant.0,
+      (whole_width (drop c.loop-i.i c.args.text.now) c.character_at.ensures c.in-Whole.is).1,
     ))
-    (λ c κs. let known = c.before in omega (
+    (λ c κs. omega (
       arith,
-      (the_loop (taking known)).loop.inv.0,
-      (whole_width (text_left known) (taking known).character_at.ensures known.c-1.given.1).1,
+      c.loop-i.invariant.0,
+      (whole_width (drop c.loop-i.i c.args.text.now) c.character_at.ensures c.in-Whole.is).1,
     ))
-    (λ c κs.
-    let round = the_loop (taking c.before.before.before) in
-    omega (arith, round.loop.inv.0, round.loop.inv.2, (start round).pre.0))
-    (λ c. let known = c.before.before.before.before.before.before in
-    omega (arith, (the_loop (taking known)).loop.inv.0, (whole_width (text_left known) (taking known).character_at.ensures known.c-1.given.1).1))
-    (λ c. let known = c.before.before.before.before.before.before in
-    omega (arith, (whole_width (text_left known) (taking known).character_at.ensures known.c-1.given.1).0))
+    (λ c κs. omega (arith, c.loop-i.invariant.0, c.loop-i.invariant.2, c.requires.0))
+    (λ c. omega (arith, c.loop-i.invariant.0, (whole_width (drop c.loop-i.i c.args.text.now) c.character_at.ensures c.in-Whole.is).1))
+    (λ c. omega (arith, (whole_width (drop c.loop-i.i c.args.text.now) c.character_at.ensures c.in-Whole.is).0))
     (λ c.
     let put = c.put_six-next in
-    let out-kept = put.auto.1.1.1.1.1.1.0 in
-    let second = c.before.before.before.before in
-    let known = c.before.before.before.before.before.before in
-    let round = (the_loop (taking known)).loop in
-    let wide = (whole_width (text_left known) (taking known).character_at.ensures known.c-1.given.1) in (
-      omega (arith, wide.1, (start (the_loop (taking known))).pre.2),
-      omega (arith, round.inv.1, put.ensures.0),
-      omega (arith, round.inv.2, put.ensures.0, wide.0),
-      out-kept ∙ round.inv.3,
-      λ cs h. spelling_next (round.inv.4 cs h) (omega arith) (taking known).character_at.ensures known.c-1.given.1
-          (rw (second.word.ensures, second.word-in-Whole.ensures) at put.ensures.1),
+    let out-kept = put.auto.out in
+    let round = c.loop-i in
+    let wide = (whole_width (drop c.loop-i.i c.args.text.now) c.character_at.ensures c.in-Whole.is) in (
+      omega (arith, wide.1, c.requires.2),
+      omega (arith, round.invariant.1, put.ensures.0),
+      omega (arith, round.invariant.2, put.ensures.0, wide.0),
+      out-kept ∙ round.invariant.3,
+      λ cs h. spelling_next (round.invariant.4 cs h) (omega arith) c.character_at.ensures c.in-Whole.is
+          (rw (c.word.ensures, c.word-in-Whole.ensures) at put.ensures.1),
     ))
     (λ c. search rules)
     (λ c.

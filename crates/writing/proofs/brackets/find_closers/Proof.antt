@@ -15,13 +15,6 @@ invariant_loop kinds closers₀ i₀ closers i = (i ≤ length kinds) × (length
 abbrev decreases_loop : tie.decreases-loop-i
 decreases_loop kinds closers₀ i₀ closers i = i
 
--- the start, from the loop; the loop, from where a place is written
-abbrev start : tie.At-loop-i invariant_loop decreases_loop → tie.Start invariant_loop decreases_loop
-start c = c.before.before.before
-
-abbrev the_loop : tie.After-short invariant_loop decreases_loop → tie.At-loop-i invariant_loop decreases_loop
-the_loop c = c.before.before.before.before.before
-
 pub find_closers_spec : {M : Type 1} → statement M
 find_closers_spec =
     tie.close
@@ -35,19 +28,17 @@ find_closers_spec =
     (λ c.
     let the_loop = c.loop-i in
     omega (arith, the_loop.invariant.0))
-    (λ c κs. let round = c.before.before.before in ((start round).requires.1, omega (arith, round.loop.invariant.0)))
+    (λ c κs. (c.requires.1, omega (arith, c.loop-i.invariant.0)))
     (λ c κs. c.closer_before-place.ensures.0)
     (λ c. search rules)
-    (λ c. let round = the_loop c in omega (arith, round.loop.inv.0, round.loop.inv.1, (start round).pre.0))
+    (λ c. omega (arith, c.loop-i.invariant.0, c.loop-i.invariant.1, c.requires.0))
     (λ c. omega arith)
     (λ c.
-    let round = the_loop c in
-    let inv = round.loop.inv in
-    let begun = start round in
-    let found = c.closer_before-place.ensures.1 begun.args.kinds.now refl refl (λ j m l. inv.2 j (omega (arith, m)) l) in (
+    let inv = c.loop-i.invariant in
+    let found = c.closer_before-place.ensures.1 c.args.kinds.now refl refl (λ j m l. inv.2 j (omega (arith, m)) l) in (
       omega (arith, inv.0),
-      length-set round.loop.closers _ _ ∙ inv.1,
-      from_set round.loop.closers (closer_of begun.args.kinds.now) (omega arith) (omega (arith, inv.0, inv.1, begun.requires.0))
+      length-set c.loop-i.closers _ _ ∙ inv.1,
+      from_set c.loop-i.closers (closer_of c.args.kinds.now) (omega arith) (omega (arith, inv.0, inv.1, c.requires.0))
           (c.short.ensures ∙ found) inv.2,
     ))
     (λ c. c.loop-i.invariant.1)

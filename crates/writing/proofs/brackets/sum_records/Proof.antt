@@ -20,14 +20,6 @@ invariant_loop text kinds starts ends sums₀ sum₀ i₀ sums sum i =
 abbrev decreases_loop : tie.decreases-loop-i
 decreases_loop text kinds starts ends sums₀ sum₀ i₀ sums sum i = i
 
--- the loop, from where a number is written
-abbrev the_loop : tie.After-token_weight-sum invariant_loop decreases_loop → tie.At-loop-i invariant_loop decreases_loop
-the_loop c = c.before.before.before.before.before.before
-
--- the call
-abbrev the_start : tie.At-loop-i invariant_loop decreases_loop → tie.Start invariant_loop decreases_loop
-the_start c = c.before.before.before.before.before.before
-
 pub sum_records_spec : {M : Type 1} → statement M
 sum_records_spec =
     tie.close
@@ -45,25 +37,22 @@ sum_records_spec =
     (λ c κs. search rules)
     (λ c κs. search rules)
     (λ c κs. (c.short_at.ensures.1, c.short_at-in-loop-i.ensures.1))
-    (λ c. let round = the_loop c in omega (arith, round.loop.inv.0, round.loop.inv.1, c.token_weight-sum.ensures.0, (the_start round).pre.1))
+    (λ c. omega (arith, c.loop-i.invariant.0, c.loop-i.invariant.1, c.token_weight-sum.ensures.0, c.requires.1))
     (λ c. search rules)
-    (λ c. let round = the_loop c in omega (arith, round.loop.inv.0, round.loop.inv.2, (the_start round).pre.0))
+    (λ c. omega (arith, c.loop-i.invariant.0, c.loop-i.invariant.2, c.requires.0))
     (λ c. omega arith)
     (λ c.
     let the_short_at = c.short_at in
-    let round = the_loop c in
-    let inv = round.loop.inv in
-    let start = the_start round in
-    let called = c.before.before.before.before in (
+    let inv = c.loop-i.invariant in (
       omega (arith, inv.0),
       omega (arith, inv.0, inv.1, c.token_weight-sum.ensures.0),
-      length-set round.loop.sums _ _ ∙ inv.2,
+      length-set c.loop-i.sums _ _ ∙ inv.2,
       λ ts h st.
-          let sum = sum_next h {i = round.loop.i} start.args.text.now (omega arith) (omega (arith, inv.0)) st the_short_at.ensures.0
-          c.short_at-in-loop-i.ensures.0 called.called_at-called.ensures
+          let sum = sum_next h {i = c.loop-i.i} c.args.text.now (omega arith) (omega (arith, inv.0)) st the_short_at.ensures.0
+          c.short_at-in-loop-i.ensures.0 c.called_at-called.ensures
           c.token_weight-sum.ensures.1 (inv.3 ts h st).0 in (
             sum,
-            from_set round.loop.sums (sum_of start.args.kinds.now ts) (omega arith) (omega (arith, inv.0, inv.2, start.requires.0))
+            from_set c.loop-i.sums (sum_of c.args.kinds.now ts) (omega arith) (omega (arith, inv.0, inv.2, c.requires.0))
                 sum (inv.3 ts h st).1,
           ),
     ))

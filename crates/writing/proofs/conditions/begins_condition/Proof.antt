@@ -1,5 +1,4 @@
 -- One law for each return.
-use borrow.Author.Tests.{not-true, not-false}
 use Rattle.writing.proofs.ConditionLaws.{comma_outside, comma_inside}
 use Rattle.writing.proofs.conditions.begins_condition.Statement.{statement}
 use Rattle.writing.proofs.conditions.begins_condition.Tie as tie

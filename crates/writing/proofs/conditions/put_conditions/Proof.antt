@@ -30,19 +30,17 @@ put_conditions_spec =
     decreases_loop
     (λ c. rounds_start)
     (λ c κs.
-    let round = c.before.before in
-    let inv = round.loop.invariant in
-    let asked = round.requires in
+    let inv = c.loop-i.invariant in
+    let asked = c.requires in
     (omega (arith, inv.high, asked.0, asked.1), omega arith, asked.1))
     (λ c. omega arith)
     (λ c κs. search rules)
     (λ c. omega arith)
     (λ c. omega arith)
     (λ c.
-    let done = c.before.before.before.before in
-    let put = done.put_condition-next in
-    let out-kept = put.auto.1.1.1.1.1.1.0 in
-    let round = done.loop-i in
+    let put = c.put_condition-next in
+    let out-kept = put.auto.out in
+    let round = c.loop-i in
     rounds_next round.invariant (λ ts. at_first (conditions_at round.inside) (drop round.i ts)) _ (omega arith) put.ensures.0 put.ensures.1 out-kept
     (λ ts h. conditions_step h.0 round.inside round.i (omega arith) c.within_after-inside.ensures)
     (λ ts h. put.ensures.2 ts h.0 h.1))

@@ -35,7 +35,7 @@ put_functions_spec =
     (λ c.
     let round = c.loop-i in
     let put = c.put_function-next in
-    let out-kept = put.auto.1.1.1.1.0 in
+    let out-kept = put.auto.out in
     rounds_next round.invariant (λ ts. at_first functions_at (drop round.i ts)) _ (omega arith) put.ensures.0 put.ensures.1 out-kept
     (λ ts h. functions_step h round.i (omega arith))
     put.ensures.2)

@@ -27,7 +27,5 @@ character_count_spec =
     let the_loop = c.loop-i in
     omega (arith, the_loop.invariant.low))
     (λ c. omega arith)
-    (λ c.
-    let round = c.before.before.before.before in
-    starts_next round.loop.invariant round.requires.1 (omega arith) (omega arith) c.start_here-n.ensures.0 c.start_here-n.ensures.1)
+    (λ c. starts_next c.loop-i.invariant c.requires.1 (omega arith) (omega arith) c.start_here-n.ensures.0 c.start_here-n.ensures.1)
     (λ c. starts_end c.loop-i.invariant c.loop-i-test.false))

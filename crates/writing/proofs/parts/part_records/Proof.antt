@@ -22,13 +22,6 @@ invariant_loop text kinds starts ends from n₀ calling₀ i₀ n calling i =
 abbrev decreases_loop : tie.decreases-loop-i
 decreases_loop text kinds starts ends from n₀ calling₀ i₀ n calling i = length kinds - i
 
--- the start, from the loop; the loop, from where a token's records are counted
-abbrev start : tie.At-loop-i invariant_loop decreases_loop → tie.Start invariant_loop decreases_loop
-start c = c.before.before.before.before.before
-
-abbrev the_loop : tie.After-token_weight-n invariant_loop decreases_loop → tie.At-loop-i invariant_loop decreases_loop
-the_loop c = c.before.before.before.before.before.before.before
-
 pub part_records_spec : {M : Type 1} → statement M
 part_records_spec =
     tie.close
@@ -45,17 +38,15 @@ part_records_spec =
     (λ c κs. search rules)
     (λ c κs. search rules)
     (λ c κs. (c.short_at.ensures.1, c.short_at-in-loop-i.ensures.1))
-    (λ c. let round = (the_loop c).loop in omega (arith, round.inv.0, round.inv.1, c.token_weight-n.ensures.0))
-    (λ c. omega (arith, (the_loop c).loop.invariant.0))
+    (λ c. let round = c.loop-i in omega (arith, round.invariant.0, round.invariant.1, c.token_weight-n.ensures.0))
+    (λ c. omega (arith, c.loop-i.invariant.0))
     (λ c. omega arith)
     (λ c.
     let the_short_at = c.short_at in
-    let round = (the_loop c).loop in
-    let begun = start (the_loop c) in
-    let parted = c.before.before.before in (
-      omega (arith, begun.requires.1),
-      omega (arith, round.inv.1, c.token_weight-n.ensures.0),
-      λ ts h st. records_next h begun.args.text.now round.n round.calling st (omega arith) parted.parts_terms.ensures parted.if-parts_terms.false
-          the_short_at.ensures.0 c.short_at-in-loop-i.ensures.0 c.token_weight-n.ensures.1 (round.inv.2 ts h st),
+    let round = c.loop-i in (
+      omega (arith, c.requires.1),
+      omega (arith, round.invariant.1, c.token_weight-n.ensures.0),
+      λ ts h st. records_next h c.args.text.now round.n round.calling st (omega arith) c.parts_terms.ensures c.if-parts_terms.false
+          the_short_at.ensures.0 c.short_at-in-loop-i.ensures.0 c.token_weight-n.ensures.1 (round.invariant.2 ts h st),
     ))
     (λ c. let round = c.loop-i in λ ts h st. records_end h round.calling c.loop-i-test.false (round.invariant.2 ts h st)))

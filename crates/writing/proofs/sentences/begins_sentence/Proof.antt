@@ -1,5 +1,4 @@
 -- One law for each return.
-use borrow.Author.Tests.{not-true, not-false}
 use Rattle.writing.proofs.SentenceLaws.{begins_closed, begins_braced, begins_outside, begins_parted}
 use Rattle.writing.proofs.sentences.begins_sentence.Statement.{statement}
 use Rattle.writing.proofs.sentences.begins_sentence.Tie as tie

@@ -1,7 +1,6 @@
 -- No record where no sentence begins, else the one that is found from its first token on.
 use native.Mathlib.Omega.{arith}
 use borrow.Author.Rules.{rules}
-use borrow.Author.Tests.{not-true, not-false}
 use Rattle.writing.proofs.SectionLaws.{put_no_record, put_record}
 use Rattle.writing.proofs.SentenceLaws.{sentence_none, sentence_found}
 use Rattle.writing.proofs.sentences.put_sentence.Statement.{statement}

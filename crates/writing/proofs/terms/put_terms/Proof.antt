@@ -22,10 +22,6 @@ invariant_loop text kinds starts ends closers sums out₀ at next₀ state₀ i�
 abbrev decreases_loop : tie.decreases-loop-i
 decreases_loop text kinds starts ends closers sums out₀ at next₀ state₀ i₀ out next state i = length kinds - i
 
--- the call, from the loop
-abbrev begun : tie.At-loop-i invariant_loop decreases_loop → tie.Start invariant_loop decreases_loop
-begun c = c.before.before.before.before.before.before.before.before
-
 pub put_terms_spec : {M : Type 1} → statement M
 put_terms_spec =
     tie.close
@@ -34,19 +30,17 @@ put_terms_spec =
     decreases_loop
     (λ c. rounds_start)
     (λ c κs.
-    let round = c.before.before in
-    let inv = round.loop.invariant in
-    let asked = (begun round).requires in
+    let inv = c.loop-i.invariant in
+    let asked = c.requires in
     (omega (arith, inv.high, asked.0, asked.1.0), omega arith, asked.1, asked.2))
     (λ c. omega arith)
     (λ c κs. search rules)
     (λ c. omega arith)
     (λ c. omega arith)
     (λ c.
-    let done = c.before.before.before.before in
-    let put = done.put_term-next in
-    let out-kept = put.auto.1.1.1.1.1.1.1.1.0 in
-    let round = done.loop-i in
+    let put = c.put_term-next in
+    let out-kept = put.auto.out in
+    let round = c.loop-i in
     rounds_next round.invariant (λ ts. at_first (terms_at (where_of round.state)) (drop round.i ts)) _ (omega arith) put.ensures.0
     put.ensures.1 out-kept
     (λ ts h. terms_step h.0.held (where_of round.state) round.i (omega arith) c.where_after-state.ensures)
@@ -54,7 +48,7 @@ put_terms_spec =
     (λ c. search rules)
     (λ c.
     let round = c.loop-i in
-    let asked = (begun c.before).pre in
+    let asked = c.requires in
     let ended = rounds_end round.invariant asked.1.0
     (λ ts h. ap (flat_terms (where_of round.state)) (none_left h.0.held round.i c.loop-i-test.false)) in
     (ended.0, ended.1, λ ts h st. ended.2 ts (h, st))))

@@ -8,25 +8,19 @@ use Rattle.writing.proofs.TermLaws.{terms_length}
 use Rattle.writing.proofs.terms.term_section.Statement.{statement}
 use Rattle.writing.proofs.terms.term_section.Tie as tie
 
--- the call, from where the last array is known
-abbrev begun : tie.After-slice_known-3-1 → tie.Start
-begun c = c.before.before.before.before.before.before.before
-
 pub term_section_spec : {M : Type 1} → statement M
 term_section_spec =
     tie.close
     (tie.spec
-    (λ c κs. let asked = (begun c.before).requires in (asked.1.1, asked.1.0))
+    (λ c κs. let asked = c.requires in (asked.1.1, asked.1.0))
     (λ c κs.
-    let earlier = c.before.before.before.before.before in
-    let asked = (begun (earlier)).requires in (asked.1.2, asked.1.0))
+    let asked = c.requires in (asked.1.2, asked.1.0))
     (λ c. search rules)
     (λ c κs.
     let summed = c.sum_records in
-    let sums_kept = summed.auto.1.1.1.1.0 in
-    let closed = c.before.before.before.before.before.before.before.before.before in
-    let asked = (begun closed.before.before).requires in
-    (omega (arith, asked.0), (asked.1.0, omega (arith, asked.1.1, closed.find_closers.auto.1.0), omega (arith, asked.1.2, sums_kept)), asked.2))
+    let sums_kept = summed.auto.sums in
+    let asked = c.requires in
+    (omega (arith, asked.0), (asked.1.0, omega (arith, asked.1.1, c.find_closers.auto.closers), omega (arith, asked.1.2, sums_kept)), asked.2))
     (λ c. search rules)
     (λ c κs. search rules)
     (λ c κs. search rules)
@@ -35,12 +29,10 @@ term_section_spec =
     (λ c. search rules)
     (λ c.
     let count = c.put_word in
-    let number = c.before.before.before.before in
-    let put = number.before.before.before in
-    let summed = put.sum_records in
-    let closed = put.find_closers in (
-      omega (arith, put.put_terms-end.ensures.1),
+    let summed = c.sum_records in
+    let closed = c.find_closers in (
+      omega (arith, c.put_terms-end.ensures.1),
       λ ts h st.
-          section_24 (flat_terms outside ts) (put.put_terms-end.ensures.2 ts (nested h closed.ensures (summed.ensures ts h st)) st) count.ensures
-          (terms_length ts) number.word-count.ensures,
+          section_24 (flat_terms outside ts) (c.put_terms-end.ensures.2 ts (nested h closed.ensures (summed.ensures ts h st)) st) count.ensures
+          (terms_length ts) c.word-count.ensures,
     )))

@@ -48,11 +48,11 @@ put_file_spec =
     let second = third.before.before.before.before in
     let first = second.before.before.before.before in
     let size = first.before.before.before.before in
-    let out-by-terms = last.term_section.auto.1.1.1.1.1.1.0 in
-    let out-by-conditions = fourth.condition_section-fourth.auto.1.1.1.1.0 in
-    let out-by-sentences = third.sentence_section-third.auto.1.1.1.1.0 in
-    let out-by-functions = second.function_section-second.auto.1.1.1.0 in
-    out-by-terms ∙ out-by-conditions ∙ out-by-sentences ∙ out-by-functions ∙ first.put-first.auto.1.0 ∙ size.put_word-size.auto.1.0)
+    let out-by-terms = last.term_section.auto.out in
+    let out-by-conditions = fourth.condition_section-fourth.auto.out in
+    let out-by-sentences = third.sentence_section-third.auto.out in
+    let out-by-functions = second.function_section-second.auto.out in
+    out-by-terms ∙ out-by-conditions ∙ out-by-sentences ∙ out-by-functions ∙ first.put-first.auto.out ∙ size.put_word-size.auto.out)
     (λ c ts h st.
     let last = c.before.before.before.before.before.before in
     let fourth = last.before.before.before.before.before.before in
