@@ -76,6 +76,7 @@ FIRST = [
      INVARIANT_MATCHES.replace("run_matches}", "run_matches, all_or_first}")
      + """
 use mathlib.Core.Bool.{false}
+use mathlib.Core.List.Memᴰ
 use mathlib.Core.Logic.{◌⊎◌, inl, inr}"""),
     (INVARIANT, NOT_NONE, FIRST_KINDED + NOT_NONE),
 ]

@@ -1,6 +1,6 @@
-// The five calls for programs in other languages, as functions of C. A slice crosses as a pointer and a number of elements. The first four return 0 or a
-// refusal's number; what they answer stands in lent words, which keep their values where a call is refused. The last refuses nothing and returns its answer.
-// include/bilzarko.h says what stack a call is given, and that the first three can take for ever.
+// The five calls for programs in other languages, which the crate `bilzarko_c` exports as functions of C. A slice crosses as a pointer and a number of elements.
+// The first four return 0 or a refusal's number; what they answer stands in lent words, which keep their values where a call is refused. The last refuses
+// nothing and returns its answer. include/bilzarko.h says what stack a call is given, and that the first three can take for ever.
 #![tactic(auto)]
 
 ghost use Rattle.std.specs.Prelude.{◌≡◌, cond};
@@ -22,8 +22,7 @@ fn settled_word(settled: bool) -> u64
 }
 
 // Lists the findings of a law, eight words each, and its formats in the store. `answer` is the number of findings, the rounds, and 1 for settled or 0.
-#[unsafe(no_mangle)]
-pub extern "C" fn bilzarko_findings(
+pub fn bilzarko_findings(
     mode: u32,
     overrides: &[u32],
     law: &[u8],
@@ -44,8 +43,7 @@ pub extern "C" fn bilzarko_findings(
 }
 
 // Writes the text of the finding at a position, and the law's formats in the store. `answer` is the number of bytes written.
-#[unsafe(no_mangle)]
-pub extern "C" fn bilzarko_text(
+pub fn bilzarko_text(
     mode: u32,
     overrides: &[u32],
     law: &[u8],
@@ -67,8 +65,7 @@ pub extern "C" fn bilzarko_text(
 }
 
 // Writes the page of a law's findings, and its formats in the store. `answer` is the number of bytes written.
-#[unsafe(no_mangle)]
-pub extern "C" fn bilzarko_page(
+pub fn bilzarko_page(
     mode: u32,
     overrides: &[u32],
     law: &[u8],
@@ -89,8 +86,7 @@ pub extern "C" fn bilzarko_page(
 }
 
 // Reads a law typed as text, and writes its law file. `answer` is the number of bytes written.
-#[unsafe(no_mangle)]
-pub extern "C" fn bilzarko_read(text: &[u8], law: &mut [u8], answer: &mut u64) -> u32
+pub fn bilzarko_read(text: &[u8], law: &mut [u8], answer: &mut u64) -> u32
     ensures { ◌≡◌ {A = ReadExit} (record { number = result; law = law.new; answer = answer.new })
         (read_exit answer.old (read_outcome text.now law.old)) }
 {
@@ -116,8 +112,7 @@ fn tested_number(answer: Tested) -> u32
 
 // Takes one more digit of a number: 1 where the value of the digits so far is at most 4294967295, 0 where it is past that, 2 where the byte is no digit.
 // The state before the first digit is 0.
-#[unsafe(no_mangle)]
-pub extern "C" fn bilzarko_digit(state: &mut u64, digit: u8) -> u32
+pub fn bilzarko_digit(state: &mut u64, digit: u8) -> u32
     ensures { ◌≡◌ {A = DigitExit} (record { number = result; state = state.new }) (digit_exit (step_of state.old digit)) }
 {
     let step = digit_step(*state, digit);

@@ -141,8 +141,8 @@ unfolding judged
 judged_cases formats c r m = go (disjoint_formats (of (passed formats c)) (accepted formats c)) refl m
   where
     literal : Memᴰ r (remark c (by_literals c.name) ∷ []) → is_literal c.argument ≡ true → (r.subject ≡ c.mark) × Judged formats c r
-    literal (Memᴰ.tail m) h = elim m [ ]
     literal (Memᴰ.head e) h = (ap (λ y. y.subject) e, literally (ap (λ y. y.claim) e) h)
+    literal (Memᴰ.tail m) h = elim m [ ]
 
     go : (b : Bool) → disjoint_formats (of (passed formats c)) (accepted formats c) ≡ b
         → Memᴰ r
@@ -151,6 +151,7 @@ judged_cases formats c r m = go (disjoint_formats (of (passed formats c)) (accep
         (when (is_literal c.argument) (remark c (by_literals c.name) ∷ [])))
         → (r.subject ≡ c.mark) × Judged formats c r
     go true h (Memᴰ.head e) = (ap (λ y. y.subject) e, apart (ap (λ y. y.claim) e) h)
+    go true h (Memᴰ.tail m) = elim m [ ]
     go false h i =
         let (is_it, j) = in_when (is_literal c.argument) (remark c (by_literals c.name) ∷ []) i in
         literal j is_it

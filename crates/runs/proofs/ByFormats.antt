@@ -37,9 +37,18 @@ use Rattle.lints.proofs.Defined.{definition_in, undefined_name}
 -- a variable's value before the rest
 variable_admitted : (k : Kind) (u : Expression) (f : Shapes) (w : Expression) → OfKind any_literal any_literal k u → Admits f w
     → Admits (variable_shapes k f) (u ⊕ w)
+variable_admitted symbol_kind nothing f w h g = elim h [ ]
 variable_admitted symbol_kind (symbol a nothing) f w h g = (tt, g)
+variable_admitted symbol_kind (symbol a (symbol _ _)) f w h g = elim h [ ]
+variable_admitted symbol_kind (symbol a (brackets _ _)) f w h g = elim h [ ]
+variable_admitted symbol_kind (brackets c _) f w h g = elim h [ ]
+variable_admitted term_kind nothing f w h g = elim h [ ]
 variable_admitted term_kind (symbol a nothing) f w h g = (tt, g)
+variable_admitted term_kind (symbol a (symbol _ _)) f w h g = elim h [ ]
+variable_admitted term_kind (symbol a (brackets _ _)) f w h g = elim h [ ]
 variable_admitted term_kind (brackets c nothing) f w h g = (tt, g)
+variable_admitted term_kind (brackets c (symbol _ _)) f w h g = elim h [ ]
+variable_admitted term_kind (brackets c (brackets _ _)) f w h g = elim h [ ]
 variable_admitted expression_kind u f w h g = tt
 
 -- what a call of a folded name can come to, by a table: anything, where no function has the name

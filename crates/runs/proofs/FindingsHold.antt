@@ -9,7 +9,7 @@ use mathlib.Core.Option.{some}
 use mathlib.Core.Path.{◌≡◌, sym, ap, ◌∙◌}
 use native.Mathlib.Omega.{arith}
 use Rattle.file.specs.Answer.{given}
-use Rattle.law.specs.Tree.{Sentences, sentence, Law}
+use Rattle.law.specs.Tree.{Sentences, no_sentence, sentence, Law}
 use Rattle.law.specs.Definition.{definition}
 use Rattle.law.specs.Expression.{Expression}
 use Rattle.matching.specs.Match.{some_in}
@@ -37,10 +37,12 @@ use Rattle.lints.proofs.CallsIn.{call_at, block_after_functions}
 -- ---- dead sentences
 
 among_record : (P : ℕ → Type 0) (ss : Sentences) → EachRecord P ss → (i : ℕ) → IsAmong i ss → P i
+among_record P no_sentence h i j = elim j [ ]
 among_record P (sentence m p cs r ss) h i (inl e) = rw e at h.0
 among_record P (sentence m p cs r ss) h i (inr j) = among_record P ss h.1 i j
 
 function_record_lem : (P : ℕ → Type 0) (law : Law) → EachFunction (λ d. EachRecord P d.sentences) law → (i : ℕ) → OfFunction law i → P i
+function_record_lem P [] h i j = elim j [ ]
 function_record_lem P (f ∷ fs) h i (inl j) = among_record P f.sentences h.0 i j
 function_record_lem P (f ∷ fs) h i (inr j) = function_record_lem P fs h.1 i j
 
@@ -82,6 +84,7 @@ module _ (law : Law) (labels : Labelled law) where
 
 -- where no sentence matches, none is recognised
 none_recognised : (ss : Sentences) (v : Expression) → NoneMatches ss v → Recognises ss v → ⊥
+none_recognised no_sentence v h k = elim k [ ]
 none_recognised (sentence m p cs r ss) v h (inl e) = false_not_true (sym (ap some_in h.0) ∙ e)
 none_recognised (sentence m p cs r ss) v h (inr k) = none_recognised ss v h.1 k
 

@@ -6,7 +6,7 @@ use mathlib.Core.Logic.{◌⊎◌, inl, inr}
 use mathlib.Core.Option.{Option, some, none, none-ne-some}
 use mathlib.Core.Path.{◌≡◌, refl, sym, ap, ◌∙◌}
 use native.Mathlib.Omega.{arith}
-use Rattle.law.specs.Tree.{Mark, Run, Sentences, no_sentence, sentence, Conditions, no_condition, Function, Law}
+use Rattle.law.specs.Tree.{Mark, Run, Sentences, no_sentence, sentence, Conditions, no_condition, condition, Function, Law}
 use Rattle.law.specs.Expression.{Expression}
 use Rattle.matching.specs.Pattern.{Pattern, pattern_of}
 use Rattle.matching.specs.Match.{none_bound, some_in, run_matches}
@@ -53,6 +53,8 @@ unmatched_after earlier cs n p v h k e m = go cs k (mathlib.Core.List.Memᴰ.app
         → Memᴰ e earlier ⊎ Memᴰ e (unconditional cs n p) → run_matches e.pattern v none_bound ≡ []
     go cs k (inl i) = h e i
     go no_condition k (inr (mathlib.Core.List.Memᴰ.head q)) = rw q (k tt)
+    go no_condition k (inr (mathlib.Core.List.Memᴰ.tail i)) = elim i [ ]
+    go (condition _ _ _) k (inr i) = elim i [ ]
 
 -- ---- sentences by record
 
@@ -75,12 +77,15 @@ shadowed_none i earlier n (sentence m p cs r ss) h = ((λ e. absurd (h.0 e)), sh
 
 -- what is said of a sentence by the earliest that shadows it
 said_of : (m : Mark) (n : ℕ) (o : Option ℕ) (x : Remark) → Memᴰ x (dead_by false m n o) → (x.subject ≡ m) × ((k : ℕ) × (o ≡ some k))
+said_of m n none x i = elim i [ ]
 said_of m n (some k) x (mathlib.Core.List.Memᴰ.head e) = (ap (λ y. y.subject) e, (k, refl))
+said_of m n (some k) x (mathlib.Core.List.Memᴰ.tail i) = elim i [ ]
 
 -- the subject of a remark is shadowed wherever its record stands among these sentences
 dead_shadowed : (earlier : List Earlier) (n b : ℕ) (ss : Sentences) → Numbered b ss → (x : Remark) → Memᴰ x (dead_after false [] earlier n ss)
     → (b ≤ x.subject.at) × ShadowedAt x.subject.at earlier n ss
 unfolding dead_after
+dead_shadowed earlier n b no_sentence h x i = elim i [ ]
 dead_shadowed earlier n b (sentence m p cs r ss) h x i =
     go (mathlib.Core.List.Memᴰ.append_cases (dead_by false m n (earliest [] earlier (pattern_of p))) i)
     (dead_shadowed (earlier ++ unconditional cs n p) (suc n) (suc b) ss h.1 x)
@@ -117,6 +122,7 @@ shadowed_before i n (d ∷ ds) l h =
 -- what lint 1 says of a function's own sentence holds wherever its record stands in the law
 pub own_dead_shadowed : (n : ℕ) (law : Law) → NumberedLaw n law → (d : Function) → Memᴰ d law
     → (x : Remark) → Memᴰ x (own_dead d.sentences) → (n ≤ x.subject.at) × ShadowedIn x.subject.at law
+own_dead_shadowed n [] h d m x i = elim m [ ]
 own_dead_shadowed n (f ∷ fs) h d (mathlib.Core.List.Memᴰ.head e) x i =
     let (next, later, below, rest) = h.1 in
     let j : Memᴰ x (own_dead f.sentences) = rw e at i in

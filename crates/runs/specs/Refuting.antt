@@ -25,11 +25,17 @@ IsFalse law words (finished v) = ⊥
 IsFalse law words stopped = ⊥
 
 refuted : (law : Law) (words : List ℕ) (state : State) → Reached law state → IsFalse law words state → NoFalseFinding law words → ⊥
+refuted law words (working r env u k left) reached h claim = elim h [ ]
 refuted law words (called m f v k left) reached (listed, found) claim = go (definition law f) refl found
   where
     go : (o : Option Sentences) → definition law f ≡ o → Recognised o v → ⊥
+    go none e h = elim h [ ]
     go (some ss) e h = claim.recognition m f v k left reached listed ss e h
+refuted law words (entered n ss env v k left) reached h claim = elim h [ ]
+refuted law words (trying t k left) reached h claim = elim h [ ]
 refuted law words (chosen i r env k left) reached h claim = claim.dead i r env k left reached h
+refuted law words (finished v) reached h claim = elim h [ ]
+refuted law words stopped reached h claim = elim h [ ]
 
 -- by a run of a function of the law, on an expression, with answers, after so many steps
 pub shown : {law : Law} {words : List ℕ} {f : Function} → Memᴰ f law → (v : Expression) (answers : List Expression) (n : ℕ)

@@ -16,16 +16,9 @@ bilzarko_findings_spec =
     (λ c. search rules)
     (λ c. search rules)
     (λ c.
-    let at-why = c.before.before in
-    let at_call = c.before.before.before.before.before.before.before.before in
-    let at_start = at_call.before.before.before.before.before.before.before in
-    findings_refused at_start.args.answer.now at_call.findings.ensures at-why.why.given.0.0 at-why.why.given.1 c.turned_number.ensures)
+    findings_refused c.args.answer.now c.findings.ensures c.in-Refused.why c.in-Refused.is c.turned_number.ensures)
     (λ c. search rules)
     (λ c. search rules)
     (λ c.
-    let at_count = c.before.before.before in
-    let listed = at_count.count.given.0 in
-    let at_call = c.before.before.before.before.before.before.before.before.before in
-    let at_start = at_call.before.before.before.before.before.before.before in
-    findings_listed at_start.args.answer.now at_call.findings.ensures listed.0 listed.1.0
-    listed.1.1.0 at_count.count.given.1 c.settled_word.ensures))
+    findings_listed c.args.answer.now c.findings.ensures c.in-Listed.count c.in-Listed.rounds
+    c.in-Listed.settled c.in-Listed.is c.settled_word.ensures))

@@ -15,14 +15,8 @@ bilzarko_page_spec =
     (λ c. search rules)
     (λ c. search rules)
     (λ c.
-    let at-why = c.before.before in
-    let at_call = c.before.before.before.before.before.before.before.before in
-    let at_start = at_call.before.before.before.before.before.before.before in
-    bytes_refused at_start.args.answer.now at_call.page.ensures at-why.why.given.0.0 at-why.why.given.1 c.turned_number.ensures)
+    bytes_refused c.args.answer.now c.page.ensures c.in-Refused.why c.in-Refused.is c.turned_number.ensures)
     (λ c. search rules)
     (λ c. search rules)
     (λ c.
-    let at-bytes = c.before in
-    let at_call = c.before.before.before.before.before.before.before in
-    let at_start = at_call.before.before.before.before.before.before.before in
-    bytes_written at_start.args.answer.now at_call.page.ensures at-bytes.bytes.given.0.0 at-bytes.bytes.given.1))
+    bytes_written c.args.answer.now c.page.ensures c.in-Written.bytes c.in-Written.is))

@@ -14,13 +14,7 @@ bilzarko_read_spec =
     (λ c. search rules)
     (λ c. search rules)
     (λ c.
-    let at-why = c.before.before in
-    let at_call = c.before.before.before.before.before.before in
-    let at_start = at_call.before.before.before.before in
-    read_refused at_start.args.answer.now at_call.read.ensures at-why.why.given.0.0 at-why.why.given.1 c.unread_number.ensures)
+    read_refused c.args.answer.now c.read.ensures c.in-Refused.why c.in-Refused.is c.unread_number.ensures)
     (λ c. search rules)
     (λ c.
-    let at-bytes = c.before in
-    let at_call = c.before.before.before.before.before in
-    let at_start = at_call.before.before.before.before in
-    read_written at_start.args.answer.now at_call.read.ensures at-bytes.bytes.given.0.0 at-bytes.bytes.given.1))
+    read_written c.args.answer.now c.read.ensures c.in-Written.bytes c.in-Written.is))

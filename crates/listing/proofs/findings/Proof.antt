@@ -18,7 +18,7 @@ findings_spec =
     (λ c.
     let the_if1 = c.if-is_empty in
     let the_is_empty = c.is_empty in
-    let start = c.before.before.before.before.before.before.before.before.before.before in
+    let start = c in
     let settings = settings_from start.args.mode start.args.overrides.now in
     let the_none = c.findings_none in
     promise 64 settings start.args.law.now start.args.store.now start.args.words.now _ _ the_none.result
@@ -27,22 +27,22 @@ findings_spec =
     (λ c. search rules)
     (λ c. search rules)
     (λ c κs.
-    let the_enum_told = c.enum_told-1 in
-    let start = c.before.before.before.before.before.before.before.before.before.before.before.before.before in
+    let the_ready = c.in-Ready in
+    let start = c in
     let settings = settings_from start.args.mode start.args.overrides.now in
     let front = c.check_front in
-    front_ready 64 settings start.args.law.now start.args.store.now _ _ (front.ensures.0 _ refl) the_enum_told.given.1)
+    front_ready 64 settings start.args.law.now start.args.store.now _ _ (front.ensures.0 _ refl) the_ready.is)
     (λ c.
-    let start = c.before.before.before.before.before.before.before.before.before.before.before in
+    let start = c in
     let settings = settings_from start.args.mode start.args.overrides.now in
     let front = c.check_front in
-    findings_turned 64 settings start.args.law.now start.args.store.now _ _ (front.ensures.0 _ refl) _ _ c.why.given.1)
+    findings_turned 64 settings start.args.law.now start.args.store.now _ _ (front.ensures.0 _ refl) _ _ c.in-Refused.is)
     (λ c. search rules)
     (λ c. search rules)
-    (λ c. let the_enum_told = c.enum_told-1 in
-    let start = c.before.before.before.before.before.before.before.before.before.before.before.before.before.before.before.before.before.before in
+    (λ c. let the_ready = c.in-Ready in
+    let start = c in
     let settings = settings_from start.args.mode start.args.overrides.now in
     let front = c.check_front in
     let ready = c.findings_ready in
     findings_goes 64 settings start.args.law.now start.args.store.now _ _ (front.ensures.0 _ refl) _ _ _ ready.result
-    the_enum_told.given.1 ready.ensures))
+    the_ready.is ready.ensures))

@@ -16,35 +16,34 @@ findings_gathered_spec =
     (λ c. search rules)
     (λ c. search rules)
     (λ c κs.
-    let start = c.before.before.before.before.before.before.before.before.before.before.before.before.before.before.before.before.before.before.before.before.before in
+    let start = c in
     let settings = settings_from start.args.mode start.args.overrides.now in
     let the_gather = c.gather in
-    let out-kept = the_gather.auto.1.1.1.1.1.1.1.1.0 in
+    let out-kept = the_gather.auto.out in
     let the_slots_of = c.slots_of-slots in
-    let the_count = c.count in (
-      findings_collected settings the_gather.ensures start.requires the_slots_of.ensures _ _ _ the_count.given.1 out-kept,
-      omega (arith, count_fits settings the_gather.ensures start.requires the_slots_of.ensures _ _ _ the_count.given.1),
+    let the_count = c.in-Upto in (
+      findings_collected settings the_gather.ensures start.requires the_slots_of.ensures _ _ _ the_count.is out-kept,
+      omega (arith, count_fits settings the_gather.ensures start.requires the_slots_of.ensures _ _ _ the_count.is),
     ))
     (λ c. search rules)
     (λ c. search rules)
     (λ c.
-    let start = c.before.before.before.before.before.before.before.before.before.before.before.before.before.before.before.before in
+    let start = c in
     let the_gather = c.gather in
-    findings_wide (settings_from start.args.mode start.args.overrides.now) the_gather.ensures _ c.enum_told-1.given.1)
+    findings_wide (settings_from start.args.mode start.args.overrides.now) the_gather.ensures _ c.in-TooWide.is)
     (λ c. search rules)
     (λ c. search rules)
     (λ c.
-    let start = c.before.before.before.before.before.before.before.before.before.before.before.before.before.before.before.before in
+    let start = c in
     let the_gather = c.gather in
-    findings_full (settings_from start.args.mode start.args.overrides.now) the_gather.ensures _ refl c.enum_told-in-Full-1.given.1)
+    findings_full (settings_from start.args.mode start.args.overrides.now) the_gather.ensures _ refl c.in-Full.is)
     (λ c. search rules)
     (λ c. search rules)
     (λ c. search rules)
-    (λ c. let the_count = c.count in
-    let at-slots-of = c.before.before.before.before.before.before.before.before.before.before.before.before.before.before.before.before.before.before in
-    let start = at-slots-of.before.before.before.before.before.before in
+    (λ c. let the_count = c.in-Upto in
+    let start = c in
     let settings = settings_from start.args.mode start.args.overrides.now in
     let the_gather = c.gather in
-    let the_slots_of = at-slots-of.slots_of-slots in
-    findings_listed settings the_gather.ensures start.requires the_slots_of.ensures _ _ _ the_count.given.1 _ _ refl
+    let the_slots_of = c.slots_of-slots in
+    findings_listed settings the_gather.ensures start.requires the_slots_of.ensures _ _ _ the_count.is _ _ refl
     c.hand_over.ensures))

@@ -13,23 +13,23 @@ hand_over_spec =
     (λ c κs. search rules)
     (λ c. search rules)
     (λ c.
-    let start = c.before.before.before.before.before.before.before.before.before.before in
+    let start = c in
     let settings = settings_from start.args.mode start.args.overrides.now in
     again settings start.requires.0 start.args.words.now start.requires.1 _ _ _ refl c.lint_all.ensures)
     (λ c.
-    let start = c.before.before.before.before.before.before.before in
+    let start = c in
     own_part (settings_from start.args.mode start.args.overrides.now) start.requires.0 start.args.words.now start.requires.1 c.if-own-end.false)
     (λ c. search rules)
     (λ c.
-    let start = c.before.before.before.before.before.before.before.before in
+    let start = c in
     words_part (settings_from start.args.mode start.args.overrides.now) start.requires.0 start.args.words.now start.requires.1)
     (λ c κs.
-    let start = c.before.before.before.before.before.before.before.before in
+    let start = c in
     let settings = settings_from start.args.mode start.args.overrides.now in
     sym (own_part settings start.requires.0 start.args.words.now start.requires.1 c.if-own-end.false)
     ∙ words_part settings start.requires.0 start.args.words.now start.requires.1)
     (λ c. search rules)
     (λ c. let the_if1 = c.if-own-end in
-    let start = c.before.before.before.before.before.before.before.before.before.before.before in
+    let start = c in
     let settings = settings_from start.args.mode start.args.overrides.now in
     handed settings start.requires.0 start.args.words.now start.requires.1 _ the_if1.false c.copy_words.ensures))

@@ -25,13 +25,13 @@ pub loop-i-preserved : goal.loop-i-preserved
 loop-i-preserved c = (
   omega (arith, c.if-later-i.false),
   elim c.else-conditions-eq0.branch [
-      else-conditions-eq0-via-then-conditions-eq0+else-shadow_sentences w ↦
-      laws.again_pattern c.requires.0 _ _ c.loop-i.i _ _ c.requires.2 (omega (arith, c.if-later-i.false))
-      c.first_condition.ensures c.first_condition-in-loop-i.ensures w.if-conditions-eq0.true w.shadow_sentences.ensures
-      w.if-shadow_sentences.false c.loop-i.invariant.1
+    | else-conditions-eq0-via-then-conditions-eq0+else-shadow_sentences w ↦
+        laws.again_pattern c.requires.0 _ _ c.loop-i.i _ _ c.requires.2 (omega (arith, c.if-later-i.false))
+        c.first_condition.ensures c.first_condition-in-loop-i.ensures w.if-conditions-eq0.true w.shadow_sentences.ensures
+        w.if-shadow_sentences.false c.loop-i.invariant.1
     | else-conditions-eq0-via-else-conditions-eq0 w ↦
-      laws.again_conditions c.requires.0 _ _ c.loop-i.i _ _ c.requires.2 (omega (arith, c.if-later-i.false))
-      c.first_condition.ensures c.first_condition-in-loop-i.ensures w.if-conditions-eq0.false c.loop-i.invariant.1
+        laws.again_conditions c.requires.0 _ _ c.loop-i.i _ _ c.requires.2 (omega (arith, c.if-later-i.false))
+        c.first_condition.ensures c.first_condition-in-loop-i.ensures w.if-conditions-eq0.false c.loop-i.invariant.1
   ],
 )
 

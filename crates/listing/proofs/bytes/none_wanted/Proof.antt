@@ -13,10 +13,9 @@ none_wanted_spec =
     (λ c κs. search rules)
     (λ c.
     let x = c.args in
-    λ settings. none_text settings x.wanted x.buffer.now _ c.enum_told-1.given.1)
+    λ settings. none_text settings x.wanted x.buffer.now _ c.in-Text.is)
     (λ c. search rules)
     (λ c.
-    let known = c.before.before.before.before in
-    let x = known.args in
+    let x = c.args in
     let the_print = c.print_none in
-    λ settings. none_page settings x.wanted x.buffer.now _ the_print.result known.enum_told-in-Page-1.given.1 (the_print.ensures settings)))
+    λ settings. none_page settings x.wanted x.buffer.now _ the_print.result c.in-Page.is (the_print.ensures settings)))

@@ -8,7 +8,7 @@ tell_spec =
     tie.close
     (tie.spec
     (λ c.
-    let start = c.before.before.before.before.before in
+    let start = c in
     λ settings held. tell_none settings held start.args.position start.args.text.now c.if-count-position.true)
     (λ c. search rules)
     (λ c. search rules)
@@ -19,25 +19,25 @@ tell_spec =
     (λ c. search rules)
     (λ c. search rules)
     (λ c κs.
-    let start = c.before.before.before.before.before.before.before in
+    let start = c in
     (start.requires.0.1.prepared, spoken start.requires.0.0 start.requires.0.1 start.requires.1 start.args.position c.if-count-position.false))
     (λ c. search rules)
     (λ c.
     let the_put_message = c.put_message-length in
-    let out-kept = the_put_message.auto.1.1.1.1.1.1.0 in
+    let out-kept = the_put_message.auto.out in
     let the_if1 = c.if-count-position in
-    let start = c.before.before.before.before.before.before.before.before.before.before.before in
+    let start = c in
     λ settings held. tell_short settings held start.requires.1 start.args.position the_if1.false start.args.text.now out-kept
     the_put_message.ensures c.if-room-length.true)
     (λ c κs. let the_if1 = c.if-count-position in
-    let start = c.before.before.before.before.before.before.before.before.before.before.before.before in
+    let start = c in
     (start.requires.0.1.prepared, spoken start.requires.0.0 start.requires.0.1 start.requires.1 start.args.position the_if1.false))
     (λ c. search rules)
     (λ c.
     let the_if2 = c.if-room-length in
     let the_if1 = c.if-count-position in
     let the_put_message = c.put_message-length in
-    let out-kept = the_put_message.auto.1.1.1.1.1.1.0 in
-    let start = c.before.before.before.before.before.before.before.before.before.before.before.before.before.before.before in
+    let out-kept = the_put_message.auto.out in
+    let start = c in
     λ settings held. tell_written settings held start.requires.1 start.args.position the_if1.false start.args.text.now _ out-kept
     the_put_message.ensures the_if2.false c.put_message.ensures))

@@ -19,34 +19,32 @@ write_spec =
     (λ c. search rules)
     (λ c.
     let the_none = c.write_none in
-    let tested = c.before.before.before.before.before.before.before in
-    let asked = tested.before in
-    let start = asked.before.before.before.before.before in
-    the_none.ensures start.args.law.now (empty_law start.args.law.now (sym asked.is_empty.ensures ∙ tested.if-is_empty.true)))
+    let start = c in
+    the_none.ensures start.args.law.now (empty_law start.args.law.now (sym c.is_empty.ensures ∙ c.if-is_empty.true)))
     (λ c κs. search rules)
     (λ c. search rules)
     (λ c. search rules)
     (λ c κs.
-    let the_enum_told = c.enum_told-1 in
-    let start = c.before.before.before.before.before.before.before.before.before.before.before.before.before in
+    let the_ready = c.in-Ready in
+    let start = c in
     let settings = settings_from start.args.mode start.args.overrides.now in
     let front = c.check_front in
-    front_ready 64 settings start.args.law.now start.args.store.now _ _ (front.ensures.0 _ refl) the_enum_told.given.1)
+    front_ready 64 settings start.args.law.now start.args.store.now _ _ (front.ensures.0 _ refl) the_ready.is)
     (λ c.
-    let start = c.before.before.before.before.before.before.before.before.before.before.before in
+    let start = c in
     let settings = settings_from start.args.mode start.args.overrides.now in
     let front = c.check_front in
     let wanted = start.args.wanted in
     bytes_turned 64 settings start.args.law.now start.args.store.now _ _ (front.ensures.0 _ refl)
-    (wanted_number wanted) (own_bytes (wanted_bytes wanted settings)) start.args.buffer.now _ c.why.given.1)
+    (wanted_number wanted) (own_bytes (wanted_bytes wanted settings)) start.args.buffer.now _ c.in-Refused.is)
     (λ c. search rules)
     (λ c. search rules)
-    (λ c. let the_enum_told = c.enum_told-1 in
-    let start = c.before.before.before.before.before.before.before.before.before.before.before.before.before.before.before.before.before.before in
+    (λ c. let the_ready = c.in-Ready in
+    let start = c in
     let settings = settings_from start.args.mode start.args.overrides.now in
     let front = c.check_front in
     let ready = c.write_ready in
     let wanted = start.args.wanted in
     bytes_goes 64 settings start.args.law.now start.args.store.now _ _ (front.ensures.0 _ refl)
     (wanted_number wanted) (own_bytes (wanted_bytes wanted settings)) start.args.buffer.now _ _ ready.result
-    the_enum_told.given.1 ready.ensures))
+    the_ready.is ready.ensures))

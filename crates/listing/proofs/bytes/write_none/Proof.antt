@@ -1,3 +1,5 @@
+use mathlib.Core.Bool.{not}
+use mathlib.Core.Path.{ap}
 use native.Mathlib.Omega.{arith}
 use borrow.Author.Rules.{rules}
 use Rattle.lints.specs.Levels.{settings_from}
@@ -12,34 +14,25 @@ write_none_spec =
     (tie.spec
     (λ c κs. search rules)
     (λ c.
-    let allowed = c.before in
-    let x = allowed.args in
+    let x = c.args in
     let settings = settings_from x.mode x.overrides.now in
-    λ bytes empty. bytes_settings x.limit settings bytes x.store.now empty allowed.settings_allowed.ensures
-    (wanted_number x.wanted) (wanted_bytes x.wanted settings) x.buffer.now c.if-not-settings_allowed.true)
+    λ bytes empty. bytes_settings x.limit settings bytes x.store.now empty c.settings_allowed.ensures
+    (wanted_number x.wanted) (wanted_bytes x.wanted settings) x.buffer.now (ap not c.if-not-settings_allowed.true))
     (λ c κs. search rules)
     (λ c.
-    let sized = c.before in
-    let tested = sized.before in
-    let allowed = tested.before in
-    let x = allowed.args in
+    let x = c.args in
     let settings = settings_from x.mode x.overrides.now in
-    λ bytes empty. bytes_short x.limit settings bytes x.store.now empty allowed.settings_allowed.ensures
-    (wanted_number x.wanted) (wanted_bytes x.wanted settings) x.buffer.now tested.if-not-settings_allowed.false
-    (omega (arith, c.if-store-store_words.true, sized.store_words.ensures)))
+    λ bytes empty. bytes_short x.limit settings bytes x.store.now empty c.settings_allowed.ensures
+    (wanted_number x.wanted) (wanted_bytes x.wanted settings) x.buffer.now (ap not c.if-not-settings_allowed.false)
+    (omega (arith, c.if-store-store_words.true, c.store_words.ensures)))
     (λ c κs. search rules)
     (λ c κs. search rules)
     (λ c. search rules)
     (λ c. search rules)
     (λ c.
     let the_none = c.none_wanted in
-    let cleared = c.before.before.before.before.before.before in
-    let enough = cleared.before.before in
-    let sized = enough.before in
-    let tested = sized.before in
-    let allowed = tested.before in
-    let x = allowed.args in
+    let x = c.args in
     let settings = settings_from x.mode x.overrides.now in
-    λ bytes empty. bytes_none x.limit settings bytes x.store.now empty allowed.settings_allowed.ensures
-    (wanted_number x.wanted) (wanted_bytes x.wanted settings) x.buffer.now tested.if-not-settings_allowed.false _ _ the_none.result
-    (omega (arith, enough.if-store-store_words.false, sized.store_words.ensures)) cleared.clear_store.ensures (the_none.ensures settings)))
+    λ bytes empty. bytes_none x.limit settings bytes x.store.now empty c.settings_allowed.ensures
+    (wanted_number x.wanted) (wanted_bytes x.wanted settings) x.buffer.now (ap not c.if-not-settings_allowed.false) _ _ the_none.result
+    (omega (arith, c.if-store-store_words.false, c.store_words.ensures)) c.clear_store.ensures (the_none.ensures settings)))

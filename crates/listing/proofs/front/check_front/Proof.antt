@@ -12,7 +12,7 @@ check_front_spec =
     tie.close
     (tie.spec
     (λ c κs. search rules)
-    (λ c. let start = c.before.before.before.before in
+    (λ c. let start = c in
     let settings = settings_from start.args.mode start.args.overrides.now in
     turned_settings start.args.limit settings start.args.law.now start.args.words start.args.index.now c.settings_allowed.ensures
     c.if-not-settings_allowed.true)
@@ -21,30 +21,30 @@ check_front_spec =
     (λ c. search rules)
     (λ c κs. search rules)
     (λ c.
-    let the_enum_told = c.enum_told-1 in
-    let start = c.before.before.before.before.before.before.before.before.before.before in
+    let the_accepted = c.in-Accepted in
+    let start = c in
     let settings = settings_from start.args.mode start.args.overrides.now in
     let allowed = c.settings_allowed in
     let the_if1 = c.if-not-settings_allowed in
     let read = c.read_law in
     turned_store start.args.limit settings start.args.law.now start.args.words start.args.index.now allowed.ensures
-    (not-false _ the_if1.false) _ read.ensures.0 read.ensures.1
-    the_enum_told.given.1 (omega (arith, c.if-words-store_words.true, c.store_words.ensures)))
-    (λ c. let start = c.before.before.before.before.before.before.before.before.before in
+    the_if1.false _ read.ensures.0 read.ensures.1
+    the_accepted.is (omega (arith, c.if-words-store_words.true, c.store_words.ensures)))
+    (λ c. let start = c in
     let settings = settings_from start.args.mode start.args.overrides.now in
     let allowed = c.settings_allowed in
     let the_if1 = c.if-not-settings_allowed in
     let read = c.read_law in
     turned_file start.args.limit settings start.args.law.now start.args.words start.args.index.now allowed.ensures
-    (not-false _ the_if1.false) _ read.ensures.0 read.ensures.1 _
-    c.why.given.1)
+    the_if1.false _ read.ensures.0 read.ensures.1 _
+    c.in-Refused.is)
     (λ c.
-    let the_enum_told = c.enum_told-1 in
-    let start = c.before.before.before.before.before.before.before.before.before.before in
+    let the_accepted = c.in-Accepted in
+    let start = c in
     let settings = settings_from start.args.mode start.args.overrides.now in
     let allowed = c.settings_allowed in
     let the_if1 = c.if-not-settings_allowed in
     let read = c.read_law in
     goes_on_lem start.args.limit settings start.args.law.now start.args.words start.args.index.now allowed.ensures
-    (not-false _ the_if1.false) _ read.ensures.0 read.ensures.1
-    the_enum_told.given.1 start.requires.1 (omega (arith, c.if-words-store_words.false, c.store_words.ensures))))
+    the_if1.false _ read.ensures.0 read.ensures.1
+    the_accepted.is start.requires.1 (omega (arith, c.if-words-store_words.false, c.store_words.ensures))))

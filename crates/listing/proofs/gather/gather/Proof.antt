@@ -10,34 +10,34 @@ gather_spec =
     tie.close
     (tie.spec
     (λ c κs.
-    let start = c.before.before.before.before.before in
+    let start = c in
     (start.requires.0.indexed, accepted_readable _ start.requires.0.accepted, start.requires.0.small, start.requires.0.room, start.requires.1))
     (λ c. search rules)
     (λ c. search rules)
     (λ c κs.
-    let the_rounds = c.rounds in
+    let the_rounds = c.in-Ran in
     let the_infer_store = c.infer_store in
-    let start = c.before.before.before.before.before.before.before.before.before.before.before.before.before in
+    let start = c in
     let settings = settings_from start.args.mode start.args.overrides.now in (
       filled_prepares start.args.room settings _ the_infer_store.result start.requires.0 start.requires.1 the_infer_store.ensures _ _
-          the_rounds.given.1,
+          the_rounds.is,
       start.requires.1,
       filled_store start.args.room settings _ the_infer_store.result start.requires.0 start.requires.1
-          the_infer_store.ensures _ _ the_rounds.given.1,
+          the_infer_store.ensures _ _ the_rounds.is,
     ))
     (λ c. search rules)
     (λ c.
     let the_infer_store = c.infer_store in
-    let start = c.before.before.before.before.before.before.before.before.before.before in
+    let start = c in
     let settings = settings_from start.args.mode start.args.overrides.now in
-    infer_wide start.args.room settings _ the_infer_store.result start.requires.0 start.requires.1 the_infer_store.ensures _ c.enum_told-1.given.1)
+    infer_wide start.args.room settings _ the_infer_store.result start.requires.0 start.requires.1 the_infer_store.ensures _ c.in-TooWide.is)
     (λ c. search rules)
     (λ c. search rules)
     (λ c.
     let the_gather_findings = c.gather_findings in
     let the_infer_store = c.infer_store in
-    let the_rounds = c.rounds in
-    let start = c.before.before.before.before.before.before.before.before.before.before.before.before.before.before.before.before.before.before in
+    let the_rounds = c.in-Ran in
+    let start = c in
     let settings = settings_from start.args.mode start.args.overrides.now in
-    gather_both start.args.room settings _ the_infer_store.result start.requires.0 start.requires.1 the_infer_store.ensures _ _ the_rounds.given.1 _
+    gather_both start.args.room settings _ the_infer_store.result start.requires.0 start.requires.1 the_infer_store.ensures _ _ the_rounds.is _
     _ _ _ the_gather_findings.ensures))

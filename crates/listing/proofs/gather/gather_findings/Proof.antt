@@ -10,14 +10,14 @@ gather_findings_spec =
     tie.close
     (tie.spec
     (λ c κs.
-    let start = c.before.before.before.before.before.before in
+    let start = c in
     ready start.requires.0 start.requires.1 start.requires.2.made _ _ start.requires.2.inferred start.requires.2.words)
     (λ c κs. search rules)
     (λ c. search rules)
     (λ c. search rules)
     (λ c.
     let the_if1 = c.if-tally-eq-OVER in
-    let start = c.before.before.before.before.before.before.before.before.before.before.before.before.before.before in
+    let start = c in
     let settings = settings_from start.args.mode start.args.overrides.now in
     let the_lint_all = c.lint_all-tally in
     gather_wide start.args.room settings start.args.out.now _ start.requires.0 start.requires.1 start.requires.2 the_lint_all.ensures _
@@ -25,7 +25,7 @@ gather_findings_spec =
     (λ c. search rules)
     (λ c. search rules)
     (λ c.
-    let start = c.before.before.before.before.before.before.before.before.before.before.before in
+    let start = c in
     let settings = settings_from start.args.mode start.args.overrides.now in
     let the_lint_all = c.lint_all-tally in
     gather_full start.args.room settings start.args.out.now _ start.requires.0 start.requires.1 start.requires.2 the_lint_all.ensures c.if-tally-eq-FULL.true)
@@ -33,7 +33,7 @@ gather_findings_spec =
     (λ c. search rules)
     (λ c. search rules)
     (λ c.
-    let start = c.before.before.before.before.before.before.before.before.before.before.before in
+    let start = c in
     let settings = settings_from start.args.mode start.args.overrides.now in
     let the_lint_all = c.lint_all-tally in
     gather_upto start.args.room settings start.args.out.now _ start.requires.0 start.requires.1 start.requires.2 the_lint_all.ensures _
