@@ -2,7 +2,7 @@
  * typed as text, and the test of a number's digits as they are typed.
  *
  * Link with libbilzarko.a, which `tools/staticlib.sh` writes to target/staticlib. It is for x86-64 Linux and needs
- * the C library only. The functions are proved to meet their contracts, which crates/bilzarko/src/lib.rt and
+ * the C library only. The functions are proved to meet their contracts, which crates/bilzarko_c/src/lib.rt and
  * crates/bilzarko/specs/Exported.antt state: whatever the values of their arguments, the calls return, and the returned
  * number and every lent word afterwards are those of the specification. They keep nothing between calls.
  *

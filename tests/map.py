@@ -27,7 +27,7 @@ def of_one_function(path):
 
 def main():
     words = [word for word in sys.argv[1:] if word != "-v"]
-    listed = [line.split(":")[0] for line in (ROOT / "crates.txt").read_text().split("\n") if ":" in line and not line.startswith("#")]
+    listed = [line.split(":")[0].split()[0] for line in (ROOT / "crates.txt").read_text().split("\n") if ":" in line and not line.startswith("#")]
     for crate in words or listed:
         print(crate)
         for part in ("src", "specs", "proofs"):

@@ -82,8 +82,8 @@ CLAIMS = {
             (CLAIM, "no_sentence, sentence, Function", "no_sentence, sentence, no_condition, condition, Function"),
             (CLAIM, RECOGNISES,
              RECOGNISES.replace(" cs r", " no_condition r") + "\nRecognises (sentence m p (condition q w cs) r ss) v = Recognises ss v"),
-            (HOLDS, "use Rattle.law.specs.Tree.{Sentences, sentence, Law}",
-             "use Rattle.law.specs.Tree.{Sentences, sentence, no_condition, condition, Law}"),
+            (HOLDS, "use Rattle.law.specs.Tree.{Sentences, no_sentence, sentence, Law}",
+             "use Rattle.law.specs.Tree.{Sentences, no_sentence, sentence, no_condition, condition, Law}"),
             (HOLDS, NONE_RECOGNISED,
              NONE_RECOGNISED.replace(" cs r", " no_condition r")
              + "\nnone_recognised (sentence m p (condition q w cs) r ss) v h k = none_recognised ss v h.1 k"),

@@ -55,9 +55,9 @@ class Call:
         self.record = f"(record {{ number = result; {after} }})"
         self.outcome = f"({word}_exit answer.old ({outcome}))"
         self.ensured = f"◌≡◌ {{A = {self.exit_type}}} {self.record}\n        {self.outcome}"
-        start = f"at_start.args.answer.now at_call.{name}.ensures"
-        self.refused = f"{word}_refused {start} at-why.why-1.given.0.0 at-why.why-1.given.1 c.{number}.ensures"
-        self.written = f"{word}_written {start} at-bytes.bytes-1.given.0.0 at-bytes.bytes-1.given.1"
+        start = f"c.args.answer.now c.{name}.ensures"
+        self.refused = f"{word}_refused {start} c.in-Refused.why c.in-Refused.is c.{number}.ensures"
+        self.written = f"{word}_written {start} c.in-Written.bytes c.in-Written.is"
 
 
 TEXT = Call("text", "bytes", {"store": "store", "bytes": "text", "answer": "answer"},

@@ -12,6 +12,4 @@ load_spec =
     (λ c. search rules)
     (λ c. search rules)
     (λ c.
-    let at_call = c.before.before.before.before in
-    let at_start = at_call.before.before.before.before.before.before.before.before in
-    loaded _ at_start.args.law.now at_start.args.store.now at_start.args.words.now at_start.args.answer.now _ at_call.bilzarko_findings.ensures))
+    loaded _ c.args.law.now c.args.store.now c.args.words.now c.args.answer.now _ c.bilzarko_findings.ensures))

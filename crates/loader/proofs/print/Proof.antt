@@ -12,7 +12,5 @@ print_spec =
     (λ c. search rules)
     (λ c. search rules)
     (λ c.
-    let at_call = c.before.before.before.before in
-    let at_start = at_call.before.before.before.before.before.before.before.before in
-    printed _ at_start.args.law.now at_start.args.store.now at_start.args.page.now at_start.args.answer.now _
-    at_call.bilzarko_page.ensures))
+    printed _ c.args.law.now c.args.store.now c.args.page.now c.args.answer.now _
+    c.bilzarko_page.ensures))

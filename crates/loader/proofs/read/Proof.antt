@@ -11,6 +11,4 @@ read_spec =
     (λ c κs. search rules)
     (λ c. search rules)
     (λ c.
-    let at_call = c.before.before in
-    let at_start = at_call.before.before.before.before.before in
-    typed at_start.args.text.now at_start.args.law.now at_start.args.answer.now _ at_call.bilzarko_read.ensures))
+    typed c.args.text.now c.args.law.now c.args.answer.now _ c.bilzarko_read.ensures))

@@ -12,7 +12,5 @@ show_spec =
     (λ c. search rules)
     (λ c. search rules)
     (λ c.
-    let at_call = c.before.before.before.before in
-    let at_start = at_call.before.before.before.before.before.before.before.before in
-    shown _ at_start.args.law.now at_start.args.store.now at_start.args.position at_start.args.text.now at_start.args.answer.now _
-    at_call.bilzarko_text.ensures))
+    shown _ c.args.law.now c.args.store.now c.args.position c.args.text.now c.args.answer.now _
+    c.bilzarko_text.ensures))
