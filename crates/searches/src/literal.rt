@@ -234,6 +234,7 @@ fn literal_lengths(
 }
 
 // The same, with a search that remembers anew, from the values that there are now.
+#[inline(never)]
 #[cycle(literal_anew_literal_apart_literal_bracket_literal_end_literal_first_literal_inside_literal_lengths_literal_out_literal_run_literal_tries)]
 fn literal_anew(
     text: &[u8],
@@ -518,6 +519,7 @@ pub fn is_literal(part: &[u8]) -> bool
 }
 
 // Does a pattern match a literal part? The search from no values, with nothing around.
+#[inline(never)]
 pub fn search_literal(
     text: &[u8],
     terms: &[u8],

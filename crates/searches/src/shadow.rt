@@ -65,6 +65,7 @@ fn shadow_lengths(
 }
 
 // The same, with a search that remembers anew, from the values that there are now.
+#[inline(never)]
 #[cycle(shadow_anew_shadow_first_shadow_inside_shadow_lengths_shadow_run_shadow_tries)]
 fn shadow_anew(
     text: &[u8],
@@ -265,6 +266,7 @@ fn shadow_run(
 }
 
 // Does an earlier pattern shadow a later one? The search from no values.
+#[inline(never)]
 pub fn search_shadow(
     text: &[u8],
     terms: &[u8],
