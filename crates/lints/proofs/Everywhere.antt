@@ -1,6 +1,6 @@
 -- What holds everywhere in a law: of every symbol, of every call with its record, of every sentence of a block by its record; patterns included.
 use Prim.Native.Nat.{ℕ, zero, suc, ◌+◌, ◌≤◌, ◌<◌}
-use mathlib.Core.List.{List, [], ◌∷◌, Memᴰ}
+use mathlib.Core.List.{[], ◌∷◌, Memᴰ}
 use mathlib.Core.Path.{◌≡◌}
 use native.Mathlib.Omega.{arith}
 use Rattle.law.specs.Tree as tree

@@ -8,7 +8,7 @@ use mathlib.Core.Option.{Option, none, some}
 use mathlib.Core.Path.{◌≡◌, refl, sym, ap, ◌∙◌}
 use native.Mathlib.Omega.{arith}
 use lib.Dec.{leb}
-use Rattle.law.specs.Tree.{Symbol, Sentences, no_sentence, sentence, Function, Law}
+use Rattle.law.specs.Tree.{Sentences, no_sentence, sentence, Function, Law}
 use Rattle.law.specs.Definition.{definition}
 use Rattle.law.specs.Expression.{Terms}
 use Rattle.law.specs.Symbol as symbols

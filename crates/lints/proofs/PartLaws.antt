@@ -13,7 +13,6 @@ use Rattle.names.specs.Name.{digit_byte, every_byte}
 use Rattle.file.specs.Word.{word_at}
 use Rattle.file.specs.Forest.{Forest, end, node, contents, rest}
 use Rattle.file.specs.Head.{term_from, term_at}
-use Rattle.file.specs.declared.Symbol.{Symbol}
 use Rattle.file.specs.declared.Symbol.TheVariants.{Character, Identifier, Number}
 use Rattle.file.specs.declared.Term.{Term}
 use Rattle.file.specs.declared.Term.TheVariants.{Symbol as Symbolic, SVariable, TVariable, EVariable, Bracket, Call, Block}

@@ -5,14 +5,14 @@
 // number.
 #![tactic(auto)]
 
-ghost use Rattle.std.specs.Prelude.{cond, ◌≡◌};
+ghost use Rattle.std.specs.Prelude.{cond, ◌≡◌, ◌≤◌, length};
 
 use listing::{Found, Turned, findings, turned_number};
 use std::io;
 use std::io::{BufWriter, Read, Write};
 
 // One byte more than a law file may have, so that a longer input is seen to be too long, and no more of it is read.
-const LAW: u64 = 16385;
+const LAW: usize = 16385;
 
 // The words of a store: 128 formats.
 const STORE: usize = 8320;
@@ -91,10 +91,35 @@ fn list<W: Write>(output: &mut W, law: &[u8]) -> io::Result<()> {
     print_answer(output, answer, &words)
 }
 
-fn main(rt: HostRuntime) -> io::Result<()> {
-    let mut law = Vec::new(rt.alloc());
+// Reads until the buffer is full or the input ends, and answers how many bytes stand at the buffer's start then. An input that
+// can't be read ends there.
+fn read_full<R: Read>(input: &mut R, buffer: &mut [u8]) -> usize
+    ensures { result ≤ length buffer.new }
+{
+    let mut done = 0;
+    while done < buffer.len() {
+        match input.read(&mut buffer[done..]) {
+            Ok(0) => break,
+            Ok(bytes) => done += bytes,
+            Err(_) => break,
+        }
+    }
+    done
+}
+
+// Lists the findings of a law, by way of a buffer.
+fn list_buffered(rt: &HostRuntime, law: &[u8]) -> io::Result<()> {
     let mut output = BufWriter::new(rt.alloc(), rt.stdout())?;
-    rt.stdin().take(LAW).read_to_end(&mut law)?;
-    list(&mut output, &law)?;
+    list(&mut output, law)?;
     output.flush()
+}
+
+// Nothing tells that the output can't be written.
+fn main(rt: HostRuntime) {
+    let mut law = [0u8; LAW];
+    let bytes = read_full(&mut rt.stdin(), &mut law);
+    match list_buffered(&rt, &law[..bytes]) {
+        Ok(()) => (),
+        Err(_) => (),
+    }
 }

@@ -1,16 +1,12 @@
 -- What is written of the call's own findings, by what is wanted of them.
 use Prim.Native.Nat.{ℕ, ◌*◌, ◌≤◌, ◌<◌}
-use mathlib.Core.Bool.{true}
 use mathlib.Core.List.{List, ◌++◌, Memᴰ}
-use mathlib.Core.Path.{◌≡◌, sym, ap, ◌∙◌}
+use mathlib.Core.Path.{◌≡◌, sym, ◌∙◌}
 use native.Mathlib.Omega.{arith}
 use lib.ListN.{length, drop, take-append-drop}
 use Rattle.file.specs.Answer.{given}
 use Rattle.file.specs.Sections.{file_of}
-use Rattle.file.specs.Fields.{fields_allowed}
-use Rattle.law.specs.Tree.{Law}
 use Rattle.law.specs.Reading.{tree_of}
-use Rattle.law.specs.Code.Index.{Indexed}
 use Rattle.law.proofs.Functions.{tree_length}
 use Rattle.buffers.proofs.FittedLaws.{fits, too_long}
 use Rattle.buffers.specs.Code.Put.{Put}

@@ -1,7 +1,7 @@
 -- What the three calls answer, and every lent word after them. Document 01, "Where a call is turned back": "A refusal is its number only; the first in
 -- this table's order is given."
 -- docs/SPECIFICATION.md, 12.1 to 12.5, 21.
-use Rattle.std.specs.Prelude.{ℕ, zero, suc, ◌+◌, ◌*◌, Bool, not, cond, List, [], ◌∷◌, ◌++◌, length, drop, replicate, eqb, ltb, leb}
+use Rattle.std.specs.Prelude.{ℕ, zero, suc, ◌*◌, Bool, not, cond, List, [], ◌∷◌, ◌++◌, length, drop, replicate, eqb, ltb, leb}
 use Rattle.file.specs.Answer.{Answer, refused, given, refuse_if, ◌>>=◌, ◌>>◌}
 use Rattle.file.specs.Sections.{number_of}
 use Rattle.law.specs.Tree.{Law}

@@ -2,7 +2,7 @@
 use Prim.Native.Nat.{ℕ, zero, suc, ◌+◌, ◌*◌, ◌≤◌, ◌<◌}
 use mathlib.Core.Bool.{Bool, true, false, ◌&&◌, ◌||◌}
 use mathlib.Core.List.Memᴰ
-use mathlib.Core.List.{List, [], ◌∷◌, ◌++◌, map, Memᴰ}
+use mathlib.Core.List.{List, [], ◌∷◌, ◌++◌, Memᴰ}
 use mathlib.Core.Logic.{◌⊎◌, inl, inr}
 use mathlib.Core.Option.{Option, none, some}
 use mathlib.Core.Path.{◌≡◌, refl, sym, ap, ◌∙◌}
@@ -18,24 +18,24 @@ use Rattle.law.specs.Tree.{Name, Run, Sentences, no_sentence, sentence, Function
 use Rattle.law.specs.Reading.{function_name, tree_of}
 use Rattle.law.specs.Definition.{definition}
 use Rattle.law.specs.Code.Index.{Readable}
-use Rattle.law.proofs.Functions.{function_at, functions_at, tree_functions_lem, functions_end, function_reads}
+use Rattle.law.proofs.Functions.{functions_at, tree_functions_lem, functions_end, function_reads}
 use Rattle.shapes.specs.Format.{size}
 use Rattle.matching.specs.Pattern.{pattern_of}
 use Rattle.matching.specs.Match.{when, each}
 use Rattle.sentences.specs.Entry.{argument_part, argument_in}
 use Rattle.matching.proofs.SameLaws.{false_not_true}
 use Rattle.matching.specs.Literal.{InDigits}
-use Rattle.matching.proofs.SearchLaws.{in_when, in_each, each_in, in_map}
+use Rattle.matching.proofs.SearchLaws.{in_when, in_each, each_in}
 use Rattle.formats.specs.Infer.{Formats}
 use Rattle.formats.specs.Code.Slots.{file_names, position}
 use Rattle.formats.proofs.EntryLaws.{name_of}
 use Rattle.formats.proofs.RoundLaws.{EachFunction}
 use Rattle.formats.proofs.SlotLaws.{function_placed}
-use Rattle.lints.specs.Finding.{Failure, Claim, dead, by_literals, fails, open_pattern, Remark, Finding, finding_in, findings_from}
+use Rattle.lints.specs.Finding.{Failure, Claim, dead, by_literals, fails, open_pattern, Remark, Finding}
 use Rattle.lints.specs.Findings.{findings_of}
 use Rattle.lints.specs.Calls.{Call, callee, sentence_calls}
 use Rattle.lints.specs.Dead.{Earlier, sentence_blocks, dead_by, dead_after, earliest, unconditional, own_dead, block_dead, dead_remarks, dead_findings}
-use Rattle.lints.specs.Recognition.{compared, compared_with, passed, some_over, arguments_over, recognition_remarks, recognition_findings}
+use Rattle.lints.specs.Recognition.{compared, compared_with, passed, some_over, arguments_over, recognition_findings}
 use Rattle.lints.specs.Builtin.{failure, domain_in, builtins, looked_at, failed, builtin_on, builtin_remarks, builtin_findings}
 use Rattle.lints.specs.Open.{e_occurrences, open_in, open_remarks, open_findings}
 use Rattle.lints.specs.Code.Records.{formats_in, call_at}

@@ -3,12 +3,14 @@
 // A law that is refused gives one line in its place: `refused` and document 01's number.
 #![tactic(auto)]
 
+ghost use Rattle.std.specs.Prelude.{◌≤◌, length};
+
 use listing::{Told, Turned, page, turned_number};
 use std::io;
 use std::io::{Read, Write};
 
 // One byte more than a law file may have, so that a longer input is seen to be too long, and no more of it is read.
-const LAW: u64 = 16385;
+const LAW: usize = 16385;
 
 // The words of a store: 128 formats.
 const STORE: usize = 8320;
@@ -38,10 +40,30 @@ fn write_page<W: Write>(
     }
 }
 
-fn main(rt: HostRuntime) -> io::Result<()> {
-    let mut law = Vec::new(rt.alloc());
+// Reads until the buffer is full or the input ends, and answers how many bytes stand at the buffer's start then. An input that
+// can't be read ends there.
+fn read_full<R: Read>(input: &mut R, buffer: &mut [u8]) -> usize
+    ensures { result ≤ length buffer.new }
+{
+    let mut done = 0;
+    while done < buffer.len() {
+        match input.read(&mut buffer[done..]) {
+            Ok(0) => break,
+            Ok(bytes) => done += bytes,
+            Err(_) => break,
+        }
+    }
+    done
+}
+
+// Nothing tells that the output can't be written.
+fn main(rt: HostRuntime) {
+    let mut law = [0u8; LAW];
     let mut store = [0u32; STORE];
     let mut out = [0u8; PAGE];
-    rt.stdin().take(LAW).read_to_end(&mut law)?;
-    write_page(&mut rt.stdout(), &law, &mut store, &mut out)
+    let bytes = read_full(&mut rt.stdin(), &mut law);
+    match write_page(&mut rt.stdout(), &law[..bytes], &mut store, &mut out) {
+        Ok(()) => (),
+        Err(_) => (),
+    }
 }

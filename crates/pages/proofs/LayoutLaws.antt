@@ -1,15 +1,14 @@
 -- How a page is laid out: every line has 72 columns and a line feed, headings stand just 60 lines apart, and the number of lines and bytes is a function
 -- of the number of findings alone.
 use Prim.Native.Nat.{ℕ, zero, suc, ◌+◌, ◌*◌, ◌-◌, ◌/◌, ◌%◌, ◌≤◌, ◌<◌}
-use mathlib.Core.Bool.{Bool, true, false, cond}
+use mathlib.Core.Bool.{Bool, true, false}
 use mathlib.Core.List.{List, [], ◌∷◌, ◌++◌, map, flatten, Memᴰ}
-use mathlib.Core.Path.{◌≡◌, refl, sym, ap, ◌∙◌}
+use mathlib.Core.Path.{◌≡◌, refl, ◌∙◌}
 use native.Mathlib.Omega.{arith}
 use native.Mathlib.Decide.{dec_le}
 use borrow.Author.Tests.{eqb-true, eqb-false}
 use lib.Dec.{eqb}
 use lib.ListN.{length, get_or, length-append, length-map}
-use Rattle.lints.specs.Lint.{Lint}
 use Rattle.lints.specs.Finding.{Finding, lint_of, word_a}
 use Rattle.lints.specs.Levels.{Settings, severity_of}
 use Rattle.pages.specs.Page.{Line, lint_word, severity_word, finding_line, heading, heading_before, lines_from, page_lines, page, line_count, page_length}

@@ -12,7 +12,7 @@ use Rattle.lints.specs.Lint.{Lint, dead_sentence, recognition_impossible, builti
 use Rattle.lints.specs.Finding.{Finding, lint_of, word_a, finding_words}
 use Rattle.lints.specs.Levels.{Settings, severity_of, listing_words}
 use Rattle.lints.proofs.Owners.{Owned}
-use Rattle.pages.specs.Page.{Line, lint_word, severity_word, line, finding_line, page_lines, page, page_length}
+use Rattle.pages.specs.Page.{Line, lint_word, severity_word, finding_line, page_lines, page, page_length}
 use Rattle.pages.specs.Code.Lines.{lint_word_by, line_at, lines_at, words_page, Positions}
 use Rattle.pages.proofs.LayoutLaws.{Lines, page_bytes}
 use Rattle.pages.proofs.LineLaws.{finding_columns}

@@ -1,7 +1,7 @@
 -- The fields that hold words, three numbers, and a line feed.
 use Prim.Native.Nat.{◌+◌, ◌≤◌}
 use native.Mathlib.Omega.{arith}
-use Rattle.file.specs.Sections.{File, file_of}
+use Rattle.file.specs.Sections.{file_of}
 use Rattle.buffers.specs.Decimal.{decimal}
 use Rattle.buffers.specs.Code.Put.{largest}
 use Rattle.pages.proofs.FieldLaws.{right_columns}

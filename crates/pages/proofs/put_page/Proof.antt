@@ -1,10 +1,10 @@
 -- A heading alone; or the invariant: what is still to be put makes the page, and what was put is not long.
-use Prim.Native.Nat.{ℕ, ◌+◌, ◌*◌, ◌-◌, ◌≤◌}
-use mathlib.Core.List.{List, flatten}
+use Prim.Native.Nat.{◌+◌, ◌*◌, ◌-◌, ◌≤◌}
+use mathlib.Core.List.{flatten}
 use mathlib.Core.Path.{◌≡◌, refl, ◌∙◌}
 use native.Mathlib.Omega.{arith}
 use lib.ListN.{length}
-use Rattle.file.specs.Sections.{File, file_of}
+use Rattle.file.specs.Sections.{file_of}
 use Rattle.buffers.specs.Code.Put.{Put}
 use Rattle.buffers.proofs.PutLaws.{put_length}
 use Rattle.pages.specs.Page.{heading_before}

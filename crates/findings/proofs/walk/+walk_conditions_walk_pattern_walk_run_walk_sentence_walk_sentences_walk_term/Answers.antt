@@ -1,5 +1,5 @@
 -- The way through a run, its first term, a pattern, sentences, one sentence and its conditions, by a law of proofs/WalkSteps.antt for each return.
-use Rattle.std.proofs.Common.{◌+◌, ◌-◌, ◌≡◌, refl, ap, ◌∙◌, arith}
+use Rattle.std.proofs.Common.{◌-◌, refl, ap, ◌∙◌, arith}
 use Rattle.file.specs.Sections.{file_of}
 use Rattle.law.specs.Places.{conditions_of, first_condition}
 use Rattle.law.specs.Code.Terms.{sentences_in}

@@ -1,5 +1,4 @@
 -- One law for each way through the front (proofs/FrontLaws.antt), with the tests that led there.
-use borrow.Author.Tests.{not-true, not-false}
 use native.Mathlib.Omega.{arith}
 use borrow.Author.Rules.{rules}
 use Rattle.lints.specs.Levels.{settings_from}

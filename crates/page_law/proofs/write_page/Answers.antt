@@ -1,0 +1,11 @@
+-- The part of the buffer that is written out lies within it.
+use Rattle.std.proofs.Common.{arith, length-take}
+use Rattle.page_law.proofs.FitLaws.{written_fits}
+use Rattle.page_law.proofs.write_page.Goals as goal
+
+pub slice_bounds-write_all-end : goal.slice_bounds-write_all-end
+slice_bounds-write_all-end g c = omega (arith, written_fits _ _ _ _ _ _ _ _ c.in-Written.is c.page.ensures)
+
+pub slice_bounds-write_all-end-in-Written : goal.slice_bounds-write_all-end-in-Written
+slice_bounds-write_all-end-in-Written g c =
+    simp length-take (omega (arith, written_fits _ _ _ _ _ _ _ _ c.in-Written.is c.page.ensures))
