@@ -11,8 +11,8 @@ use native.Mathlib.Numerals.{add-one}
 use lib.ListN.{length, get_or, set, take, drop, replicate, length-set}
 use lib.Seq.{get_or-set_same, get_or-set_other}
 use Rattle.names.specs.Name.{folded, same_bytes, order_bytes}
-use Rattle.names.specs.declared.Order.{Order}
-use Rattle.names.specs.declared.Order.TheVariants.{Less, Equal, Greater}
+use Rattle.std.specs.declared.cmp.Ordering.{Ordering}
+use Rattle.std.specs.declared.cmp.Ordering.TheVariants.{Less, Equal, Greater}
 use Rattle.names.proofs.Laws.{same_sound, same_refl, order_refl, order_equal, less_greater, greater_less, less_trans}
 use Rattle.file.specs.Word.{word_at}
 use Rattle.file.specs.Sections.{File}
@@ -64,7 +64,7 @@ unfolding insert_name
 above_insert m n [] h a = (h, tt)
 above_insert m n (k ∷ ks) h a = go (order_bytes n k) refl (above_insert m n ks h a.1)
   where
-    go : (o : Order) → order_bytes n k ≡ o → Above m (insert_name n ks) → Above m (insert_name n (k ∷ ks))
+    go : (o : Ordering) → order_bytes n k ≡ o → Above m (insert_name n ks) → Above m (insert_name n (k ∷ ks))
     go Less e ih = rw (e, insert_name) (h, a)
     go Equal e ih = rw (e, insert_name) a
     go Greater e ih = rw (e, insert_name) (a.0, ih)
@@ -75,7 +75,7 @@ unfolding insert_name
 sorted_insert n [] h = (tt, tt)
 sorted_insert n (k ∷ ks) h = go (order_bytes n k) refl (sorted_insert n ks h.1)
   where
-    go : (o : Order) → order_bytes n k ≡ o → Sorted (insert_name n ks) → Sorted (insert_name n (k ∷ ks))
+    go : (o : Ordering) → order_bytes n k ≡ o → Sorted (insert_name n ks) → Sorted (insert_name n (k ∷ ks))
     go Less e ih = rw (e, insert_name) ((e, above_less n k ks e h.0), h)
     go Equal e ih = rw (e, insert_name) h
     go Greater e ih = rw (e, insert_name) (above_insert k n ks (greater_less n k e) h.0, ih)
@@ -92,7 +92,7 @@ unfolding insert_name
 insert_length n [] = omega arith
 insert_length n (k ∷ ks) = go (order_bytes n k) refl (insert_length n ks)
   where
-    go : (o : Order) → order_bytes n k ≡ o → length (insert_name n ks) ≤ suc (length ks) → length (insert_name n (k ∷ ks)) ≤ suc (suc (length ks))
+    go : (o : Ordering) → order_bytes n k ≡ o → length (insert_name n ks) ≤ suc (length ks) → length (insert_name n (k ∷ ks)) ≤ suc (suc (length ks))
     go Less e ih = rw (e, insert_name) (omega arith)
     go Equal e ih = rw (e, insert_name) (omega arith)
     go Greater e ih = rw (e, insert_name) (omega arith)
@@ -121,7 +121,7 @@ unfolding insert_name is_among
 listed_insert m [] n = refl
 listed_insert m (k ∷ ks) n = go (order_bytes m k) refl (listed_insert m ks n)
   where
-    go : (o : Order) → order_bytes m k ≡ o → is_among (insert_name m ks) n ≡ same_bytes m n || is_among ks n
+    go : (o : Ordering) → order_bytes m k ≡ o → is_among (insert_name m ks) n ≡ same_bytes m n || is_among ks n
         → is_among (insert_name m (k ∷ ks)) n ≡ same_bytes m n || (same_bytes k n || is_among ks n)
     go Less e ih = rw (e, insert_name) refl
     go Equal e ih = rw (e, insert_name, order_equal m k e) (or_twice (same_bytes k n) (is_among ks n))
@@ -160,7 +160,7 @@ unfolding insert_name tally is_among
 tally_insert w n [] h = refl
 tally_insert w n (k ∷ ks) h = go (order_bytes n k) refl (tally_insert w n ks h.1)
   where
-    go : (o : Order) → order_bytes n k ≡ o → tally w (insert_name n ks) ≡ cond (is_among ks n) 0 (w n) + tally w ks
+    go : (o : Ordering) → order_bytes n k ≡ o → tally w (insert_name n ks) ≡ cond (is_among ks n) 0 (w n) + tally w ks
         → tally w (insert_name n (k ∷ ks)) ≡ cond (same_bytes k n || is_among ks n) 0 (w n) + (w k + tally w ks)
     go Less e ih = rw (e, insert_name, differ_after k n e, above_unlisted n ks (above_less n k ks e h.0))
     go Equal e ih = rw (e, insert_name, order_equal n k e, same_refl k) (omega arith)

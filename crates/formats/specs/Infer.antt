@@ -5,7 +5,7 @@
 use Rattle.std.specs.Prelude.{ℕ, zero, suc, ◌+◌, Bool, true, false, cond, not, ◌||◌, List, [], ◌∷◌, length, ltb}
 use Rattle.std.proofs.Math.Option.{Option, none, some}
 use Rattle.names.specs.Name.{folded, same_bytes, order_bytes}
-use Rattle.names.specs.declared.Order.TheVariants.{Less, Equal, Greater}
+use Rattle.std.specs.declared.cmp.Ordering.TheVariants.{Less, Equal, Greater}
 use Rattle.file.specs.Answer.{Answer, given, refuse_if, ◌>>=◌, ◌>>◌}
 use Rattle.law.specs.Tree.{Sentences, no_sentence, sentence, Law}
 use Rattle.shapes.specs.Format.{Format, never, of, size}

@@ -10,7 +10,8 @@ ghost use Rattle.formats.specs.Code.Slots.{position, function_folded, file_names
 use crate::Slots;
 use law::Index;
 use law::places::{function_name, functions, term_word, terms, text};
-use names::{Order, name_in, names_equal, names_order};
+use names::{name_in, names_equal, names_order};
+use std::cmp::Ordering;
 
 // The first function from `from` on that has a name; the number of functions where none has it.
 fn first_named(law: &[u8], index: &Index, name: &[u8], from: usize) -> usize
@@ -57,13 +58,13 @@ fn fill_weights(law: &[u8], index: &Index, weights: &mut [u8; 64]) -> u8
 }
 
 // 1 for less, else 0.
-fn less_count(order: Order) -> u8
+fn less_count(order: Ordering) -> u8
     ensures { (result ≡ less_count order) × (result ≤ 1) }
 {
     match order {
-        Order::Less => 1,
-        Order::Equal => 0,
-        Order::Greater => 0,
+        Ordering::Less => 1,
+        Ordering::Equal => 0,
+        Ordering::Greater => 0,
     }
 }
 

@@ -13,8 +13,8 @@ use lib.Seq.{drop-cons}
 use lib.Dec.{eqb, leb}
 use borrow.Author.Tests.{eqb-true, eqb-false, leb-true, leb-false, eq-eqb, ne_eqb, le-leb, lt-leb}
 use Rattle.names.specs.Name.{between, same_bytes, order_bytes, every_byte, length_allowed}
-use Rattle.names.specs.declared.Order.{Order}
-use Rattle.names.specs.declared.Order.TheVariants.{Less, Equal, Greater}
+use Rattle.std.specs.declared.cmp.Ordering.{Ordering}
+use Rattle.std.specs.declared.cmp.Ordering.TheVariants.{Less, Equal, Greater}
 
 -- ---- one byte
 
@@ -246,7 +246,7 @@ order_refl [] = refl
 order_refl (x ∷ xs) = rw (eq-eqb x x refl, order_refl xs)
 
 -- the order seen from the other side
-abbrev pub reversed : Order → Order
+abbrev pub reversed : Ordering → Ordering
 reversed Less = Greater
 reversed Equal = Equal
 reversed Greater = Less

@@ -1,7 +1,7 @@
 -- Examples of the definitions in `Name`, each by computation. A text stands as the list of its bytes.
 use Rattle.std.specs.Prelude.{[], ◌∷◌, true, false, ◌≡◌, refl, replicate}
 use Rattle.names.specs.Name.{folded, folded_index, same_bytes, order_bytes, every_byte, name_allowed, number_allowed}
-use Rattle.names.specs.declared.Order.TheVariants.{Less, Equal}
+use Rattle.std.specs.declared.cmp.Ordering.TheVariants.{Less, Equal}
 
 -- ---- the same?
 

@@ -3,8 +3,8 @@
 -- compare, and sort by bytes, when folded: upper case, `_` read as `-`. Indices fold to upper case only. Numbers: 1 to 64 decimal digits."
 -- docs/SPECIFICATION.md, 1.7 to 1.9.
 use Rattle.std.specs.Prelude.{ℕ, ◌-◌, List, [], ◌∷◌, map, Bool, true, false, cond, ◌&&◌, ◌||◌, length, eqb, leb}
-use Rattle.names.specs.declared.Order.{Order}
-use Rattle.names.specs.declared.Order.TheVariants.{Less, Equal, Greater}
+use Rattle.std.specs.declared.cmp.Ordering.{Ordering}
+use Rattle.std.specs.declared.cmp.Ordering.TheVariants.{Less, Equal, Greater}
 
 -- is this byte at least `low` and at most `high`?
 abbrev pub between : ℕ → ℕ → ℕ → Bool
@@ -45,7 +45,7 @@ same_bytes (x ∷ xs) [] = false
 same_bytes (x ∷ xs) (y ∷ ys) = eqb x y && same_bytes xs ys
 
 -- the order of bytes: the first byte that differs decides, and a list comes after each of its beginnings
-unfoldable pub order_bytes : List ℕ → List ℕ → Order
+unfoldable pub order_bytes : List ℕ → List ℕ → Ordering
 order_bytes [] [] = Equal
 order_bytes [] (y ∷ ys) = Less
 order_bytes (x ∷ xs) [] = Greater

@@ -4,13 +4,7 @@
 ghost use Rattle.std.specs.Prelude.{◌≡◌, ◌+◌, ◌≤◌, length, take, drop};
 ghost use Rattle.names.specs.Name.{between, digit_byte, letter_byte, name_byte, upper_byte, fold_byte, folded, folded_index, same_bytes, order_bytes, every_byte, length_allowed, name_allowed, number_allowed};
 
-// How two names stand to each other, by the bytes of the folded names.
-#[derive(Clone, Copy)]
-pub enum Order {
-    Less,
-    Equal,
-    Greater,
-}
+use std::cmp::Ordering;
 
 // Is this byte at least `low` and at most `high`?
 fn in_range(low: u8, high: u8, c: u8) -> bool
@@ -109,30 +103,30 @@ pub fn indices_equal(a: &[u8], b: &[u8]) -> bool
 }
 
 // The order of two names: by the bytes of the folded names, and a name comes after each of its beginnings.
-pub fn names_order(a: &[u8], b: &[u8]) -> Order
+pub fn names_order(a: &[u8], b: &[u8]) -> Ordering
     ensures { result ≡ order_bytes (folded a.now) (folded b.now) }
 {
     let mut i = 0;
     while i < a.len() {
         if b.len() <= i {
-            return Order::Greater;
+            return Ordering::Greater;
         }
         if a[i] != b[i] {
             let x = fold_byte(a[i]);
             let y = fold_byte(b[i]);
             if x < y {
-                return Order::Less;
+                return Ordering::Less;
             }
             if y < x {
-                return Order::Greater;
+                return Ordering::Greater;
             }
         }
         i += 1;
     }
     if i < b.len() {
-        return Order::Less;
+        return Ordering::Less;
     }
-    Order::Equal
+    Ordering::Equal
 }
 
 // 1 to 64 bytes.

@@ -6,8 +6,8 @@
 -- Every other slot is 0.
 use Rattle.std.specs.Prelude.{ℕ, zero, suc, ◌+◌, ◌*◌, ◌-◌, ◌≤◌, ◌<◌, List, [], ◌∷◌, Bool, true, false, cond, ◌||◌, ◌≡◌, length, take, drop, get_or}
 use Rattle.names.specs.Name.{folded, same_bytes}
-use Rattle.names.specs.declared.Order.{Order}
-use Rattle.names.specs.declared.Order.TheVariants.{Less, Equal, Greater}
+use Rattle.std.specs.declared.cmp.Ordering.{Ordering}
+use Rattle.std.specs.declared.cmp.Ordering.TheVariants.{Less, Equal, Greater}
 use Rattle.file.specs.Word.{word_at}
 use Rattle.file.specs.Sections.{File}
 use Rattle.law.specs.Reading.{function_name, tree_of}
@@ -65,7 +65,7 @@ abbrev pub KeptFrom : List ℕ → List ℕ → ℕ → Type 0
 KeptFrom before after n = (j : ℕ) → n ≤ j → get_or after j 0 ≡ get_or before j 0
 
 -- 1 for less, else 0
-abbrev pub less_count : Order → ℕ
+abbrev pub less_count : Ordering → ℕ
 less_count Less = 1
 less_count Equal = 0
 less_count Greater = 0
