@@ -7,12 +7,12 @@ use native.Mathlib.Nat.{mul-le-mul, le_trans}
 use lib.ListN.{length, drop, length-drop}
 use borrow.Author.Tests.{lt-ltb, le-ltb}
 use Rattle.file.specs.Word.{word_at}
-use Rattle.file.specs.Answer.{refused, given, map_answer}
-use Rattle.file.specs.Sections.{Section, section, sections_of, number_of}
-use Rattle.file.specs.Code.Counts.{counts_of, counted_of, section_answer}
+use Rattle.file.specs.Answer.{Answer, refused, given, map_answer}
+use Rattle.file.specs.Sections.{Section, section, sections_of, number_of, answer_of}
+use Rattle.file.specs.Code.Counts.{counts_of, counted_of}
 use Rattle.file.specs.declared.Counted.{Counted}
-use Rattle.file.specs.declared.Found.{Found}
-use Rattle.file.specs.declared.Found.TheVariants.{Refused, Part}
+use Rattle.file.specs.declared.Sections.{Sections}
+use Rattle.std.specs.Prelude.{Result, Ok, Err, IsErrAnd}
 use Rattle.file.specs.declared.Refusal.{Refusal}
 use Rattle.file.proofs.Answers.{map_given, map_refused}
 use Rattle.file.proofs.Words.{word_first}
@@ -46,18 +46,19 @@ module _ (law : List ℕ) (at limit size : ℕ) where
       let past : length law - length (drop (4 + size * count) (drop at law)) ≡ at + 4 + size * count = simp length-drop (omega arith) in
       rw (section_whole limit size (drop at law) (rw (length-drop at law) h) (rw (word_first law at, ← e) k) (rw (length-drop at law, word_first law at, ← e) l), word_first law at, ← e, past)
 
--- what is known of a section that the code found, from the position after it on
+-- the code found a section at a position
+abbrev FoundAt : (law : List ℕ) (limit size at : ℕ) → Counted → Type 0
+FoundAt law limit size at p = given p ≡ map_answer (counted_of law) (section limit size (drop at law))
+
+-- what is known of it, from the position after it on
 pub record Reached (law : List ℕ) (limit size at : ℕ) (p : Counted) : Type 0 where
   pub found : Section
   pub whole : section limit size (drop at law) ≡ given (found, drop p.end law)
   pub count : found.count ≡ p.count
   pub inside : p.end ≤ length law
 
--- what the code answers of a section that it found, and what is known of it
-pub reached : (law : List ℕ) (limit size at : ℕ) (r : Found) (p : Counted)
-    → section_answer r ≡ map_answer (counted_of law) (section limit size (drop at law)) → r ≡ Part p → Reached law limit size at p
-reached law limit size at r p h i =
-    let g : given p ≡ map_answer (counted_of law) (section limit size (drop at law)) = rw i at h in
+pub reached : (law : List ℕ) (limit size at : ℕ) (p : Counted) → FoundAt law limit size at p → Reached law limit size at p
+reached law limit size at p g =
     map_given (counted_of law) (section limit size (drop at law)) p g λ x e q.
     let w : HeldAt limit size at law x = section_at limit size at law (drop at law) x refl e in
     let n : ℕ = size * word_at law at in
@@ -71,63 +72,67 @@ reached law limit size at r p h i =
       inside = omega (arith, w.inside);
     }
 
--- a section that the code found to be refused
-pub turned_back : (law : List ℕ) (limit size at : ℕ) (r : Found) (n : Refusal)
-    → section_answer r ≡ map_answer (counted_of law) (section limit size (drop at law)) → r ≡ Refused n → section limit size (drop at law) ≡ refused (number_of n)
-turned_back law limit size at r n h i =
-    let g : refused (number_of n) ≡ map_answer (counted_of law) (section limit size (drop at law)) = rw i at h in
-    map_refused (counted_of law) (section limit size (drop at law)) (number_of n) g
+-- a section that is refused, handed on by `?`: `r` is what is answered
+pub handed_on : (r : Result Sections Refusal) (why : Refusal) (a : Answer Sections) → IsErrAnd r (λ e. e ≡ why) → refused (number_of why) ≡ a → answer_of r ≡ a
+handed_on (Ok s) why a h k = absurd h
+handed_on (Err e) why a h k = rw h k
 
 -- a file over its limit
 pub file_over : (law : List ℕ) → 16384 < length law → refused 1 ≡ map_answer counts_of (sections_of law)
 unfolding sections_of
 file_over law h = rw (lt-ltb 16384 (length law) h)
 
--- the first section that is refused: `r` is what the code found there
-module _ (law : List ℕ) (small : length law ≤ 16384) (r : Found) (n : Refusal) (i : r ≡ Refused n) where
+-- the first section that is refused, by the number n
+module _ (law : List ℕ) (small : length law ≤ 16384) (n : ℕ) where
+  -- the code's answer says that it is
+  abbrev TurnedBack : (limit size at : ℕ) → Type 0
+  TurnedBack limit size at = refused n ≡ map_answer (counted_of law) (section limit size (drop at law))
+
+  turned_back : (limit size at : ℕ) → TurnedBack limit size at → section limit size (drop at law) ≡ refused n
+  turned_back limit size at h = map_refused (counted_of law) (section limit size (drop at law)) n h
+
+  -- what is then answered
+  abbrev Answered : Type 0
+  Answered = refused n ≡ map_answer counts_of (sections_of law)
+
   -- no section stands before it
-  pub text_refused : section_answer r ≡ map_answer (counted_of law) (section 4096 1 (drop 0 law))
-      → refused (number_of n) ≡ map_answer counts_of (sections_of law)
+  pub text_refused : TurnedBack 4096 1 0 → Answered
   unfolding sections_of
-  text_refused h = rw (le-ltb 16384 (length law) small, turned_back law 4096 1 0 r n h i)
+  text_refused h = rw (le-ltb 16384 (length law) small, turned_back 4096 1 0 h)
 
-  module _ (t : Counted) (w₁ : Reached law 4096 1 0 t) where
+  module _ (t : Counted) (w₁ : FoundAt law 4096 1 0 t) where
     -- the text stands before it
-    pub functions_refused : section_answer r ≡ map_answer (counted_of law) (section 64 20 (drop t.end law))
-        → refused (number_of n) ≡ map_answer counts_of (sections_of law)
+    pub functions_refused : TurnedBack 64 20 t.end → Answered
     unfolding sections_of
-    functions_refused h = rw (le-ltb 16384 (length law) small, w₁.whole, turned_back law 64 20 t.end r n h i)
+    functions_refused h = rw (le-ltb 16384 (length law) small, (reached law 4096 1 0 t w₁).whole, turned_back 64 20 t.end h)
 
-    module _ (f : Counted) (w₂ : Reached law 64 20 t.end f) where
+    module _ (f : Counted) (w₂ : FoundAt law 64 20 t.end f) where
       -- the text and the functions stand before it
-      pub sentences_refused : section_answer r ≡ map_answer (counted_of law) (section 128 20 (drop f.end law))
-          → refused (number_of n) ≡ map_answer counts_of (sections_of law)
+      pub sentences_refused : TurnedBack 128 20 f.end → Answered
       unfolding sections_of
-      sentences_refused h = rw (le-ltb 16384 (length law) small, w₁.whole, w₂.whole, turned_back law 128 20 f.end r n h i)
+      sentences_refused h = rw (le-ltb 16384 (length law) small, (reached law 4096 1 0 t w₁).whole, (reached law 64 20 t.end f w₂).whole, turned_back 128 20 f.end h)
 
-      module _ (s : Counted) (w₃ : Reached law 128 20 f.end s) where
+      module _ (s : Counted) (w₃ : FoundAt law 128 20 f.end s) where
         -- the text, the functions and the sentences stand before it
-        pub conditions_refused : section_answer r ≡ map_answer (counted_of law) (section 128 16 (drop s.end law))
-            → refused (number_of n) ≡ map_answer counts_of (sections_of law)
+        pub conditions_refused : TurnedBack 128 16 s.end → Answered
         unfolding sections_of
-        conditions_refused h = rw (le-ltb 16384 (length law) small, w₁.whole, w₂.whole, w₃.whole, turned_back law 128 16 s.end r n h i)
+        conditions_refused h = rw (le-ltb 16384 (length law) small, (reached law 4096 1 0 t w₁).whole, (reached law 64 20 t.end f w₂).whole, (reached law 128 20 f.end s w₃).whole, turned_back 128 16 s.end h)
 
-        module _ (k : Counted) (w₄ : Reached law 128 16 s.end k) where
+        module _ (k : Counted) (w₄ : FoundAt law 128 16 s.end k) where
           -- all but the last stand before it
-          pub terms_refused : section_answer r ≡ map_answer (counted_of law) (section 512 24 (drop k.end law))
-              → refused (number_of n) ≡ map_answer counts_of (sections_of law)
+          pub terms_refused : TurnedBack 512 24 k.end → Answered
           unfolding sections_of
-          terms_refused h = rw (le-ltb 16384 (length law) small, w₁.whole, w₂.whole, w₃.whole, w₄.whole, turned_back law 512 24 k.end r n h i)
+          terms_refused h = rw (le-ltb 16384 (length law) small, (reached law 4096 1 0 t w₁).whole, (reached law 64 20 t.end f w₂).whole, (reached law 128 20 f.end s w₃).whole, (reached law 128 16 s.end k w₄).whole, turned_back 512 24 k.end h)
 
 -- all five sections stand
-module _ (law : List ℕ) (small : length law ≤ 16384) (t f s k m : Counted) (w₁ : Reached law 4096 1 0 t) (w₂ : Reached law 64 20 t.end f)
-    (w₃ : Reached law 128 20 f.end s) (w₄ : Reached law 128 16 s.end k) (w₅ : Reached law 512 24 k.end m) where
+module _ (law : List ℕ) (small : length law ≤ 16384) (t f s k m : Counted) (w₁ : FoundAt law 4096 1 0 t) (w₂ : FoundAt law 64 20 t.end f)
+    (w₃ : FoundAt law 128 20 f.end s) (w₄ : FoundAt law 128 16 s.end k) (w₅ : FoundAt law 512 24 k.end m) where
   -- bytes after the last section
   pub left_over : m.end < length law → refused 3 ≡ map_answer counts_of (sections_of law)
   unfolding sections_of
   left_over h =
       let more : 0 < length (drop m.end law) = rw (length-drop m.end law) (omega arith) in
-      rw (le-ltb 16384 (length law) small, w₁.whole, w₂.whole, w₃.whole, w₄.whole, w₅.whole, lt-ltb 0 (length (drop m.end law)) more)
+      rw (le-ltb 16384 (length law) small, (reached law 4096 1 0 t w₁).whole, (reached law 64 20 t.end f w₂).whole, (reached law 128 20 f.end s w₃).whole, (reached law 128 16 s.end k w₄).whole, (reached law 512 24 k.end m w₅).whole, lt-ltb 0 (length (drop m.end law)) more)
 
   -- none
   pub all_given : length law ≤ m.end
@@ -138,15 +143,15 @@ module _ (law : List ℕ) (small : length law ≤ 16384) (t f s k m : Counted) (
       let none : length (drop m.end law) ≤ 0 = rw (length-drop m.end law) (omega arith) in
       rw (
         le-ltb 16384 (length law) small,
-        w₁.whole,
-        w₂.whole,
-        w₃.whole,
-        w₄.whole,
-        w₅.whole,
+        (reached law 4096 1 0 t w₁).whole,
+        (reached law 64 20 t.end f w₂).whole,
+        (reached law 128 20 f.end s w₃).whole,
+        (reached law 128 16 s.end k w₄).whole,
+        (reached law 512 24 k.end m w₅).whole,
         le-ltb 0 (length (drop m.end law)) none,
-        w₁.count,
-        w₂.count,
-        w₃.count,
-        w₄.count,
-        w₅.count,
+        (reached law 4096 1 0 t w₁).count,
+        (reached law 64 20 t.end f w₂).count,
+        (reached law 128 20 f.end s w₃).count,
+        (reached law 128 16 s.end k w₄).count,
+        (reached law 512 24 k.end m w₅).count,
       )

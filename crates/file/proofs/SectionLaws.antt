@@ -9,12 +9,11 @@ use lib.Dec.{ltb}
 use borrow.Author.Tests.{lt-ltb, le-ltb, ltb-false}
 use Rattle.file.specs.Word.{word_at}
 use Rattle.file.specs.Answer.{refused, given, map_answer}
-use Rattle.file.specs.Sections.{Section, section, File, sections_of, file_of, part, number_of}
-use Rattle.file.specs.Code.Counts.{counts_of, cut_answer}
+use Rattle.file.specs.Sections.{Section, section, File, sections_of, file_of, part, number_of, answer_of}
+use Rattle.file.specs.Code.Counts.{counts_of}
 use Rattle.file.specs.declared.Sections.{Sections}
 use Rattle.file.specs.declared.Refusal.{Refusal}
-use Rattle.file.specs.declared.Cut.{Cut}
-use Rattle.file.specs.declared.Cut.TheVariants.{Refused, Whole}
+use Rattle.std.specs.Prelude.{Result, Ok, Err}
 use Rattle.file.proofs.Answers.{bind_given, pass_given, map_given, map_refused}
 use Rattle.file.proofs.Words.{word_first}
 
@@ -240,8 +239,8 @@ told_of bytes h =
       limits = w.limits;
     }
 
--- what `cut_answer` says of a cut that is whole
-pub cut_whole : (bytes : List ℕ) (r : Cut) (s : Sections) → cut_answer r ≡ map_answer counts_of (sections_of bytes) → r ≡ Whole s → Told bytes s
+-- what `answer_of` says of a cut that is whole
+pub cut_whole : (bytes : List ℕ) (r : Result Sections Refusal) (s : Sections) → answer_of r ≡ map_answer counts_of (sections_of bytes) → r ≡ Ok s → Told bytes s
 cut_whole bytes r s h e =
     let g : given s ≡ map_answer counts_of (sections_of bytes) = rw e at h in
     map_given counts_of (sections_of bytes) s g λ file p q.
@@ -249,8 +248,8 @@ cut_whole bytes r s h e =
     let counts : counts_of (file_of bytes) ≡ s = rw (← same) (sym q) in
     rw counts at (told_of bytes (rw same at p))
 
--- what `cut_answer` says of a cut that is refused
-pub cut_refused : (bytes : List ℕ) (r : Cut) (n : Refusal) → cut_answer r ≡ map_answer counts_of (sections_of bytes) → r ≡ Refused n
+-- what `answer_of` says of a cut that is refused
+pub cut_refused : (bytes : List ℕ) (r : Result Sections Refusal) (n : Refusal) → answer_of r ≡ map_answer counts_of (sections_of bytes) → r ≡ Err n
     → sections_of bytes ≡ refused (number_of n)
 cut_refused bytes r n h e =
     let g : refused (number_of n) ≡ map_answer counts_of (sections_of bytes) = rw e at h in

@@ -2,9 +2,9 @@
 -- 1. Text, at most 4,096 bytes. 2. Functions, at most 64, five words. 3. Sentences, at most 128, five words.
 -- 4. Conditions, at most 128, four words. 5. Terms, at most 512, six words.
 -- docs/SPECIFICATION.md, 1.1, 1.3, 1.4, 2.1.
-use Rattle.std.specs.Prelude.{ℕ, zero, ◌+◌, ◌*◌, ◌-◌, List, length, take, drop, ltb}
+use Rattle.std.specs.Prelude.{ℕ, zero, ◌+◌, ◌*◌, ◌-◌, List, length, take, drop, ltb, Result, Ok, Err}
 use Rattle.file.specs.Word.{word_at}
-use Rattle.file.specs.Answer.{Answer, given, refuse_if, ◌>>=◌, ◌>>◌}
+use Rattle.file.specs.Answer.{Answer, refused, given, refuse_if, ◌>>=◌, ◌>>◌}
 use Rattle.file.specs.declared.Refusal.{Refusal}
 use Rattle.file.specs.declared.Refusal.TheVariants.{FileOver, CutOff, LeftOver, CountOver, Fields, Runs, Blocks, Depth, Patterns}
 
@@ -52,6 +52,11 @@ number_of Runs = 6
 number_of Blocks = 7
 number_of Depth = 8
 number_of Patterns = 9
+
+-- what the code answers, as an `Answer`: a refusal by its number
+abbrev pub answer_of : {A : Type 0} → Result A Refusal → Answer A
+answer_of (Err why) = refused (number_of why)
+answer_of (Ok a) = given a
 
 -- so many bytes from a position on
 abbrev pub part : ℕ → ℕ → List ℕ → List ℕ

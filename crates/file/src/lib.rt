@@ -4,8 +4,8 @@
 ghost use Rattle.std.specs.Prelude.{◌≡◌, true, ◌&&◌, ◌+◌, ◌*◌, ◌≤◌, ◌<◌, length, drop, leb};
 ghost use Rattle.file.specs.Word.{word_at};
 ghost use Rattle.file.specs.Answer.{given, map_answer};
-ghost use Rattle.file.specs.Sections.{section, number_of, sections_of, file_of};
-ghost use Rattle.file.specs.Code.Counts.{cut_answer, counts_of, section_answer, counted_of};
+ghost use Rattle.file.specs.Sections.{section, number_of, answer_of, sections_of, file_of};
+ghost use Rattle.file.specs.Code.Counts.{counts_of, counted_of};
 ghost use Rattle.file.specs.Code.Text.{Named};
 ghost use Rattle.file.specs.Head.{term_from, term_at};
 ghost use Rattle.file.specs.Fields.{spelled, unused, scalar_allowed, term_allowed, functions_allowed, terms_allowed, fields_allowed};
@@ -14,7 +14,7 @@ ghost use Rattle.names.specs.Name.{name_allowed, number_allowed};
 use names::{is_name, is_number, length_allowed, name_bytes, name_in};
 
 // Why a file is no law. `number_of` of specs/Sections.antt gives each its number in document 01's table.
-#[derive(Clone, Copy)]
+#[derive(Clone, Copy, PartialEq, Eq, Debug)]
 pub enum Refusal {
     FileOver,
     CutOff,
@@ -37,25 +37,11 @@ pub struct Sections {
     pub terms: usize,
 }
 
-// A file cut into its sections.
-#[derive(Clone, Copy)]
-pub enum Cut {
-    Refused(Refusal),
-    Whole(Sections),
-}
-
 // A section's count, and the position after its records.
 #[derive(Clone, Copy)]
 struct Counted {
     count: usize,
     end: usize,
-}
-
-// What stands at a position where a section is to stand.
-#[derive(Clone, Copy)]
-enum Found {
-    Refused(Refusal),
-    Part(Counted),
 }
 
 // The three symbol kinds: a scalar value, or the start and length of a spelling in the text.
@@ -79,19 +65,21 @@ pub enum Term {
 }
 
 // Document 01's number of a file's refusal.
-pub fn refusal_number(why: Refusal) -> u32
-    ensures { result ≡ number_of why }
-{
-    match why {
-        Refusal::FileOver => 1,
-        Refusal::CutOff => 2,
-        Refusal::LeftOver => 3,
-        Refusal::CountOver => 4,
-        Refusal::Fields => 5,
-        Refusal::Runs => 6,
-        Refusal::Blocks => 7,
-        Refusal::Depth => 8,
-        Refusal::Patterns => 9,
+impl From<Refusal> for u32 {
+    ghost from_gives = { λ why number. number ≡ number_of why };
+
+    fn from(why: Refusal) -> u32 {
+        match why {
+            Refusal::FileOver => 1,
+            Refusal::CutOff => 2,
+            Refusal::LeftOver => 3,
+            Refusal::CountOver => 4,
+            Refusal::Fields => 5,
+            Refusal::Runs => 6,
+            Refusal::Blocks => 7,
+            Refusal::Depth => 8,
+            Refusal::Patterns => 9,
+        }
     }
 }
 
@@ -136,58 +124,41 @@ pub fn term_at(s: &[u8], at: usize) -> Term
 }
 
 // The section at a byte position. The count is held to its limit before it is multiplied, so that the product cannot wrap.
-fn section_at(law: &[u8], at: usize, limit: usize, size: usize) -> Found
+fn section_at(law: &[u8], at: usize, limit: usize, size: usize) -> Result<Counted, Refusal>
     requires { (at ≤ length law.now) × (limit ≤ 4096) × (size ≤ 24) }
-    ensures { section_answer result ≡ map_answer (counted_of law.now) (section limit size (drop at law.now)) }
+    ensures { answer_of result ≡ map_answer (counted_of law.now) (section limit size (drop at law.now)) }
 {
     let left = law.len() - at;
     if left < 4 {
-        return Found::Refused(Refusal::CutOff);
+        return Err(Refusal::CutOff);
     }
     let count = word_at(law, at) as usize;
     if limit < count {
-        return Found::Refused(Refusal::CountOver);
+        return Err(Refusal::CountOver);
     }
     if left - 4 < size * count {
-        return Found::Refused(Refusal::CutOff);
+        return Err(Refusal::CutOff);
     }
-    Found::Part(Counted {
-        count,
-        end: at + 4 + size * count,
-    })
+    let end = at + 4 + size * count;
+    Ok(Counted { count, end })
 }
 
 // The counts of the five sections, or why the file cannot be cut into them.
-pub fn sections_of(law: &[u8]) -> Cut
-    ensures { cut_answer result ≡ map_answer counts_of (sections_of law.now) }
+pub fn sections_of(law: &[u8]) -> Result<Sections, Refusal>
+    ensures { answer_of result ≡ map_answer counts_of (sections_of law.now) }
 {
     if 16384 < law.len() {
-        return Cut::Refused(Refusal::FileOver);
+        return Err(Refusal::FileOver);
     }
-    let text = match section_at(law, 0, 4096, 1) {
-        Found::Refused(r) => return Cut::Refused(r),
-        Found::Part(p) => p,
-    };
-    let functions = match section_at(law, text.end, 64, 20) {
-        Found::Refused(r) => return Cut::Refused(r),
-        Found::Part(p) => p,
-    };
-    let sentences = match section_at(law, functions.end, 128, 20) {
-        Found::Refused(r) => return Cut::Refused(r),
-        Found::Part(p) => p,
-    };
-    let conditions = match section_at(law, sentences.end, 128, 16) {
-        Found::Refused(r) => return Cut::Refused(r),
-        Found::Part(p) => p,
-    };
-    let terms = match section_at(law, conditions.end, 512, 24) {
-        Found::Refused(r) => return Cut::Refused(r),
-        Found::Part(p) => p,
-    };
+    let text = section_at(law, 0, 4096, 1)?;
+    let functions = section_at(law, text.end, 64, 20)?;
+    let sentences = section_at(law, functions.end, 128, 20)?;
+    let conditions = section_at(law, sentences.end, 128, 16)?;
+    let terms = section_at(law, conditions.end, 512, 24)?;
     if terms.end < law.len() {
-        return Cut::Refused(Refusal::LeftOver);
+        return Err(Refusal::LeftOver);
     }
-    Cut::Whole(Sections {
+    Ok(Sections {
         text: text.count,
         functions: functions.count,
         sentences: sentences.count,

@@ -15,7 +15,7 @@ use crate::depth::depth_allowed;
 use crate::index::place_records;
 use crate::patterns::patterns_allowed;
 use crate::runs::runs_fit;
-use file::{Cut, Refusal, Sections, fields_allowed, sections_of};
+use file::{Refusal, Sections, fields_allowed, sections_of};
 
 mod blocks;
 pub mod depth;
@@ -75,8 +75,8 @@ fn check_bytes(law: &[u8], index: &mut Index) -> Check
     ensures { (check_answer result ≡ check_of law.now) × (result ≡ Check.Accepted → Indexed law.now index.new) }
 {
     match sections_of(law) {
-        Cut::Refused(why) => Check::Refused(why),
-        Cut::Whole(sections) => check_sections(law, sections, index),
+        Err(why) => Check::Refused(why),
+        Ok(sections) => check_sections(law, sections, index),
     }
 }
 

@@ -7,7 +7,7 @@ ghost use Rattle.lints.specs.Levels.{settings_from, settings_allowed};
 ghost use Rattle.listing.specs.Code.Gather.{no_records, empty_file, FrontIs, IndexLeft};
 
 use crate::Turned;
-use file::{Cut, Sections, sections_of};
+use file::{Sections, sections_of};
 use law::{Check, Index, read_law};
 use lints::levels::settings_allowed;
 
@@ -51,8 +51,8 @@ pub fn is_empty(law: &[u8]) -> bool
     ensures { result ≡ empty_file (sections_of law.now) }
 {
     match sections_of(law) {
-        Cut::Refused(_) => false,
-        Cut::Whole(sections) => no_records(sections),
+        Err(_) => false,
+        Ok(sections) => no_records(sections),
     }
 }
 

@@ -16,7 +16,7 @@ use crate::bytes::{Wanted, write};
 use crate::front::{Front, LIMIT, check_front, is_empty, store_words};
 use crate::gather::{Gathered, OWN, gather};
 use buffers::copy_words;
-use file::{Refusal, refusal_number};
+use file::Refusal;
 use findings::all::lint_all;
 use formats::Slots;
 use formats::call::clear_store;
@@ -68,7 +68,7 @@ pub fn turned_number(why: Turned) -> u32
 {
     match why {
         Turned::Settings => 14,
-        Turned::File(of_file) => refusal_number(of_file),
+        Turned::File(of_file) => u32::from(of_file),
         Turned::Store => 15,
         Turned::Shapes => 10,
         Turned::Findings => 11,

@@ -13,7 +13,7 @@ ghost use Rattle.reader.specs.Code.Lent.{Lent};
 ghost use Rattle.reader.specs.Outcome.{law_file, phrase_file, read_by, read_outcome, unread_number, read_after};
 
 use buffers::put;
-use file::{Refusal, refusal_number};
+use file::Refusal;
 use grammar::accepts;
 use law::{Check, check_law};
 use tokens::{Tokens, lex_text};
@@ -42,7 +42,7 @@ pub fn unread_number(why: Unread) -> u32
     match why {
         Unread::TextOver => 4,
         Unread::Outside => 16,
-        Unread::Law(of_law) => refusal_number(of_law),
+        Unread::Law(of_law) => u32::from(of_law),
         Unread::Short => 17,
     }
 }

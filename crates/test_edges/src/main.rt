@@ -4,7 +4,6 @@
 // document 01's number.
 #![tactic(auto)]
 
-use file::refusal_number;
 use law::Check;
 use std::io;
 use std::io::{BufWriter, Read, Write};
@@ -16,7 +15,7 @@ fn print_answer<W: Write>(output: &mut W, answer: Check) -> io::Result<()> {
         Check::Accepted => output.write_all(b" accepted\n"),
         Check::Refused(refusal) => {
             output.write_all(b" refused ")?;
-            print_decimal(output, refusal_number(refusal) as u64)?;
+            print_decimal(output, u64::from(u32::from(refusal)))?;
             output.write_all(b"\n")
         }
     }

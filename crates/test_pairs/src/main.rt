@@ -6,7 +6,6 @@
 // of all functions and blocks are asked about, so that a case may spread its patterns over several.
 #![tactic(auto)]
 
-use file::refusal_number;
 use law::places::{sentences, terms};
 use law::{Check, Index};
 use sentences::{Recognised, Shadowed, matches_in, shadows_in};
@@ -135,7 +134,7 @@ fn print_answers<W: Write>(output: &mut W, law: &[u8]) -> io::Result<()> {
         }
         Check::Refused(refusal) => {
             output.write_all(b" refused ")?;
-            print_decimal(output, refusal_number(refusal) as u64)?;
+            print_decimal(output, u64::from(u32::from(refusal)))?;
             output.write_all(b"\n")
         }
     }

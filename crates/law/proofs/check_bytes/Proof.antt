@@ -15,12 +15,12 @@ check_bytes_spec =
     (λ c κs.
     let start = c in
     let the_sections_of = c.sections_of in
-    let cut = cut_whole start.args.law.now _ _ the_sections_of.ensures c.in-Whole.is in
+    let cut = cut_whole start.args.law.now _ _ the_sections_of.ensures c.in-Ok.is in
     (cut.file, cut.counts, start.requires))
     (λ c.
     let start = c in
     let the_sections_of = c.sections_of in
     let law = start.args.law.now in
-    let refused = cut_refused law _ _ the_sections_of.ensures c.in-Refused.is in
+    let refused = cut_refused law _ _ the_sections_of.ensures c.in-Err.is in
     verdict.refused_filled law _ _ (verdict.sections_refused law _ refused))
     (λ c. search rules))

@@ -15,9 +15,9 @@ is_empty_spec =
     (λ c κs. search rules)
     (λ c.
     let the_args = c.args in
-    refused_empty the_args.law.now _ (cut_refused _ _ _ c.sections_of.ensures c.in-Refused.is))
+    refused_empty the_args.law.now _ (cut_refused _ _ _ c.sections_of.ensures c.in-Err.is))
     (λ c.
     let start = c in
     let the_sections_of = c.sections_of in
-    counts_empty start.args.law.now _ _ (cut_whole start.args.law.now _ _ the_sections_of.ensures c.in-Whole.is)
+    counts_empty start.args.law.now _ _ (cut_whole start.args.law.now _ _ the_sections_of.ensures c.in-Ok.is)
     c.no_records.ensures))
