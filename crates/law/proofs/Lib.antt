@@ -11,6 +11,7 @@ pub mod DepthLaws
 pub mod PatternVariables
 pub mod Owners
 pub mod Forests
+pub mod WholeTerms
 pub mod LevelLaws
 pub mod IndexLaws
 pub mod FitLaws

@@ -5,3 +5,4 @@ pub mod Levels
 pub mod Index
 pub mod Filling
 pub mod Accepted
+pub mod Whole

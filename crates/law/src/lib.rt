@@ -23,6 +23,7 @@ mod index;
 mod patterns;
 pub mod places;
 pub mod runs;
+pub mod whole;
 
 // The words that say where things stand in a law: eight for its sections, then five tables (specs/Code/Index.antt).
 pub type Index = [u16; 972];
