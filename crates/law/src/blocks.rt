@@ -6,7 +6,9 @@ ghost use Rattle.law.specs.Runs.{block_later, sentence_blocks, blocks_allowed};
 ghost use Rattle.law.specs.Code.Index.{Indexed};
 
 use crate::Index;
-use crate::places::{block_first, first_sentence, functions, pattern_at, sentences, term_word};
+use crate::places::{
+    Law, block_first, first_sentence, functions, pattern_at, sentences, term_word,
+};
 
 // The number of sentences of the block at a term record, 0 where it is no block.
 pub fn block_size(law: &[u8], index: &Index, t: usize) -> usize
@@ -17,6 +19,20 @@ pub fn block_size(law: &[u8], index: &Index, t: usize) -> usize
         return 0;
     }
     term_word(law, index, t, 4)
+}
+
+impl Law<'_> {
+    // The number of sentences of the block at a term record, 0 where it is no block.
+    pub fn block_size(&self, t: usize) -> usize
+        requires { t < (file_of self.now.bytes.now).terms.count }
+        ensures { result ≡ block_size (file_of self.now.bytes.now) t }
+    {
+        if self.term_word(t, 0) == 8 {
+            self.term_word(t, 4)
+        } else {
+            0
+        }
+    }
 }
 
 // Is the term record t, which stands in the sentence s, no block with sentences, or is its first sentence later than s?

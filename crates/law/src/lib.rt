@@ -14,6 +14,7 @@ use crate::blocks::blocks_allowed;
 use crate::depth::depth_allowed;
 use crate::index::place_records;
 use crate::patterns::patterns_allowed;
+pub use crate::places::{AcceptedLaw, Law};
 use crate::runs::runs_fit;
 use file::{Refusal, Sections, fields_allowed, sections_of};
 
@@ -27,6 +28,17 @@ pub mod whole;
 
 // The words that say where things stand in a law: eight for its sections, then five tables (specs/Code/Index.antt).
 pub type Index = [u16; 972];
+
+// Where the tables of an index begin.
+const FIRST_SENTENCES: usize = 8;
+
+const FIRST_CONDITIONS: usize = 73;
+
+const CONDITION_TERMS: usize = 202;
+
+const SENTENCE_TERMS: usize = 331;
+
+const BLOCKS: usize = 460;
 
 // Whether a file is a law. `check_answer` of specs/Law.antt gives document 01's number for each case.
 #[derive(Clone, Copy)]

@@ -1,5 +1,7 @@
 // Where things stand in a file, read off its index: no lookup goes through the file. specs/Places.antt says what each answer is.
+ghost use mathlib.Core.Sum.{⊎_set};
 ghost use Rattle.std.specs.Prelude.{◌≡◌, true, ◌+◌, ◌*◌, ◌≤◌, ◌<◌, get_or};
+ghost use Rattle.std.proofs.Props.{props};
 ghost use Rattle.file.specs.Word.{word_at};
 ghost use Rattle.file.specs.Sections.{file_of};
 ghost use Rattle.file.specs.Fields.{fields_allowed};
@@ -7,10 +9,233 @@ ghost use Rattle.law.specs.Places.{pattern_size, condition_result_size, pattern_
 ghost use Rattle.law.specs.Code.Terms.{Owns};
 ghost use Rattle.law.specs.Reading.{function_name};
 ghost use Rattle.law.specs.Code.Index.{Indexed};
+ghost use Rattle.law.specs.Code.Accepted.{Accepted};
 
-use crate::Index;
+use crate::{BLOCKS, CONDITION_TERMS, FIRST_CONDITIONS, FIRST_SENTENCES, Index, SENTENCE_TERMS};
 use file::word_at;
 use names::name_in;
+
+// The bytes of a file whose fields are allowed, and its index.
+#[derive(Clone, Copy)]
+pub struct Law<'a> {
+    pub bytes: &'a [u8],
+    pub index: &'a Index,
+    pub ghost indexed: { Indexed bytes.now index.now } by { Prim.hlevel (props, ⊎_set) },
+    pub ghost fields: { fields_allowed (file_of bytes.now) ≡ true },
+}
+
+// A law that no refusal holds of.
+#[derive(Clone, Copy)]
+pub struct AcceptedLaw<'a> {
+    pub law: Law<'a>,
+    pub ghost accepted: { Accepted law.bytes.now } by { Prim.hlevel (props, ⊎_set) },
+}
+
+impl<'a> Law<'a> {
+    // A word of the index.
+    fn word(&self, i: usize) -> usize
+        requires { i < 972 }
+        ensures { (result ≡ get_or self.now.index.now i 0) × (result < 65536) }
+    {
+        self.index[i] as usize
+    }
+
+    // The numbers of functions, sentences, conditions and terms.
+    pub fn functions(&self) -> usize
+        ensures { result ≡ get_or self.now.index.now 4 0 }
+    {
+        self.word(4)
+    }
+
+    pub fn sentences(&self) -> usize
+        ensures { result ≡ get_or self.now.index.now 5 0 }
+    {
+        self.word(5)
+    }
+
+    pub fn terms(&self) -> usize
+        ensures { result ≡ get_or self.now.index.now 7 0 }
+    {
+        self.word(7)
+    }
+
+    // The first sentence of a function, up to the number of functions.
+    pub fn first_sentence(&self, f: usize) -> usize
+        requires { f ≤ 64 }
+        ensures { result ≡ get_or self.now.index.now (8 + f) 0 }
+    {
+        self.word(FIRST_SENTENCES + f)
+    }
+
+    // The first condition of a sentence, up to the number of sentences.
+    pub fn first_condition(&self, s: usize) -> usize
+        requires { s ≤ 128 }
+        ensures { result ≡ get_or self.now.index.now (73 + s) 0 }
+    {
+        self.word(FIRST_CONDITIONS + s)
+    }
+
+    // The first sentence of the block at a term record.
+    pub fn block_first(&self, t: usize) -> usize
+        requires { t < 512 }
+        ensures { result ≡ get_or self.now.index.now (460 + t) 0 }
+    {
+        self.word(BLOCKS + t)
+    }
+
+    // A word of a function record.
+    fn function_word(&self, f: usize, at: usize) -> usize
+        requires { (f < (file_of self.now.bytes.now).functions.count) × (at + 4 ≤ 20) }
+        ensures { result ≡ word_at (file_of self.now.bytes.now).functions.records (20 * f + at) }
+    {
+        let start = self.word(0);
+        word_at(self.bytes, start + (20 * f + at)) as usize
+    }
+
+    // A word of a sentence record.
+    fn sentence_word(&self, s: usize, at: usize) -> usize
+        requires { (s < (file_of self.now.bytes.now).sentences.count) × (at + 4 ≤ 20) }
+        ensures { result ≡ word_at (file_of self.now.bytes.now).sentences.records (20 * s + at) }
+    {
+        let start = self.word(1);
+        word_at(self.bytes, start + (20 * s + at)) as usize
+    }
+
+    // A word of a condition record.
+    fn condition_word(&self, c: usize, at: usize) -> usize
+        requires { (c < (file_of self.now.bytes.now).conditions.count) × (at + 4 ≤ 16) }
+        ensures { result ≡ word_at (file_of self.now.bytes.now).conditions.records (16 * c + at) }
+    {
+        let start = self.word(2);
+        word_at(self.bytes, start + (16 * c + at)) as usize
+    }
+
+    // A word of a term record.
+    pub fn term_word(&self, t: usize, at: usize) -> usize
+        requires { (t < (file_of self.now.bytes.now).terms.count) × (at + 4 ≤ 24) }
+        ensures { result ≡ word_at (file_of self.now.bytes.now).terms.records (24 * t + at) }
+    {
+        let start = self.word(3);
+        word_at(self.bytes, start + (24 * t + at)) as usize
+    }
+
+    // The bytes of so many term records from one on.
+    pub fn records(&self, at: usize, count: usize) -> &'a [u8]
+        requires { at + count ≤ (file_of self.now.bytes.now).terms.count }
+        ensures { result.now ≡ terms_at (file_of self.now.bytes.now) at count }
+    {
+        let start = self.word(3) + 24 * at;
+        let end = start + 24 * count;
+        &self.bytes[start..end]
+    }
+
+    // The number of records of a sentence's pattern.
+    pub fn pattern_size(&self, s: usize) -> usize
+        requires { s < (file_of self.now.bytes.now).sentences.count }
+        ensures { result ≡ pattern_size (file_of self.now.bytes.now) s }
+    {
+        self.sentence_word(s, 0)
+    }
+
+    // The first record of a sentence's pattern, up to the number of sentences.
+    pub fn pattern_at(&self, s: usize) -> usize
+        requires { s ≤ (file_of self.now.bytes.now).sentences.count }
+        ensures { result ≡ pattern_at (file_of self.now.bytes.now) s }
+    {
+        let c = self.word(FIRST_CONDITIONS + s);
+        self.word(SENTENCE_TERMS + s) + self.word(CONDITION_TERMS + c)
+    }
+
+    // The first record of a sentence's result.
+    pub fn result_at(&self, s: usize) -> usize
+        requires { s < (file_of self.now.bytes.now).sentences.count }
+        ensures { result ≡ result_at (file_of self.now.bytes.now) s }
+    {
+        let c = self.word(FIRST_CONDITIONS + 1 + s);
+        self.word(SENTENCE_TERMS + s) + self.pattern_size(s) + self.word(CONDITION_TERMS + c)
+    }
+
+    // The first record of the result of a condition of a sentence.
+    pub fn condition_result_at(&self, s: usize, c: usize) -> usize
+        requires { (s < (file_of self.now.bytes.now).sentences.count) × (c < (file_of self.now.bytes.now).conditions.count) }
+        ensures { result ≡ condition_result_at (file_of self.now.bytes.now) s c }
+    {
+        self.word(SENTENCE_TERMS + s) + self.pattern_size(s) + self.word(CONDITION_TERMS + c)
+    }
+
+    // The number of records of a condition's result.
+    pub fn condition_result_size(&self, c: usize) -> usize
+        requires { c < (file_of self.now.bytes.now).conditions.count }
+        ensures { result ≡ condition_result_size (file_of self.now.bytes.now) c }
+    {
+        self.condition_word(c, 0)
+    }
+
+    // A sentence's pattern: the bytes of its records.
+    pub fn pattern(&self, s: usize) -> &'a [u8]
+        requires { s < (file_of self.now.bytes.now).sentences.count }
+        ensures { result.now ≡ pattern_part (file_of self.now.bytes.now) s }
+    {
+        let at = self.pattern_at(s);
+        self.records(at, self.pattern_size(s))
+    }
+
+    // A sentence's result.
+    pub fn result(&self, s: usize) -> &'a [u8]
+        requires { s < (file_of self.now.bytes.now).sentences.count }
+        ensures { result.now ≡ result_part (file_of self.now.bytes.now) s }
+    {
+        let at = self.result_at(s);
+        self.records(at, self.sentence_word(s, 8))
+    }
+
+    // The result of a condition c of a sentence s.
+    pub fn condition_result(&self, s: usize, c: usize) -> &'a [u8]
+        requires { Owns (file_of self.now.bytes.now) s c }
+        ensures { result.now ≡ condition_result_part (file_of self.now.bytes.now) s c }
+    {
+        let at = self.condition_result_at(s, c);
+        self.records(at, self.condition_result_size(c))
+    }
+
+    // The pattern of a condition c of a sentence s.
+    pub fn condition_pattern(&self, s: usize, c: usize) -> &'a [u8]
+        requires { Owns (file_of self.now.bytes.now) s c }
+        ensures { result.now ≡ condition_pattern_part (file_of self.now.bytes.now) s c }
+    {
+        let at = self.condition_result_at(s, c) + self.condition_result_size(c);
+        self.records(at, self.condition_word(c, 4))
+    }
+
+    // The text section.
+    pub fn text(&self) -> &'a [u8]
+        ensures { result.now ≡ (file_of self.now.bytes.now).text.records }
+    {
+        let end = self.word(0) - 4;
+        &self.bytes[4..end]
+    }
+
+    // A function's name, as the part of the text where it is spelled.
+    pub fn function_name(&self, f: usize) -> &'a [u8]
+        requires { f < (file_of self.now.bytes.now).functions.count }
+        ensures { result.now ≡ (function_name (file_of self.now.bytes.now) f).spelled }
+    {
+        let start = self.function_word(f, 0);
+        let len = self.function_word(f, 4);
+        name_in(self.text(), start, len)
+    }
+}
+
+impl<'a> AcceptedLaw<'a> {
+    pub fn new(bytes: &'a [u8], index: &'a Index) -> AcceptedLaw<'a>
+        requires { Indexed bytes.now index.now × Accepted bytes.now }
+        ensures { (result.law.bytes.now ≡ bytes.now) × (result.law.index.now ≡ index.now) }
+    {
+        AcceptedLaw {
+            law: Law { bytes, index },
+        }
+    }
+}
 
 // A word of the index as a number.
 fn wide(word: u16) -> usize
