@@ -1,6 +1,5 @@
 pub mod PartLaws
 pub mod NumberLaws
-pub mod DomainLaws
 pub mod Everywhere
 pub mod Records
 pub mod CallsIn

@@ -9,7 +9,8 @@ use Rattle.numbers.specs.Value.{value_of, is_macrodigit}
 use Rattle.numbers.specs.OnePass.{state_of}
 use Rattle.numbers.proofs.CapLaws.{macrodigit_capped}
 use Rattle.lints.specs.Code.Part.{number_operand}
-use Rattle.lints.specs.declared.builtin.Operand.TheVariants.{Macrodigit, Other}
+use Rattle.lints.specs.declared.builtin.Operand.TheVariants.{Macrodigit}
+use Rattle.std.specs.Prelude.{Some, None}
 
 module _ (ds : List ℕ) {value : ℕ} {test : Bool} (capped : value ≡ state_of ds) (is : test ≡ is_macrodigit value) where
   -- the test of the state is that of the value
@@ -17,7 +18,7 @@ module _ (ds : List ℕ) {value : ℕ} {test : Bool} (capped : value ≡ state_o
   test_of_value = is ∙ (ap is_macrodigit capped ∙ macrodigit_capped (value_of ds))
 
   -- a macrodigit
-  pub number_macrodigit : test ≡ true → Macrodigit value ≡ number_operand ds
+  pub number_macrodigit : test ≡ true → Some (Macrodigit value) ≡ number_operand ds
   number_macrodigit h =
       let holds : is_macrodigit (value_of ds) ≡ true = sym test_of_value ∙ h in
       let small : value_of ds ≤ 4294967295 = leb-true (value_of ds) 4294967295 holds in
@@ -25,5 +26,5 @@ module _ (ds : List ℕ) {value : ℕ} {test : Bool} (capped : value ≡ state_o
       rw (holds, same)
 
   -- past all macrodigits
-  pub number_past : test ≡ false → Other ≡ number_operand ds
+  pub number_past : test ≡ false → None ≡ number_operand ds
   number_past h = rw (sym test_of_value ∙ h)

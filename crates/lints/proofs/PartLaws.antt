@@ -1,9 +1,11 @@
 -- Laws of a part of the term records as an argument (specs/Code/Part.antt): what its first record adds to what the rest says, and that neither records'
 -- numbers nor blocks' sentences matter.
 use Prim.Native.Nat.{ℕ, zero, suc, ◌+◌, ◌*◌, ◌-◌, ◌≤◌, ◌<◌}
-use mathlib.Core.Bool.{Bool, true, false, cond, ◌&&◌}
+use mathlib.Core.Bool.{Bool, true, false, cond, beq, ◌&&◌}
 use mathlib.Core.List.{List, ◌∷◌}
 use mathlib.Core.Option.{Option, none, some}
+use Rattle.std.specs.Prelude.{Option as Answer, Some, None}
+use Rattle.std.specs.Option.{option_eq}
 use mathlib.Core.Path.{◌≡◌, refl, sym, ap, ◌∙◌}
 use native.Mathlib.Omega.{arith}
 use lib.ListN.{length, take, drop, length-take}
@@ -27,11 +29,9 @@ use Rattle.lints.specs.Finding.{Failure, two_integers_wanted, division_by_zero, 
 use Rattle.lints.specs.Builtin.{is_sign, cons_found, macrodigits, unsigned, all_zero, second_fails, first_fails}
 use Rattle.lints.specs.Builtin.{integers_fail, characters_of, digits_fail, Domain, integers, digits, anything, failure}
 use Rattle.lints.specs.Open.{e_occurrences}
-use Rattle.lints.specs.Code.Part.{argument_of, SignTaken, operand_of, decided_by, all_of, both, zero_of, digit_of}
+use Rattle.lints.specs.Code.Part.{argument_of, SignTaken, operand_of, all_of, zero_of, digit_of}
 use Rattle.lints.specs.declared.builtin.Operand.{Operand}
-use Rattle.lints.specs.declared.builtin.Operand.TheVariants.{Sign, Macrodigit, Other}
-use Rattle.lints.specs.declared.builtin.All.{All}
-use Rattle.lints.specs.declared.builtin.All.TheVariants.{Undecided, Yes, No}
+use Rattle.lints.specs.declared.builtin.Operand.TheVariants.{Sign, Macrodigit}
 
 -- a part's records from a position on, and those inside its first record, which end at a position
 abbrev pub left_from : List ℕ → ℕ → List ℕ
@@ -53,22 +53,22 @@ occurring (Call a b) inside = 0
 occurring (Block n) inside = 0
 
 -- the macrodigits of an operand before those of the rest
-abbrev pub digits_first : Operand → Option (List ℕ) → Option (List ℕ)
-digits_first Sign after = none
-digits_first (Macrodigit n) after = cons_found n after
-digits_first Other after = none
+abbrev pub digits_first : Answer Operand → Option (List ℕ) → Option (List ℕ)
+digits_first (Some Sign) after = none
+digits_first (Some (Macrodigit n)) after = cons_found n after
+digits_first None after = none
 
 -- what a first operand says before the macrodigits of the second
-abbrev pub integer_first : Bool → Operand → Option (List ℕ) → Option Failure
-integer_first divides Sign second = none
-integer_first divides (Macrodigit n) second = second_fails divides second
-integer_first divides Other second = none
+abbrev pub integer_first : Bool → Answer Operand → Option (List ℕ) → Option Failure
+integer_first divides (Some Sign) second = none
+integer_first divides (Some (Macrodigit n)) second = second_fails divides second
+integer_first divides None second = none
 
 -- what is said of the rest after a sign, else of the whole
-abbrev pub sign_first : {A : Type 0} → Operand → A → A → A
-sign_first Sign after whole = after
-sign_first (Macrodigit n) after whole = whole
-sign_first Other after whole = whole
+abbrev pub sign_first : {A : Type 0} → Answer Operand → A → A → A
+sign_first (Some Sign) after whole = after
+sign_first (Some (Macrodigit n)) after whole = whole
+sign_first None after whole = whole
 
 -- the characters of a term before those of the rest
 abbrev pub characters_first : Term → Option (List ℕ) → Option (List ℕ)
@@ -83,10 +83,10 @@ characters_first (Call a b) after = none
 characters_first (Block n) after = none
 
 -- a function of either of two runs
-sign_ap : {A B : Type 0} (g : A → B) (op : Operand) (after whole : A) → g (sign_first op after whole) ≡ sign_first op (g after) (g whole)
-sign_ap g Sign after whole = refl
-sign_ap g (Macrodigit n) after whole = refl
-sign_ap g Other after whole = refl
+sign_ap : {A B : Type 0} (g : A → B) (op : Answer Operand) (after whole : A) → g (sign_first op after whole) ≡ sign_first op (g after) (g whole)
+sign_ap g (Some Sign) after whole = refl
+sign_ap g (Some (Macrodigit n)) after whole = refl
+sign_ap g None after whole = refl
 
 module _ (text : List ℕ) (own : ℕ → ℕ → Sentences) (at : ℕ) (mark : Mark) (inside after : Run) where
   e_term : (x : Term) → e_occurrences (term_run text own at mark x inside after) ≡ occurring x (e_occurrences inside) + e_occurrences after
@@ -103,13 +103,13 @@ module _ (text : List ℕ) (own : ℕ → ℕ → Sentences) (at : ℕ) (mark : 
   unfolding macrodigits
   digits_term (Symbolic (Character c)) = go (is_sign c)
     where
-      go : (t : Bool) → none ≡ digits_first (cond t Sign Other) (macrodigits after)
+      go : (t : Bool) → none ≡ digits_first (cond t (Some Sign) None) (macrodigits after)
       go true = refl
       go false = refl
   digits_term (Symbolic (Identifier a b)) = refl
   digits_term (Symbolic (Number a b)) = go (is_macrodigit (value_of (take b (drop a text)))) (value_of (take b (drop a text)))
     where
-      go : (t : Bool) (n : ℕ) → cond t (cons_found n (macrodigits after)) none ≡ digits_first (cond t (Macrodigit n) Other) (macrodigits after)
+      go : (t : Bool) (n : ℕ) → cond t (cons_found n (macrodigits after)) none ≡ digits_first (cond t (Some (Macrodigit n)) None) (macrodigits after)
       go true n = refl
       go false n = refl
   digits_term (SVariable a b) = refl
@@ -124,7 +124,7 @@ module _ (text : List ℕ) (own : ℕ → ℕ → Sentences) (at : ℕ) (mark : 
   unfolding first_fails
   first_term_lem divides (Symbolic (Character c)) = go (is_sign c)
     where
-      go : (t : Bool) → none ≡ integer_first divides (cond t Sign Other) (macrodigits (unsigned after))
+      go : (t : Bool) → none ≡ integer_first divides (cond t (Some Sign) None) (macrodigits (unsigned after))
       go true = refl
       go false = refl
   first_term_lem divides (Symbolic (Identifier a b)) = refl
@@ -132,7 +132,7 @@ module _ (text : List ℕ) (own : ℕ → ℕ → Sentences) (at : ℕ) (mark : 
     where
       go : (t : Bool) (n : ℕ)
           → cond t (second_fails divides (macrodigits (unsigned after))) none
-          ≡ integer_first divides (cond t (Macrodigit n) Other) (macrodigits (unsigned after))
+          ≡ integer_first divides (cond t (Some (Macrodigit n)) None) (macrodigits (unsigned after))
       go true n = refl
       go false n = refl
   first_term_lem divides (SVariable a b) = refl
@@ -148,14 +148,14 @@ module _ (text : List ℕ) (own : ℕ → ℕ → Sentences) (at : ℕ) (mark : 
   unsigned_term (Symbolic (Character c)) = go (is_sign c)
     where
       go : (t : Bool)
-          → cond t after (symbol (tree.Symbol.character c) after) ≡ sign_first (cond t Sign Other) after (symbol (tree.Symbol.character c) after)
+          → cond t after (symbol (tree.Symbol.character c) after) ≡ sign_first (cond t (Some Sign) None) after (symbol (tree.Symbol.character c) after)
       go true = refl
       go false = refl
   unsigned_term (Symbolic (Identifier a b)) = refl
   unsigned_term (Symbolic (Number a b)) =
       go (is_macrodigit (value_of (take b (drop a text)))) (value_of (take b (drop a text))) (symbol (symbol_of text (Number a b)) after)
     where
-      go : (t : Bool) (n : ℕ) (whole : Run) → whole ≡ sign_first (cond t (Macrodigit n) Other) after whole
+      go : (t : Bool) (n : ℕ) (whole : Run) → whole ≡ sign_first (cond t (Some (Macrodigit n)) None) after whole
       go true n whole = refl
       go false n whole = refl
   unsigned_term (SVariable a b) = refl
@@ -243,7 +243,7 @@ integers_in divides r = record {
   whole = integers_fail divides r;
 }
 
-integers_step : (divides : Bool) → Operand → Integers divides → Integers divides
+integers_step : (divides : Bool) → Answer Operand → Integers divides → Integers divides
 integers_step divides op after = record {
   found = digits_first op after.found;
   second = sign_first op after.found (digits_first op after.found);
@@ -400,29 +400,26 @@ module _ {part : List ℕ} {i found : ℕ} (so_far : Counted part i found) where
 
 -- ---- tests of all symbols
 
-both_decided : (t u : Bool) → both (decided_by t) (decided_by u) ≡ decided_by (t && u)
-both_decided true u = refl
-both_decided false true = refl
-both_decided false false = refl
-
-both_undecided : (t : Bool) → both (decided_by t) Undecided ≡ Undecided
-both_undecided true = refl
-both_undecided false = refl
+-- of the first symbol and of the others
+abbrev pub both : Answer Bool → Answer Bool → Answer Bool
+both None rest = None
+both (Some t) None = None
+both (Some t) (Some u) = Some (t && u)
 
 -- of an operand and of the macrodigits after it
-zeros_both : (op : Operand) (after : Option (List ℕ)) → both (zero_of op) (all_of all_zero after) ≡ all_of all_zero (digits_first op after)
+zeros_both : (op : Answer Operand) (after : Option (List ℕ)) → both (zero_of op) (all_of all_zero after) ≡ all_of all_zero (digits_first op after)
 unfolding all_zero
-zeros_both Sign after = refl
-zeros_both (Macrodigit n) none = both_undecided (eqb n 0)
-zeros_both (Macrodigit n) (some ns) = both_decided (eqb n 0) (all_zero ns)
-zeros_both Other after = refl
+zeros_both (Some Sign) after = refl
+zeros_both (Some (Macrodigit n)) none = refl
+zeros_both (Some (Macrodigit n)) (some ns) = refl
+zeros_both None after = refl
 
 -- of a term and of the characters after it
 digits_both : (x : Term) (after : Option (List ℕ))
     → both (digit_of x) (all_of (every_byte digit_byte) after) ≡ all_of (every_byte digit_byte) (characters_first x after)
 unfolding every_byte
-digits_both (Symbolic (Character c)) none = both_undecided (digit_byte c)
-digits_both (Symbolic (Character c)) (some cs) = both_decided (digit_byte c) (every_byte digit_byte cs)
+digits_both (Symbolic (Character c)) none = refl
+digits_both (Symbolic (Character c)) (some cs) = refl
 digits_both (Symbolic (Identifier a b)) after = refl
 digits_both (Symbolic (Number a b)) after = refl
 digits_both (SVariable a b) after = refl
@@ -435,7 +432,7 @@ digits_both (Block n) after = refl
 -- ---- integers
 
 -- nothing is left: no macrodigit, and no operand
-pub zeros_none : (text part : List ℕ) → length part < 24 → Yes ≡ all_of all_zero (macrodigits (argument_of text part))
+pub zeros_none : (text part : List ℕ) → length part < 24 → Some true ≡ all_of all_zero (macrodigits (argument_of text part))
 unfolding macrodigits all_zero
 zeros_none text part h = rw (part_empty text part h)
 
@@ -452,7 +449,7 @@ pub sign_none : (text part : List ℕ) → length part < 24 → SignTaken text p
 unfolding unsigned
 sign_none text part h = rw (part_empty text part h) ((λ divides. refl), refl)
 
-module _ (text part : List ℕ) {e : ℕ} {term : Term} {op : Operand} (some : 24 ≤ length part)
+module _ (text part : List ℕ) {e : ℕ} {term : Term} {op : Answer Operand} (some : 24 ≤ length part)
     (q : e ≡ end_of part) (t : term ≡ term_at part 0) (o : op ≡ operand_of text term) where
   integers_node : (divides : Bool)
       → integers_in divides (argument_of text part) ≡ integers_step divides op (integers_in divides (argument_of text (left_from part e)))
@@ -481,53 +478,51 @@ module _ (text part : List ℕ) {e : ℕ} {term : Term} {op : Operand} (some : 2
   whole_node divides = ap (λ (z : Integers divides). z.whole) (integers_node divides)
 
   -- whether all macrodigits are 0
-  pub zeros_node : {first rest whole : All} → first ≡ zero_of op → rest ≡ all_of all_zero (macrodigits (argument_of text (left_from part e)))
+  pub zeros_node : {first rest whole : Answer Bool} → first ≡ zero_of op → rest ≡ all_of all_zero (macrodigits (argument_of text (left_from part e)))
       → whole ≡ both first rest → whole ≡ all_of all_zero (macrodigits (argument_of text part))
   zeros_node f r w = w ∙ rw (f, r, found_node) (zeros_both op (macrodigits (argument_of text (left_from part e))))
 
   -- a sign is taken once
-  pub sign_taken : op ≡ Sign → SignTaken text part (left_from part e)
+  pub sign_taken : op ≡ Some Sign → SignTaken text part (left_from part e)
   sign_taken k = ((λ divides. sym (whole_node divides ∙ rw k)), sym (second_node ∙ rw k))
 
   -- where there is no sign, nothing is taken
-  pub macrodigit_kept : {n : ℕ} → op ≡ Macrodigit n → SignTaken text part part
+  pub macrodigit_kept : {n : ℕ} → op ≡ Some (Macrodigit n) → SignTaken text part part
   macrodigit_kept k = ((λ divides. first_node divides ∙ sym (whole_node divides ∙ rw k)), found_node ∙ sym (second_node ∙ rw k))
 
-  pub other_kept : op ≡ Other → SignTaken text part part
+  pub other_kept : op ≡ None → SignTaken text part part
   other_kept k = ((λ divides. first_node divides ∙ sym (whole_node divides ∙ rw k)), found_node ∙ sym (second_node ∙ rw k))
 
   -- the first operand, and the second after it
-  pub first_sign : (divides : Bool) → op ≡ Sign → none ≡ first_fails divides (argument_of text part)
+  pub first_sign : (divides : Bool) → op ≡ Some Sign → none ≡ first_fails divides (argument_of text part)
   first_sign divides k = sym (first_node divides ∙ rw k)
 
-  pub first_other : (divides : Bool) → op ≡ Other → none ≡ first_fails divides (argument_of text part)
+  pub first_other : (divides : Bool) → op ≡ None → none ≡ first_fails divides (argument_of text part)
   first_other divides k = sym (first_node divides ∙ rw k)
 
-  pub first_macrodigit : (divides : Bool) (second : List ℕ) {n : ℕ} {says : Option Failure} → op ≡ Macrodigit n
+  pub first_macrodigit : (divides : Bool) (second : List ℕ) {n : ℕ} {says : Option Failure} → op ≡ Some (Macrodigit n)
       → SignTaken text (left_from part e) second
       → says ≡ second_fails divides (macrodigits (argument_of text second)) → says ≡ first_fails divides (argument_of text part)
   first_macrodigit divides second k taken s = s ∙ ap (second_fails divides) taken.1 ∙ sym (first_node divides ∙ rw k)
 
 -- the second operand's macrodigits, which are some where they are found
-abbrev pub zeros_fail : All → Option Failure
-zeros_fail Undecided = none
-zeros_fail Yes = some division_by_zero
-zeros_fail No = none
+abbrev pub zeros_fail : Answer Bool → Option Failure
+zeros_fail found = cond (option_eq beq found (Some true)) (some division_by_zero) none
 
-second_some : (divides : Bool) (op : Operand) (after : Option (List ℕ))
+second_some : (divides : Bool) (op : Answer Operand) (after : Option (List ℕ))
     → second_fails divides (digits_first op after) ≡ cond divides (zeros_fail (all_of all_zero (digits_first op after))) none
-second_some true Sign after = refl
-second_some true (Macrodigit n) none = refl
-second_some true (Macrodigit n) (some ns) = go (all_zero (n ∷ ns))
+second_some true (Some Sign) after = refl
+second_some true (Some (Macrodigit n)) none = refl
+second_some true (Some (Macrodigit n)) (some ns) = go (all_zero (n ∷ ns))
   where
-    go : (t : Bool) → cond t (some division_by_zero) none ≡ zeros_fail (decided_by t)
+    go : (t : Bool) → cond t (some division_by_zero) none ≡ zeros_fail (Some t)
     go true = refl
     go false = refl
-second_some true Other after = refl
-second_some false Sign after = refl
-second_some false (Macrodigit n) none = refl
-second_some false (Macrodigit n) (some ns) = refl
-second_some false Other after = refl
+second_some true None after = refl
+second_some false (Some Sign) after = refl
+second_some false (Some (Macrodigit n)) none = refl
+second_some false (Some (Macrodigit n)) (some ns) = refl
+second_some false None after = refl
 
 pub second_long : (text part : List ℕ) (divides : Bool) → 24 ≤ length part
     → second_fails divides (macrodigits (argument_of text part)) ≡ cond divides (zeros_fail (all_of all_zero (macrodigits (argument_of text part)))) none
@@ -541,13 +536,13 @@ module _ (text part : List ℕ) (h : 24 ≤ length part) where
   second_decides {divides} e = sym (second_long text part divides h ∙ rw e)
 
   -- one that does
-  pub second_zeros : {divides : Bool} {found which : All} → divides ≡ true → found ≡ all_of all_zero (macrodigits (argument_of text part))
-      → found ≡ which → zeros_fail which ≡ second_fails divides (macrodigits (argument_of text part))
-  second_zeros {divides} e z w = sym (second_long text part divides h ∙ rw (e, ← w, z))
+  pub second_zeros : {divides is : Bool} {found : Answer Bool} → divides ≡ true → found ≡ all_of all_zero (macrodigits (argument_of text part))
+      → is ≡ option_eq beq found (Some true) → cond is (some division_by_zero) none ≡ second_fails divides (macrodigits (argument_of text part))
+  second_zeros {divides} e z w = sym (second_long text part divides h ∙ rw (e, ← z, ← w))
 
 -- ---- digits
 
-pub digits_none : (part : List ℕ) → length part < 24 → (text : List ℕ) → Yes ≡ all_of (every_byte digit_byte) (characters_of (argument_of text part))
+pub digits_none : (part : List ℕ) → length part < 24 → (text : List ℕ) → Some true ≡ all_of (every_byte digit_byte) (characters_of (argument_of text part))
 unfolding characters_of every_byte
 digits_none part h text = rw (part_empty text part h)
 
@@ -559,24 +554,22 @@ characters_node : (text part : List ℕ) → 24 ≤ length part
     → characters_of (argument_of text part) ≡ characters_first (term_at part 0) (characters_of (argument_of text (rest 24 end_of part)))
 characters_node text part h = part_node text characters_of (λ x i a. characters_first x a) (characters_term text) part h
 
-pub digits_node : (part : List ℕ) {e : ℕ} {term : Term} {first rest whole : All} → 24 ≤ length part
+pub digits_node : (text part : List ℕ) {e : ℕ} {term : Term} {first rest whole : Answer Bool} → 24 ≤ length part
     → e ≡ end_of part → term ≡ term_at part 0 → first ≡ digit_of term
-    → ((text : List ℕ) → rest ≡ all_of (every_byte digit_byte) (characters_of (argument_of text (left_from part e))))
-    → whole ≡ both first rest → (text : List ℕ) → whole ≡ all_of (every_byte digit_byte) (characters_of (argument_of text part))
-digits_node part h q t f r w text =
-    w ∙ rw (f, r text, q, t, characters_node text part h) (digits_both (term_at part 0) (characters_of (argument_of text (rest 24 end_of part))))
+    → rest ≡ all_of (every_byte digit_byte) (characters_of (argument_of text (left_from part e)))
+    → whole ≡ both first rest → whole ≡ all_of (every_byte digit_byte) (characters_of (argument_of text part))
+digits_node text part h q t f r w =
+    w ∙ rw (f, r, q, t, characters_node text part h) (digits_both (term_at part 0) (characters_of (argument_of text (rest 24 end_of part))))
 
-abbrev pub digits_fail_by : All → Option Failure
-digits_fail_by Undecided = none
-digits_fail_by Yes = none
-digits_fail_by No = some digits_wanted
+abbrev pub digits_fail_by : Answer Bool → Option Failure
+digits_fail_by found = cond (option_eq beq found (Some false)) (some digits_wanted) none
 
 digits_some : (x : Term) (after : Option (List ℕ))
     → digits_fail (characters_first x after) ≡ digits_fail_by (all_of (every_byte digit_byte) (characters_first x after))
 digits_some (Symbolic (Character c)) none = refl
 digits_some (Symbolic (Character c)) (some cs) = go (every_byte digit_byte (c ∷ cs))
   where
-    go : (t : Bool) → cond t none (some digits_wanted) ≡ digits_fail_by (decided_by t)
+    go : (t : Bool) → cond t none (some digits_wanted) ≡ digits_fail_by (Some t)
     go true = refl
     go false = refl
 digits_some (Symbolic (Identifier a b)) after = refl
@@ -588,8 +581,8 @@ digits_some Bracket after = refl
 digits_some (Call a b) after = refl
 digits_some (Block n) after = refl
 
-pub digits_long : (part : List ℕ) {found which : All} → 24 ≤ length part
-    → ((text : List ℕ) → found ≡ all_of (every_byte digit_byte) (characters_of (argument_of text part))) → found ≡ which
-    → (text : List ℕ) → digits_fail_by which ≡ digits_fail (characters_of (argument_of text part))
+pub digits_long : (part : List ℕ) {is : Bool} {found : Answer Bool} → 24 ≤ length part
+    → ((text : List ℕ) → found ≡ all_of (every_byte digit_byte) (characters_of (argument_of text part))) → is ≡ option_eq beq found (Some false)
+    → (text : List ℕ) → cond is (some digits_wanted) none ≡ digits_fail (characters_of (argument_of text part))
 digits_long part h a w text =
-    rw (← w, a text, characters_node text part h) (sym (digits_some (term_at part 0) (characters_of (argument_of text (rest 24 end_of part)))))
+    rw (w, a text, characters_node text part h) (sym (digits_some (term_at part 0) (characters_of (argument_of text (rest 24 end_of part)))))

@@ -1,105 +1,170 @@
-// Settings: the severity of each lint, and whether its findings are shown. An override is one word, 256 × lint + severity.
-ghost use Rattle.std.specs.Prelude.{◌≡◌, map, ℕ};
-ghost use Rattle.lints.specs.Lint.{Lint, lint_number, own_severity};
-ghost use Rattle.lints.specs.Levels.{override_from, settings_from, overrides_allowed, settings_allowed, override_of, severity_of, is_shown};
-ghost use Rattle.lints.specs.Code.Overrides.{override_allowed, level_from, shown_itself};
+// The lints and severities by their numbers, and settings: the severity of each lint, and whether its findings are shown. An override is one word,
+// 256 × lint + severity.
+ghost use Rattle.std.specs.Prelude.{◌≡◌, false, map, leb, MatchResult};
+ghost use Rattle.names.specs.Name.{between};
+ghost use Rattle.lints.specs.Lint.{lint_number, last_lint, allow, own_severity};
+ghost use Rattle.lints.specs.Levels.{override_from, overrides_allowed, settings_allowed, override_of, severity_of, is_shown};
+ghost use Rattle.lints.specs.Code.Overrides.{lint_meant, severity_number, settings_meant, override_allowed, level_from};
 
-// What the overrides say of a lint: nothing, or its severity. `level_from` of specs/Code/Overrides.antt gives the severity.
-#[derive(Clone, Copy)]
-enum Level {
-    Unsaid,
-    Severity(u32),
+// A lint. `lint_meant` of specs/Code/Overrides.antt gives it.
+#[derive(Clone, Copy, PartialEq, Eq, Debug)]
+pub enum Lint {
+    Dead,
+    Recognition,
+    Builtin,
+    Open,
 }
 
-// Whether a word is an override: its lint is 1 to 4, its severity 0 to 3.
+// A severity, from the gravest on. `severity_number` of specs/Code/Overrides.antt numbers them from 0.
+#[derive(Clone, Copy, PartialEq, Eq, Debug)]
+pub enum Severity {
+    Error,
+    Deny,
+    Warn,
+    Allow,
+}
+
+// A number that no lint has, or no severity.
+#[derive(Clone, Copy, PartialEq, Eq, Debug)]
+pub struct UnknownNumber(pub u32);
+
+// Document 01's number of a lint.
+impl From<Lint> for u32 {
+    ghost from_gives = { λ lint number. number ≡ lint_number (lint_meant lint) };
+
+    fn from(lint: Lint) -> u32 {
+        match lint {
+            Lint::Dead => 1,
+            Lint::Recognition => 2,
+            Lint::Builtin => 3,
+            Lint::Open => 4,
+        }
+    }
+}
+
+// The lint of a number.
+impl TryFrom<u32> for Lint {
+    type Error = UnknownNumber;
+
+    ghost try_from_gives = { λ number r. MatchResult r (λ lint. lint_number (lint_meant lint) ≡ number) (λ e. (e.0 ≡ number) × (between 1 last_lint number ≡ false)) };
+
+    fn try_from(number: u32) -> Result<Lint, UnknownNumber> {
+        match number {
+            1 => Ok(Lint::Dead),
+            2 => Ok(Lint::Recognition),
+            3 => Ok(Lint::Builtin),
+            4 => Ok(Lint::Open),
+            _ => Err(UnknownNumber(number)),
+        }
+    }
+}
+
+// Document 01's number of a severity.
+impl From<Severity> for u32 {
+    ghost from_gives = { λ severity number. number ≡ severity_number severity };
+
+    fn from(severity: Severity) -> u32 {
+        match severity {
+            Severity::Error => 0,
+            Severity::Deny => 1,
+            Severity::Warn => 2,
+            Severity::Allow => 3,
+        }
+    }
+}
+
+// The severity of a number.
+impl TryFrom<u32> for Severity {
+    type Error = UnknownNumber;
+
+    ghost try_from_gives = { λ number r. MatchResult r (λ severity. severity_number severity ≡ number) (λ e. (e.0 ≡ number) × (leb number allow ≡ false)) };
+
+    fn try_from(number: u32) -> Result<Severity, UnknownNumber> {
+        match number {
+            0 => Ok(Severity::Error),
+            1 => Ok(Severity::Deny),
+            2 => Ok(Severity::Warn),
+            3 => Ok(Severity::Allow),
+            _ => Err(UnknownNumber(number)),
+        }
+    }
+}
+
+impl Lint {
+    // All of them, in the order in which they are done.
+    pub const ALL: [Lint; 4] = [Lint::Dead, Lint::Recognition, Lint::Builtin, Lint::Open];
+
+    // The severity that a lint itself chooses.
+    fn own_severity(self) -> Severity
+        ensures { severity_number result ≡ own_severity (lint_meant self) }
+    {
+        match self {
+            Lint::Open => Severity::Allow,
+            _ => Severity::Deny,
+        }
+    }
+}
+
+// Settings as they were lent: a mode, 0 classic and 1 strict, and overrides. Any numbers may stand here, since `is_allowed` is itself the test of them
+// (refusal 14); so a severity that an override says stays a number too.
+#[derive(Clone, Copy)]
+pub struct Settings<'a> {
+    pub mode: u32,
+    pub overrides: &'a [u32],
+}
+
+// Whether a word is an override.
 fn override_allowed(word: u32) -> bool
     ensures { result ≡ override_allowed (override_from word) }
 {
-    let lint = word / 256;
-    if lint < 1 {
-        return false;
-    }
-    if 4 < lint {
-        return false;
-    }
-    word % 256 <= 3
+    Lint::try_from(word / 256).is_ok() && Severity::try_from(word % 256).is_ok()
 }
 
 // Whether all words are overrides.
 fn overrides_allowed(overrides: &[u32]) -> bool
     ensures { result ≡ overrides_allowed (map override_from overrides.now) }
 {
-    let mut i = 0;
-    while i < overrides.len() {
-        if !override_allowed(overrides[i]) {
-            return false;
+    overrides.iter().all(|word| override_allowed(*word))
+}
+
+impl Settings<'_> {
+    // Whether settings are allowed (refusal 14).
+    pub fn is_allowed(&self) -> bool
+        ensures { result ≡ settings_allowed (settings_meant self.now) }
+    {
+        self.mode <= 1 && self.overrides.len() <= 8 && overrides_allowed(self.overrides)
+    }
+
+    // What the first override of a lint says: nothing, or its severity.
+    fn level_of(&self, lint: Lint) -> Option<u32>
+        ensures { level_from result ≡ override_of (map override_from self.now.overrides.now) (lint_meant lint) }
+    {
+        let number = u32::from(lint);
+        for word in self.overrides {
+            if *word / 256 == number {
+                return Some(*word % 256);
+            }
         }
-        i += 1;
+        None
     }
-    true
-}
 
-// Whether settings are allowed (refusal 14).
-pub fn settings_allowed(mode: u32, overrides: &[u32]) -> bool
-    ensures { result ≡ settings_allowed (settings_from mode overrides.now) }
-{
-    if 1 < mode {
-        return false;
-    }
-    if 8 < overrides.len() {
-        return false;
-    }
-    overrides_allowed(overrides)
-}
-
-// What the first override of a lint says.
-fn level_of(overrides: &[u32], lint: u32) -> Level
-    ensures { (l : Lint) → lint_number l ≡ lint → level_from result ≡ override_of (map override_from overrides.now) l }
-{
-    let mut i = 0;
-    while i < overrides.len() {
-        let word = overrides[i];
-        if word / 256 == lint {
-            return Level::Severity(word % 256);
+    // The severity of a lint's findings.
+    pub fn severity_of(&self, lint: Lint) -> u32
+        ensures { result ≡ severity_of (settings_meant self.now) (lint_meant lint) }
+    {
+        match self.level_of(lint) {
+            None => u32::from(lint.own_severity()),
+            Some(severity) => severity,
         }
-        i += 1;
     }
-    Level::Unsaid
-}
 
-// The severity that a lint itself chooses.
-fn own_severity(lint: u32) -> u32
-    ensures { (l : Lint) → lint_number l ≡ lint → result ≡ own_severity l }
-{
-    if lint == 4 { 3 } else { 1 }
-}
-
-// The severity of a lint's findings.
-pub fn severity_of(overrides: &[u32], lint: u32) -> u32
-    ensures { (l : Lint) → lint_number l ≡ lint → (mode : ℕ) → result ≡ severity_of (settings_from mode overrides.now) l }
-{
-    match level_of(overrides, lint) {
-        Level::Unsaid => own_severity(lint),
-        Level::Severity(severity) => severity,
-    }
-}
-
-// Whether the findings of a lint that no override speaks of are shown.
-fn is_shown_itself(mode: u32, lint: u32) -> bool
-    ensures { (l : Lint) → lint_number l ≡ lint → result ≡ shown_itself mode l }
-{
-    if mode == 0 {
-        return own_severity(lint) != 3;
-    }
-    true
-}
-
-// Whether a lint's findings are shown.
-pub fn is_shown(mode: u32, overrides: &[u32], lint: u32) -> bool
-    ensures { (l : Lint) → lint_number l ≡ lint → result ≡ is_shown (settings_from mode overrides.now) l }
-{
-    match level_of(overrides, lint) {
-        Level::Unsaid => is_shown_itself(mode, lint),
-        Level::Severity(severity) => severity != 3,
+    // Whether a lint's findings are shown.
+    pub fn is_shown(&self, lint: Lint) -> bool
+        ensures { result ≡ is_shown (settings_meant self.now) (lint_meant lint) }
+    {
+        match self.level_of(lint) {
+            None => self.mode != 0 || lint.own_severity() != Severity::Allow,
+            Some(severity) => severity != u32::from(Severity::Allow),
+        }
     }
 }
