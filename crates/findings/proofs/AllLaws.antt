@@ -1,18 +1,20 @@
 -- One lint after the other.
-use Prim.Native.Nat.{ℕ, zero, suc, ◌+◌, ◌-◌, ◌≤◌}
+use Prim.Native.Nat.{ℕ, zero, suc, ◌+◌, ◌≤◌, ◌<◌}
 use mathlib.Core.Bool.{Bool, true, false}
-use mathlib.Core.List.{List, ◌∷◌}
+use mathlib.Core.List.{List, [], ◌∷◌}
 use mathlib.Core.Path.{◌≡◌, refl, sym, ◌∙◌}
 use native.Mathlib.Omega.{arith}
-use lib.ListN.{drop}
+use lib.ListN.{drop, get_or, drop_of_length-le}
 use Rattle.file.specs.Sections.{File}
 use Rattle.law.specs.Tree.{Law}
 use Rattle.law.specs.Reading.{tree_of}
 use Rattle.formats.specs.Infer.{Formats}
 use Rattle.matching.specs.Match.{each}
-use Rattle.lints.specs.Lint.{Lint, dead_sentence, recognition_impossible, builtin_domain, open_expressions, lint_number, lints}
-use Rattle.lints.specs.Levels.{Settings, settings_from, severity_of, is_shown}
-use Rattle.lints.specs.Code.Records.{Prepared, formats_in}
+use Rattle.lints.specs.Lint.{Lint, lints}
+use Rattle.lints.specs.Levels.{Settings}
+use Rattle.lints.specs.Code.Overrides.{lint_meant}
+use Rattle.lints.specs.declared.levels.Lint as coded
+use Rattle.lints.specs.Code.Records.{formats_in}
 use Rattle.findings.specs.declared.Task.{Task}
 use Rattle.findings.specs.Code.Events.{Sink, collect}
 use Rattle.findings.specs.Code.Tasks.{lint_events}
@@ -32,71 +34,39 @@ is_due_lem law formats task room s e q h = rw (← e, q) h
 
 -- ---- what `lint_all` has gone through
 
--- the lints from a number on
-abbrev lints_from : ℕ → List Lint
-lints_from n = drop (n - 1) lints
+-- the lints in the order of the code
+abbrev pub all : List coded.Lint
+all = coded.TheVariants.Dead ∷ coded.TheVariants.Recognition ∷ coded.TheVariants.Builtin ∷ coded.TheVariants.Open ∷ []
 
--- the first of them, and the others
-record Next (n : ℕ) : Type 0 where
-  lint : Lint
-  number : lint_number lint ≡ n
-  first : lints_from n ≡ lint ∷ lints_from (n + 1)
+lints_from : (i : ℕ) (d : coded.Lint) → i < 4 → drop i lints ≡ lint_meant (get_or all i d) ∷ drop (i + 1) lints
+lints_from zero d h = refl
+lints_from (suc zero) d h = refl
+lints_from (suc (suc zero)) d h = refl
+lints_from (suc (suc (suc zero))) d h = refl
+lints_from (suc (suc (suc (suc i)))) d h = absurd (omega (arith, h))
 
-next_lint : (n : ℕ) → 1 ≤ n → n ≤ 4 → Next n
-next_lint zero low high = absurd (omega (arith, low))
-next_lint (suc zero) low high = record { lint = dead_sentence; number = refl; first = refl }
-next_lint (suc (suc zero)) low high = record { lint = recognition_impossible; number = refl; first = refl }
-next_lint (suc (suc (suc zero))) low high = record { lint = builtin_domain; number = refl; first = refl }
-next_lint (suc (suc (suc (suc zero)))) low high = record { lint = open_expressions; number = refl; first = refl }
-next_lint (suc (suc (suc (suc (suc n))))) low high = absurd (omega (arith, high))
-
--- what is left to meet is what the lints from a number on meet
-pub record Linted (settings : Settings) (room limit : ℕ) (file : File) (store : List ℕ) (start : Sink) (n : ℕ) (now : Sink) : Type 0 where
-  pub low : 1 ≤ n
-  pub high : n ≤ 5
+-- what is left to meet is what the lints from one on meet
+pub record Linted (settings : Settings) (room limit : ℕ) (file : File) (store : List ℕ) (start : Sink) (i : ℕ) (now : Sink) : Type 0 where
   pub left : collect room start (each (events_by (tree_of file) (formats_in file limit store) settings room limit) lints)
-      ≡ collect room now (each (events_by (tree_of file) (formats_in file limit store) settings room limit) (lints_from n))
+      ≡ collect room now (each (events_by (tree_of file) (formats_in file limit store) settings room limit) (drop i lints))
 
-module _ (settings : Settings) (room limit : ℕ) (file : File) (store : List ℕ) where
-  pub linted_begun : (start : Sink) → Linted settings room limit file store start 1 start
-  linted_begun start = record { low = omega arith; high = omega arith; left = refl }
+pub linted_begun : (settings : Settings) (room limit : ℕ) (file : File) (store : List ℕ) (start : Sink) → Linted settings room limit file store start 0 start
+linted_begun settings room limit file store start = record { left = refl }
 
-module _ {settings : Settings} {room limit : ℕ} {file : File} {store : List ℕ} {start : Sink} {n : ℕ} {now : Sink}
-    (so_far : Linted settings room limit file store start n now) where
-  module _ (more : n ≤ 4) {task : Task} (is : (l : Lint) → lint_number l ≡ n → task ≡ task_for settings room limit l) where
-    next : Next n
-    next = next_lint n so_far.low more
+module _ {settings : Settings} {room limit : ℕ} {file : File} {store : List ℕ} {start : Sink} {i : ℕ} {now : Sink}
+    (so_far : Linted settings room limit file store start i now) where
+  pub linted_next : (d : coded.Lint) {task : Task} {after : Sink} → i < 4 → task ≡ task_for settings room limit (lint_meant (get_or all i d))
+      → after ≡ collect task.room now (task_events (tree_of file) (formats_in file task.limit store) task)
+      → Linted settings room limit file store start (i + 1) after
+  linted_next d {after} more is h =
+      let lint : Lint = lint_meant (get_or all i d) in
+      let met : after ≡ collect room now (events_by (tree_of file) (formats_in file limit store) settings room limit lint) = rw is at h in
+      record {
+        left =
+            so_far.left
+            ∙ rw (lints_from i d more, collect_append room now (events_by (tree_of file) (formats_in file limit store) settings room limit lint) _, ← met);
+      }
 
-    task_next : task ≡ task_for settings room limit next.lint
-    task_next = is next.lint next.number
-
-    -- its task asks for what was prepared
-    pub linted_asks : {bytes index slots : List ℕ} → Prepared bytes index slots store limit → Prepared bytes index slots store task.limit
-    linted_asks p = rw task_next p
-
-    pub linted_next : {after : Sink} → after ≡ collect task.room now (task_events (tree_of file) (formats_in file task.limit store) task)
-        → Linted settings room limit file store start (n + 1) after
-    linted_next {after} h =
-        let met : after ≡ collect room now (events_by (tree_of file) (formats_in file limit store) settings room limit next.lint) = rw task_next at h in
-        record {
-          low = omega arith;
-          high = omega arith;
-          left =
-              so_far.left
-              ∙ rw (next.first, collect_append room now (events_by (tree_of file) (formats_in file limit store) settings room limit next.lint) _, ← met);
-        }
-
-  pub linted_all : (n ≤ 4 → ⊥) → now ≡ collect room start (all_events (tree_of file) (formats_in file limit store) settings room limit)
+  pub linted_all : 4 ≤ i → now ≡ collect room start (all_events (tree_of file) (formats_in file limit store) settings room limit)
   unfolding all_events collect
-  linted_all end =
-      let last : n ≡ 5 = omega (arith, end, so_far.high) in
-      sym (so_far.left ∙ rw last)
-
--- ---- a lint's task
-
-pub task_is : (mode : ℕ) (words : List ℕ) (room limit : ℕ) {lint severity : ℕ} {is : Bool}
-    → ((l : Lint) → lint_number l ≡ lint → (m : ℕ) → severity ≡ severity_of (settings_from m words) l)
-    → ((l : Lint) → lint_number l ≡ lint → is ≡ is_shown (settings_from mode words) l)
-    → (l : Lint) → lint_number l ≡ lint
-    → record { lint = lint; severity = severity; shown = is; position = 0; room = room; limit = limit } ≡ task_for (settings_from mode words) room limit l
-task_is mode words room limit says shows l e = rw (← e, says l e mode, shows l e)
+  linted_all end = sym (so_far.left ∙ rw (drop_of_length-le lints {i = i} end))

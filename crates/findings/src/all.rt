@@ -4,7 +4,7 @@ ghost use Rattle.file.specs.Sections.{file_of};
 ghost use Rattle.law.specs.Reading.{tree_of};
 ghost use Rattle.lints.specs.Code.Records.{Prepared, formats_in};
 ghost use Rattle.findings.specs.Code.Events.{Upto, sink_of, collect};
-ghost use Rattle.lints.specs.Lint.{lint_number, Lint};
+ghost use Rattle.lints.specs.Code.Overrides.{lint_meant, settings_meant};
 ghost use Rattle.lints.specs.Levels.{settings_from};
 ghost use Rattle.findings.specs.Code.All.{task_for, is_due, task_events, all_events};
 
@@ -12,21 +12,16 @@ use crate::walk::lint_law;
 use crate::{NONE, Tally, Task};
 use formats::Slots;
 use law::Index;
-use lints::levels::{is_shown, severity_of};
-
-// Lints are numbered from 1 to this.
-const LINTS: u32 = 4;
+use lints::levels::{Lint, Settings};
 
 // What a lint is to do.
-fn task_of(mode: u32, overrides: &[u32], lint: u32, room: usize, limit: usize) -> Task
-    ensures { (l : Lint) → lint_number l ≡ lint → result ≡ task_for (settings_from mode overrides.now) room limit l }
+fn task_of(settings: &Settings, lint: Lint, room: usize, limit: usize) -> Task
+    ensures { result ≡ task_for (settings_meant settings.now) room limit (lint_meant lint) }
 {
-    let severity = severity_of(overrides, lint);
-    let shown = is_shown(mode, overrides, lint);
     Task {
-        lint,
-        severity,
-        shown,
+        lint: u32::from(lint),
+        severity: settings.severity_of(lint),
+        shown: settings.is_shown(lint),
         position: 0,
         room,
         limit,
@@ -79,12 +74,11 @@ pub fn lint_all(
     ensures { sink_of result out.new ≡ collect room (sink_of (Upto 0) out.old)
         (all_events (tree_of (file_of law.now)) (formats_in (file_of law.now) limit store.now) (settings_from mode overrides.now) room limit) }
 {
+    let settings = Settings { mode, overrides };
     let mut tally = NONE;
-    let mut lint = 1;
-    while lint <= LINTS {
-        let task = task_of(mode, overrides, lint, room, limit);
+    for lint in Lint::ALL {
+        let task = task_of(&settings, lint, room, limit);
         tally = lint_task(law, index, slots, store, task, out, tally);
-        lint += 1;
     }
     tally
 }

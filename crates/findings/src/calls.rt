@@ -18,7 +18,7 @@ use file::word_at;
 use formats::Slots;
 use law::Index;
 use law::places::{records, term_word, text};
-use lints::builtin::{Fails, builtin_fails};
+use lints::builtin::{Failure, builtin_fails};
 use lints::recognition::{Verdict, judge_call};
 use names::name_in;
 use sentences::argument;
@@ -130,7 +130,7 @@ fn note_failure(
     index: &Index,
     task: Task,
     t: usize,
-    fails: Fails,
+    fails: Option<Failure>,
     out: &mut [u32],
     tally: Tally,
 ) -> Tally
@@ -138,10 +138,8 @@ fn note_failure(
     ensures { sink_of result out.new ≡ collect task.room (sink_of tally out.old) (failure_events (file_of law.now) task t (failure_in fails)) }
 {
     match fails {
-        Fails::No => tally,
-        Fails::TwoIntegersWanted => put_call(law, index, task, t, 1, out, tally),
-        Fails::DivisionByZero => put_call(law, index, task, t, 2, out, tally),
-        Fails::DigitsWanted => put_call(law, index, task, t, 3, out, tally),
+        None => tally,
+        Some(why) => put_call(law, index, task, t, u32::from(why), out, tally),
     }
 }
 
