@@ -31,8 +31,8 @@ use Rattle.law.specs.Code.Index.{Indexed, Readable}
 use Rattle.law.specs.Reading.{tree_of}
 use Rattle.law.specs.Law.{law_of, check_answer, check_of}
 use Rattle.law.specs.Code.Accepted.{IndexAfter}
-use Rattle.law.specs.declared.Check.{Check}
-use Rattle.law.specs.declared.Check.TheVariants as check
+use Rattle.std.specs.declared.result.Result.{Result}
+use Rattle.std.specs.declared.result.Result.TheVariants.{Ok, Err}
 use Rattle.file.specs.declared.Refusal.{Refusal}
 use Rattle.law.proofs.Accepted.{law_accepted}
 use Rattle.law.proofs.Allowed.{accepted_readable}
@@ -226,7 +226,7 @@ module _ (limit : ℕ) (law : Law) (before after : List ℕ) (long : store_size 
 
 -- ---- a law that is accepted, and one that is not
 
-law_read : (bytes : List ℕ) (answer : Check) → answer ≡ check.Accepted → check_answer answer ≡ check_of bytes
+law_read : (bytes : List ℕ) (answer : Result (Unit {0}) Refusal) → answer ≡ Ok tt → check_answer answer ≡ check_of bytes
     → Readable (file_of bytes) × (law_of bytes ≡ given (tree_of (file_of bytes)))
 law_read bytes answer e h =
     let accepted : given tt ≡ check_of bytes = rw e at h in
@@ -235,16 +235,16 @@ law_read bytes answer e h =
     (accepted_readable bytes all, is ∙ ap (λ x. given x) tree)
     )
 
-pub call_accepted : (bytes index : List ℕ) (answer : Check) → answer ≡ check.Accepted → check_answer answer ≡ check_of bytes → IndexAfter answer bytes index
+pub call_accepted : (bytes index : List ℕ) (answer : Result (Unit {0}) Refusal) → answer ≡ Ok tt → check_answer answer ≡ check_of bytes → IndexAfter answer bytes index
     → Indexed bytes index × Readable (file_of bytes)
 call_accepted bytes index answer e h k = (rw e at k, (law_read bytes answer e h).0)
 
-pub outcome_accepted : (limit : ℕ) (bytes store after : List ℕ) (answer : Check) → answer ≡ check.Accepted → check_answer answer ≡ check_of bytes
+pub outcome_accepted : (limit : ℕ) (bytes store after : List ℕ) (answer : Result (Unit {0}) Refusal) → answer ≡ Ok tt → check_answer answer ≡ check_of bytes
     → (r : Answered) → infer_outcome r after ≡ law_outcome limit store (given (tree_of (file_of bytes))) → infer_outcome r after ≡ call_outcome limit bytes store
 unfolding call_outcome
 outcome_accepted limit bytes store after answer e h r is = rw (law_read bytes answer e h).1 is
 
-pub outcome_refused : (limit : ℕ) (bytes store : List ℕ) (why : Refusal) (answer : Check) → answer ≡ check.Refused why → check_answer answer ≡ check_of bytes
+pub outcome_refused : (limit : ℕ) (bytes store : List ℕ) (why : Refusal) (answer : Result (Unit {0}) Refusal) → answer ≡ Err why → check_answer answer ≡ check_of bytes
     → infer_outcome (Refused why) store ≡ call_outcome limit bytes store
 unfolding call_outcome
 outcome_refused limit bytes store why answer e h =

@@ -12,7 +12,7 @@ use crate::call::infer_store;
 use crate::infer::Inference;
 use crate::slots::slots_of;
 use file::Refusal;
-use law::{Check, Index, read_law};
+use law::{Index, read_law};
 
 pub mod call;
 pub mod infer;
@@ -66,7 +66,7 @@ pub fn infer_formats(law: &[u8], store: &mut [u32]) -> Answered
 {
     let mut index: Index = [0; 972];
     match read_law(law, &mut index) {
-        Check::Refused(why) => Answered::Refused(why),
-        Check::Accepted => infer_accepted(law, &index, store),
+        Err(why) => Answered::Refused(why),
+        Ok(()) => infer_accepted(law, &index, store),
     }
 }

@@ -2,24 +2,18 @@
 use Prim.Native.Nat.{ℕ}
 use mathlib.Core.List.{List}
 use mathlib.Core.Bool.{true, false}
-use mathlib.Core.Path.{◌≡◌, sym, ap, ◌∙◌}
-use native.Mathlib.Omega.{arith}
+use mathlib.Core.Path.{◌≡◌}
 use lib.Dec.{leb}
 use borrow.Author.Tests.{le-ltb, lt-ltb, leb-true, leb-false}
 use Rattle.file.specs.Answer.{refused, given}
 use Rattle.file.specs.Below.{every}
-use Rattle.file.specs.Sections.{sections_of, file_of, number_of}
-use Rattle.file.specs.declared.Refusal.{Refusal}
+use Rattle.file.specs.Sections.{sections_of, file_of}
 use Rattle.file.specs.Fields.{fields_allowed}
 use Rattle.law.specs.Runs.{used_up, sentence_fits, runs_allowed, blocks_allowed}
 use Rattle.law.specs.Reading.{tree_of}
 use Rattle.law.specs.Depth.{depth_of}
 use Rattle.law.specs.Variables.{patterns_allowed}
-use Rattle.law.specs.Law.{law_of, check_of, check_answer}
-use Rattle.law.specs.Code.Accepted.{IndexAfter}
-use Rattle.law.specs.Code.Index.{Indexed}
-use Rattle.law.specs.declared.Check.{Check}
-use Rattle.law.specs.declared.Check.TheVariants.{Accepted, Refused}
+use Rattle.law.specs.Law.{law_of, check_of}
 
 -- a file that the sections refuse
 pub sections_refused : (bytes : List ℕ) (n : ℕ) → sections_of bytes ≡ refused n → check_of bytes ≡ refused n
@@ -65,16 +59,3 @@ module _ (bytes : List ℕ) (sections : sections_of bytes ≡ given (file_of byt
           pub accepted : patterns_allowed (file_of bytes) ≡ true → check_of bytes ≡ given tt
           unfolding law_of
           accepted p = rw (sections, fields, runs, blocks, le-ltb 32 (depth_of (tree_of (file_of bytes))) (leb-true _ 32 depth), p)
-
--- what the check answers, and what it leaves in the index, where it refuses and where it accepts
-pub refused_filled : (bytes : List ℕ) (why : Refusal) (index : List ℕ) → check_of bytes ≡ refused (number_of why)
-    → (check_answer (Refused why) ≡ check_of bytes) × (Refused why ≡ Accepted → Indexed bytes index)
-refused_filled bytes why index v = (sym v, λ e. let z : ◌≡◌ {A = ℕ} 0 1 = cc in absurd (omega arith))
-
-pub refused_checked : (bytes : List ℕ) (why : Refusal) (check : Check) → check ≡ Refused why → check_answer check ≡ check_of bytes
-    → check_answer (Refused why) ≡ check_of bytes
-refused_checked bytes why check p v = sym (ap check_answer p) ∙ v
-
-pub accepted_checked : (bytes : List ℕ) (check : Check) (index : List ℕ) → check ≡ Accepted → (check ≡ Accepted → Indexed bytes index)
-    → check_answer check ≡ check_of bytes → (check_answer check ≡ check_of bytes) × IndexAfter check bytes index
-accepted_checked bytes check index p q v = (v, rw p (q p))

@@ -1,16 +1,15 @@
 -- A law file's meaning, and the table of refusals 1 to 9 from top to bottom.
 -- docs/SPECIFICATION.md, 2.1.
-use Rattle.std.specs.Prelude.{ℕ, List, not, ltb}
-use Rattle.file.specs.Answer.{Answer, refused, given, refuse_if, map_answer, ◌>>=◌, ◌>>◌}
-use Rattle.file.specs.Sections.{sections_of, number_of}
+use Rattle.std.specs.Prelude.{ℕ, List, not, ltb, Result}
+use Rattle.file.specs.Answer.{Answer, given, refuse_if, map_answer, ◌>>=◌, ◌>>◌}
+use Rattle.file.specs.Sections.{sections_of, answer_of}
+use Rattle.file.specs.declared.Refusal.{Refusal}
 use Rattle.file.specs.Fields.{fields_allowed}
 use Rattle.law.specs.Tree.{Law}
 use Rattle.law.specs.Runs.{runs_allowed, blocks_allowed}
 use Rattle.law.specs.Reading.{tree_of}
 use Rattle.law.specs.Depth.{depth_of}
 use Rattle.law.specs.Variables.{patterns_allowed}
-use Rattle.law.specs.declared.Check.{Check}
-use Rattle.law.specs.declared.Check.TheVariants.{Accepted as Allowed, Refused}
 
 -- 1; 2 and 4 section by section; 3; 5; 6; 7; 8; 9
 unfoldable pub law_of : List ℕ → Answer Law
@@ -23,10 +22,9 @@ law_of bytes = do
   refuse_if 9 (not (patterns_allowed file))
   given (tree_of file)
 
--- the law is left out of the answer, as the check's enum does
-abbrev pub check_answer : Check → Answer (Unit {0})
-check_answer Allowed = given tt
-check_answer (Refused r) = refused (number_of r)
+-- the law is left out of the answer, as the check's result does
+abbrev pub check_answer : Result (Unit {0}) Refusal → Answer (Unit {0})
+check_answer check = answer_of check
 
 abbrev pub check_of : List ℕ → Answer (Unit {0})
 check_of bytes = map_answer (λ _. tt) (law_of bytes)

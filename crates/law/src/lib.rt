@@ -1,7 +1,7 @@
 // A law: the runs, blocks, depth and patterns of a file (refusals 6 to 9), and where things stand in it.
 #![tactic(auto)]
 
-ghost use Rattle.std.specs.Prelude.{◌≡◌, true, length};
+ghost use Rattle.std.specs.Prelude.{◌≡◌, true, length, OnOk};
 ghost use Rattle.file.specs.Answer.{given};
 ghost use Rattle.file.specs.Sections.{sections_of, file_of};
 ghost use Rattle.file.specs.Code.Counts.{counts_of};
@@ -40,76 +40,66 @@ const SENTENCE_TERMS: usize = 331;
 
 const BLOCKS: usize = 460;
 
-// Whether a file is a law. `check_answer` of specs/Law.antt gives document 01's number for each case.
-#[derive(Clone, Copy)]
-pub enum Check {
-    Accepted,
-    Refused(Refusal),
-}
-
-// Refusals 6 to 9 of a file whose sections are used up exactly.
-fn check_placed(law: &[u8], index: &Index) -> Check
-    requires { Indexed law.now index.now × (fields_allowed (file_of law.now) ≡ true) }
-    ensures { check_answer result ≡ check_of law.now }
+// Refusals 6 to 9 of a file whose sections are used up exactly. `check_answer` of specs/Law.antt gives document 01's number for each.
+fn check_placed(law: &Law) -> Result<(), Refusal>
+    ensures { check_answer result ≡ check_of law.now.bytes.now }
 {
-    if !runs_fit(law, index) {
-        return Check::Refused(Refusal::Runs);
+    if !runs_fit(law.bytes, law.index) {
+        return Err(Refusal::Runs);
     }
-    if !blocks_allowed(law, index) {
-        return Check::Refused(Refusal::Blocks);
+    if !blocks_allowed(law.bytes, law.index) {
+        return Err(Refusal::Blocks);
     }
-    if !depth_allowed(law, index) {
-        return Check::Refused(Refusal::Depth);
+    if !depth_allowed(law.bytes, law.index) {
+        return Err(Refusal::Depth);
     }
-    if !patterns_allowed(law, index) {
-        return Check::Refused(Refusal::Patterns);
+    if !patterns_allowed(law.bytes, law.index) {
+        return Err(Refusal::Patterns);
     }
-    Check::Accepted
+    Ok(())
 }
 
 // The check of a file that is cut into its sections. The index of an accepted one is filled.
-fn check_sections(law: &[u8], sections: Sections, index: &mut Index) -> Check
+fn check_sections(law: &[u8], sections: Sections, index: &mut Index) -> Result<(), Refusal>
     requires { (sections_of law.now ≡ given (file_of law.now)) × (counts_of (file_of law.now) ≡ sections) × (length index.old ≡ 972) }
-    ensures { (check_answer result ≡ check_of law.now) × (result ≡ Check.Accepted → Indexed law.now index.new) }
+    ensures { (check_answer result ≡ check_of law.now) × OnOk result (Indexed law.now index.new) }
 {
     if !fields_allowed(law, sections) {
-        return Check::Refused(Refusal::Fields);
+        return Err(Refusal::Fields);
     }
     if place_records(law, sections, index) {
-        check_placed(law, index)
+        check_placed(&Law {
+            bytes: law,
+            index: &*index,
+        })
     } else {
-        Check::Refused(Refusal::Runs)
+        Err(Refusal::Runs)
     }
 }
 
 // The check of any bytes. The index of a law is filled.
-fn check_bytes(law: &[u8], index: &mut Index) -> Check
+fn check_bytes(law: &[u8], index: &mut Index) -> Result<(), Refusal>
     requires { length index.old ≡ 972 }
-    ensures { (check_answer result ≡ check_of law.now) × (result ≡ Check.Accepted → Indexed law.now index.new) }
+    ensures { (check_answer result ≡ check_of law.now) × OnOk result (Indexed law.now index.new) }
 {
-    match sections_of(law) {
-        Err(why) => Check::Refused(why),
-        Ok(sections) => check_sections(law, sections, index),
-    }
+    let sections = sections_of(law)?;
+    check_sections(law, sections, index)
 }
 
 // Whether any bytes are a law, with the index of an accepted one.
-pub fn read_law(law: &[u8], index: &mut Index) -> Check
+pub fn read_law(law: &[u8], index: &mut Index) -> Result<(), Refusal>
     requires { length index.old ≡ 972 }
     ensures { (check_answer result ≡ check_of law.now) × IndexAfter result law.now index.new }
 {
-    let check = check_bytes(law, index);
-    match check {
-        Check::Accepted => check,
-        Check::Refused(why) => {
-            *index = [0; 972];
-            Check::Refused(why)
-        }
+    if let Err(why) = check_bytes(law, index) {
+        *index = [0; 972];
+        return Err(why);
     }
+    Ok(())
 }
 
 // Whether any bytes are a law.
-pub fn check_law(law: &[u8]) -> Check
+pub fn check_law(law: &[u8]) -> Result<(), Refusal>
     ensures { check_answer result ≡ check_of law.now }
 {
     let mut index: Index = [0; 972];

@@ -13,8 +13,8 @@ use Rattle.file.proofs.Answers.{map_refused, map_given}
 use Rattle.law.specs.Reading.{tree_of}
 use Rattle.law.specs.Law.{law_of, check_answer, check_of}
 use Rattle.law.specs.Code.Accepted.{IndexAfter, Accepted}
-use Rattle.law.specs.declared.Check.{Check}
-use Rattle.law.specs.declared.Check.TheVariants as checks
+use Rattle.std.specs.declared.result.Result.{Result}
+use Rattle.std.specs.declared.result.Result.TheVariants.{Ok, Err}
 use Rattle.law.proofs.Accepted.{law_accepted}
 use Rattle.lints.specs.Levels.{Settings, settings_allowed}
 use Rattle.listing.specs.declared.Turned.TheVariants as turned
@@ -35,30 +35,30 @@ module _ (limit : ℕ) (settings : Settings) (bytes : List ℕ) (words : ℕ) (b
   unfolding front
   turned_settings e q = (λ store l. rw (← e, q) refl, rw (← e, q) refl)
 
-  module _ {allowed : Bool} (e : allowed ≡ settings_allowed settings) (q : allowed ≡ true) {check : Check} (index : List ℕ)
+  module _ {allowed : Bool} (e : allowed ≡ settings_allowed settings) (q : allowed ≡ true) {check : Result (Unit {0}) Refusal} (index : List ℕ)
       (verdict : check_answer check ≡ check_of bytes) (indexed : IndexAfter check bytes index) where
-    refused_by : (why : Refusal) → check ≡ checks.Refused why → law_of bytes ≡ refused (number_of why)
+    refused_by : (why : Refusal) → check ≡ Err why → law_of bytes ≡ refused (number_of why)
     refused_by why r = map_refused (λ _. tt) (law_of bytes) (number_of why) (rw r at verdict)
 
     -- 1 to 9
-    pub turned_file : (why : Refusal) → check ≡ checks.Refused why → Says (Refused (turned.File why)) index
+    pub turned_file : (why : Refusal) → check ≡ Err why → Says (Refused (turned.File why)) index
     unfolding front
     turned_file why r = (λ store l. rw (← e, q, refused_by why r) refl, rw (← e, q, refused_by why r) (rw r at indexed))
 
-    accepted : check ≡ checks.Accepted → Accepted bytes × (law_of bytes ≡ given (tree_of (file_of bytes)))
+    accepted : check ≡ Ok tt → Accepted bytes × (law_of bytes ≡ given (tree_of (file_of bytes)))
     accepted r =
         map_given (λ _. tt) (law_of bytes) tt (rw r at verdict)
         (λ law is same. let (ok, tree) = law_accepted bytes law is in (ok, is ∙ ap given tree))
 
-    filled : check ≡ checks.Accepted → IndexLeft (settings_allowed settings) (law_of bytes) bytes before index
+    filled : check ≡ Ok tt → IndexLeft (settings_allowed settings) (law_of bytes) bytes before index
     filled r = rw (← e, q, (accepted r).1) (rw r at indexed)
 
     -- 15
-    pub turned_store : check ≡ checks.Accepted → words < store_size limit → Says (Refused turned.Store) index
+    pub turned_store : check ≡ Ok tt → words < store_size limit → Says (Refused turned.Store) index
     unfolding front
     turned_store r short = (λ store l. rw (← e, q, (accepted r).1, l, lt-ltb words (store_size limit) short) refl, filled r)
 
-    pub goes_on_lem : check ≡ checks.Accepted → limit ≤ 64 → store_size limit ≤ words → Says Ready index
+    pub goes_on_lem : check ≡ Ok tt → limit ≤ 64 → store_size limit ≤ words → Says Ready index
     unfolding front
     goes_on_lem r small enough = (
       λ store l. (

@@ -8,7 +8,7 @@ ghost use Rattle.listing.specs.Code.Gather.{no_records, empty_file, FrontIs, Ind
 
 use crate::Turned;
 use file::{Sections, sections_of};
-use law::{Check, Index, read_law};
+use law::{Index, read_law};
 use lints::levels::settings_allowed;
 
 // The most shapes in a format.
@@ -73,8 +73,8 @@ pub fn check_front(
         return Front::Refused(Turned::Settings);
     }
     match read_law(law, index) {
-        Check::Refused(why) => Front::Refused(Turned::File(why)),
-        Check::Accepted => {
+        Err(why) => Front::Refused(Turned::File(why)),
+        Ok(()) => {
             if words < store_words(limit) {
                 return Front::Refused(Turned::Store);
             }

@@ -14,8 +14,8 @@ use Rattle.file.specs.declared.Refusal.{Refusal}
 use Rattle.file.specs.declared.Refusal.TheVariants.{FileOver}
 use Rattle.law.specs.Tree as tree
 use Rattle.law.specs.Law.{law_of, check_answer, check_of}
-use Rattle.law.specs.declared.Check.{Check}
-use Rattle.law.specs.declared.Check.TheVariants.{Accepted as Allowed, Refused as Turned}
+use Rattle.std.specs.declared.result.Result.{Result}
+use Rattle.std.specs.declared.result.Result.TheVariants.{Ok, Err}
 use Rattle.buffers.proofs.FittedLaws.{fits, too_long}
 use Rattle.buffers.specs.Written.{written}
 use Rattle.buffers.specs.Code.Put.{Put}
@@ -53,20 +53,20 @@ delivered file law after end h p =
 
 -- ---- whether the file is a law
 
-pub law_refused : (file law : List ℕ) (why : Refusal) (r : Check) → r ≡ Turned why → check_answer r ≡ check_of file
+pub law_refused : (file law : List ℕ) (why : Refusal) (r : Result (Unit {0}) Refusal) → r ≡ Err why → check_answer r ≡ check_of file
     → read_after (Refused (Law why)) law ≡ read_by law (law_file file)
 unfolding read_by
 law_refused file law why r i h = go (law_of file) (sym (ap check_answer i) ∙ h)
   where
-    go : (a : Answer tree.Law) → check_answer (Turned why) ≡ map_answer (λ _. tt) a → read_after (Refused (Law why)) law ≡ read_by law (a >>= (λ _. given file))
+    go : (a : Answer tree.Law) → check_answer (Err why) ≡ map_answer (λ _. tt) a → read_after (Refused (Law why)) law ≡ read_by law (a >>= (λ _. given file))
     go (refused n) e = cc
     go (given l) e = let z : ◌≡◌ {A = ℕ} 0 1 = cc in absurd (omega arith)
 
-pub law_accepted : (file law : List ℕ) (o : ReadOutcome) (r : Check) → r ≡ Allowed → check_answer r ≡ check_of file → o ≡ read_by law (given file)
+pub law_accepted : (file law : List ℕ) (o : ReadOutcome) (r : Result (Unit {0}) Refusal) → r ≡ Ok tt → check_answer r ≡ check_of file → o ≡ read_by law (given file)
     → o ≡ read_by law (law_file file)
 law_accepted file law o r i h e = go (law_of file) (sym (ap check_answer i) ∙ h)
   where
-    go : (a : Answer tree.Law) → check_answer Allowed ≡ map_answer (λ _. tt) a → o ≡ read_by law (a >>= (λ _. given file))
+    go : (a : Answer tree.Law) → check_answer (Ok tt) ≡ map_answer (λ _. tt) a → o ≡ read_by law (a >>= (λ _. given file))
     go (refused n) e' = let z : ◌≡◌ {A = ℕ} 0 1 = cc in absurd (omega arith)
     go (given l) e' = e
 

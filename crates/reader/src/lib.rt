@@ -15,7 +15,7 @@ ghost use Rattle.reader.specs.Outcome.{law_file, phrase_file, read_by, read_outc
 use buffers::put;
 use file::Refusal;
 use grammar::accepts;
-use law::{Check, check_law};
+use law::check_law;
 use tokens::{Tokens, lex_text};
 use writing::put_file;
 
@@ -65,8 +65,8 @@ fn deliver_law(file: &[u8], law: &mut [u8]) -> Reading
     ensures { read_after result law.new ≡ read_by law.old (law_file file.now) }
 {
     match check_law(file) {
-        Check::Refused(why) => Reading::Refused(Unread::Law(why)),
-        Check::Accepted => deliver(file, law),
+        Err(why) => Reading::Refused(Unread::Law(why)),
+        Ok(()) => deliver(file, law),
     }
 }
 

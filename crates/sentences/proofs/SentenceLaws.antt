@@ -19,8 +19,8 @@ use Rattle.law.specs.Code.Index.{Indexed, Readable}
 use Rattle.law.specs.Variables.{distinct}
 use Rattle.law.specs.Law.{law_of, check_of, check_answer}
 use Rattle.law.specs.Code.Accepted.{Accepted, IndexAfter}
-use Rattle.law.specs.declared.Check.{Check}
-use Rattle.law.specs.declared.Check.TheVariants as check
+use Rattle.std.specs.declared.result.Result.{Result}
+use Rattle.std.specs.declared.result.Result.TheVariants.{Ok, Err}
 use Rattle.file.proofs.Answers.{map_given, map_refused}
 use Rattle.law.proofs.Tests.{three_hold}
 use Rattle.law.proofs.Accepted.{law_accepted, accepted_law}
@@ -218,34 +218,34 @@ module _ (bytes index : List ℕ) (indexed : Indexed bytes index) where
 
 -- ---- what is answered to any bytes
 
-module _ (bytes : List ℕ) (answer : Check) (verdict : check_answer answer ≡ check_of bytes) where
-  law_read : answer ≡ check.Accepted → Accepted bytes × (law_of bytes ≡ given (tree_of (file_of bytes)))
+module _ (bytes : List ℕ) (answer : Result (Unit {0}) Refusal) (verdict : check_answer answer ≡ check_of bytes) where
+  law_read : answer ≡ Ok tt → Accepted bytes × (law_of bytes ≡ given (tree_of (file_of bytes)))
   law_read e =
       let passed : given tt ≡ check_of bytes = rw e at verdict in
       map_given (λ _. tt) (law_of bytes) tt passed (λ law is same. let all = (law_accepted bytes law is).0 in (all, accepted_law bytes all))
 
-  law_refused : (why : Refusal) → answer ≡ check.Refused why → law_of bytes ≡ refused (number_of why)
+  law_refused : (why : Refusal) → answer ≡ Err why → law_of bytes ≡ refused (number_of why)
   law_refused why e =
       let refusal : refused (number_of why) ≡ check_of bytes = rw e at verdict in
       map_refused (λ _. tt) (law_of bytes) (number_of why) refusal
 
   -- an accepted law can be asked
-  pub law_asked : (index : List ℕ) → IndexAfter answer bytes index → answer ≡ check.Accepted → Indexed bytes index × Accepted bytes
+  pub law_asked : (index : List ℕ) → IndexAfter answer bytes index → answer ≡ Ok tt → Indexed bytes index × Accepted bytes
   law_asked index k e = (rw e at k, (law_read e).0)
 
-  pub shadow_refused : (s t : ℕ) (why : Refusal) → answer ≡ check.Refused why → refused (number_of why) ≡ shadow_outcome bytes s t
+  pub shadow_refused : (s t : ℕ) (why : Refusal) → answer ≡ Err why → refused (number_of why) ≡ shadow_outcome bytes s t
   unfolding shadow_outcome
   shadow_refused s t why e = rw (law_refused why e)
 
-  pub shadow_accepted : (s t : ℕ) (r : Shadowed) → answer ≡ check.Accepted → shadow_answer r ≡ given (shadow_in (file_of bytes) s t) → shadow_answer r ≡ shadow_outcome bytes s t
+  pub shadow_accepted : (s t : ℕ) (r : Shadowed) → answer ≡ Ok tt → shadow_answer r ≡ given (shadow_in (file_of bytes) s t) → shadow_answer r ≡ shadow_outcome bytes s t
   unfolding shadow_outcome
   shadow_accepted s t r e is = rw (law_read e).1 is
 
-  pub recognise_refused : (s t : ℕ) (why : Refusal) → answer ≡ check.Refused why → refused (number_of why) ≡ recognise_outcome bytes s t
+  pub recognise_refused : (s t : ℕ) (why : Refusal) → answer ≡ Err why → refused (number_of why) ≡ recognise_outcome bytes s t
   unfolding recognise_outcome
   recognise_refused s t why e = rw (law_refused why e)
 
-  pub recognise_accepted : (s t : ℕ) (r : Recognised) → answer ≡ check.Accepted → recognise_answer r ≡ given (recognise_in (file_of bytes) s t)
+  pub recognise_accepted : (s t : ℕ) (r : Recognised) → answer ≡ Ok tt → recognise_answer r ≡ given (recognise_in (file_of bytes) s t)
       → recognise_answer r ≡ recognise_outcome bytes s t
   unfolding recognise_outcome
   recognise_accepted s t r e is = rw (law_read e).1 is

@@ -20,7 +20,7 @@ use crate::loose::{loose, once, parted};
 use crate::parity::uneven;
 use file::Refusal;
 use law::places::{pattern, pattern_at, records, sentences, term_word, terms, text};
-use law::{Check, Index, read_law};
+use law::{Index, read_law};
 use searches::literal::{is_literal, search_literal};
 use searches::shadow::search_shadow;
 
@@ -184,8 +184,8 @@ pub fn shadows_in(law: &[u8], earlier: usize, later: usize) -> Shadowed
 {
     let mut index: Index = [0; 972];
     match read_law(law, &mut index) {
-        Check::Refused(why) => Shadowed::Refused(why),
-        Check::Accepted => shadow_accepted(law, &index, earlier, later),
+        Err(why) => Shadowed::Refused(why),
+        Ok(()) => shadow_accepted(law, &index, earlier, later),
     }
 }
 
@@ -195,7 +195,7 @@ pub fn matches_in(law: &[u8], sentence: usize, term: usize) -> Recognised
 {
     let mut index: Index = [0; 972];
     match read_law(law, &mut index) {
-        Check::Refused(why) => Recognised::Refused(why),
-        Check::Accepted => recognise_accepted(law, &index, sentence, term),
+        Err(why) => Recognised::Refused(why),
+        Ok(()) => recognise_accepted(law, &index, sentence, term),
     }
 }

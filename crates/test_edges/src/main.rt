@@ -4,16 +4,16 @@
 // document 01's number.
 #![tactic(auto)]
 
-use law::Check;
+use file::Refusal;
 use std::io;
 use std::io::{BufWriter, Read, Write};
 use test_cases::{LABEL, LAW, print_decimal, read_label, read_law};
 
 // Writes the end of a case's line.
-fn print_answer<W: Write>(output: &mut W, answer: Check) -> io::Result<()> {
+fn print_answer<W: Write>(output: &mut W, answer: Result<(), Refusal>) -> io::Result<()> {
     match answer {
-        Check::Accepted => output.write_all(b" accepted\n"),
-        Check::Refused(refusal) => {
+        Ok(()) => output.write_all(b" accepted\n"),
+        Err(refusal) => {
             output.write_all(b" refused ")?;
             print_decimal(output, u64::from(u32::from(refusal)))?;
             output.write_all(b"\n")

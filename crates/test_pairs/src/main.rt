@@ -7,7 +7,7 @@
 #![tactic(auto)]
 
 use law::places::{sentences, terms};
-use law::{Check, Index};
+use law::Index;
 use sentences::{Recognised, Shadowed, matches_in, shadows_in};
 use std::io;
 use std::io::{BufWriter, Read, Write};
@@ -127,12 +127,12 @@ fn print_calls<W: Write>(
 fn print_answers<W: Write>(output: &mut W, law: &[u8]) -> io::Result<()> {
     let mut index: Index = [0; 972];
     match law::read_law(law, &mut index) {
-        Check::Accepted => {
+        Ok(()) => {
             output.write_all(b" accepted\n")?;
             print_pairs(output, law, sentences(&index))?;
             print_calls(output, law, sentences(&index), terms(&index))
         }
-        Check::Refused(refusal) => {
+        Err(refusal) => {
             output.write_all(b" refused ")?;
             print_decimal(output, u64::from(u32::from(refusal)))?;
             output.write_all(b"\n")

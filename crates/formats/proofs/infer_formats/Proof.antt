@@ -13,13 +13,13 @@ infer_formats_spec =
     (λ c. search rules)
     (λ c κs.
     let read = c.read_law in
-    call_accepted c.args.law.now _ _ c.in-Accepted.is read.ensures.0 read.ensures.1)
+    call_accepted c.args.law.now _ _ c.in-Ok.is read.ensures.0 read.ensures.1)
     (λ c.
     let read = c.read_law in
-    outcome_refused 64 c.args.law.now _ _ read.result c.in-Refused.is read.ensures.0)
+    outcome_refused 64 c.args.law.now _ _ read.result c.in-Err.is read.ensures.0)
     (λ c. search rules)
     (λ c.
     let read = c.read_law in
     let inferred = c.infer_accepted in
-    outcome_accepted 64 c.args.law.now c.args.store.now _ read.result c.in-Accepted.is read.ensures.0
+    outcome_accepted 64 c.args.law.now c.args.store.now _ read.result c.in-Ok.is read.ensures.0
     inferred.result inferred.ensures))

@@ -14,6 +14,6 @@ deliver_law_spec =
     (λ c κs. search rules)
     (λ c.
     let the_check_law = c.check_law in
-    law_refused _ _ _ _ c.in-Refused.is the_check_law.ensures)
+    law_refused _ _ _ _ c.in-Err.is the_check_law.ensures)
     (λ c. search rules)
-    (λ c. law_accepted _ _ _ _ c.in-Accepted.is c.check_law.ensures c.deliver.ensures))
+    (λ c. law_accepted _ _ _ _ c.in-Ok.is c.check_law.ensures c.deliver.ensures))

@@ -13,11 +13,11 @@ matches_in_spec =
     (λ c. search rules)
     (λ c κs.
     let read = c.read_law in
-    law_asked _ _ read.ensures.0 _ read.ensures.1 c.in-Accepted.is)
+    law_asked _ _ read.ensures.0 _ read.ensures.1 c.in-Ok.is)
     (λ c.
     let the_read_law = c.read_law in
-    recognise_refused _ _ the_read_law.ensures.0 _ _ _ c.in-Refused.is)
+    recognise_refused _ _ the_read_law.ensures.0 _ _ _ c.in-Err.is)
     (λ c.
     let the_read_law = c.read_law in
-    let the_enum_told = c.in-Accepted in
+    let the_enum_told = c.in-Ok in
     recognise_accepted _ _ the_read_law.ensures.0 _ _ c.recognise_accepted.result the_enum_told.is c.recognise_accepted.ensures))

@@ -13,11 +13,11 @@ shadows_in_spec =
     (λ c. search rules)
     (λ c κs.
     let read = c.read_law in
-    law_asked _ _ read.ensures.0 _ read.ensures.1 c.in-Accepted.is)
+    law_asked _ _ read.ensures.0 _ read.ensures.1 c.in-Ok.is)
     (λ c.
     let the_read_law = c.read_law in
-    shadow_refused _ _ the_read_law.ensures.0 _ _ _ c.in-Refused.is)
+    shadow_refused _ _ the_read_law.ensures.0 _ _ _ c.in-Err.is)
     (λ c.
     let the_read_law = c.read_law in
-    let the_enum_told = c.in-Accepted in
+    let the_enum_told = c.in-Ok in
     shadow_accepted _ _ the_read_law.ensures.0 _ _ c.shadow_accepted.result the_enum_told.is c.shadow_accepted.ensures))

@@ -20,7 +20,7 @@ check_front_spec =
     (λ c. search rules)
     (λ c κs. search rules)
     (λ c.
-    let the_accepted = c.in-Accepted in
+    let the_accepted = c.in-Ok in
     let start = c in
     let settings = settings_from start.args.mode start.args.overrides.now in
     let allowed = c.settings_allowed in
@@ -36,9 +36,9 @@ check_front_spec =
     let read = c.read_law in
     turned_file start.args.limit settings start.args.law.now start.args.words start.args.index.now allowed.ensures
     the_if1.false _ read.ensures.0 read.ensures.1 _
-    c.in-Refused.is)
+    c.in-Err.is)
     (λ c.
-    let the_accepted = c.in-Accepted in
+    let the_accepted = c.in-Ok in
     let start = c in
     let settings = settings_from start.args.mode start.args.overrides.now in
     let allowed = c.settings_allowed in
