@@ -16,7 +16,7 @@ from weaker_machines import tried
 CODE = "bilzarko/src/lib.rt"
 EXPORTED = "bilzarko/specs/Exported.antt"
 LAWS = "bilzarko/proofs/ExportLaws.antt"
-RULES = "use borrow.Author.Rules.{rules}"
+LAWS_USED = "use Rattle.bilzarko.proofs.ExportLaws.{"
 PUT_CODE = "buffers/src/lib.rt"
 PUT_PROOF = "buffers/proofs/put/Proof.antt"
 PINS = {PUT_PROOF} | {"loader/proofs/" + name for name in ("LoadedLaws.antt", "BytesLaws.antt", "ShownLaws.antt", "PrintedLaws.antt", "TypedLaws.antt",
@@ -31,8 +31,8 @@ CLAIM = f"→ NoFalseFinding law {WORDS}"
 USED = "use Rattle.runs.specs.Claim.{NoFalseFinding}"
 CLAIMED_FOR = "no_false_finding = λ law law-is none one."
 CLAIMED = (
-    "promise.no_false_finding law (record { findings = count; rounds = rounds; settled = settled }) law-is (rw is refl)"
-    " (settled_by_word settled (rw (← word-is) one))"
+    "promise.no_false_finding law (record { findings = l.count; rounds = l.rounds; settled = l.settled }) law-is (rw is refl)"
+    " (settled_by_word l.settled (rw (← word-is) one))"
 )
 
 # ---- the outcome
@@ -45,32 +45,32 @@ NUMBER_SOME = "absurd (turned_number_some why (rw (← number_is) none))"
 
 class Call:
     """A call whose contract is one equation: its name, the word that its exit and its laws are named by, the fields of the exit and
-    the parameter that each is of, its outcome, and the refusal's number in its proof."""
+    the parameter that each is of, its outcome, and in its proof the two arms and the refusal's number."""
 
-    def __init__(self, name, word, fields, outcome, number):
+    def __init__(self, name, word, fields, outcome, refused, written, number):
         self.exit_type, self.fields = f"{word.capitalize()}Exit", tuple(fields)
-        self.proof = f"bilzarko/proofs/bilzarko_{name}/Proof.antt"
+        self.proof = f"bilzarko/proofs/bilzarko_{name}/Answers.antt"
         self.definition = f"abbrev pub {word}_exit :"
         after = "; ".join(f"{field} = {parameter}.new" for field, parameter in fields.items())
         self.record = f"(record {{ number = result; {after} }})"
         self.outcome = f"({word}_exit answer.old ({outcome}))"
         self.ensured = f"◌≡◌ {{A = {self.exit_type}}} {self.record}\n        {self.outcome}"
         start = f"c.args.answer.now c.{name}.ensures"
-        self.refused = f"{word}_refused {start} c.in-Refused.why c.in-Refused.is c.{number}.ensures"
-        self.written = f"{word}_written {start} c.in-Written.bytes c.in-Written.is"
+        self.refused = f"{word}_refused {start} c.in-{refused}.why c.in-{refused}.is c.{number}.ensures"
+        self.written = f"{word}_written {start} c.in-{written}.bytes c.in-{written}.is"
 
 
 TEXT = Call("text", "bytes", {"store": "store", "bytes": "text", "answer": "answer"},
-            "text_outcome 64 (settings_from mode overrides.now) law.now store.old position text.old", "turned_number")
+            "text_outcome 64 (settings_from mode overrides.now) law.now store.old position text.old", "Err", "Ok", "from")
 PAGE = Call("page", "bytes", {"store": "store", "bytes": "page", "answer": "answer"},
-            "page_outcome 64 (settings_from mode overrides.now) law.now store.old page.old", "turned_number")
-READ = Call("read", "read", {"law": "law", "answer": "answer"}, "read_outcome text.now law.old", "unread_number")
+            "page_outcome 64 (settings_from mode overrides.now) law.now store.old page.old", "Err", "Ok", "from")
+READ = Call("read", "read", {"law": "law", "answer": "answer"}, "read_outcome text.now law.old", "Refused", "Written", "unread_number")
 
 # ---- the digit call
 
 DIGIT_TYPE = "◌≡◌ {A = DigitExit}"
 DIGIT_ENSURED = f"{DIGIT_TYPE} (record {{ number = result; state = state.new }}) (digit_exit (step_of state.old digit))"
-DIGIT_PROOF = "bilzarko/proofs/bilzarko_digit/Proof.antt"
+DIGIT_PROOF = "bilzarko/proofs/bilzarko_digit/Answers.antt"
 DIGIT_TAKEN = "digit_taken c.digit_step-step.ensures c.tested_number.ensures"
 DIGIT_BYTE = "Rattle.names.specs.Name.{digit_byte}"
 AT_MOST = "Rattle.std.specs.Prelude.{◌≤◌}"
@@ -109,7 +109,7 @@ def unsaid(call, field, where):
         (CODE, "Exported.{FindingsExported, ", "Exported.{said, FindingsExported, "),
         (CODE, call.record, f"(said {call.record})"),
         (CODE, call.outcome, f"(said {call.outcome})"),
-        (call.proof, RULES, f"{RULES}\nuse mathlib.Core.Path.{{ap}}\nuse Rattle.bilzarko.specs.Exported.{{said}}"),
+        (call.proof, LAWS_USED, f"use mathlib.Core.Path.{{ap}}\nuse Rattle.bilzarko.specs.Exported.{{said}}\n{LAWS_USED}"),
         (call.proof, call.refused, f"ap said ({call.refused})"),
         (call.proof, call.written, f"ap said ({call.written})"),
     ]
@@ -121,7 +121,7 @@ def asking(call, asked):
 
 def using(names):
     """Names that the exported calls' contracts take from the libraries besides."""
-    first = "ghost use Rattle.std.specs.Prelude.{◌≡◌, cond};"
+    first = "ghost use Rattle.std.specs.Prelude.{◌≡◌};"
     return [(CODE, first, first + "".join(f"\nghost use {name};" for name in names))] if names else []
 
 
@@ -129,7 +129,7 @@ def digit_says(ensured, uses, proved):
     """The digit call with another promise, the names that it takes from the libraries, and its proof from the whole promise."""
     return [
         (CODE, DIGIT_ENSURED, ensured),
-        (DIGIT_PROOF, RULES, f"{RULES}\nuse mathlib.Core.Path.{{ap}}"),
+        (DIGIT_PROOF, LAWS_USED, f"use mathlib.Core.Path.{{ap}}\n{LAWS_USED}"),
         (DIGIT_PROOF, DIGIT_TAKEN, proved),
     ] + using(uses)
 

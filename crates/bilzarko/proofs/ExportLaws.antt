@@ -4,6 +4,8 @@ use mathlib.Core.Bool.{Bool, true, false, cond}
 use mathlib.Core.List.{List, [], ◌∷◌}
 use mathlib.Core.Path.{◌≡◌, refl, ap}
 use native.Mathlib.Omega.{arith}
+use Rattle.std.specs.Prelude.{Result, Ok, Err}
+use Rattle.std.specs.Int.{from_bool}
 use Rattle.numbers.specs.declared.Step.{Step}
 use Rattle.file.specs.declared.Refusal.{Refusal}
 use Rattle.file.specs.declared.Refusal.TheVariants as file
@@ -11,10 +13,7 @@ use Rattle.file.specs.Sections.{number_of}
 use Rattle.lints.specs.Levels.{Settings}
 use Rattle.listing.specs.declared.Turned.{Turned}
 use Rattle.listing.specs.declared.Turned.TheVariants as turned
-use Rattle.listing.specs.declared.Found.{Found}
-use Rattle.listing.specs.declared.Found.TheVariants as found
-use Rattle.listing.specs.declared.Told.{Told}
-use Rattle.listing.specs.declared.Told.TheVariants as told
+use Rattle.listing.specs.declared.Listed.{Listed}
 use Rattle.listing.specs.Outcome.{turned_number, BytesOutcome}
 use Rattle.listing.specs.Promise.{bytes_after, FindingsPromise}
 use Rattle.reader.specs.declared.Unread.{Unread}
@@ -45,15 +44,20 @@ turned_number_some turned.NoFinding e = omega (arith, e)
 turned_number_some turned.Text e = omega (arith, e)
 turned_number_some turned.Page e = omega (arith, e)
 
+-- 1 for settled, 0 for not, as the code makes it
+pub settled_word : (settled : Bool) → from_bool settled ≡ cond settled 1 0
+settled_word true = refl
+settled_word false = refl
+
 -- a word that is 1 says settled
 settled_by_word : (settled : Bool) → ◌≡◌ {A = ℕ} (cond settled 1 0) 1 → settled ≡ true
 settled_by_word true e = refl
 settled_by_word false e = absurd (omega (arith, e))
 
-module _ {limit : ℕ} {settings : Settings} {bytes store words filled listed : List ℕ} (answer : List ℕ) {r : Found}
+module _ {limit : ℕ} {settings : Settings} {bytes store words filled listed : List ℕ} (answer : List ℕ) {r : Result Listed Turned}
     (promise : FindingsPromise limit settings bytes store words filled listed r) where
   -- the findings call is refused: the answer keeps its words
-  pub findings_refused : (why : Turned) {number : ℕ} → r ≡ found.Refused why → number ≡ turned_number why
+  pub findings_refused : (why : Turned) {number : ℕ} → r ≡ Err why → number ≡ turned_number why
       → FindingsExported limit settings bytes store words answer (record { number = number; store = filled; findings = listed; answer = answer })
   findings_refused why is number_is = record {
     outcome = rw (← promise.outcome, is, number_is) refl;
@@ -61,22 +65,22 @@ module _ {limit : ℕ} {settings : Settings} {bytes store words filled listed : 
   }
 
   -- the findings call lists
-  pub findings_listed : (count rounds : ℕ) (settled : Bool) {word : ℕ} → r ≡ found.Listed count rounds settled → word ≡ cond settled 1 0
-      → FindingsExported limit settings bytes store words answer (record { number = 0; store = filled; findings = listed; answer = count ∷ rounds ∷ word ∷ [] })
-  findings_listed count rounds settled is word-is = record {
+  pub findings_listed : (l : Listed) {word : ℕ} → r ≡ Ok l → word ≡ cond l.settled 1 0
+      → FindingsExported limit settings bytes store words answer (record { number = 0; store = filled; findings = listed; answer = l.count ∷ l.rounds ∷ word ∷ [] })
+  findings_listed l is word-is = record {
     outcome = rw (← promise.outcome, is, word-is) refl;
     no_false_finding = λ law law-is none one.
-        promise.no_false_finding law (record { findings = count; rounds = rounds; settled = settled }) law-is (rw is refl) (settled_by_word settled (rw (← word-is) one));
+        promise.no_false_finding law (record { findings = l.count; rounds = l.rounds; settled = l.settled }) law-is (rw is refl) (settled_by_word l.settled (rw (← word-is) one));
   }
 
-module _ {filled after : List ℕ} (answer : ℕ) {o : BytesOutcome} {r : Told} (outcome : bytes_after r filled after ≡ o) where
+module _ {filled after : List ℕ} (answer : ℕ) {o : BytesOutcome} {r : Result ℕ Turned} (outcome : bytes_after r filled after ≡ o) where
   -- a call that writes bytes is refused: the answer keeps its word
-  pub bytes_refused : (why : Turned) {number : ℕ} → r ≡ told.Refused why → number ≡ turned_number why
+  pub bytes_refused : (why : Turned) {number : ℕ} → r ≡ Err why → number ≡ turned_number why
       → ◌≡◌ {A = BytesExit} (record { number = number; store = filled; bytes = after; answer = answer }) (bytes_exit answer o)
   bytes_refused why is number_is = rw (← outcome, is, number_is) refl
 
   -- it writes
-  pub bytes_written : (number : ℕ) → r ≡ told.Written number
+  pub bytes_written : (number : ℕ) → r ≡ Ok number
       → ◌≡◌ {A = BytesExit} (record { number = 0; store = filled; bytes = after; answer = number }) (bytes_exit answer o)
   bytes_written number is = rw (← outcome, is) refl
 

@@ -3,23 +3,15 @@
 // nothing and returns its answer. include/bilzarko.h says what stack a call is given, and that the first three can take for ever.
 #![tactic(auto)]
 
-ghost use Rattle.std.specs.Prelude.{◌≡◌, cond};
+ghost use Rattle.std.specs.Prelude.{◌≡◌};
 ghost use Rattle.numbers.specs.OnePass.{step_of};
 ghost use Rattle.lints.specs.Levels.{settings_from};
 ghost use Rattle.listing.specs.Outcome.{text_outcome, page_outcome};
 ghost use Rattle.reader.specs.Outcome.{read_outcome};
 ghost use Rattle.bilzarko.specs.Exported.{FindingsExported, BytesExit, bytes_exit, ReadExit, read_exit, tested_number, DigitExit, digit_exit};
 
-use listing::{Found, Told, turned_number};
 use numbers::{Tested, digit_step};
 use reader::{Reading, unread_number};
-
-// 1 for settled, 0 for not.
-fn settled_word(settled: bool) -> u64
-    ensures { result ≡ cond settled 1 0 }
-{
-    if settled { 1 } else { 0 }
-}
 
 // Lists the findings of a law, eight words each, and its formats in the store. `answer` is the number of findings, the rounds, and 1 for settled or 0.
 pub fn bilzarko_findings(
@@ -34,9 +26,10 @@ pub fn bilzarko_findings(
         (record { number = result; store = store.new; findings = words.new; answer = answer.new }) }
 {
     match listing::findings(mode, overrides, law, store, words) {
-        Found::Refused(why) => turned_number(why),
-        Found::Listed(count, rounds, settled) => {
-            *answer = [count as u64, rounds as u64, settled_word(settled)];
+        Err(why) => u32::from(why),
+        Ok(listed) => {
+            let settled = u64::from(listed.settled);
+            *answer = [listed.count as u64, listed.rounds as u64, settled];
             0
         }
     }
@@ -56,8 +49,8 @@ pub fn bilzarko_text(
         (bytes_exit answer.old (text_outcome 64 (settings_from mode overrides.now) law.now store.old position text.old)) }
 {
     match listing::text(mode, overrides, law, store, position, text) {
-        Told::Refused(why) => turned_number(why),
-        Told::Written(bytes) => {
+        Err(why) => u32::from(why),
+        Ok(bytes) => {
             *answer = bytes as u64;
             0
         }
@@ -77,8 +70,8 @@ pub fn bilzarko_page(
         (bytes_exit answer.old (page_outcome 64 (settings_from mode overrides.now) law.now store.old page.old)) }
 {
     match listing::page(mode, overrides, law, store, page) {
-        Told::Refused(why) => turned_number(why),
-        Told::Written(bytes) => {
+        Err(why) => u32::from(why),
+        Ok(bytes) => {
             *answer = bytes as u64;
             0
         }

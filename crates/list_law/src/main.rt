@@ -7,7 +7,7 @@
 
 ghost use Rattle.std.specs.Prelude.{cond, ◌≡◌, ◌≤◌, length};
 
-use listing::{Found, Turned, findings, turned_number};
+use listing::{Listed, Turned, findings};
 use std::io;
 use std::io::{BufWriter, Read, Write};
 
@@ -49,7 +49,7 @@ fn print_findings<W: Write>(output: &mut W, words: &[u32], count: usize) -> io::
 
 // Writes `refused` and the number.
 fn print_refused<W: Write>(output: &mut W, why: Turned) -> io::Result<()> {
-    let number = turned_number(why);
+    let number = u32::from(why);
     writeln!(output, "refused {number}")
 }
 
@@ -61,23 +61,27 @@ fn digit(yes: bool) -> u64
 }
 
 // Writes how many findings there are, how many rounds ran, and whether the last of these changed nothing.
-fn print_counts<W: Write>(
-    output: &mut W,
-    count: usize,
-    rounds: usize,
-    settled: bool,
-) -> io::Result<()> {
+fn print_counts<W: Write>(output: &mut W, listed: Listed) -> io::Result<()> {
+    let Listed {
+        count,
+        rounds,
+        settled,
+    } = listed;
     let settled = digit(settled);
     writeln!(output, "{count} {rounds} {settled}")
 }
 
 // Writes the answer of the findings call.
-fn print_answer<W: Write>(output: &mut W, answer: Found, words: &[u32]) -> io::Result<()> {
+fn print_answer<W: Write>(
+    output: &mut W,
+    answer: Result<Listed, Turned>,
+    words: &[u32],
+) -> io::Result<()> {
     match answer {
-        Found::Refused(why) => print_refused(output, why),
-        Found::Listed(count, rounds, settled) => {
-            print_counts(output, count, rounds, settled)?;
-            print_findings(output, words, count)
+        Err(why) => print_refused(output, why),
+        Ok(listed) => {
+            print_counts(output, listed)?;
+            print_findings(output, words, listed.count)
         }
     }
 }

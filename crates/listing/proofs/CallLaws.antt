@@ -5,6 +5,7 @@ use mathlib.Core.Path.{◌≡◌, sym, ap, ◌∙◌}
 use native.Mathlib.Omega.{arith}
 use lib.ListN.{length, take, drop}
 use lib.Seq.{length-take-le}
+use Rattle.std.specs.Prelude.{Result, Ok, Err}
 use Rattle.file.specs.Answer.{Answer, given}
 use Rattle.file.specs.Sections.{file_of}
 use Rattle.law.specs.Tree.{Law}
@@ -16,31 +17,26 @@ use Rattle.lints.specs.Code.Records.{formats_in}
 use Rattle.findings.specs.Code.Events.{Tally, Upto, sink_of, collect}
 use Rattle.findings.specs.Code.All.{all_events}
 use Rattle.findings.proofs.EventLaws.{all_found_lem}
+use Rattle.listing.specs.declared.Listed.{Listed}
 use Rattle.listing.specs.declared.Turned.{Turned}
-use Rattle.listing.specs.declared.Found.{Found}
-use Rattle.listing.specs.declared.Found.TheVariants as found
-use Rattle.listing.specs.declared.Told.{Told}
-use Rattle.listing.specs.declared.Told.TheVariants as told
-use Rattle.listing.specs.declared.front.Front.{Front}
-use Rattle.listing.specs.declared.front.Front.TheVariants.{Refused, Ready}
 use Rattle.listing.specs.Outcome.{findings_front, findings_outcome, bytes_front, bytes_outcome}
 use Rattle.listing.specs.Code.Gather.{Prepares, FrontIs, shown_in, Collected}
 use Rattle.listing.specs.Promise.{findings_after, FindingsPromise, bytes_after}
 use Rattle.listing.proofs.GatherLaws.{all_left}
 use Rattle.listing.proofs.PromiseLaws.{words_length, promise}
 
-module _ (limit : ℕ) (settings : Settings) (bytes store : List ℕ) (front : Front) (index : List ℕ) (h : FrontIs limit settings bytes store front index) where
+module _ (limit : ℕ) (settings : Settings) (bytes store : List ℕ) (front : Result (Unit {0}) Turned) (index : List ℕ) (h : FrontIs limit settings bytes store front index) where
   -- a law that is ready
-  pub front_ready : front ≡ Ready → Prepares limit bytes index store
+  pub front_ready : front ≡ Ok tt → Prepares limit bytes index store
   front_ready is = (rw is at h).1
 
   -- ---- the findings call
 
-  pub findings_turned : (words : List ℕ) (why : Turned) → front ≡ Refused why → FindingsPromise limit settings bytes store words store words (found.Refused why)
+  pub findings_turned : (words : List ℕ) (why : Turned) → front ≡ Err why → FindingsPromise limit settings bytes store words store words (Err why)
   unfolding findings_outcome
-  findings_turned words why is = promise limit settings bytes store words store words (found.Refused why) (rw (rw is at h))
+  findings_turned words why is = promise limit settings bytes store words store words (Err why) (rw (rw is at h))
 
-  pub findings_goes : (words filled after : List ℕ) (r : Found) → front ≡ Ready
+  pub findings_goes : (words filled after : List ℕ) (r : Result Listed Turned) → front ≡ Ok tt
       → findings_after r filled after ≡ findings_front limit settings store words (given (tree_of (file_of bytes)))
       → FindingsPromise limit settings bytes store words filled after r
   unfolding findings_outcome
@@ -49,11 +45,11 @@ module _ (limit : ℕ) (settings : Settings) (bytes store : List ℕ) (front : F
   -- ---- the calls that write bytes, whatever they write
 
   module _ (number : ℕ) (bytes_of : Law → Listing → Answer (List ℕ)) (buffer : List ℕ) where
-    pub bytes_turned : (why : Turned) → front ≡ Refused why → bytes_after (told.Refused why) store buffer ≡ bytes_outcome limit settings number bytes_of bytes store buffer
+    pub bytes_turned : (why : Turned) → front ≡ Err why → bytes_after (Err why) store buffer ≡ bytes_outcome limit settings number bytes_of bytes store buffer
     unfolding bytes_outcome
     bytes_turned why is = rw (rw is at h)
 
-    pub bytes_goes : (filled after : List ℕ) (r : Told) → front ≡ Ready
+    pub bytes_goes : (filled after : List ℕ) (r : Result ℕ Turned) → front ≡ Ok tt
         → bytes_after r filled after ≡ bytes_front limit settings number bytes_of store buffer (given (tree_of (file_of bytes)))
         → bytes_after r filled after ≡ bytes_outcome limit settings number bytes_of bytes store buffer
     unfolding bytes_outcome

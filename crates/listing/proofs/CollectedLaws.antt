@@ -8,6 +8,7 @@ use native.Mathlib.Omega.{arith}
 use native.Mathlib.Decide.{dec_le}
 use borrow.Author.Tests.{le-ltb}
 use lib.ListN.{length, drop, replicate, length-append}
+use Rattle.std.specs.Prelude.{Result, Ok, Err}
 use Rattle.file.specs.Answer.{Answer, refused, given}
 use Rattle.file.specs.Sections.{file_of}
 use Rattle.law.specs.Tree.{Law}
@@ -33,8 +34,9 @@ use Rattle.lints.specs.Findings.{findings_of, formats_of, Listing, listing}
 use Rattle.lints.specs.Code.Records.{Prepared, formats_in}
 use Rattle.findings.specs.Code.Events.{Tally, Over, Full, Upto, Sink, sink_of, collect}
 use Rattle.findings.specs.Code.All.{all_events}
-use Rattle.listing.specs.declared.gather.Gathered.{Gathered}
-use Rattle.listing.specs.declared.gather.Gathered.TheVariants as gathered
+use Rattle.listing.specs.declared.Turned.{Turned}
+use Rattle.listing.specs.declared.Turned.TheVariants as turned
+use Rattle.listing.specs.declared.Listed.{Listed}
 use Rattle.listing.specs.Outcome.{store_after}
 use Rattle.listing.specs.Code.Gather.{Prepares, StoreFilled, Fitted, GatheredIs, buffer_after, GatherIs, shown_in, Collected}
 use Rattle.runs.proofs.NoFalse.{listing_parts}
@@ -112,11 +114,11 @@ module _ {limit rounds : ℕ} {settled : Bool} (room : ℕ) (settings : Settings
   kept n = rw n.says f.words
 
   pub gather_wide : (after : List ℕ) → tally ≡ Over → after ≡ replicate (store_size limit) 0 ++ drop (store_size limit) store
-      → GatherIs limit settings room bytes store after out now gathered.TooWide
+      → GatherIs limit settings room bytes store after out now (Err turned.Shapes)
   gather_wide after is words = go came
     where
       go : Wide limit settings law (sink_of tally now) ⊎ Narrow limit settings room law f.made out (sink_of tally now)
-          → GatherIs limit settings room bytes store after out now gathered.TooWide
+          → GatherIs limit settings room bytes store after out now (Err turned.Shapes)
       go (inl w) = record { store = rw w.says words; gathered = rw w.says (refl, refl); buffer = placed }
       go (inr n) = absurd (fits (dec_le (8 * length fs) room))
         where
@@ -124,11 +126,11 @@ module _ {limit rounds : ℕ} {settled : Bool} (room : ℕ) (settings : Settings
           fits (yes l) = over_upto (length fs) (sym is ∙ n.left.counted l)
           fits (no l) = over_full (sym is ∙ n.left.over (omega (arith, l)))
 
-  pub gather_full : tally ≡ Full → GatherIs limit settings room bytes store store out now gathered.Full
+  pub gather_full : tally ≡ Full → GatherIs limit settings room bytes store store out now (Err turned.Findings)
   gather_full is = go came
     where
       go : Wide limit settings law (sink_of tally now) ⊎ Narrow limit settings room law f.made out (sink_of tally now)
-          → GatherIs limit settings room bytes store store out now gathered.Full
+          → GatherIs limit settings room bytes store store out now (Err turned.Findings)
       go (inl w) = absurd (over_full (sym w.tally ∙ is))
       go (inr n) = record {
         store = kept n;
@@ -140,11 +142,11 @@ module _ {limit rounds : ℕ} {settled : Bool} (room : ℕ) (settings : Settings
         buffer = placed;
       }
 
-  pub gather_upto : (count : ℕ) → tally ≡ Upto count → GatherIs limit settings room bytes store store out now (gathered.Upto count rounds settled)
+  pub gather_upto : (count : ℕ) → tally ≡ Upto count → GatherIs limit settings room bytes store store out now (Ok (record { count = count; rounds = rounds; settled = settled }))
   gather_upto count is = go came
     where
       go : Wide limit settings law (sink_of tally now) ⊎ Narrow limit settings room law f.made out (sink_of tally now)
-          → GatherIs limit settings room bytes store store out now (gathered.Upto count rounds settled)
+          → GatherIs limit settings room bytes store store out now (Ok (record { count = count; rounds = rounds; settled = settled }))
       go (inl w) = absurd (over_upto count (sym w.tally ∙ is))
       go (inr n) = record {
         store = kept n;
@@ -172,7 +174,7 @@ module _ {limit : ℕ} (room : ℕ) (settings : Settings) {bytes index before sl
   tree = tree_of (file_of bytes)
 
   -- a format has too many shapes
-  pub infer_wide : (out : List ℕ) → r ≡ TooWide → GatherIs limit settings room bytes before after out out gathered.TooWide
+  pub infer_wide : (out : List ℕ) → r ≡ TooWide → GatherIs limit settings room bytes before after out out (Err turned.Shapes)
   infer_wide out is = go (infer limit tree) refl h
     where
       ten : (n : ℕ) → infer limit tree ≡ refused n → n ≡ 10
@@ -181,7 +183,7 @@ module _ {limit : ℕ} (room : ℕ) (settings : Settings) {bytes index before sl
           let here : refused 10 ≡ refused n = rw (le-ltb (length before) (store_size limit) p.room, e) at same in
           cc
 
-      go : (a : Answer Inferred) → infer limit tree ≡ a → InferIs limit a before after r → GatherIs limit settings room bytes before after out out gathered.TooWide
+      go : (a : Answer Inferred) → infer limit tree ≡ a → InferIs limit a before after r → GatherIs limit settings room bytes before after out out (Err turned.Shapes)
       go (given i) e k = absurd (ran_wide i.rounds i.settled (sym k.1 ∙ is))
       go (refused n) e k = record {
         store = rw (listing_over limit settings tree n e, ten n e) k.0;
@@ -232,13 +234,17 @@ module _ {limit : ℕ} (room : ℕ) (settings : Settings) {bytes index before sl
     }
 
     -- and then its findings are gathered
-    pub gather_both : (end start now : List ℕ) (g : Gathered) → GatherIs limit settings room bytes after end start now g
+    pub gather_both : (end start now : List ℕ) (g : Result Listed Turned) → GatherIs limit settings room bytes after end start now g
         → GatherIs limit settings room bytes before end start now g
     gather_both end start now g k = record { store = k.store ∙ same_past (listing limit settings tree) k.gathered; gathered = k.gathered; buffer = k.buffer }
       where
         same_past : (a : Answer Listing) → GatheredIs settings room a start now g → store_after limit after a ≡ store_after limit before a
         same_past (refused n) q = rw (q.0, past)
         same_past (given l) q = rw past
+
+-- what is listed, by an answer that lists
+pub ok_same : {a b : Listed} → ◌≡◌ {A = Result Listed Turned} (Ok a) (Ok b) → a ≡ b
+ok_same e = cc
 
 -- ---- findings to be handed over
 
@@ -258,11 +264,11 @@ module _ {limit : ℕ} (settings : Settings) {bytes index before after slots : L
       ap (arguments_over limit (tree_of (file_of bytes))) says
       ∙ (listing_parts limit settings (tree_of (file_of bytes)) l is).1
 
-  pub collected : (room count : ℕ) (own start : List ℕ) (rounds : ℕ) (settled : Bool) → length own ≡ length start
-      → Fitted settings room l start own (gathered.Upto count rounds settled) → 8 * length l.findings ≤ room
-      → Collected limit settings bytes index slots after own count
-  collected room count own start rounds settled kept f fits =
-      let number : count ≡ length l.findings = upto_count (f.counted fits) in
+  pub collected : (room : ℕ) (found : Listed) (own start : List ℕ) → length own ≡ length start
+      → Fitted settings room l start own (Ok found) → 8 * length l.findings ≤ room
+      → Collected limit settings bytes index slots after own found.count
+  collected room found own start kept f fits =
+      let number : found.count ≡ length l.findings = ap (λ (same : Listed). same.count) (ok_same (f.counted fits)) in
       record {
         prepared = ready p s l.inferred (drop (store_size limit) before) after (listing_parts limit settings (tree_of (file_of bytes)) l is).0 words;
         within = within;
@@ -271,6 +277,3 @@ module _ {limit : ℕ} (settings : Settings) {bytes index before after slots : L
             rw (shown_are, f.placed fits (omega (arith, number, few, kept)), number)
             (start_taken start (listing_words settings l.findings) (8 * length l.findings) (words_length settings l.findings));
       }
-    where
-      upto_count : {a b c d : ℕ} {x y : Bool} → gathered.Upto a c x ≡ gathered.Upto b d y → a ≡ b
-      upto_count e = cc

@@ -6,6 +6,8 @@ use mathlib.Core.Path.{◌≡◌, refl, ap, ◌∙◌}
 use native.Mathlib.Omega.{arith}
 use borrow.Author.Tests.{lt-ltb, le-ltb}
 use lib.ListN.{length}
+use Rattle.std.specs.Prelude.{Result, Ok, Err}
+use Rattle.std.specs.Prelude.{}
 use Rattle.file.specs.Answer.{refused, given}
 use Rattle.file.specs.Sections.{file_of, number_of}
 use Rattle.file.specs.declared.Refusal.{Refusal}
@@ -13,25 +15,22 @@ use Rattle.file.proofs.Answers.{map_refused, map_given}
 use Rattle.law.specs.Reading.{tree_of}
 use Rattle.law.specs.Law.{law_of, check_answer, check_of}
 use Rattle.law.specs.Code.Accepted.{IndexAfter, Accepted}
-use Rattle.std.specs.declared.result.Result.{Result}
-use Rattle.std.specs.declared.result.Result.TheVariants.{Ok, Err}
 use Rattle.law.proofs.Accepted.{law_accepted}
 use Rattle.lints.specs.Levels.{Settings, settings_allowed}
+use Rattle.listing.specs.declared.Turned.{Turned}
 use Rattle.listing.specs.declared.Turned.TheVariants as turned
-use Rattle.listing.specs.declared.front.Front.{Front}
-use Rattle.listing.specs.declared.front.Front.TheVariants.{Refused, Ready}
 use Rattle.formats.specs.Store.{store_size}
 use Rattle.listing.specs.Outcome.{front}
 use Rattle.listing.specs.Code.Gather.{FrontIs, IndexLeft}
 
 module _ (limit : ℕ) (settings : Settings) (bytes : List ℕ) (words : ℕ) (before : List ℕ) where
-  abbrev Says : Front → List ℕ → Type 0
+  abbrev Says : Result (Unit {0}) Turned → List ℕ → Type 0
   Says answer index =
       ((store : List ℕ) → length store ≡ words → FrontIs limit settings bytes store answer index)
       × IndexLeft (settings_allowed settings) (law_of bytes) bytes before index
 
   -- 14
-  pub turned_settings : {allowed : Bool} → allowed ≡ settings_allowed settings → allowed ≡ false → Says (Refused turned.Settings) before
+  pub turned_settings : {allowed : Bool} → allowed ≡ settings_allowed settings → allowed ≡ false → Says (Err turned.Settings) before
   unfolding front
   turned_settings e q = (λ store l. rw (← e, q) refl, rw (← e, q) refl)
 
@@ -41,7 +40,7 @@ module _ (limit : ℕ) (settings : Settings) (bytes : List ℕ) (words : ℕ) (b
     refused_by why r = map_refused (λ _. tt) (law_of bytes) (number_of why) (rw r at verdict)
 
     -- 1 to 9
-    pub turned_file : (why : Refusal) → check ≡ Err why → Says (Refused (turned.File why)) index
+    pub turned_file : (why : Refusal) → check ≡ Err why → Says (Err (turned.File why)) index
     unfolding front
     turned_file why r = (λ store l. rw (← e, q, refused_by why r) refl, rw (← e, q, refused_by why r) (rw r at indexed))
 
@@ -54,11 +53,11 @@ module _ (limit : ℕ) (settings : Settings) (bytes : List ℕ) (words : ℕ) (b
     filled r = rw (← e, q, (accepted r).1) (rw r at indexed)
 
     -- 15
-    pub turned_store : check ≡ Ok tt → words < store_size limit → Says (Refused turned.Store) index
+    pub turned_store : check ≡ Ok tt → words < store_size limit → Says (Err turned.Store) index
     unfolding front
     turned_store r short = (λ store l. rw (← e, q, (accepted r).1, l, lt-ltb words (store_size limit) short) refl, filled r)
 
-    pub goes_on_lem : check ≡ Ok tt → limit ≤ 64 → store_size limit ≤ words → Says Ready index
+    pub goes_on_lem : check ≡ Ok tt → limit ≤ 64 → store_size limit ≤ words → Says (Ok tt) index
     unfolding front
     goes_on_lem r small enough = (
       λ store l. (

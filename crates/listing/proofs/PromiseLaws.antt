@@ -7,6 +7,7 @@ use native.Mathlib.Omega.{arith}
 use lib.ListN.{length, take, drop}
 use lib.Seq.{take_at}
 use lib.Dec.{leb, ltb}
+use Rattle.std.specs.Prelude.{Result}
 use Rattle.file.specs.Answer.{Answer, refused, given, refuse_if, ◌>>=◌, ◌>>◌}
 use Rattle.law.specs.Tree.{Law}
 use Rattle.law.specs.Law.{law_of}
@@ -19,7 +20,8 @@ use Rattle.lints.specs.Levels.{Settings, settings_allowed, listing_words}
 use Rattle.lints.specs.Findings.{Listing, listing}
 use Rattle.runs.specs.Claim.{NoFalseFinding}
 use Rattle.runs.proofs.NoFalse as runs
-use Rattle.listing.specs.declared.Found.{Found}
+use Rattle.listing.specs.declared.Turned.{Turned}
+use Rattle.listing.specs.declared.Listed.{Listed}
 use Rattle.listing.specs.Outcome.{Count, found_answer, front, listed_by, findings_front, findings_outcome}
 use Rattle.listing.specs.Promise.{findings_after, FindingsPromise}
 
@@ -37,7 +39,7 @@ start_taken old new n e = take_at new (drop (0 + length new) old) n e
 given_same : {A : Type 0} {a b : A} → given a ≡ given b → a ≡ b
 given_same e = cc
 
-module _ (limit : ℕ) (settings : Settings) (bytes store words filled after : List ℕ) (r : Found)
+module _ (limit : ℕ) (settings : Settings) (bytes store words filled after : List ℕ) (r : Result Listed Turned)
     (outcome : findings_after r filled after ≡ findings_outcome limit settings bytes store words) where
   abbrev Claims : Law → Count → Type 0
   Claims law count = count.settled ≡ true → NoFalseFinding law (take (8 * count.findings) after)

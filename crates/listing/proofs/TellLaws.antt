@@ -4,6 +4,7 @@ use mathlib.Core.List.{List, [], ◌∷◌, ◌++◌, Memᴰ}
 use mathlib.Core.Path.{◌≡◌, refl, sym, ap, ◌∙◌}
 use native.Mathlib.Omega.{arith}
 use lib.ListN.{length, take, drop, take-append-drop}
+use Rattle.std.specs.Prelude.{Ok, Err}
 use Rattle.file.specs.Answer.{refused, given}
 use Rattle.file.specs.Sections.{file_of}
 use Rattle.law.specs.Reading.{tree_of}
@@ -18,7 +19,6 @@ use Rattle.lints.specs.Code.Records.{formats_in}
 use Rattle.lints.proofs.Listed.{shown_in_lem}
 use Rattle.messages.specs.Code.Spoken.{Spoken}
 use Rattle.listing.specs.declared.Turned.TheVariants as turned
-use Rattle.listing.specs.declared.Told.TheVariants as told
 use Rattle.listing.specs.Outcome.{fitted_bytes, text_at}
 use Rattle.listing.specs.Code.Gather.{shown_in, Collected}
 use Rattle.listing.specs.Code.Bytes.{told_pair}
@@ -56,7 +56,7 @@ module _ (settings : Settings) {limit : ℕ} {bytes index slots store own : List
   fs = shown_in limit settings bytes store
 
   -- 12
-  pub tell_none : (position : ℕ) (text : List ℕ) → count ≤ position → told_pair (told.Refused turned.NoFinding) text ≡ fitted_bytes 13 text (text_at position fs)
+  pub tell_none : (position : ℕ) (text : List ℕ) → count ≤ position → told_pair (Err turned.NoFinding) text ≡ fitted_bytes 13 text (text_at position fs)
   tell_none position text h = rw (none_at fs position (omega (arith, h, c.counted)))
 
   module _ (few : 8 * count ≤ length own) (position : ℕ) (less : position < count) where
@@ -96,12 +96,12 @@ module _ (settings : Settings) {limit : ℕ} {bytes index slots store own : List
 
     -- the text was put into an empty part first, which only found its length; 13
     pub tell_short : {old part : List ℕ} {next : ℕ} (text : List ℕ) → length part ≡ 0 → Puts old next part → length text < next
-        → told_pair (told.Refused turned.Text) (part ++ text) ≡ fitted_bytes 13 text (text_at position fs)
+        → told_pair (Err turned.Text) (part ++ text) ≡ fitted_bytes 13 text (text_at position fs)
     tell_short {old} {part} {next} text empty h short =
         rw (none part empty, here.at, too_long 13 text (message here.finding) (omega (arith, short, (put {old = old} {now = part} {next = next} h).end)))
 
     pub tell_written : {old part : List ℕ} {next last : ℕ} (text end : List ℕ) → length part ≡ 0 → Puts old next part → next ≤ length text
-        → Puts (part ++ text) last end → told_pair (told.Written next) end ≡ fitted_bytes 13 text (text_at position fs)
+        → Puts (part ++ text) last end → told_pair (Ok next) end ≡ fitted_bytes 13 text (text_at position fs)
     tell_written {old} {part} {next} {last} text end empty h room k =
         let number : next ≡ length (message here.finding) = omega (arith, (put {old = old} {now = part} {next = next} h).end) in
         let there : Puts text last end = rw (none part empty) at k in

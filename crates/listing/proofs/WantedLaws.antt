@@ -4,6 +4,7 @@ use mathlib.Core.List.{List, ◌++◌, Memᴰ}
 use mathlib.Core.Path.{◌≡◌, sym, ◌∙◌}
 use native.Mathlib.Omega.{arith}
 use lib.ListN.{length, drop, take-append-drop}
+use Rattle.std.specs.Prelude.{Result, Ok, Err}
 use Rattle.file.specs.Answer.{given}
 use Rattle.file.specs.Sections.{file_of}
 use Rattle.law.specs.Reading.{tree_of}
@@ -20,9 +21,8 @@ use Rattle.lints.proofs.Owners.{Owned, owned}
 use Rattle.pages.specs.Page.{page, page_length}
 use Rattle.pages.specs.Code.Lines.{words_page, Positions}
 use Rattle.pages.proofs.WordsLaws.{words_length, words_page_lem, positions}
+use Rattle.listing.specs.declared.Turned.{Turned}
 use Rattle.listing.specs.declared.Turned.TheVariants as turned
-use Rattle.listing.specs.declared.Told.{Told}
-use Rattle.listing.specs.declared.Told.TheVariants as told
 use Rattle.listing.specs.declared.bytes.Wanted.{Wanted}
 use Rattle.listing.specs.declared.bytes.Wanted.TheVariants as wanted
 use Rattle.listing.specs.Outcome.{fitted_bytes, text_at}
@@ -33,11 +33,11 @@ use Rattle.listing.specs.Code.Bytes.{wanted_number, wanted_bytes, told_pair}
 
 module _ (text buffer : List ℕ) (needed : ℕ) (size : length text ≡ needed) where
   -- 18
-  pub put_short : length buffer < needed → told_pair (told.Refused turned.Page) buffer ≡ fitted_bytes 18 buffer (given text)
+  pub put_short : length buffer < needed → told_pair (Err turned.Page) buffer ≡ fitted_bytes 18 buffer (given text)
   put_short less = rw (too_long 18 buffer text (omega (arith, size, less)))
 
   pub put_written : {next : ℕ} {last : List ℕ} → needed ≤ length buffer → Put buffer 0 text next last
-      → told_pair (told.Written needed) last ≡ fitted_bytes 18 buffer (given text)
+      → told_pair (Ok needed) last ≡ fitted_bytes 18 buffer (given text)
   put_written room p = rw (fits 18 buffer text (omega (arith, size, room)), put_room p (omega (arith, p.end, size, room)), size)
 
 -- by words
@@ -48,11 +48,11 @@ module _ (bytes own : List ℕ) (count : ℕ) (buffer : List ℕ) (needed : ℕ)
   size : length text ≡ needed
   size = words_length (file_of bytes) own count ∙ sym is
 
-  pub print_short : length buffer < needed → told_pair (told.Refused turned.Page) buffer ≡ fitted_bytes 18 buffer (given text)
+  pub print_short : length buffer < needed → told_pair (Err turned.Page) buffer ≡ fitted_bytes 18 buffer (given text)
   print_short = put_short text buffer needed size
 
   pub print_written : {next : ℕ} {last : List ℕ} → needed ≤ length buffer → Put buffer 0 text next last
-      → told_pair (told.Written needed) last ≡ fitted_bytes 18 buffer (given text)
+      → told_pair (Ok needed) last ≡ fitted_bytes 18 buffer (given text)
   print_written = put_written text buffer needed size
 
 -- ---- the findings that were gathered
@@ -76,7 +76,7 @@ module _ (settings : Settings) {limit : ℕ} {bytes index slots store own : List
   own_page : words_page (file_of bytes) own count ≡ page settings (length (tree_of (file_of bytes))) fs
   own_page = rw (c.counted, tree_length (file_of bytes)) (words_page_lem (file_of bytes) settings own fs (drop (8 * count) own) whole owners)
 
-  module _ (w : Wanted) (buffer : List ℕ) (t : Told) (end : List ℕ) where
+  module _ (w : Wanted) (buffer : List ℕ) (t : Result ℕ Turned) (end : List ℕ) where
     abbrev Written : Type 0
     Written = told_pair t end ≡ fitted_bytes (wanted_number w) buffer (wanted_bytes w settings (tree_of (file_of bytes)) fs)
 

@@ -1,7 +1,7 @@
 -- What the three calls answer, and every lent word after them. Document 01, "Where a call is turned back": "A refusal is its number only; the first in
 -- this table's order is given."
 -- docs/SPECIFICATION.md, 12.1 to 12.5, 21.
-use Rattle.std.specs.Prelude.{ℕ, zero, suc, ◌*◌, Bool, not, cond, List, [], ◌∷◌, ◌++◌, length, drop, replicate, eqb, ltb, leb}
+use Rattle.std.specs.Prelude.{ℕ, zero, suc, ◌*◌, Bool, not, cond, List, [], ◌∷◌, ◌++◌, length, drop, replicate, eqb, ltb, leb, Result, Ok, Err}
 use Rattle.file.specs.Answer.{Answer, refused, given, refuse_if, ◌>>=◌, ◌>>◌}
 use Rattle.file.specs.Sections.{number_of}
 use Rattle.law.specs.Tree.{Law}
@@ -16,10 +16,7 @@ use Rattle.lints.specs.Message.{message}
 use Rattle.pages.specs.Page.{page}
 use Rattle.listing.specs.declared.Turned.{Turned}
 use Rattle.listing.specs.declared.Turned.TheVariants as turned
-use Rattle.listing.specs.declared.Found.{Found}
-use Rattle.listing.specs.declared.Found.TheVariants as found
-use Rattle.listing.specs.declared.Told.{Told}
-use Rattle.listing.specs.declared.Told.TheVariants as told
+use Rattle.listing.specs.declared.Listed.{Listed}
 
 -- ---- the code's answers, by the numbers and values of documents 01 and 02
 
@@ -39,14 +36,14 @@ pub record Count : Type 0 where
   pub rounds : ℕ
   pub settled : Bool
 
-abbrev pub found_answer : Found → Answer Count
-found_answer (found.Refused why) = refused (turned_number why)
-found_answer (found.Listed findings rounds settled) = given (record { findings = findings; rounds = rounds; settled = settled })
+abbrev pub found_answer : Result Listed Turned → Answer Count
+found_answer (Err why) = refused (turned_number why)
+found_answer (Ok l) = given (record { findings = l.count; rounds = l.rounds; settled = l.settled })
 
 -- "the text call [..] answers the bytes written", and of later calls: "a call that writes bytes answers their number"
-abbrev pub told_answer : Told → Answer ℕ
-told_answer (told.Refused why) = refused (turned_number why)
-told_answer (told.Written bytes) = given bytes
+abbrev pub told_answer : Result ℕ Turned → Answer ℕ
+told_answer (Err why) = refused (turned_number why)
+told_answer (Ok bytes) = given bytes
 
 -- ---- the front that all calls share: 14; 1 to 9; 15
 

@@ -14,9 +14,9 @@ ghost use Rattle.listing.specs.Code.Gather.{Prepares, shown_in, Collected};
 ghost use Rattle.listing.specs.Code.Bytes.{wanted_number, wanted_bytes, told_pair};
 ghost use Rattle.listing.specs.Promise.{bytes_after};
 
-use crate::front::{Front, LIMIT, check_front, is_empty, store_words};
-use crate::gather::{Gathered, OWN, gather};
-use crate::{Told, Turned};
+use crate::Turned;
+use crate::front::{LIMIT, check_front, is_empty, store_words};
+use crate::gather::{OWN, gather};
 use formats::Slots;
 use formats::call::clear_store;
 use formats::slots::slots_of;
@@ -43,13 +43,13 @@ fn tell(
     count: usize,
     position: usize,
     text: &mut [u8],
-) -> Told
+) -> Result<usize, Turned>
     requires { ((settings : Settings) × Collected limit settings law.now index.now slots.now store.now own.now count) × (8 * count ≤ length own.now) }
     ensures { (settings : Settings) → Collected limit settings law.now index.now slots.now store.now own.now count
         → told_pair result text.new ≡ fitted_bytes 13 text.old (text_at position (shown_in limit settings law.now store.now)) }
 {
     if count <= position {
-        return Told::Refused(Turned::NoFinding);
+        return Err(Turned::NoFinding);
     }
     let room = text.len();
     let at = 8 * position;
@@ -57,24 +57,30 @@ fn tell(
     let words = &own[at..end];
     let length = put_message(law, index, slots, store, limit, words, &mut text[..0]); // no byte fits: only the length is found
     if room < length {
-        return Told::Refused(Turned::Text);
+        return Err(Turned::Text);
     }
     put_message(law, index, slots, store, limit, words, text);
-    Told::Written(length)
+    Ok(length)
 }
 
 // Writes the page of the call's own findings.
-fn print(law: &[u8], index: &Index, own: &[u32], count: usize, page: &mut [u8]) -> Told
+fn print(
+    law: &[u8],
+    index: &Index,
+    own: &[u32],
+    count: usize,
+    page: &mut [u8],
+) -> Result<usize, Turned>
     requires { Indexed law.now index.now × (fields_allowed (file_of law.now) ≡ true) × (count ≤ 256) × (8 * count ≤ length own.now)
         × Positions (file_of law.now) own.now count }
     ensures { told_pair result page.new ≡ fitted_bytes 18 page.old (given (words_page (file_of law.now) own.now count)) }
 {
     let length = page_length(count);
     if page.len() < length {
-        return Told::Refused(Turned::Page);
+        return Err(Turned::Page);
     }
     put_page(law, index, own, count, page);
-    Told::Written(length)
+    Ok(length)
 }
 
 // Writes what is wanted of the call's own findings.
@@ -88,7 +94,7 @@ fn write_own(
     count: usize,
     wanted: Wanted,
     buffer: &mut [u8],
-) -> Told
+) -> Result<usize, Turned>
     requires { ((settings : Settings) × Collected limit settings law.now index.now slots.now store.now own.now count) × (8 * count ≤ length own.now) × (count ≤ 256) }
     ensures { (settings : Settings) → Collected limit settings law.now index.now slots.now store.now own.now count
         → told_pair result buffer.new ≡ fitted_bytes (wanted_number wanted) buffer.old
@@ -112,7 +118,7 @@ fn write_ready(
     limit: usize,
     wanted: Wanted,
     buffer: &mut [u8],
-) -> Told
+) -> Result<usize, Turned>
     requires { Prepares limit law.now index.now store.old }
     ensures { bytes_after result store.new buffer.new
         ≡ bytes_front limit (settings_from mode overrides.now) (wanted_number wanted) (own_bytes (wanted_bytes wanted (settings_from mode overrides.now)))
@@ -120,7 +126,7 @@ fn write_ready(
 {
     let slots = slots_of(law, index);
     let mut own = [0u32; OWN];
-    match gather(
+    let listed = gather(
         law,
         index,
         &slots,
@@ -130,42 +136,39 @@ fn write_ready(
         overrides,
         OWN,
         &mut own[..OWN],
-    ) {
-        Gathered::TooWide => Told::Refused(Turned::Shapes),
-        Gathered::Full => Told::Refused(Turned::Findings),
-        Gathered::Upto(count, _, _) => write_own(
-            law,
-            index,
-            &slots,
-            store,
-            limit,
-            &own[..OWN],
-            count,
-            wanted,
-            buffer,
-        ),
-    }
+    )?;
+    write_own(
+        law,
+        index,
+        &slots,
+        store,
+        limit,
+        &own[..OWN],
+        listed.count,
+        wanted,
+        buffer,
+    )
 }
 
 // Writes the page of a law without functions: one heading, for which no index is needed.
-fn print_none(buffer: &mut [u8]) -> Told
+fn print_none(buffer: &mut [u8]) -> Result<usize, Turned>
     ensures { (settings : Settings) → told_pair result buffer.new ≡ fitted_bytes 18 buffer.old (given (page settings 0 [])) }
 {
     let length = page_length(0);
     if buffer.len() < length {
-        return Told::Refused(Turned::Page);
+        return Err(Turned::Page);
     }
     put_heading(0, 1, buffer, 0);
-    Told::Written(length)
+    Ok(length)
 }
 
 // Writes what is wanted where there is no finding.
-fn none_wanted(wanted: Wanted, buffer: &mut [u8]) -> Told
+fn none_wanted(wanted: Wanted, buffer: &mut [u8]) -> Result<usize, Turned>
     ensures { (settings : Settings)
         → told_pair result buffer.new ≡ fitted_bytes (wanted_number wanted) buffer.old (wanted_bytes wanted settings [] []) }
 {
     match wanted {
-        Wanted::Text(_) => Told::Refused(Turned::NoFinding),
+        Wanted::Text(_) => Err(Turned::NoFinding),
         Wanted::Page => print_none(buffer),
     }
 }
@@ -178,17 +181,17 @@ fn write_none(
     limit: usize,
     wanted: Wanted,
     buffer: &mut [u8],
-) -> Told
+) -> Result<usize, Turned>
     requires { limit ≤ 64 }
     ensures { (bytes : List ℕ) → law_of bytes ≡ given [] → bytes_after result store.new buffer.new
         ≡ bytes_outcome limit (settings_from mode overrides.now) (wanted_number wanted) (own_bytes (wanted_bytes wanted (settings_from mode overrides.now)))
         bytes store.old buffer.old }
 {
     if !settings_allowed(mode, overrides) {
-        return Told::Refused(Turned::Settings);
+        return Err(Turned::Settings);
     }
     if store.len() < store_words(limit) {
-        return Told::Refused(Turned::Store);
+        return Err(Turned::Store);
     }
     clear_store(store, limit);
     none_wanted(wanted, buffer)
@@ -202,7 +205,7 @@ pub fn write(
     store: &mut [u32],
     wanted: Wanted,
     buffer: &mut [u8],
-) -> Told
+) -> Result<usize, Turned>
     ensures { bytes_after result store.new buffer.new
         ≡ bytes_outcome 64 (settings_from mode overrides.now) (wanted_number wanted) (own_bytes (wanted_bytes wanted (settings_from mode overrides.now)))
         law.now store.old buffer.old }
@@ -211,8 +214,6 @@ pub fn write(
         return write_none(mode, overrides, store, LIMIT, wanted, buffer);
     }
     let mut index: Index = [0; 972];
-    match check_front(mode, overrides, law, store.len(), LIMIT, &mut index) {
-        Front::Refused(why) => Told::Refused(why),
-        Front::Ready => write_ready(law, &index, mode, overrides, store, LIMIT, wanted, buffer),
-    }
+    check_front(mode, overrides, law, store.len(), LIMIT, &mut index)?;
+    write_ready(law, &index, mode, overrides, store, LIMIT, wanted, buffer)
 }

@@ -14,13 +14,6 @@ use lints::levels::settings_allowed;
 // The most shapes in a format.
 pub const LIMIT: usize = 64;
 
-// A refusal, or a law that is ready. `FrontIs` of specs/Code/Gather.antt says what either means.
-#[derive(Clone, Copy)]
-pub enum Front {
-    Refused(Turned),
-    Ready,
-}
-
 // The words of a store: 128 formats of so many shapes.
 pub fn store_words(limit: usize) -> usize
     requires { limit ≤ 64 }
@@ -33,16 +26,10 @@ pub fn store_words(limit: usize) -> usize
 fn no_records(sections: Sections) -> bool
     ensures { result ≡ no_records sections }
 {
-    if sections.functions != 0 {
-        return false;
-    }
-    if sections.sentences != 0 {
-        return false;
-    }
-    if sections.conditions != 0 {
-        return false;
-    }
-    sections.terms == 0
+    sections.functions == 0
+        && sections.sentences == 0
+        && sections.conditions == 0
+        && sections.terms == 0
 }
 
 // Whether bytes are a file that has none of these. Just these are the laws without functions (`empty_law` and `law_empty` of
@@ -56,7 +43,7 @@ pub fn is_empty(law: &[u8]) -> bool
     }
 }
 
-// Checks settings, a file, and that so many words are a store. The index of a law is filled.
+// Checks settings, a file, and that so many words are a store; `FrontIs` of specs/Code/Gather.antt says what either answer means. The index of a law is filled.
 pub fn check_front(
     mode: u32,
     overrides: &[u32],
@@ -64,21 +51,17 @@ pub fn check_front(
     words: usize,
     limit: usize,
     index: &mut Index,
-) -> Front
+) -> Result<(), Turned>
     requires { (length index.old ≡ 972) × (limit ≤ 64) }
     ensures { ((store : List ℕ) → length store ≡ words → FrontIs limit (settings_from mode overrides.now) law.now store result index.new)
         × IndexLeft (settings_allowed (settings_from mode overrides.now)) (law_of law.now) law.now index.old index.new }
 {
     if !settings_allowed(mode, overrides) {
-        return Front::Refused(Turned::Settings);
+        return Err(Turned::Settings);
     }
-    match read_law(law, index) {
-        Err(why) => Front::Refused(Turned::File(why)),
-        Ok(()) => {
-            if words < store_words(limit) {
-                return Front::Refused(Turned::Store);
-            }
-            Front::Ready
-        }
+    read_law(law, index)?;
+    if words < store_words(limit) {
+        return Err(Turned::Store);
     }
+    Ok(())
 }

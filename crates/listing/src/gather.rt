@@ -4,6 +4,7 @@ ghost use Rattle.formats.specs.Code.Slots.{SlotsOf};
 ghost use Rattle.lints.specs.Levels.{settings_from};
 ghost use Rattle.listing.specs.Code.Gather.{Prepares, GatherIs, StoreFilled};
 
+use crate::{Listed, Turned};
 use findings::all::lint_all;
 use findings::{FULL, NONE, OVER};
 use formats::Slots;
@@ -14,16 +15,7 @@ use law::Index;
 // The words of a call's own findings: 256 places.
 pub const OWN: usize = 2048;
 
-// What a law comes to: a format has too many shapes, there are more findings than there is room for, or the number of findings, the rounds and whether the
-// last of them changed nothing.
-#[derive(Clone, Copy)]
-pub enum Gathered {
-    TooWide,
-    Full,
-    Upto(usize, usize, bool),
-}
-
-// The findings of a law whose formats are in the store.
+// The findings of a law whose formats are in the store, counted up to the room that there is.
 fn gather_findings(
     law: &[u8],
     index: &Index,
@@ -36,19 +28,23 @@ fn gather_findings(
     out: &mut [u32],
     rounds: usize,
     settled: bool,
-) -> Gathered
+) -> Result<Listed, Turned>
     requires { Prepares limit law.now index.now store.old × SlotsOf (file_of law.now) slots.now × StoreFilled limit (file_of law.now) store.old rounds settled }
     ensures { GatherIs limit (settings_from mode overrides.now) room law.now store.old store.new out.old out.new result }
 {
     let tally = lint_all(law, index, slots, store, mode, overrides, room, limit, out);
     if tally == OVER {
         clear_store(store, limit);
-        return Gathered::TooWide;
+        return Err(Turned::Shapes);
     }
     if tally == FULL {
-        return Gathered::Full;
+        return Err(Turned::Findings);
     }
-    Gathered::Upto(tally - NONE, rounds, settled)
+    Ok(Listed {
+        count: tally - NONE,
+        rounds,
+        settled,
+    })
 }
 
 // The formats of a law, and its findings under given settings, counted up to the room that there is.
@@ -62,12 +58,12 @@ pub fn gather(
     overrides: &[u32],
     room: usize,
     out: &mut [u32],
-) -> Gathered
+) -> Result<Listed, Turned>
     requires { Prepares limit law.now index.now store.old × SlotsOf (file_of law.now) slots.now }
     ensures { GatherIs limit (settings_from mode overrides.now) room law.now store.old store.new out.old out.new result }
 {
     match infer_store(law, index, slots, store, limit) {
-        Inference::TooWide => Gathered::TooWide,
+        Inference::TooWide => Err(Turned::Shapes),
         Inference::Ran(rounds, settled) => gather_findings(
             law, index, slots, store, limit, mode, overrides, room, out, rounds, settled,
         ),

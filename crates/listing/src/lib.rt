@@ -8,13 +8,14 @@ ghost use Rattle.law.specs.Law.{law_of};
 ghost use Rattle.law.specs.Reading.{tree_of};
 ghost use Rattle.buffers.specs.Written.{written};
 ghost use Rattle.lints.specs.Levels.{settings_from, listing_words};
+ghost use Rattle.listing.specs.declared.Turned.TheVariants.{File};
 ghost use Rattle.listing.specs.Outcome.{turned_number, findings_front, findings_outcome, text_outcome, page_outcome};
 ghost use Rattle.listing.specs.Code.Gather.{Prepares, shown_in, Collected};
 ghost use Rattle.listing.specs.Promise.{findings_after, bytes_after, FindingsPromise};
 
 use crate::bytes::{Wanted, write};
-use crate::front::{Front, LIMIT, check_front, is_empty, store_words};
-use crate::gather::{Gathered, OWN, gather};
+use crate::front::{LIMIT, check_front, is_empty, store_words};
+use crate::gather::{OWN, gather};
 use buffers::copy_words;
 use file::Refusal;
 use findings::all::lint_all;
@@ -42,18 +43,12 @@ pub enum Turned {
     Page,
 }
 
-// What the findings call answers: a refusal, or how many findings there are, how many rounds ran, and whether the last of these changed nothing.
-#[derive(Clone, Copy)]
-pub enum Found {
-    Refused(Turned),
-    Listed(usize, usize, bool),
-}
-
-// What a call that writes bytes answers: a refusal, or how many bytes were written.
-#[derive(Clone, Copy)]
-pub enum Told {
-    Refused(Turned),
-    Written(usize),
+// What the findings call lists: how many findings there are, how many rounds ran, and whether the last of these changed nothing.
+#[derive(Clone, Copy, Debug, PartialEq, Eq)]
+pub struct Listed {
+    pub count: usize,
+    pub rounds: usize,
+    pub settled: bool,
 }
 
 // The words of the findings call's own findings for a law of few sentences, 32 places, since it takes time to clear them.
@@ -62,19 +57,29 @@ const OWN_FEW: usize = 256;
 // The most sentences that are few.
 const FEW: usize = 32;
 
+impl From<Refusal> for Turned {
+    ghost from_gives = { λ why turned. turned ≡ File why };
+
+    fn from(why: Refusal) -> Turned {
+        Turned::File(why)
+    }
+}
+
 // The number of a refusal.
-pub fn turned_number(why: Turned) -> u32
-    ensures { result ≡ turned_number why }
-{
-    match why {
-        Turned::Settings => 14,
-        Turned::File(of_file) => u32::from(of_file),
-        Turned::Store => 15,
-        Turned::Shapes => 10,
-        Turned::Findings => 11,
-        Turned::NoFinding => 12,
-        Turned::Text => 13,
-        Turned::Page => 18,
+impl From<Turned> for u32 {
+    ghost from_gives = { λ why number. number ≡ turned_number why };
+
+    fn from(why: Turned) -> u32 {
+        match why {
+            Turned::Settings => 14,
+            Turned::File(of_file) => u32::from(of_file),
+            Turned::Store => 15,
+            Turned::Shapes => 10,
+            Turned::Findings => 11,
+            Turned::NoFinding => 12,
+            Turned::Text => 13,
+            Turned::Page => 18,
+        }
     }
 }
 
@@ -116,23 +121,27 @@ fn findings_gathered(
     limit: usize,
     own: &mut [u32],
     out: &mut [u32],
-) -> Found
+) -> Result<Listed, Turned>
     requires { Prepares limit law.now index.now store.old }
     ensures { findings_after result store.new out.new
         ≡ findings_front limit (settings_from mode overrides.now) store.old out.old (given (tree_of (file_of law.now))) }
 {
     let slots = slots_of(law, index);
     let room = out.len();
-    match gather(law, index, &slots, store, limit, mode, overrides, room, own) {
-        Gathered::TooWide => Found::Refused(Turned::Shapes),
-        Gathered::Full => Found::Refused(Turned::Findings),
-        Gathered::Upto(count, rounds, settled) => {
-            hand_over(
-                law, index, &slots, store, limit, mode, overrides, own, count, out,
-            );
-            Found::Listed(count, rounds, settled)
-        }
-    }
+    let listed = gather(law, index, &slots, store, limit, mode, overrides, room, own)?;
+    hand_over(
+        law,
+        index,
+        &slots,
+        store,
+        limit,
+        mode,
+        overrides,
+        own,
+        listed.count,
+        out,
+    );
+    Ok(listed)
 }
 
 // The same, with a buffer by the number of sentences.
@@ -144,7 +153,7 @@ fn findings_ready(
     store: &mut [u32],
     limit: usize,
     words: &mut [u32],
-) -> Found
+) -> Result<Listed, Turned>
     requires { Prepares limit law.now index.now store.old }
     ensures { findings_after result store.new words.new
         ≡ findings_front limit (settings_from mode overrides.now) store.old words.old (given (tree_of (file_of law.now))) }
@@ -176,19 +185,28 @@ fn findings_ready(
 }
 
 // The findings call, of a law without functions: there are no findings, and one round settles.
-fn findings_none(mode: u32, overrides: &[u32], store: &mut [u32], limit: usize) -> Found
+fn findings_none(
+    mode: u32,
+    overrides: &[u32],
+    store: &mut [u32],
+    limit: usize,
+) -> Result<Listed, Turned>
     requires { limit ≤ 64 }
     ensures { (bytes words : List ℕ) → law_of bytes ≡ given [] → findings_after result store.new words
         ≡ findings_outcome limit (settings_from mode overrides.now) bytes store.old words }
 {
     if !settings_allowed(mode, overrides) {
-        return Found::Refused(Turned::Settings);
+        return Err(Turned::Settings);
     }
     if store.len() < store_words(limit) {
-        return Found::Refused(Turned::Store);
+        return Err(Turned::Store);
     }
     clear_store(store, limit);
-    Found::Listed(0, 1, true)
+    Ok(Listed {
+        count: 0,
+        rounds: 1,
+        settled: true,
+    })
 }
 
 // Lists the findings of a law under settings: their number, eight words each, and the formats in the store.
@@ -198,17 +216,15 @@ pub fn findings(
     law: &[u8],
     store: &mut [u32],
     words: &mut [u32],
-) -> Found
+) -> Result<Listed, Turned>
     ensures { FindingsPromise 64 (settings_from mode overrides.now) law.now store.old words.old store.new words.new result }
 {
     if is_empty(law) {
         return findings_none(mode, overrides, store, LIMIT);
     }
     let mut index: Index = [0; 972];
-    match check_front(mode, overrides, law, store.len(), LIMIT, &mut index) {
-        Front::Refused(why) => Found::Refused(why),
-        Front::Ready => findings_ready(law, &index, mode, overrides, store, LIMIT, words),
-    }
+    check_front(mode, overrides, law, store.len(), LIMIT, &mut index)?;
+    findings_ready(law, &index, mode, overrides, store, LIMIT, words)
 }
 
 // Writes the text of the finding at a position among those that the settings show.
@@ -219,7 +235,7 @@ pub fn text(
     store: &mut [u32],
     position: usize,
     text: &mut [u8],
-) -> Told
+) -> Result<usize, Turned>
     ensures { bytes_after result store.new text.new
         ≡ text_outcome 64 (settings_from mode overrides.now) law.now store.old position text.old }
 {
@@ -227,7 +243,13 @@ pub fn text(
 }
 
 // Writes the page of the findings that the settings show.
-pub fn page(mode: u32, overrides: &[u32], law: &[u8], store: &mut [u32], page: &mut [u8]) -> Told
+pub fn page(
+    mode: u32,
+    overrides: &[u32],
+    law: &[u8],
+    store: &mut [u32],
+    page: &mut [u8],
+) -> Result<usize, Turned>
     ensures { bytes_after result store.new page.new
         ≡ page_outcome 64 (settings_from mode overrides.now) law.now store.old page.old }
 {

@@ -5,13 +5,13 @@ use mathlib.Core.Path.{◌≡◌, sym, ap, ◌∙◌}
 use native.Mathlib.Omega.{arith}
 use native.Mathlib.Decide.{dec_lt}
 use lib.ListN.{length}
+use Rattle.std.specs.Prelude.{Result, Ok}
 use Rattle.file.specs.Answer.{Answer, refused, given, ◌>>=◌}
 use Rattle.buffers.proofs.FittedLaws as fitted
 use Rattle.law.specs.Tree.{Law}
 use Rattle.lints.specs.Levels.{Settings}
 use Rattle.lints.specs.Findings.{listing}
-use Rattle.listing.specs.declared.Told.{Told}
-use Rattle.listing.specs.declared.Told.TheVariants.{Written}
+use Rattle.listing.specs.declared.Turned.{Turned}
 use Rattle.listing.specs.Outcome.{told_answer, front, fitted_bytes, bytes_front, bytes_outcome, page_of, page_outcome}
 use Rattle.listing.specs.Promise.{bytes_after}
 
@@ -33,7 +33,7 @@ module _ (settings : Settings) (store buffer : List ℕ) (n : ℕ) where
   front_fits (refused k) e = let z : ◌≡◌ {A = ℕ} 0 1 = cc in absurd (omega arith)
   front_fits (given law) e = answer_fits (listing 64 settings law >>= page_of settings law) e
 
-pub written_fits : (settings : Settings) (law store filled buffer after : List ℕ) (r : Told) (n : ℕ) → r ≡ Written n
+pub written_fits : (settings : Settings) (law store filled buffer after : List ℕ) (r : Result ℕ Turned) (n : ℕ) → r ≡ Ok n
     → bytes_after r filled after ≡ page_outcome 64 settings law store buffer → n ≤ length buffer
 unfolding bytes_outcome
 written_fits settings law store filled buffer after r n is outcome =

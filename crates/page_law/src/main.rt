@@ -5,7 +5,7 @@
 
 ghost use Rattle.std.specs.Prelude.{◌≤◌, length};
 
-use listing::{Told, Turned, page, turned_number};
+use listing::{Turned, page};
 use std::io;
 use std::io::{Read, Write};
 
@@ -22,7 +22,7 @@ const STRICT: u32 = 1;
 
 // Writes `refused` and the number.
 fn print_refused<W: Write>(output: &mut W, why: Turned) -> io::Result<()> {
-    let number = turned_number(why);
+    let number = u32::from(why);
     writeln!(output, "refused {number}")
 }
 
@@ -35,8 +35,8 @@ fn write_page<W: Write>(
 ) -> io::Result<()> {
     let none = [0u32; 0];
     match page(STRICT, &none, law, store, out) {
-        Told::Refused(why) => print_refused(output, why),
-        Told::Written(bytes) => output.write_all(&out[..bytes]),
+        Err(why) => print_refused(output, why),
+        Ok(bytes) => output.write_all(&out[..bytes]),
     }
 }
 

@@ -7,7 +7,7 @@
 // words in order, as numbers and as `kept` where a word has its value still, with `*` and a number for so many in a row.
 #![tactic(auto)]
 
-use listing::{Found, Told, Turned, findings, text, turned_number};
+use listing::{Listed, Turned, findings, text};
 use std::io;
 use std::io::{BufWriter, Read, Write};
 use test_cases::lent::{KEPT, Run, changed_bytes, fill_bytes, fill_words, print_run, print_words};
@@ -47,40 +47,35 @@ fn print_bytes<W: Write>(output: &mut W, bytes: &[u8]) -> io::Result<()> {
 // Writes `refused` and the number.
 fn print_refused<W: Write>(output: &mut W, why: Turned) -> io::Result<()> {
     output.write_all(b"refused ")?;
-    print_decimal(output, turned_number(why) as u64)?;
+    print_decimal(output, u32::from(why) as u64)?;
     output.write_all(b"\n")
 }
 
 // Writes how many findings there are, how many rounds ran, and whether the last of these changed nothing.
-fn print_counts<W: Write>(
-    output: &mut W,
-    count: usize,
-    rounds: usize,
-    settled: bool,
-) -> io::Result<()> {
-    print_decimal(output, count as u64)?;
+fn print_counts<W: Write>(output: &mut W, listed: Listed) -> io::Result<()> {
+    print_decimal(output, listed.count as u64)?;
     output.write_all(b" ")?;
-    print_decimal(output, rounds as u64)?;
+    print_decimal(output, listed.rounds as u64)?;
     output.write_all(b" ")?;
-    print_decimal(output, digit(settled))?;
+    print_decimal(output, digit(listed.settled))?;
     output.write_all(b"\n")
 }
 
 // Writes the answer of the findings call.
-fn print_found<W: Write>(output: &mut W, answer: Found) -> io::Result<()> {
+fn print_found<W: Write>(output: &mut W, answer: Result<Listed, Turned>) -> io::Result<()> {
     output.write_all(b"  findings ")?;
     match answer {
-        Found::Refused(why) => print_refused(output, why),
-        Found::Listed(count, rounds, settled) => print_counts(output, count, rounds, settled),
+        Err(why) => print_refused(output, why),
+        Ok(listed) => print_counts(output, listed),
     }
 }
 
 // Writes the answer of the text call.
-fn print_told<W: Write>(output: &mut W, answer: Told) -> io::Result<()> {
+fn print_told<W: Write>(output: &mut W, answer: Result<usize, Turned>) -> io::Result<()> {
     output.write_all(b"  text ")?;
     match answer {
-        Told::Refused(why) => print_refused(output, why),
-        Told::Written(bytes) => {
+        Err(why) => print_refused(output, why),
+        Ok(bytes) => {
             print_decimal(output, bytes as u64)?;
             output.write_all(b"\n")
         }

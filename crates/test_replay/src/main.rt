@@ -10,7 +10,7 @@
 
 ghost use Rattle.std.specs.Prelude.{◌≤◌};
 
-use listing::{Found, Told, Turned, findings, text, turned_number};
+use listing::{Turned, findings, text};
 use std::io;
 use std::io::{BufWriter, Read, Write};
 use test_cases::{LAW, print_decimal, read_label, read_law, read_overrides, read_word};
@@ -42,14 +42,18 @@ fn least(one: usize, other: usize) -> usize
 // Writes `refused` and the number.
 fn print_refused<W: Write>(output: &mut W, why: Turned) -> io::Result<()> {
     output.write_all(b"refused ")?;
-    print_decimal(output, turned_number(why) as u64)
+    print_decimal(output, u32::from(why) as u64)
 }
 
 // Writes the text that the text call put into a buffer, or its refusal.
-fn print_told<W: Write>(output: &mut W, answer: Told, bytes: &[u8]) -> io::Result<()> {
+fn print_told<W: Write>(
+    output: &mut W,
+    answer: Result<usize, Turned>,
+    bytes: &[u8],
+) -> io::Result<()> {
     match answer {
-        Told::Refused(why) => print_refused(output, why),
-        Told::Written(written) => {
+        Err(why) => print_refused(output, why),
+        Ok(written) => {
             let end = least(written, bytes.len());
             output.write_all(&bytes[..end])
         }
@@ -116,14 +120,20 @@ fn list<W: Write>(output: &mut W, mode: u32, overrides: &[u32], law: &[u8]) -> i
     let mut store = [0u32; STORE];
     let mut words = [0u32; WORDS];
     match findings(mode, overrides, law, &mut store, &mut words) {
-        Found::Refused(why) => {
+        Err(why) => {
             output.write_all(b"  ")?;
             print_refused(output, why)?;
             output.write_all(b"\n")
         }
-        Found::Listed(count, _, _) => {
-            print_findings(output, mode, overrides, law, &mut store, &words, count)
-        }
+        Ok(listed) => print_findings(
+            output,
+            mode,
+            overrides,
+            law,
+            &mut store,
+            &words,
+            listed.count,
+        ),
     }
 }
 

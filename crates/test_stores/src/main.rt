@@ -11,7 +11,7 @@
 ghost use Rattle.std.specs.Prelude.{◌≤◌, length};
 
 use formats::{Answered, infer_formats};
-use listing::{Turned, turned_number};
+use listing::Turned;
 use shapes::display::{Shown, display_format};
 use std::io;
 use std::io::{BufWriter, Read, Write};
@@ -101,7 +101,7 @@ fn print_store<W: Write>(output: &mut W, store: &[u32]) -> io::Result<()> {
 // Writes the end of a refused case's line.
 fn print_refused<W: Write>(output: &mut W, why: Turned) -> io::Result<()> {
     output.write_all(b" refused ")?;
-    print_decimal(output, turned_number(why) as u64)?;
+    print_decimal(output, u32::from(why) as u64)?;
     output.write_all(b"\n")
 }
 

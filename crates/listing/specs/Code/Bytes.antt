@@ -1,11 +1,11 @@
 -- What the calls that write bytes of a listing share: each is the same but for what is wanted.
-use Rattle.std.specs.Prelude.{ℕ, List, length}
+use Rattle.std.specs.Prelude.{ℕ, List, length, Result}
 use Rattle.file.specs.Answer.{Answer, given}
 use Rattle.law.specs.Tree.{Law}
 use Rattle.lints.specs.Finding.{Finding}
 use Rattle.lints.specs.Levels.{Settings}
 use Rattle.pages.specs.Page.{page}
-use Rattle.listing.specs.declared.Told.{Told}
+use Rattle.listing.specs.declared.Turned.{Turned}
 use Rattle.listing.specs.declared.bytes.Wanted.{Wanted}
 use Rattle.listing.specs.declared.bytes.Wanted.TheVariants as wanted
 use Rattle.listing.specs.Outcome.{told_answer, text_at}
@@ -21,5 +21,5 @@ wanted_bytes (wanted.Text position) settings = λ law fs. text_at position fs
 wanted_bytes wanted.Page settings = λ law fs. given (page settings (length law) fs)
 
 -- what a call answers, and the buffer after it
-abbrev pub told_pair : Told → List ℕ → Answer ℕ × List ℕ
+abbrev pub told_pair : Result ℕ Turned → List ℕ → Answer ℕ × List ℕ
 told_pair r buffer = (told_answer r, buffer)

@@ -1,5 +1,5 @@
 -- What the steps of the calls promise.
-use Rattle.std.specs.Prelude.{ℕ, ◌*◌, ◌≤◌, ◌<◌, Bool, true, false, ◌&&◌, List, ◌++◌, ◌≡◌, length, take, drop, replicate, eqb}
+use Rattle.std.specs.Prelude.{ℕ, ◌*◌, ◌≤◌, ◌<◌, Bool, true, false, ◌&&◌, List, ◌++◌, ◌≡◌, length, take, drop, replicate, eqb, Result, Ok, Err}
 use Rattle.file.specs.Answer.{Answer, refused, given}
 use Rattle.file.specs.Sections.{File, file_of}
 use Rattle.file.specs.Code.Counts.{counts_of}
@@ -18,10 +18,9 @@ use Rattle.lints.specs.Findings.{findings_of, Listing, listing}
 use Rattle.lints.specs.Code.Records.{Prepared, formats_in}
 use Rattle.findings.specs.Code.Events as events
 use Rattle.findings.specs.Code.All.{all_events}
-use Rattle.listing.specs.declared.front.Front.{Front}
-use Rattle.listing.specs.declared.front.Front.TheVariants.{Refused, Ready}
-use Rattle.listing.specs.declared.gather.Gathered.{Gathered}
-use Rattle.listing.specs.declared.gather.Gathered.TheVariants.{TooWide, Full, Upto}
+use Rattle.listing.specs.declared.Turned.{Turned}
+use Rattle.listing.specs.declared.Turned.TheVariants.{Shapes, Findings}
+use Rattle.listing.specs.declared.Listed.{Listed}
 use Rattle.listing.specs.Outcome.{turned_number, front, store_after}
 
 -- ---- the front
@@ -43,9 +42,9 @@ pub record Prepares (limit : ℕ) (bytes index store : List ℕ) : Type 0 where
   pub room : store_size limit ≤ length store
 
 -- a refusal, or such a law
-abbrev pub FrontIs : ℕ → Settings → List ℕ → List ℕ → Front → List ℕ → Type 0
-FrontIs limit settings bytes store (Refused why) index = front limit settings bytes store ≡ refused (turned_number why)
-FrontIs limit settings bytes store Ready index =
+abbrev pub FrontIs : ℕ → Settings → List ℕ → List ℕ → Result (Unit {0}) Turned → List ℕ → Type 0
+FrontIs limit settings bytes store (Err why) index = front limit settings bytes store ≡ refused (turned_number why)
+FrontIs limit settings bytes store (Ok done) index =
     (front limit settings bytes store ≡ given (tree_of (file_of bytes))) × Prepares limit bytes index store
 
 -- the index that the front leaves, by whether the settings are allowed: as it was where they are not, zeros where the file is refused, and else the law's own
@@ -57,10 +56,10 @@ IndexLeft true (given law) bytes before index = Indexed bytes index
 -- ---- formats in the store, and findings in a buffer
 
 -- findings are counted where there is room for the words of all of them, and written where the buffer has place for them
-pub record Fitted (settings : Settings) (room : ℕ) (l : Listing) (before after : List ℕ) (r : Gathered) : Type 0 where
-  pub counted : 8 * length l.findings ≤ room → r ≡ Upto (length l.findings) l.inferred.rounds l.inferred.settled
+pub record Fitted (settings : Settings) (room : ℕ) (l : Listing) (before after : List ℕ) (r : Result Listed Turned) : Type 0 where
+  pub counted : 8 * length l.findings ≤ room → r ≡ Ok (record { count = length l.findings; rounds = l.inferred.rounds; settled = l.inferred.settled })
   pub placed : 8 * length l.findings ≤ room → 8 * length l.findings ≤ length before → after ≡ written before 0 (listing_words settings l.findings)
-  pub over : room < 8 * length l.findings → r ≡ Full
+  pub over : room < 8 * length l.findings → r ≡ Err Findings
 
 -- a store that inference has filled
 pub record StoreFilled (limit : ℕ) (file : File) (store : List ℕ) (rounds : ℕ) (settled : Bool) : Type 0 where
@@ -70,8 +69,8 @@ pub record StoreFilled (limit : ℕ) (file : File) (store : List ℕ) (rounds : 
   pub ran : (rounds ≡ made.rounds) × (settled ≡ made.settled)
 
 -- by what the law comes to; the store is filled, or zero with refusal 10
-abbrev pub GatheredIs : Settings → ℕ → Answer Listing → List ℕ → List ℕ → Gathered → Type 0
-GatheredIs settings room (refused n) before after r = (n ≡ 10) × (r ≡ TooWide)
+abbrev pub GatheredIs : Settings → ℕ → Answer Listing → List ℕ → List ℕ → Result Listed Turned → Type 0
+GatheredIs settings room (refused n) before after r = (n ≡ 10) × (r ≡ Err Shapes)
 GatheredIs settings room (given l) before after r = Fitted settings room l before after r
 
 -- the buffer after the lints went through a law; as it was where the formats are refused
@@ -79,7 +78,7 @@ abbrev pub buffer_after : ℕ → Settings → ℕ → Law → List ℕ → Answ
 buffer_after limit settings room law start (refused n) = start
 buffer_after limit settings room law start (given i) = (events.collect room (events.sink_of (events.Upto 0) start) (all_events law i.formats settings room limit)).words
 
-pub record GatherIs (limit : ℕ) (settings : Settings) (room : ℕ) (bytes before after start end : List ℕ) (r : Gathered) : Type 0 where
+pub record GatherIs (limit : ℕ) (settings : Settings) (room : ℕ) (bytes before after start end : List ℕ) (r : Result Listed Turned) : Type 0 where
   pub store : after ≡ store_after limit before (listing limit settings (tree_of (file_of bytes)))
   pub gathered : GatheredIs settings room (listing limit settings (tree_of (file_of bytes))) start end r
   pub buffer : end ≡ buffer_after limit settings room (tree_of (file_of bytes)) start (infer limit (tree_of (file_of bytes)))
