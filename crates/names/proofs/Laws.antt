@@ -1,17 +1,20 @@
 -- Laws of the definitions in `specs/Name.antt`.
--- First what the loops use: an invariant for each kind of loop, over any fold `f` of bytes or any test `p` of a byte, which says that the work
--- left from position `i` on equals the whole work. Then what the layers above use: equality and order of lists of bytes.
-use Prim.Native.Nat.{ℕ, zero, suc, ◌+◌, ◌<◌, ◌≤◌}
+-- First what the functions use, over any fold `f` of bytes or any test `p` of a byte. Then what the layers above use: equality and order of lists
+-- of bytes.
+use Prim.Native.Nat.{ℕ, min, ◌-◌, zero, suc, ◌+◌, ◌<◌, ◌≤◌}
 use mathlib.Core.List.{List, [], ◌∷◌, map}
-use mathlib.Core.Bool.{Bool, true, false, cond, ◌&&◌}
+use mathlib.Core.Bool.{Bool, true, false, cond, ◌&&◌, ◌||◌}
 use mathlib.Core.Logic.{◌⊎◌, inl, inr}
 use mathlib.Core.Path.{◌≡◌, refl, ap, sym, ◌∙◌}
 use native.Mathlib.Numerals.{add-one}
 use native.Mathlib.Omega.{arith}
-use lib.ListN.{length, take, drop, get_or, drop_of_length-le}
+use lib.ListN.{length, take, drop, get_or, drop_of_length-le, length-drop}
 use lib.Seq.{drop-cons}
 use lib.Dec.{eqb, leb}
 use borrow.Author.Tests.{eqb-true, eqb-false, leb-true, leb-false, eq-eqb, ne_eqb, le-leb, lt-leb}
+use Rattle.std.proofs.lemmas.Bool.Decides.{nat_tests}
+use Rattle.std.specs.List.{list_all, zip}
+use Rattle.std.specs.Ordering.{nat_cmp, ordering_reverse, is_ne}
 use Rattle.names.specs.Name.{between, same_bytes, order_bytes, every_byte, length_allowed}
 use Rattle.std.specs.declared.cmp.Ordering.{Ordering}
 use Rattle.std.specs.declared.cmp.Ordering.TheVariants.{Less, Equal, Greater}
@@ -27,7 +30,7 @@ both_hold false b h = let z : ◌≡◌ {A = ℕ} 0 1 = cc in absurd (omega arit
 pub between_low : (low high c : ℕ) → between low high c ≡ true → low ≤ c
 between_low low high c h = leb-true low c (both_hold (leb low c) (leb c high) h).0
 
--- ---- loops that compare, folded by any `f`
+-- ---- comparison, folded by any `f`
 
 -- lists of different length are not the same
 pub same_longer : (f : ℕ → ℕ) (a b : List ℕ) → (length a ≡ length b → ⊥) → false ≡ same_bytes (map f a) (map f b)
@@ -41,44 +44,6 @@ same_longer f (x ∷ xs) (y ∷ ys) h = rw (← same_longer f xs ys (λ e. h (ap
     either true = refl
     either false = refl
 
--- `i` bytes are compared, and what is left decides
-pub record SameFrom (f : ℕ → ℕ) (a b : List ℕ) (i : ℕ) : Type 0 where
-  pub inside : i ≤ length a
-  pub lengths : length a ≡ length b
-  pub left : same_bytes (map f a) (map f b) ≡ same_bytes (map f (drop i a)) (map f (drop i b))
-
--- no byte is compared yet
-pub same_start : (f : ℕ → ℕ) (a b : List ℕ) → length a ≡ length b → SameFrom f a b 0
-same_start f a b e = record { inside = omega arith; lengths = e; left = refl }
-
-module _ {f : ℕ → ℕ} {a b : List ℕ} {i : ℕ} (h : SameFrom f a b i) where
-  -- the bytes at `i` agree
-  pub same_next : {x y : ℕ} → i < length a → x ≡ f (get_or a i 0) → y ≡ f (get_or b i 0) → x ≡ y → SameFrom f a b (i + 1)
-  unfolding same_bytes
-  same_next l ex ey e =
-      let lb : i < length b = omega arith in
-      record {
-        inside = omega arith;
-        lengths = h.lengths;
-        left = h.left ∙ rw (drop-cons a i 0 l, drop-cons b i 0 lb, add-one, eq-eqb (f (get_or a i 0)) (f (get_or b i 0)) (cc));
-      }
-
-  -- they are equal before they are folded
-  pub same_alike : i < length a → get_or a i 0 ≡ get_or b i 0 → SameFrom f a b (i + 1)
-  same_alike l e = same_next l refl refl (ap f e)
-
-  -- the bytes at `i` differ
-  pub same_differ : {x y : ℕ} → i < length a → x ≡ f (get_or a i 0) → y ≡ f (get_or b i 0) → (x ≡ y → ⊥) → false ≡ same_bytes (map f a) (map f b)
-  unfolding same_bytes
-  same_differ l ex ey ne =
-      let lb : i < length b = omega arith in
-      rw (h.left, drop-cons a i 0 l, drop-cons b i 0 lb, ne_eqb (f (get_or a i 0)) (f (get_or b i 0)) (λ e. ne (cc)))
-
-  -- no byte is left
-  pub same_end : length a ≤ i → true ≡ same_bytes (map f a) (map f b)
-  unfolding same_bytes
-  same_end l = rw (h.left, drop_of_length-le a {i = i} l, drop_of_length-le b {i = i} (omega arith))
-
 -- the fold that changes nothing
 map_same : (x : List ℕ) → map (λ c. c) x ≡ x
 map_same [] = refl
@@ -90,107 +55,61 @@ same_plain a b = rw (map_same a, map_same b)
 
 -- ---- the loop that orders, folded by any `f`
 
+-- two bytes that are not ordered are equal
+pub cmp_equal : (x y : ℕ) → is_ne (nat_cmp x y) ≡ false → x ≡ y
+cmp_equal x y e = grind (arith, nat_tests)
+
+-- the order of two others is that of lists that begin with them
+cmp_differs : (x y : ℕ) (after : Ordering) → is_ne (nat_cmp x y) ≡ true → nat_cmp x y ≡ cond (eqb x y) after (cond (leb x y) Less Greater)
+cmp_differs x y after e = grind (arith, nat_tests)
+
+-- what is left after `i` bytes
+left_over : (i : ℕ) (s t : List ℕ) → drop i s ≡ t → length s - i ≡ length t
+left_over i s t e = sym (length-drop i s) ∙ ap length e
+
+-- the order of two lengths, by what is left of each after `i` bytes
+ends_equal : (m n i : ℕ) → i ≡ min m n → m - i ≡ 0 → n - i ≡ 0 → nat_cmp m n ≡ Equal
+ends_equal m n i e p q = grind (arith, nat_tests)
+
+ends_less : (m n i k : ℕ) → m - i ≡ 0 → n - i ≡ suc k → nat_cmp m n ≡ Less
+ends_less m n i k p q = grind (arith, nat_tests)
+
+ends_greater : (m n i k : ℕ) → m - i ≡ suc k → n - i ≡ 0 → nat_cmp m n ≡ Greater
+ends_greater m n i k p q = grind (arith, nat_tests)
+
 -- `i` bytes are compared, and what is left decides
 pub record OrderFrom (f : ℕ → ℕ) (a b : List ℕ) (i : ℕ) : Type 0 where
-  pub inside : i ≤ length a
-  pub inside_too : i ≤ length b
   pub left : order_bytes (map f a) (map f b) ≡ order_bytes (map f (drop i a)) (map f (drop i b))
 
 -- no byte is compared yet
 pub order_start : (f : ℕ → ℕ) (a b : List ℕ) → OrderFrom f a b 0
-order_start f a b = record { inside = omega arith; inside_too = omega arith; left = refl }
+order_start f a b = record { left = refl }
 
 module _ {f : ℕ → ℕ} {a b : List ℕ} {i : ℕ} (h : OrderFrom f a b i) where
-  -- the bytes at `i` agree: neither is less
-  pub order_next : {x y : ℕ} → i < length a → i < length b → x ≡ f (get_or a i 0) → y ≡ f (get_or b i 0) → y ≤ x → x ≤ y → OrderFrom f a b (i + 1)
+  -- the bytes at `i` agree when folded
+  pub order_next : (x y : ℕ) → i < length a → i < length b → x ≡ get_or a i 0 → y ≡ get_or b i 0 → f x ≡ f y → OrderFrom f a b (i + 1)
   unfolding order_bytes
-  order_next l lb ex ey ge le =
-      record {
-        inside = omega arith;
-        inside_too = omega arith;
-        left = h.left ∙ rw (drop-cons a i 0 l, drop-cons b i 0 lb, add-one, eq-eqb (f (get_or a i 0)) (f (get_or b i 0)) (omega arith));
-      }
+  order_next x y l lb ex ey e =
+      record { left = h.left ∙ rw (drop-cons a i 0 l, drop-cons b i 0 lb, add-one, ← ex, ← ey, eq-eqb (f x) (f y) e) }
 
-  -- they are equal before they are folded
-  pub order_alike : i < length a → i < length b → get_or a i 0 ≡ get_or b i 0 → OrderFrom f a b (i + 1)
-  order_alike l lb e = order_next l lb refl refl (omega (arith, ap f e)) (omega (arith, ap f e))
-
-  -- the byte of the first is less at `i`
-  pub order_less : {x y : ℕ} → i < length a → i < length b → x ≡ f (get_or a i 0) → y ≡ f (get_or b i 0) → x < y → Less ≡ order_bytes (map f a) (map f b)
+  -- they differ when folded, and decide: `r` is their order
+  pub order_differs : (x y : ℕ) (r : Ordering) → i < length a → i < length b → x ≡ get_or a i 0 → y ≡ get_or b i 0 → r ≡ nat_cmp (f x) (f y) → is_ne r ≡ true
+      → r ≡ order_bytes (map f a) (map f b)
   unfolding order_bytes
-  order_less l lb ex ey lt =
-      rw (
-        h.left,
-        drop-cons a i 0 l,
-        drop-cons b i 0 lb,
-        ne_eqb (f (get_or a i 0)) (f (get_or b i 0)) (λ e. omega arith),
-        le-leb (f (get_or a i 0)) (f (get_or b i 0)) (omega arith),
-      )
+  order_differs x y r l lb ex ey e n = e ∙ rw (h.left, drop-cons a i 0 l, drop-cons b i 0 lb, ← ex, ← ey) (cmp_differs (f x) (f y) _ (rw e at n))
 
-  -- the byte of the second is less at `i`
-  pub order_greater : {x y : ℕ} → i < length a → i < length b → x ≡ f (get_or a i 0) → y ≡ f (get_or b i 0) → y < x → Greater ≡ order_bytes (map f a) (map f b)
+  -- one of them has no byte left
+  pub order_end : i ≡ min (length a) (length b) → nat_cmp (length a) (length b) ≡ order_bytes (map f a) (map f b)
   unfolding order_bytes
-  order_greater l lb ex ey lt =
-      rw (
-        h.left,
-        drop-cons a i 0 l,
-        drop-cons b i 0 lb,
-        ne_eqb (f (get_or a i 0)) (f (get_or b i 0)) (λ e. omega arith),
-        lt-leb (f (get_or a i 0)) (f (get_or b i 0)) (omega arith),
-      )
+  order_end e = go (drop i a) refl (drop i b) refl
+    where
+      go : (x : List ℕ) → drop i a ≡ x → (y : List ℕ) → drop i b ≡ y → nat_cmp (length a) (length b) ≡ order_bytes (map f a) (map f b)
+      go [] p [] q = rw (h.left, p, q) (ends_equal _ _ i e (left_over i a [] p) (left_over i b [] q))
+      go [] p (y ∷ ys) q = rw (h.left, p, q) (ends_less _ _ i (length ys) (left_over i a [] p) (left_over i b (y ∷ ys) q))
+      go (x ∷ xs) p [] q = rw (h.left, p, q) (ends_greater _ _ i (length xs) (left_over i a (x ∷ xs) p) (left_over i b [] q))
+      go (x ∷ xs) p (y ∷ ys) q = absurd (omega (arith, left_over i a (x ∷ xs) p, left_over i b (y ∷ ys) q))
 
-  -- only the second goes on
-  pub order_shorter : length a ≤ i → i < length b → Less ≡ order_bytes (map f a) (map f b)
-  unfolding order_bytes
-  order_shorter l lb = rw (h.left, drop_of_length-le a {i = i} l, drop-cons b i 0 lb)
-
-  -- only the first goes on
-  pub order_longer : i < length a → length b ≤ i → Greater ≡ order_bytes (map f a) (map f b)
-  unfolding order_bytes
-  order_longer l lb = rw (h.left, drop-cons a i 0 l, drop_of_length-le b {i = i} lb)
-
-  -- neither goes on
-  pub order_end : length a ≤ i → length b ≤ i → Equal ≡ order_bytes (map f a) (map f b)
-  unfolding order_bytes
-  order_end l lb = rw (h.left, drop_of_length-le a {i = i} l, drop_of_length-le b {i = i} lb)
-
--- ---- loops that test each byte, by any `p`
-
--- 1 to 64 bytes that pass `p`: `name_allowed` and `number_allowed` are this at their tests
-abbrev pub allowed : (ℕ → Bool) → List ℕ → Bool
-allowed p s = length_allowed (length s) && every_byte p s
-
--- a length that is not allowed
-pub allowed_length : (p : ℕ → Bool) (s : List ℕ) {t : Bool} → t ≡ length_allowed (length s) → t ≡ false → false ≡ allowed p s
-allowed_length p s e q = rw (← e, q)
-
--- `i` bytes are tested, and what is left decides the whole answer
-pub record PassedTo (whole : Bool) (p : ℕ → Bool) (s : List ℕ) (i : ℕ) : Type 0 where
-  pub inside : i ≤ length s
-  pub left : whole ≡ every_byte p (drop i s)
-
--- no byte is tested yet: where the length is allowed, and where it is not asked
-pub passed_allowed : (p : ℕ → Bool) (s : List ℕ) {t : Bool} → t ≡ length_allowed (length s) → t ≡ true → PassedTo (allowed p s) p s 0
-passed_allowed p s e q = record { inside = omega arith; left = rw (← e, q) }
-
-pub passed_none : (p : ℕ → Bool) (s : List ℕ) → PassedTo (every_byte p s) p s 0
-passed_none p s = record { inside = omega arith; left = refl }
-
-module _ {whole : Bool} {p : ℕ → Bool} {s : List ℕ} {i : ℕ} (h : PassedTo whole p s i) where
-  -- the byte at `i` passes
-  pub passed_next : {t : Bool} → i < length s → t ≡ p (get_or s i 0) → t ≡ true → PassedTo whole p s (i + 1)
-  unfolding every_byte
-  passed_next l e q = record { inside = omega arith; left = h.left ∙ rw (drop-cons s i 0 l, add-one, ← e, q) }
-
-  -- the byte at `i` does not pass
-  pub passed_fails : {t : Bool} → i < length s → t ≡ p (get_or s i 0) → t ≡ false → false ≡ whole
-  unfolding every_byte
-  passed_fails l e q = sym (h.left ∙ rw (drop-cons s i 0 l, ← e, q))
-
-  -- no byte is left
-  pub passed_end : length s ≤ i → true ≡ whole
-  unfolding every_byte
-  passed_end l = sym (h.left ∙ rw (drop_of_length-le s {i = i} l))
+-- ---- tests of each byte, by any `p`
 
 -- a part of bytes that pass
 every_drop : (p : ℕ → Bool) (n : ℕ) (s : List ℕ) → every_byte p s ≡ true → every_byte p (drop n s) ≡ true
@@ -207,6 +126,31 @@ every_take p (suc n) (x ∷ xs) h = let (first, after) = both_hold (p x) (every_
 
 pub every_part : (p : ℕ → Bool) (start len : ℕ) (s : List ℕ) → every_byte p s ≡ true → every_byte p (take len (drop start s)) ≡ true
 every_part p start len s h = every_take p len (drop start s) (every_drop p start s h)
+
+-- ---- what a chain of iterators answers
+
+-- `all` over the bytes
+pub all_every : (p : ℕ → Bool) (s : List ℕ) → list_all p s ≡ every_byte p s
+unfolding every_byte
+all_every p [] = refl
+all_every p (x ∷ xs) = rw (all_every p xs)
+
+-- `all` over the pairs of two lists of one length: `t` says whether the bytes of a pair are the same when folded
+pub all_same : (f : ℕ → ℕ) (t : ℕ × ℕ → Bool) → ((x y : ℕ) → t (x, y) ≡ eqb (f x) (f y)) → (a b : List ℕ) → length a ≡ length b
+    → list_all t (zip a b) ≡ same_bytes (map f a) (map f b)
+unfolding same_bytes
+all_same f t h [] [] e = refl
+all_same f t h [] (y ∷ ys) e = absurd (omega arith)
+all_same f t h (x ∷ xs) [] e = absurd (omega arith)
+all_same f t h (x ∷ xs) (y ∷ ys) e = rw (h x y, all_same f t h xs ys (omega arith))
+
+-- bytes that are the same, or are when folded
+pub same_or_folded : (f : ℕ → ℕ) (x y : ℕ) → eqb x y || eqb (f x) (f y) ≡ eqb (f x) (f y)
+same_or_folded f x y = go (eqb x y) refl
+  where
+    go : (t : Bool) → eqb x y ≡ t → t || eqb (f x) (f y) ≡ eqb (f x) (f y)
+    go true e = sym (eq-eqb (f x) (f y) (ap f (eqb-true x y e)))
+    go false e = refl
 
 -- ---- equality of lists of bytes, for the layers above
 
@@ -245,22 +189,16 @@ unfolding order_bytes
 order_refl [] = refl
 order_refl (x ∷ xs) = rw (eq-eqb x x refl, order_refl xs)
 
--- the order seen from the other side
-abbrev pub reversed : Ordering → Ordering
-reversed Less = Greater
-reversed Equal = Equal
-reversed Greater = Less
-
 -- the second stands to the first the other way round
-pub order_flip : (x y : List ℕ) → order_bytes y x ≡ reversed (order_bytes x y)
+pub order_flip : (x y : List ℕ) → order_bytes y x ≡ ordering_reverse (order_bytes x y)
 unfolding order_bytes
 order_flip [] [] = refl
 order_flip [] (y ∷ ys) = refl
 order_flip (x ∷ xs) [] = refl
 order_flip (x ∷ xs) (y ∷ ys) = go (eqb x y) refl (leb x y) refl (order_flip xs ys)
   where
-    go : (t : Bool) → eqb x y ≡ t → (u : Bool) → leb x y ≡ u → order_bytes ys xs ≡ reversed (order_bytes xs ys)
-        → order_bytes (y ∷ ys) (x ∷ xs) ≡ reversed (order_bytes (x ∷ xs) (y ∷ ys))
+    go : (t : Bool) → eqb x y ≡ t → (u : Bool) → leb x y ≡ u → order_bytes ys xs ≡ ordering_reverse (order_bytes xs ys)
+        → order_bytes (y ∷ ys) (x ∷ xs) ≡ ordering_reverse (order_bytes (x ∷ xs) (y ∷ ys))
     go true e u d ih = rw (e, eq-eqb y x (sym (eqb-true x y e))) ih
     go false e true d ih = rw (e, d, ne_eqb y x (λ q. eqb-false x y e (sym q)), lt-leb y x (less e d))
       where
@@ -284,11 +222,11 @@ order_equal (x ∷ xs) (y ∷ ys) h = go (eqb x y) refl (leb x y) h (order_equal
 
 -- what stands less one way stands greater the other way
 pub less_greater : (x y : List ℕ) → order_bytes x y ≡ Less → order_bytes y x ≡ Greater
-less_greater x y h = order_flip x y ∙ ap reversed h
+less_greater x y h = order_flip x y ∙ ap ordering_reverse h
 
 -- and back
 pub greater_less : (x y : List ℕ) → order_bytes x y ≡ Greater → order_bytes y x ≡ Less
-greater_less x y h = order_flip x y ∙ ap reversed h
+greater_less x y h = order_flip x y ∙ ap ordering_reverse h
 
 -- a list is less by its first byte, or by what follows an equal one
 less_cases : (x y : ℕ) (xs ys : List ℕ) → order_bytes (x ∷ xs) (y ∷ ys) ≡ Less → (x < y) ⊎ ((x ≡ y) × (order_bytes xs ys ≡ Less))

@@ -6,127 +6,74 @@ ghost use Rattle.names.specs.Name.{between, digit_byte, letter_byte, name_byte, 
 
 use std::cmp::Ordering;
 
-// Is this byte at least `low` and at most `high`?
-fn in_range(low: u8, high: u8, c: u8) -> bool
-    ensures { result ≡ between low high c }
-{
-    low <= c && c <= high
-}
-
 // A decimal digit.
 pub fn digit_byte(c: u8) -> bool
     ensures { result ≡ digit_byte c }
 {
-    in_range(b'0', b'9', c)
+    c.is_ascii_digit()
 }
 
 // An ASCII letter.
 pub fn letter_byte(c: u8) -> bool
     ensures { result ≡ letter_byte c }
 {
-    if in_range(b'a', b'z', c) {
-        return true;
-    }
-    in_range(b'A', b'Z', c)
+    c.is_ascii_alphabetic()
 }
 
 // An ASCII letter, a digit, `-` or `_`.
 pub fn name_byte(c: u8) -> bool
     ensures { result ≡ name_byte c }
 {
-    if letter_byte(c) {
-        return true;
-    }
-    if digit_byte(c) {
-        return true;
-    }
-    if c == b'-' {
-        return true;
-    }
-    c == b'_'
+    c.is_ascii_alphanumeric() || matches!(c, b'-' | b'_')
 }
 
 // Upper case: `a` to `z` become `A` to `Z`.
 fn upper_byte(c: u8) -> u8
     ensures { result ≡ upper_byte c }
 {
-    if in_range(b'a', b'z', c) {
-        return c - 32;
-    }
-    c
+    c.to_ascii_uppercase()
 }
 
 // Upper case, and `_` read as `-`.
 fn fold_byte(c: u8) -> u8
     ensures { result ≡ fold_byte c }
 {
-    if c == b'_' {
-        return b'-';
-    }
-    upper_byte(c)
+    if c == b'_' { b'-' } else { upper_byte(c) }
 }
 
 // Are these the same name or identifier? Only bytes that differ are folded: long names share most of theirs.
 pub fn names_equal(a: &[u8], b: &[u8]) -> bool
     ensures { result ≡ same_bytes (folded a.now) (folded b.now) }
 {
-    if a.len() != b.len() {
-        return false;
-    }
-    let mut i = 0;
-    while i < a.len() {
-        if a[i] != b[i] {
-            if fold_byte(a[i]) != fold_byte(b[i]) {
-                return false;
-            }
-        }
-        i += 1;
-    }
-    true
+    a.len() == b.len()
+        && a.iter()
+            .zip(b)
+            .all(|(&x, &y)| x == y || fold_byte(x) == fold_byte(y))
 }
 
 // Are these the same variable's index? Only letter case folds there, so `-` and `_` differ.
 pub fn indices_equal(a: &[u8], b: &[u8]) -> bool
     ensures { result ≡ same_bytes (folded_index a.now) (folded_index b.now) }
 {
-    if a.len() != b.len() {
-        return false;
-    }
-    let mut i = 0;
-    while i < a.len() {
-        if upper_byte(a[i]) != upper_byte(b[i]) {
-            return false;
-        }
-        i += 1;
-    }
-    true
+    a.len() == b.len()
+        && a.iter()
+            .zip(b)
+            .all(|(&x, &y)| upper_byte(x) == upper_byte(y))
 }
 
 // The order of two names: by the bytes of the folded names, and a name comes after each of its beginnings.
 pub fn names_order(a: &[u8], b: &[u8]) -> Ordering
     ensures { result ≡ order_bytes (folded a.now) (folded b.now) }
 {
-    let mut i = 0;
-    while i < a.len() {
-        if b.len() <= i {
-            return Ordering::Greater;
-        }
-        if a[i] != b[i] {
-            let x = fold_byte(a[i]);
-            let y = fold_byte(b[i]);
-            if x < y {
-                return Ordering::Less;
-            }
-            if y < x {
-                return Ordering::Greater;
+    for (&x, &y) in a.iter().zip(b) {
+        if x != y {
+            let order = fold_byte(x).cmp(&fold_byte(y));
+            if order.is_ne() {
+                return order;
             }
         }
-        i += 1;
     }
-    if i < b.len() {
-        return Ordering::Less;
-    }
-    Ordering::Equal
+    a.len().cmp(&b.len())
 }
 
 // 1 to 64 bytes.
@@ -140,14 +87,7 @@ pub fn length_allowed(n: usize) -> bool
 pub fn name_bytes(s: &[u8]) -> bool
     ensures { result ≡ every_byte name_byte s.now }
 {
-    let mut i = 0;
-    while i < s.len() {
-        if !name_byte(s[i]) {
-            return false;
-        }
-        i += 1;
-    }
-    true
+    s.iter().all(|&c| name_byte(c))
 }
 
 // Is this a name, identifier or index that a law may spell?
@@ -161,17 +101,7 @@ pub fn is_name(s: &[u8]) -> bool
 pub fn is_number(s: &[u8]) -> bool
     ensures { result ≡ number_allowed s.now }
 {
-    if !length_allowed(s.len()) {
-        return false;
-    }
-    let mut i = 0;
-    while i < s.len() {
-        if !digit_byte(s[i]) {
-            return false;
-        }
-        i += 1;
-    }
-    true
+    length_allowed(s.len()) && s.iter().all(|&c| digit_byte(c))
 }
 
 // The part of the text where a name is spelled.
@@ -179,6 +109,5 @@ pub fn name_in(text: &[u8], start: usize, len: usize) -> &[u8]
     requires { start + len ≤ length text.now }
     ensures { result.now ≡ take len (drop start text.now) }
 {
-    let end = start + len;
-    &text[start..end]
+    &text[start..start + len]
 }

@@ -9,9 +9,10 @@ ghost use Rattle.numbers.specs.OnePass.{capped, state_of, tested, step_of};
 ghost use Rattle.numbers.specs.Code.Zero.{zero_byte};
 
 use names::digit_byte;
+use std::cmp::Ordering;
 
 // What the test of digits answers after a byte: the value of the digits so far is at most 4294967295, or past it; or the byte is no digit.
-#[derive(Clone, Copy)]
+#[derive(Clone, Copy, PartialEq, Eq)]
 pub enum Tested {
     AtMost,
     Past,
@@ -19,38 +20,24 @@ pub enum Tested {
 }
 
 // What the test keeps after a byte, and what it answers.
-#[derive(Clone, Copy)]
+#[derive(Clone, Copy, PartialEq, Eq)]
 pub struct Step {
     pub state: u64,
     pub answer: Tested,
-}
-
-// A byte as a word.
-fn wide(b: u8) -> u64
-    ensures { (result ≡ b) × (result < 256) }
-{
-    b as u64
 }
 
 // The value of a digit.
 fn digit_value(d: u8) -> u64
     ensures { (result ≡ d - 48) × (result < 256) }
 {
-    if d < 48 {
-        return 0;
-    }
-    wide(d - 48)
+    u64::from(d.saturating_sub(b'0'))
 }
 
 // A value, or 4294967296 where it is more.
 fn cap(value: u64) -> u64
     ensures { result ≡ capped value }
 {
-    if value < 4294967296 {
-        value
-    } else {
-        4294967296
-    }
+    value.min(4294967296)
 }
 
 // The state after one digit more.
@@ -65,10 +52,7 @@ fn with_digit(state: u64, digit: u8) -> u64
 pub fn is_macrodigit(value: u64) -> bool
     ensures { result ≡ is_macrodigit value }
 {
-    if value <= 4294967295 {
-        return true;
-    }
-    false
+    value <= 4294967295
 }
 
 // The answer by a state.
@@ -87,16 +71,12 @@ pub fn digit_step(state: u64, byte: u8) -> Step
     ensures { result ≡ step_of state byte }
 {
     if !digit_byte(byte) {
-        return Step {
-            state: state,
-            answer: Tested::NoDigit,
-        };
+        let answer = Tested::NoDigit;
+        return Step { state, answer };
     }
-    let after = with_digit(cap(state), byte);
-    Step {
-        state: after,
-        answer: answer_of(after),
-    }
+    let state = with_digit(cap(state), byte);
+    let answer = answer_of(state);
+    Step { state, answer }
 }
 
 // The value of digits, however many zeros lead, or 4294967296 where it is more: the state after all of them.
@@ -104,10 +84,11 @@ pub fn capped_value(digits: &[u8]) -> u64
     ensures { result ≡ state_of digits.now }
 {
     let mut state = 0;
-    let mut i = 0;
-    while i < digits.len() && state < 4294967296 {
-        state = with_digit(state, digits[i]);
-        i += 1;
+    for &digit in digits {
+        if 4294967296 <= state {
+            return state;
+        }
+        state = with_digit(state, digit);
     }
     state
 }
@@ -117,28 +98,14 @@ fn digits_equal(a: &[u8], b: &[u8]) -> bool
     requires { length a.now ≡ length b.now }
     ensures { result ≡ same_bytes a.now b.now }
 {
-    let mut i = a.len();
-    while 0 < i {
-        i -= 1;
-        if a[i] != b[i] {
-            return false;
-        }
-    }
-    true
+    a.iter().rev().zip(b.iter().rev()).all(|(x, y)| x == y)
 }
 
 // Are all these bytes the digit `0`?
 fn all_zeros(digits: &[u8]) -> bool
     ensures { result ≡ every_byte zero_byte digits.now }
 {
-    let mut i = 0;
-    while i < digits.len() {
-        if digits[i] != b'0' {
-            return false;
-        }
-        i += 1;
-    }
-    true
+    digits.iter().all(|&d| d == b'0')
 }
 
 // Is the longer number the shorter one after zeros? No digits are no number.
@@ -146,14 +113,8 @@ fn padded_equal(long: &[u8], short: &[u8]) -> bool
     requires { length short.now < length long.now }
     ensures { result ≡ same_bytes (stripped long.now) (stripped short.now) }
 {
-    let zeros = long.len() - short.len();
-    if short.len() == 0 {
-        return false;
-    }
-    if !all_zeros(&long[..zeros]) {
-        return false;
-    }
-    digits_equal(&long[zeros..], short)
+    let (zeros, digits) = long.split_at(long.len() - short.len());
+    !short.is_empty() && all_zeros(zeros) && digits_equal(digits, short)
 }
 
 // Are these the same number? Numbers compare by value, and 64 digits pass any machine word. Without needless zeros a value has one spelling: numbers of one
@@ -161,11 +122,9 @@ fn padded_equal(long: &[u8], short: &[u8]) -> bool
 pub fn numbers_equal(a: &[u8], b: &[u8]) -> bool
     ensures { result ≡ same_bytes (stripped a.now) (stripped b.now) }
 {
-    if a.len() == b.len() {
-        return digits_equal(a, b);
+    match a.len().cmp(&b.len()) {
+        Ordering::Equal => digits_equal(a, b),
+        Ordering::Less => padded_equal(b, a),
+        Ordering::Greater => padded_equal(a, b),
     }
-    if a.len() < b.len() {
-        return padded_equal(b, a);
-    }
-    padded_equal(a, b)
 }
