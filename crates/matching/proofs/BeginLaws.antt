@@ -20,8 +20,7 @@ use Rattle.matching.specs.Match.{when, same_terms, after}
 use Rattle.matching.specs.Shadow.{same_atom}
 use Rattle.matching.specs.Code.Part.{row_of, from, atom_of, term_row, is_bracket, same_heads, same_first}
 use Rattle.matching.specs.Code.Step.{begins_with, BeginsIn}
-use Rattle.matching.specs.declared.Beginning.{Beginning}
-use Rattle.matching.specs.declared.Beginning.TheVariants.{After, Differs}
+use Rattle.std.specs.Prelude.{Some, None, Option as Maybe}
 use Rattle.matching.proofs.SameLaws.{false_not_true}
 use Rattle.matching.proofs.CutLaws.{from_all, from_length, from_from}
 use Rattle.matching.proofs.PartLaws.{row_empty, row_node}
@@ -130,10 +129,6 @@ row_short text part k h = go (dec_lt (length (from k part)) 24)
         )
         (some (is_bracket (term_at (from k part) 0)) (atom_of text (term_at (from k part) 0)) _ _)
 
--- the position after a value stands in the row
-pub begins_within : (row : List ℕ) {r : Beginning} {k : ℕ} → r ≡ After k → BeginsIn row r → k ≤ length row
-begins_within row e h = rw e at h
-
 -- ---- what `same_first` answers at each return
 
 module _ (text value row : List ℕ) {p : Bool} (first : p ≡ is_bracket (term_at value 0)) where
@@ -151,19 +146,19 @@ module _ (text value row : List ℕ) {p : Bool} (first : p ≡ is_bracket (term_
       inside_left = rw (ends, row_ends_lem, ← first, e, ← second, d) (same_after same_atom (row_of text (contents 24 end_of value)) (row_of text (contents 24 end_of row)))
 
       -- what `begins` answers of the contents
-      abbrev Answered : Beginning → Type 0
+      abbrev Answered : Maybe ℕ → Type 0
       Answered r =
           BeginsIn (take (n - 24) (drop 24 row)) r
           × (begins_with text (take (n - 24) (drop 24 row)) r ≡ after same_atom (row_of text (take (m - 24) (drop 24 value))) (row_of text (take (n - 24) (drop 24 row))))
 
       -- the contents are not the same
-      pub inside_differs : {r : Beginning} → r ≡ Differs → Answered r → false ≡ same_first text value row
-      inside_differs {r} i h = let known : Answered Differs = rw i at h in sym (inside_left ∙ ap nothing_left (sym known.1))
+      pub inside_differs : {r : Maybe ℕ} → r ≡ None → Answered r → false ≡ same_first text value row
+      inside_differs {r} i h = let known : Answered None = rw i at h in sym (inside_left ∙ ap nothing_left (sym known.1))
 
       -- they are the same if what is left of the row's contents is too short for a record
-      pub inside_begins : {r : Beginning} {k : ℕ} → r ≡ After k → Answered r → ltb (length (take (n - 24) (drop 24 row))) (k + 24) ≡ same_first text value row
+      pub inside_begins : {r : Maybe ℕ} {k : ℕ} → r ≡ Some k → Answered r → ltb (length (take (n - 24) (drop 24 row))) (k + 24) ≡ same_first text value row
       inside_begins {r} {k} i h =
-          let known : Answered (After k) = rw i at h in
+          let known : Answered (Some k) = rw i at h in
           sym (inside_left ∙ ap nothing_left (sym known.1) ∙ row_short text (take (n - 24) (drop 24 row)) k known.0)
 
 -- ---- what `begins` answers at each return: from i and j on the value and the row are left
@@ -178,13 +173,13 @@ begun text value row = record { value_within = omega arith; row_within = omega a
 
 module _ {text value row : List ℕ} {i j : ℕ} (so_far : Begun text value row i j) where
   -- nothing is left of the value
-  pub begins_after : length (from i value) < 24 → BeginsIn row (After j) × (begins_with text row (After j) ≡ after same_atom (row_of text value) (row_of text row))
+  pub begins_after : length (from i value) < 24 → BeginsIn row (Some j) × (begins_with text row (Some j) ≡ after same_atom (row_of text value) (row_of text row))
   unfolding after
   begins_after h = (so_far.row_within, sym (so_far.left ∙ rw (row_empty text (from i value) h)))
 
   module _ (some : 24 ≤ length (from i value)) where
     -- nothing is left of the row
-    pub begins_short : length (from j row) < 24 → BeginsIn row Differs × (begins_with text row Differs ≡ after same_atom (row_of text value) (row_of text row))
+    pub begins_short : length (from j row) < 24 → BeginsIn row None × (begins_with text row None ≡ after same_atom (row_of text value) (row_of text row))
     begins_short h =
         (tt, sym (so_far.left ∙ rw (row_node text (from i value) some, row_empty text (from j row) h) (after_none text (term_at (from i value) 0) _ _)))
 
@@ -197,7 +192,7 @@ module _ {text value row : List ℕ} {i j : ℕ} (so_far : Begun text value row 
           (after_heads text (term_at (from i value) 0) (term_at (from j row) 0) _ _ _ _)
 
       -- the first terms are not the same
-      pub begins_differs : t ≡ false → BeginsIn row Differs × (begins_with text row Differs ≡ after same_atom (row_of text value) (row_of text row))
+      pub begins_differs : t ≡ false → BeginsIn row None × (begins_with text row None ≡ after same_atom (row_of text value) (row_of text row))
       begins_differs e = (tt, sym (next ∙ rw e))
 
       -- they are

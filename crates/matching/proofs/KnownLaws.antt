@@ -9,11 +9,12 @@ use Rattle.law.specs.Runs.{end_of}
 use Rattle.matching.specs.Pattern.{Atom}
 use Rattle.matching.specs.Match.{Values}
 use Rattle.matching.specs.Code.Part.{row_of, from, Begin, at_start, one_on}
-use Rattle.matching.specs.Code.Step.{found, Leaves, Passed, Stops, Stopped, KnownFront}
+use Rattle.matching.specs.Code.Step.{found, Leaves, Passed, Stopped, KnownFront}
 use Rattle.matching.specs.declared.Known.{Known}
-use Rattle.matching.specs.declared.Known.TheVariants.{End, Stop, Fails as KnownFails}
+use Rattle.matching.specs.declared.Known.TheVariants.{End, Stops as KnownStops, Fails as KnownFails}
 use Rattle.matching.specs.declared.First.{First}
-use Rattle.matching.specs.declared.First.TheVariants.{Fails, Goes}
+use Rattle.matching.specs.declared.First.TheVariants.{Fails, Goes, Stops}
+use Rattle.matching.specs.declared.Stop.{Stop}
 use Rattle.matching.proofs.CutLaws.{from_length, from_all, from_from, begin_inside}
 use Rattle.matching.proofs.FirstLaws.{step_fails, step_goes, goes_within}
 
@@ -55,22 +56,15 @@ module _ {text pattern row : List ℕ} {vs : Values Atom} {i j : ℕ} (so_far : 
   passed_fails e back = so_far.search back ∙ step_fails leaves back e
 
   -- it is a variable without a value, or a bracket
-  pub passed_stop : 24 ≤ length (from i pattern) → (stop : First) → r ≡ stop → Stops stop → KnownFront text pattern row vs (Stop i j stop)
-  passed_stop long stop e stops = record { front = (so_far, record { some = long; stops = stops; leaves = rw e at leaves }) }
+  pub passed_stop : 24 ≤ length (from i pattern) → (stop : Stop) → r ≡ Stops stop → KnownFront text pattern row vs (KnownStops i j stop)
+  passed_stop long stop e = record { front = (so_far, record { some = long; leaves = rw e at leaves }) }
 
 module _ {text pattern row : List ℕ} {vs : Values Atom} {r : Known} (known : KnownFront text pattern row vs r) where
   pub known_end : (m n : ℕ) → r ≡ End m n → Passed text pattern row vs m n × (length (from m pattern) < 24)
   known_end m n e = rw e at known.front
 
-  pub known_stop : (m n : ℕ) (first : First) → r ≡ Stop m n first → Passed text pattern row vs m n × Stopped text (from m pattern) (from n row) vs first
-  known_stop m n first e = rw e at known.front
+  pub known_stop : (m n : ℕ) (stop : Stop) → r ≡ KnownStops m n stop → Passed text pattern row vs m n × Stopped text (from m pattern) (from n row) vs stop
+  known_stop m n stop e = rw e at known.front
 
   pub known_fails : r ≡ KnownFails → (back : Bool) → found back (row_of text pattern) (row_of text row) vs ≡ []
   known_fails e = rw e at known.front
-
--- a record that is passed over is none that stops
-pub stops_not : {text pattern row : List ℕ} {vs : Values Atom} {r : First} → Stopped text pattern row vs r → (m n : ℕ) → r ≡ Goes m n → ⊥
-stops_not stopped m n e = rw e at stopped.stops
-
-pub stops_fails : {text pattern row : List ℕ} {vs : Values Atom} {r : First} → Stopped text pattern row vs r → r ≡ Fails → ⊥
-stops_fails stopped e = rw e at stopped.stops

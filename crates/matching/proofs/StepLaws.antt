@@ -29,9 +29,9 @@ use Rattle.matching.specs.Shadow.{same_atom, symbol_like, single_term}
 use Rattle.matching.specs.Code.Bound.{variable_in, row_at}
 use Rattle.matching.specs.Code.Part.{row_of, from, Begin, at_start, one_on, symbol_at, atom_of, term_row, is_bracket}
 use Rattle.matching.specs.Code.Step.{found, Free, begins_with, BeginsIn, first_variable, open_term, symbol_term, single_one, may_stand, Leaves}
-use Rattle.matching.specs.declared.Beginning.{Beginning}
-use Rattle.matching.specs.declared.Beginning.TheVariants.{After, Differs}
-use Rattle.matching.specs.declared.First.TheVariants.{Fails, Goes, Binds, Tries, Inside}
+use Rattle.std.specs.Prelude.{Some, None, Option as Maybe}
+use Rattle.matching.specs.declared.First.TheVariants.{Fails, Goes, Stops}
+use Rattle.matching.specs.declared.Stop.TheVariants.{Binds, Tries, Inside}
 use Rattle.matching.proofs.SameLaws.{false_not_true}
 use Rattle.matching.proofs.PartLaws.{row_empty, row_node}
 use Rattle.matching.proofs.CutLaws.{from_all, from_length, from_from, begin_inside}
@@ -237,7 +237,7 @@ module _ (text pattern row : List ℕ) (vs : Values Atom) (some : 24 ≤ length 
     }
 
     -- brackets
-    pub bracket_inside : t ≡ true → Leaves text pattern row vs Inside
+    pub bracket_inside : t ≡ true → Leaves text pattern row vs (Stops Inside)
     unfolding matches
     bracket_inside e = record {
       within = record {
@@ -343,16 +343,16 @@ module _ (text pattern row : List ℕ) (v : Variable) (vs : Values Atom) (some_l
 
   -- ---- a variable with a value: `y` is the value, `r` says whether the row begins with it
 
-  module _ {y : Pattern} (value : some y ≡ value_in vs v) {r : Beginning} (begins : BeginsIn row r × (begins_with text row r ≡ after same_atom y (row_of text row))) where
+  module _ {y : Pattern} (value : some y ≡ value_in vs v) {r : Maybe ℕ} (begins : BeginsIn row r × (begins_with text row r ≡ after same_atom y (row_of text row))) where
     -- the row does not begin with it
-    pub value_differs : r ≡ Differs → Leaves text pattern row vs Fails
+    pub value_differs : r ≡ None → Leaves text pattern row vs Fails
     unfolding matches choices
     value_differs e =
         let known : [] ≡ after same_atom y (row_of text row) = (rw e at begins).1 in
         record { within = tt; search = λ back. rw (begins_variable, ← value, ← known) }
 
     -- it does
-    pub value_begins : {m n : ℕ} → r ≡ After n → m ≡ end_of pattern → Leaves text pattern row vs (Goes m n)
+    pub value_begins : {m n : ℕ} → r ≡ Some n → m ≡ end_of pattern → Leaves text pattern row vs (Goes m n)
     unfolding matches choices
     value_begins {m} {n} e end =
         let known : (n ≤ length row) × ((row_of text (from n row) ∷ []) ≡ after same_atom y (row_of text row)) = rw e at begins in
@@ -369,7 +369,7 @@ module _ (text pattern row : List ℕ) (v : Variable) (vs : Values Atom) (some_l
     free = rw the_variable (record { others = row_of text (rest 24 end_of pattern); begins = begins_variable; without = without })
 
     -- an e. variable
-    pub free_tries : {t : Bool} → t ≡ open_term (term_at pattern 0) → t ≡ true → Leaves text pattern row vs Tries
+    pub free_tries : {t : Bool} → t ≡ open_term (term_at pattern 0) → t ≡ true → Leaves text pattern row vs (Stops Tries)
     unfolding matches choices
     free_tries told e =
         let k : v.kind ≡ expression_kind = open_kind_lem text (term_at pattern 0) first (sym told ∙ e) in
@@ -398,7 +398,7 @@ module _ (text pattern row : List ℕ) (v : Variable) (vs : Values Atom) (some_l
         free_differs e = record { within = tt; search = λ back. rw (choices_told back, e) }
 
         -- it may
-        pub free_binds : {n : ℕ} → t ≡ true → n ≡ end_of row → n ≤ length row → Leaves text pattern row vs (Binds n)
+        pub free_binds : {n : ℕ} → t ≡ true → n ≡ end_of row → n ≤ length row → Leaves text pattern row vs (Stops (Binds n))
         free_binds {n} e q h = record {
           within = (h, free);
           search = λ back.

@@ -1,5 +1,5 @@
 // Symbols and variables compared; and brackets told from both.
-ghost use Rattle.std.specs.Prelude.{◌≡◌, List, ℕ, ◌≤◌, ◌<◌, min, length, take, drop};
+ghost use Rattle.std.specs.Prelude.{◌≡◌, List, ℕ, ◌≤◌, ◌<◌, length, take, drop};
 ghost use Rattle.file.specs.Word.{word_at};
 ghost use Rattle.file.specs.Head.{term_at};
 ghost use Rattle.matching.specs.Shadow.{same_atom};
@@ -9,22 +9,12 @@ use file::word_at;
 use names::{indices_equal, names_equal};
 use numbers::numbers_equal;
 
-// The lesser of two numbers.
-fn lesser(a: usize, b: usize) -> usize
-    ensures { result ≡ min a b }
-{
-    if a < b {
-        return a;
-    }
-    b
-}
-
 // The part of the text from a position on, so many bytes or up to the end.
 pub fn spelled(text: &[u8], start: u32, len: u32) -> &[u8]
     ensures { result.now ≡ take len (drop start text.now) }
 {
-    let from = lesser(start as usize, text.len());
-    let end = lesser(from + len as usize, text.len());
+    let from = text.len().min(start as usize);
+    let end = text.len().min(from + len as usize);
     &text[from..end]
 }
 
@@ -51,9 +41,10 @@ fn symbols_same(text: &[u8], x: &[u8], y: &[u8]) -> bool
     let a = spelled(text, word_at(x, 4), word_at(x, 8));
     let b = spelled(text, word_at(y, 4), word_at(y, 8));
     if kind == 1 {
-        return names_equal(a, b);
+        names_equal(a, b)
+    } else {
+        numbers_equal(a, b)
     }
-    numbers_equal(a, b)
 }
 
 // Is the variable that stands first in one part the first record of the other? A bracket, a call or a block is the same as no record.
@@ -76,9 +67,10 @@ pub fn atoms_same(text: &[u8], x: &[u8], y: &[u8]) -> bool
     ensures { result ≡ same_atom (atom_of text.now (term_at x.now 0)) (atom_of text.now (term_at y.now 0)) }
 {
     if word_at(x, 0) < 3 {
-        return symbols_same(text, x, y);
+        symbols_same(text, x, y)
+    } else {
+        variables_same(text, x, y)
     }
-    variables_same(text, x, y)
 }
 
 // Is the first record of this part a bracket?

@@ -1,24 +1,21 @@
 // The symbols and the variables with a value that a pattern begins with.
-ghost use Rattle.matching.specs.Code.Bound.{values_of, Kept, places};
+ghost use Rattle.matching.specs.Code.Bound.{values_of, Kept};
 ghost use Rattle.matching.specs.Code.Step.{KnownFront};
 
 use crate::step::first_of;
-use crate::{First, Known};
+use crate::{Bindings, First, Known};
 
-// The symbols and the variables with a value that a pattern begins with: the row begins with the same. A loop, since there may be hundreds.
-pub fn known_front<'a>(
+// The symbols and the variables with a value that a pattern begins with: the row begins with the same. A loop, since there may be hundreds; each step is as long
+// as what is passed over.
+pub fn known_front(
     text: &[u8],
     terms: &[u8],
     pattern: &[u8],
     row: &[u8],
-    keys: &'a [u16; 32],
-    starts: &'a [u16; 32],
-    sizes: &'a [u16; 32],
-    count: usize,
+    b: &Bindings,
 ) -> Known
-    requires { Kept text.now terms.now (places keys.now starts.now sizes.now count) }
-    ensures { KnownFront text.now pattern.now row.now
-        (values_of text.now terms.now (places keys.now starts.now sizes.now count)) result }
+    requires { Kept text.now terms.now b.now }
+    ensures { KnownFront text.now pattern.now row.now (values_of text.now terms.now b.now) result }
 {
     let mut i = 0;
     let mut j = 0;
@@ -28,23 +25,13 @@ pub fn known_front<'a>(
         if left.len() < 24 {
             break Known::End(i, j);
         }
-        match first_of(text, terms, left, right, keys, starts, sizes, count) {
+        match first_of(text, terms, left, right, b) {
             First::Goes(m, n) => {
                 i += m;
                 j += n;
             }
-            First::Fails => {
-                break Known::Fails;
-            }
-            First::Binds(n) => {
-                break Known::Stop(i, j, First::Binds(n));
-            }
-            First::Tries => {
-                break Known::Stop(i, j, First::Tries);
-            }
-            First::Inside => {
-                break Known::Stop(i, j, First::Inside);
-            }
+            First::Fails => break Known::Fails,
+            First::Stops(stop) => break Known::Stops(i, j, stop),
         }
     }
 }

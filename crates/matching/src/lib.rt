@@ -8,38 +8,36 @@ mod step;
 pub mod terms;
 mod values;
 
-// Values of variables, in places: the position of the variable's first record among the term records, and the position and the size of the value.
+// The value of a variable: the position of the variable's first record among the term records, and the position and the size of the value.
+#[derive(Clone, Copy)]
+pub struct Binding {
+    pub key: u16,
+    pub start: u16,
+    pub size: u16,
+}
+
+// Values of variables, in the first so many places.
 #[derive(Clone, Copy)]
 pub struct Bindings {
-    pub keys: [u16; 32],
-    pub starts: [u16; 32],
-    pub sizes: [u16; 32],
+    pub places: [Binding; 32],
     pub count: usize,
 }
 
-// The place of a variable's value.
+// What a variable without a value or a bracket, which a pattern begins with, leaves to do: the rest, where the variable has so many bytes of the row for its
+// value; the rest, after any length, which an e. variable has for its value; the contents of a bracket and the rest.
 #[derive(Clone, Copy)]
-pub enum Place {
-    At(usize),
-    Free,
+pub enum Stop {
+    Binds(usize),
+    Tries,
+    Inside,
 }
 
-// Whether a row begins with a value, and the position after it.
-#[derive(Clone, Copy)]
-pub enum Beginning {
-    After(usize),
-    Differs,
-}
-
-// What the first record of a pattern leaves to do: nothing; the rest, after so many bytes of the pattern and of the row; the rest, where the variable has so
-// many bytes of the row for its value; the rest, after any length, which an e. variable has for its value; the contents of a bracket and the rest.
+// What the first record of a pattern leaves to do: nothing; the rest, after so many bytes of the pattern and of the row; or it stops there.
 #[derive(Clone, Copy)]
 pub enum First {
     Fails,
     Goes(usize, usize),
-    Binds(usize),
-    Tries,
-    Inside,
+    Stops(Stop),
 }
 
 // Where a pattern and a row stand after the symbols and the variables with a value that the pattern begins with, and what the record there leaves to do;
@@ -47,6 +45,6 @@ pub enum First {
 #[derive(Clone, Copy)]
 pub enum Known {
     End(usize, usize),
-    Stop(usize, usize, First),
+    Stops(usize, usize, Stop),
     Fails,
 }

@@ -1,5 +1,5 @@
 // What the first record of a pattern leaves to do with a row.
-ghost use Rattle.std.specs.Prelude.{◌≡◌, List, ℕ, ◌+◌, ◌≤◌, ◌<◌, length, get_or};
+ghost use Rattle.std.specs.Prelude.{◌≡◌, List, ℕ, ◌+◌, ◌≤◌, length};
 ghost use Rattle.std.proofs.Math.Option.{none, some};
 ghost use Rattle.file.specs.Head.{term_at};
 ghost use Rattle.file.specs.declared.Symbol.{Symbol};
@@ -8,14 +8,13 @@ ghost use Rattle.law.specs.Variables.{Variable};
 ghost use Rattle.matching.specs.Pattern.{Atom, variable};
 ghost use Rattle.matching.specs.Match.{Values, value_in};
 ghost use Rattle.matching.specs.Code.Part.{atom_of};
-ghost use Rattle.matching.specs.Code.Bound.{row_at, values_of, Kept, places, HasPlace};
+ghost use Rattle.matching.specs.Code.Bound.{row_at, values_of, Kept, HasPlace};
 ghost use Rattle.matching.specs.Code.Step.{open_term, Leaves};
 
 use crate::atoms::{atoms_same, is_bracket, variables_same};
-use crate::bound::wide;
 use crate::terms::may_stand;
 use crate::values::begins;
-use crate::{Beginning, First, Place};
+use crate::{Bindings, First, Stop};
 use file::{Term, term_at, word_at};
 use law::runs::end_of;
 
@@ -23,37 +22,26 @@ use law::runs::end_of;
 fn is_open(term: Term) -> bool
     ensures { result ≡ open_term term }
 {
-    match term {
-        Term::Symbol(_) => false,
-        Term::SVariable(_, _) => false,
-        Term::TVariable(_, _) => false,
-        Term::EVariable(_, _) => true,
-        Term::Bracket => false,
-        Term::Call(_, _) => false,
-        Term::Block(_) => false,
+    matches!(term, Term::EVariable(_, _))
+}
+
+impl Bindings {
+    // The place of the variable that the pattern's first record is.
+    fn place_of(&self, text: &[u8], terms: &[u8], pattern: &[u8]) -> Option<usize>
+        requires { Kept text.now terms.now self.now × (24 ≤ length pattern.now) }
+        ensures { HasPlace text.now terms.now pattern.now self.now result }
+    {
+        for i in (0..self.count).rev() {
+            let key = usize::from(self.places[i].key);
+            if variables_same(text, &terms[key..], pattern) {
+                return Some(i);
+            }
+        }
+        None
     }
 }
 
-// The place of the variable that the pattern's first record is.
-fn place_of(text: &[u8], terms: &[u8], pattern: &[u8], keys: &[u16; 32], count: usize) -> Place
-    requires { (count ≤ 32) × ((i : ℕ) → i < count → get_or keys.now i 0 + 24 ≤ length terms.now) × (24 ≤ length pattern.now) }
-    ensures { (starts sizes : List ℕ) → Kept text.now terms.now (places keys.now starts sizes count)
-        → HasPlace text.now terms.now pattern.now (places keys.now starts sizes count) result }
-{
-    let mut i = count;
-    loop {
-        if i == 0 {
-            break Place::Free;
-        }
-        i -= 1;
-        let key = wide(keys[i]);
-        if variables_same(text, &terms[key..], pattern) {
-            break Place::At(i);
-        }
-    }
-}
-
-// Symbols, as many as the pattern begins with: the row begins with the same.
+// Symbols, as many as the pattern begins with: the row begins with the same. Each step is a term long.
 fn symbols_first(text: &[u8], pattern: &[u8], row: &[u8]) -> First
     requires { 24 ≤ length pattern.now }
     ensures { (x : Symbol) (vs : Values Atom) → term_at pattern.now 0 ≡ Symbolic x → Leaves text.now pattern.now row.now vs result }
@@ -63,16 +51,10 @@ fn symbols_first(text: &[u8], pattern: &[u8], row: &[u8]) -> First
     loop {
         let left = &pattern[i..];
         let right = &row[j..];
-        if left.len() < 24 {
+        if left.len() < 24 || 2 < word_at(left, 0) {
             break First::Goes(i, j);
         }
-        if 2 < word_at(left, 0) {
-            break First::Goes(i, j);
-        }
-        if right.len() < 24 {
-            break First::Fails;
-        }
-        if !atoms_same(text, left, right) {
+        if right.len() < 24 || !atoms_same(text, left, right) {
             break First::Fails;
         }
         i += end_of(left);
@@ -84,13 +66,11 @@ fn symbols_first(text: &[u8], pattern: &[u8], row: &[u8]) -> First
 fn bracket_first(row: &[u8]) -> First
     ensures { (text pattern : List ℕ) (vs : Values Atom) → 24 ≤ length pattern → term_at pattern 0 ≡ Bracket → Leaves text pattern row.now vs result }
 {
-    if row.len() < 24 {
-        return First::Fails;
+    if 24 <= row.len() && is_bracket(row) {
+        First::Stops(Stop::Inside)
+    } else {
+        First::Fails
     }
-    if !is_bracket(row) {
-        return First::Fails;
-    }
-    First::Inside
 }
 
 // A variable that has a value, at a position and of a size: the row begins with it.
@@ -108,8 +88,8 @@ fn value_first(
 {
     let end = start + size;
     match begins(text, &terms[start..end], row) {
-        Beginning::After(n) => First::Goes(end_of(pattern), n),
-        Beginning::Differs => First::Fails,
+        Some(n) => First::Goes(end_of(pattern), n),
+        None => First::Fails,
     }
 }
 
@@ -121,70 +101,42 @@ fn free_first(pattern: &[u8], row: &[u8]) -> First
 {
     let variable = term_at(pattern, 0);
     if is_open(variable) {
-        return First::Tries;
+        return First::Stops(Stop::Tries);
     }
-    if row.len() < 24 {
+    if row.len() < 24 || !may_stand(variable, term_at(row, 0)) {
         return First::Fails;
     }
-    if !may_stand(variable, term_at(row, 0)) {
-        return First::Fails;
-    }
-    First::Binds(end_of(row))
+    First::Stops(Stop::Binds(end_of(row)))
 }
 
-// A variable. `keys`, `starts`, `sizes` and `count` are those of the bindings: by reference, so that they are not copied.
-fn variable_first<'a>(
-    text: &[u8],
-    terms: &[u8],
-    pattern: &[u8],
-    row: &[u8],
-    keys: &'a [u16; 32],
-    starts: &'a [u16; 32],
-    sizes: &'a [u16; 32],
-    count: usize,
-) -> First
-    requires { Kept text.now terms.now (places keys.now starts.now sizes.now count) × (24 ≤ length pattern.now) }
+// A variable.
+fn variable_first(text: &[u8], terms: &[u8], pattern: &[u8], row: &[u8], b: &Bindings) -> First
+    requires { Kept text.now terms.now b.now × (24 ≤ length pattern.now) }
     ensures { (v : Variable) → atom_of text.now (term_at pattern.now 0) ≡ variable v
-        → Leaves text.now pattern.now row.now
-        (values_of text.now terms.now (places keys.now starts.now sizes.now count)) result }
+        → Leaves text.now pattern.now row.now (values_of text.now terms.now b.now) result }
 {
-    match place_of(text, terms, pattern, keys, count) {
-        Place::At(i) => {
-            let start = wide(starts[i]);
-            value_first(text, terms, pattern, row, start, wide(sizes[i]))
+    match b.place_of(text, terms, pattern) {
+        Some(i) => {
+            let place = b.places[i];
+            let start = usize::from(place.start);
+            let size = usize::from(place.size);
+            value_first(text, terms, pattern, row, start, size)
         }
-        Place::Free => free_first(pattern, row),
+        None => free_first(pattern, row),
     }
 }
 
 // What the first record of a pattern leaves to do with a row.
-pub fn first_of<'a>(
-    text: &[u8],
-    terms: &[u8],
-    pattern: &[u8],
-    row: &[u8],
-    keys: &'a [u16; 32],
-    starts: &'a [u16; 32],
-    sizes: &'a [u16; 32],
-    count: usize,
-) -> First
-    requires { Kept text.now terms.now (places keys.now starts.now sizes.now count) × (24 ≤ length pattern.now) }
-    ensures { Leaves text.now pattern.now row.now
-        (values_of text.now terms.now (places keys.now starts.now sizes.now count)) result }
+pub fn first_of(text: &[u8], terms: &[u8], pattern: &[u8], row: &[u8], b: &Bindings) -> First
+    requires { Kept text.now terms.now b.now × (24 ≤ length pattern.now) }
+    ensures { Leaves text.now pattern.now row.now (values_of text.now terms.now b.now) result }
 {
     match term_at(pattern, 0) {
         Term::Symbol(_) => symbols_first(text, pattern, row),
-        Term::SVariable(_, _) => {
-            variable_first(text, terms, pattern, row, keys, starts, sizes, count)
-        }
-        Term::TVariable(_, _) => {
-            variable_first(text, terms, pattern, row, keys, starts, sizes, count)
-        }
-        Term::EVariable(_, _) => {
-            variable_first(text, terms, pattern, row, keys, starts, sizes, count)
+        Term::SVariable(_, _) | Term::TVariable(_, _) | Term::EVariable(_, _) => {
+            variable_first(text, terms, pattern, row, b)
         }
         Term::Bracket => bracket_first(row),
-        Term::Call(_, _) => First::Fails,
-        Term::Block(_) => First::Fails,
+        Term::Call(_, _) | Term::Block(_) => First::Fails,
     }
 }

@@ -8,15 +8,7 @@ use file::Term;
 fn is_symbol(term: Term) -> bool
     ensures { result ≡ symbol_term term }
 {
-    match term {
-        Term::Symbol(_) => true,
-        Term::SVariable(_, _) => true,
-        Term::TVariable(_, _) => false,
-        Term::EVariable(_, _) => false,
-        Term::Bracket => false,
-        Term::Call(_, _) => false,
-        Term::Block(_) => false,
-    }
+    matches!(term, Term::Symbol(_) | Term::SVariable(_, _))
 }
 
 // May a t. variable stand for this term?
@@ -24,13 +16,9 @@ fn is_single(term: Term) -> bool
     ensures { result ≡ single_one term }
 {
     match term {
-        Term::Symbol(_) => true,
-        Term::SVariable(_, _) => true,
-        Term::TVariable(_, _) => true,
+        Term::Symbol(_) | Term::SVariable(_, _) | Term::TVariable(_, _) | Term::Bracket => true,
         Term::EVariable(_, _) => false, // never a single term
-        Term::Bracket => true,
-        Term::Call(_, _) => false,
-        Term::Block(_) => false,
+        Term::Call(_, _) | Term::Block(_) => false,
     }
 }
 
@@ -39,12 +27,8 @@ pub fn may_stand(variable: Term, term: Term) -> bool
     ensures { result ≡ may_stand variable term }
 {
     match variable {
-        Term::Symbol(_) => false,
         Term::SVariable(_, _) => is_symbol(term),
         Term::TVariable(_, _) => is_single(term),
-        Term::EVariable(_, _) => false,
-        Term::Bracket => false,
-        Term::Call(_, _) => false,
-        Term::Block(_) => false,
+        _ => false,
     }
 }

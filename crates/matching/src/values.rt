@@ -5,7 +5,6 @@ ghost use Rattle.matching.specs.Shadow.{same_atom};
 ghost use Rattle.matching.specs.Code.Part.{row_of, same_first};
 ghost use Rattle.matching.specs.Code.Step.{begins_with, BeginsIn};
 
-use crate::Beginning;
 use crate::atoms::{atoms_same, is_bracket};
 use law::runs::end_of;
 
@@ -21,18 +20,16 @@ fn same_first(text: &[u8], value: &[u8], row: &[u8]) -> bool
     if !is_bracket(row) {
         return false;
     }
-    let m = end_of(value);
-    let n = end_of(row);
-    let inside = &row[24..n];
-    match begins(text, &value[24..m], inside) {
-        Beginning::After(k) => inside.len() < k + 24,
-        Beginning::Differs => false,
+    let inside = &row[24..end_of(row)];
+    match begins(text, &value[24..end_of(value)], inside) {
+        Some(k) => inside.len() < k + 24,
+        None => false,
     }
 }
 
-// Does a row begin with the terms of a value?
+// The position in a row after the terms of a value, if the row begins with them. Each step is a term long.
 #[cycle(begins_same_first)]
-pub fn begins(text: &[u8], value: &[u8], row: &[u8]) -> Beginning
+pub fn begins(text: &[u8], value: &[u8], row: &[u8]) -> Option<usize>
     ensures { BeginsIn row.now result
         × (begins_with text.now row.now result ≡ after same_atom (row_of text.now value.now) (row_of text.now row.now)) }
 {
@@ -42,13 +39,10 @@ pub fn begins(text: &[u8], value: &[u8], row: &[u8]) -> Beginning
         let left = &value[i..];
         let right = &row[j..];
         if left.len() < 24 {
-            break Beginning::After(j);
+            break Some(j);
         }
-        if right.len() < 24 {
-            break Beginning::Differs;
-        }
-        if !same_first(text, left, right) {
-            break Beginning::Differs;
+        if right.len() < 24 || !same_first(text, left, right) {
+            break None;
         }
         i += end_of(left);
         j += end_of(right);

@@ -1,5 +1,6 @@
 -- What the first record of a pattern leaves of the search, from which both matchers go on.
 use Rattle.std.specs.Prelude.{ℕ, ◌≤◌, ◌<◌, Bool, true, false, List, [], ◌∷◌, ◌≡◌, length, take}
+use Rattle.std.specs.Prelude.{Some, None, Option as Maybe}
 use Rattle.std.proofs.Math.Option.{none}
 use Rattle.file.specs.Forest.{contents, rest}
 use Rattle.file.specs.Head.{term_at}
@@ -13,12 +14,12 @@ use Rattle.matching.specs.Match.{Values, bound, value_in, splits, each, all_or_f
 use Rattle.matching.specs.Shadow.{same_atom, symbol_like, single_term}
 use Rattle.matching.specs.Code.Part.{row_of, from, Begin, atom_of}
 use Rattle.matching.specs.Code.Bound.{variable_in}
-use Rattle.matching.specs.declared.Beginning.{Beginning}
-use Rattle.matching.specs.declared.Beginning.TheVariants.{After, Differs}
 use Rattle.matching.specs.declared.Known.{Known}
-use Rattle.matching.specs.declared.Known.TheVariants.{End, Stop, Fails as KnownFails}
+use Rattle.matching.specs.declared.Known.TheVariants.{End, Stops as KnownStops, Fails as KnownFails}
 use Rattle.matching.specs.declared.First.{First}
-use Rattle.matching.specs.declared.First.TheVariants.{Fails, Goes, Binds, Tries, Inside}
+use Rattle.matching.specs.declared.First.TheVariants.{Fails, Goes, Stops}
+use Rattle.matching.specs.declared.Stop.{Stop}
+use Rattle.matching.specs.declared.Stop.TheVariants.{Binds, Tries, Inside}
 
 -- the search, of a pattern in the row that another part is
 abbrev pub found : Bool → Pattern → Pattern → Values Atom → List (Values Atom)
@@ -31,13 +32,13 @@ pub record Free (p : Pattern) (v : Variable) (vs : Values Atom) : Type 0 where
   pub without : value_in vs v ≡ none
 
 -- what follows a value at the front of a row
-abbrev pub begins_with : List ℕ → List ℕ → Beginning → List Pattern
-begins_with text row (After n) = row_of text (from n row) ∷ []
-begins_with text row Differs = []
+abbrev pub begins_with : List ℕ → List ℕ → Maybe ℕ → List Pattern
+begins_with text row (Some n) = row_of text (from n row) ∷ []
+begins_with text row None = []
 
-abbrev pub BeginsIn : List ℕ → Beginning → Type 0
-BeginsIn row (After n) = n ≤ length row
-BeginsIn row Differs = Unit {0}
+abbrev pub BeginsIn : List ℕ → Maybe ℕ → Type 0
+BeginsIn row (Some n) = n ≤ length row
+BeginsIn row None = Unit {0}
 
 -- the variable that a pattern's first record is
 abbrev pub first_variable : List ℕ → List ℕ → Variable
@@ -59,9 +60,9 @@ module _ (text : List ℕ) (back : Bool) (pattern row : List ℕ) (vs : Values A
   abbrev pub leaves : First → List (Values Atom)
   leaves Fails = []
   leaves (Goes m n) = found back (row_of text (from m pattern)) (row_of text (from n row)) vs
-  leaves (Binds n) = found back (row_of text (rest 24 end_of pattern)) (row_of text (from n row)) (bound (first_variable text pattern) (row_of text (take n row)) vs)
-  leaves Tries = each_length
-  leaves Inside = each_inside
+  leaves (Stops (Binds n)) = found back (row_of text (rest 24 end_of pattern)) (row_of text (from n row)) (bound (first_variable text pattern) (row_of text (take n row)) vs)
+  leaves (Stops Tries) = each_length
+  leaves (Stops Inside) = each_inside
 
 -- all matches are found by trying every length
 abbrev pub TriesAll : List ℕ → List ℕ → List ℕ → Values Atom → Type 0
@@ -78,9 +79,9 @@ pub record Facing (p : Pattern) (row : List ℕ) : Type 0 where
 abbrev pub FirstIn : List ℕ → List ℕ → List ℕ → Values Atom → First → Type 0
 FirstIn text pattern row vs Fails = Unit {0}
 FirstIn text pattern row vs (Goes m n) = Begin pattern m × (1 ≤ m) × (n ≤ length row)
-FirstIn text pattern row vs (Binds n) = (n ≤ length row) × Free (row_of text pattern) (first_variable text pattern) vs
-FirstIn text pattern row vs Tries = Free (row_of text pattern) (first_variable text pattern) vs
-FirstIn text pattern row vs Inside = Facing (row_of text pattern) row
+FirstIn text pattern row vs (Stops (Binds n)) = (n ≤ length row) × Free (row_of text pattern) (first_variable text pattern) vs
+FirstIn text pattern row vs (Stops Tries) = Free (row_of text pattern) (first_variable text pattern) vs
+FirstIn text pattern row vs (Stops Inside) = Facing (row_of text pattern) row
 
 -- kinds of terms, by their records: an e. variable; what an s. variable may stand for; what a t. variable may
 abbrev pub open_term : Term → Bool
@@ -130,23 +131,14 @@ pub record Passed (text pattern row : List ℕ) (vs : Values Atom) (m n : ℕ) :
   pub within : n ≤ length row
   pub search : (back : Bool) → found back (row_of text pattern) (row_of text row) vs ≡ found back (row_of text (from m pattern)) (row_of text (from n row)) vs
 
--- the first record is a variable that has no value or a bracket
-abbrev pub Stops : First → Type 0
-Stops Fails = ⊥
-Stops (Goes m n) = ⊥
-Stops (Binds n) = Unit {0}
-Stops Tries = Unit {0}
-Stops Inside = Unit {0}
-
--- what the first record leaves to do there
-pub record Stopped (text pattern row : List ℕ) (vs : Values Atom) (r : First) : Type 0 where
+-- the first record is a variable that has no value or a bracket, and leaves this to do there
+pub record Stopped (text pattern row : List ℕ) (vs : Values Atom) (r : Stop) : Type 0 where
   pub some : 24 ≤ length pattern
-  pub stops : Stops r
-  pub leaves : Leaves text pattern row vs r
+  pub leaves : Leaves text pattern row vs (Stops r)
 
 abbrev pub KnownIs : List ℕ → List ℕ → List ℕ → Values Atom → Known → Type 0
 KnownIs text pattern row vs (End m n) = Passed text pattern row vs m n × (length (from m pattern) < 24)
-KnownIs text pattern row vs (Stop m n r) = Passed text pattern row vs m n × Stopped text (from m pattern) (from n row) vs r
+KnownIs text pattern row vs (KnownStops m n r) = Passed text pattern row vs m n × Stopped text (from m pattern) (from n row) vs r
 KnownIs text pattern row vs KnownFails = (back : Bool) → found back (row_of text pattern) (row_of text row) vs ≡ []
 
 pub record KnownFront (text pattern row : List ℕ) (vs : Values Atom) (r : Known) : Type 0 where
