@@ -7,13 +7,7 @@ use crate::{Bindings, First, Known};
 
 // The symbols and the variables with a value that a pattern begins with: the row begins with the same. A loop, since there may be hundreds; each step is as long
 // as what is passed over.
-pub fn known_front(
-    text: &[u8],
-    terms: &[u8],
-    pattern: &[u8],
-    row: &[u8],
-    b: &Bindings,
-) -> Known
+pub fn known_front(text: &[u8], terms: &[u8], pattern: &[u8], row: &[u8], b: &Bindings) -> Known
     requires { Kept text.now terms.now b.now }
     ensures { KnownFront text.now pattern.now row.now (values_of text.now terms.now b.now) result }
 {

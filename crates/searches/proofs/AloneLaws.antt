@@ -20,6 +20,7 @@ use Rattle.searches.specs.Code.Repeats.{Disjoint}
 use Rattle.searches.specs.Code.Failed.{Remembering, Remembered}
 use Rattle.matching.specs.declared.Bindings.{Bindings}
 use Rattle.searches.specs.declared.literal.Pending.{Pending}
+use Rattle.searches.specs.declared.failed.Rest.{Rest}
 use Rattle.searches.specs.declared.repeats.Sure.{Sure}
 use Rattle.matching.proofs.SameLaws.{false_not_true}
 use Rattle.matching.proofs.VariableLaws.{occurs_left, occurs_right, occurs_either}
@@ -92,8 +93,7 @@ module _ {text terms pattern : List ℕ} {at : ℕ} {row : List ℕ} {start : �
         (asked_alone (asked_inside asked.asked some facing m n p-end r-end));
     around = record {
       few = asked.around.few;
-      patterns = asked.around.patterns;
-      rows = asked.around.rows;
+      long = asked.around.long;
       levels_in = rw alone tt;
     };
     deep = rw p-end (omega (arith, deeper asked some facing m n p-end r-end));
@@ -112,10 +112,10 @@ module _ {text terms pattern : List ℕ} {at : ℕ} {row : List ℕ} {start : �
       go (inl k) = occurs_left w (variables_in (row_of text pattern)) l (contents_within asked.asked some facing w (rw p-end at k))
       go (inr k) = occurs_right w (variables_in (row_of text pattern)) l k
 
-  pub remembering_inside : (m n : ℕ) → m ≡ end_of pattern → {c : Bindings} {s : Sure} {words : List ℕ}
-      → Remembering text terms pattern (levels_of text terms p (at + length pattern) (start + length row)) c s words
+  pub remembering_inside : (m n : ℕ) → m ≡ end_of pattern → {c : Bindings} {s : Sure} {rests : List Rest}
+      → Remembering text terms pattern (levels_of text terms p (at + length pattern) (start + length row)) c s rests
       → Remembering text terms (take (m - 24) (drop 24 pattern))
-      (levels_of text terms p (at + 24 + length (take (m - 24) (drop 24 pattern))) (start + 24 + length (take (n - 24) (drop 24 row)))) c s words
+      (levels_of text terms p (at + 24 + length (take (m - 24) (drop 24 pattern))) (start + 24 + length (take (n - 24) (drop 24 row)))) c s rests
   remembering_inside m n p-end so =
       rw (same_alone (at + 24 + length (take (m - 24) (drop 24 pattern))) (start + 24 + length (take (n - 24) (drop 24 row))))
       (record {
@@ -123,6 +123,6 @@ module _ {text terms pattern : List ℕ} {at : ℕ} {row : List ℕ} {start : �
         here = so.here;
       })
 
-  pub remembered_inside : (a s : ℕ) {c : Bindings} {t : Sure} {words now : List ℕ} → Remembered text terms (levels_of text terms p a s) c t words now
-      → Remembered text terms (levels_of text terms p (at + length pattern) (start + length row)) c t words now
+  pub remembered_inside : (a s : ℕ) {c : Bindings} {t : Sure} {rests now : List Rest} → Remembered text terms (levels_of text terms p a s) c t rests now
+      → Remembered text terms (levels_of text terms p (at + length pattern) (start + length row)) c t rests now
   remembered_inside a s after = rw (same_alone a s) at after

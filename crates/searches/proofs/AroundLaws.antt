@@ -12,13 +12,15 @@ use Rattle.matching.specs.Pattern.{Atom, literal, Pattern}
 use Rattle.matching.specs.Match.{Values, value_in}
 use Rattle.matching.specs.Shadow.{same_atom, symbol_like, single_term}
 use Rattle.matching.specs.Code.Part.{row_of, from, Begin, Stands}
-use Rattle.matching.specs.Code.Bound.{values_of, values_up_to, Kept, places, Bound}
+use Rattle.matching.specs.Code.Bound.{values_of, values_up_to, Kept, Bound}
 use Rattle.matching.specs.Code.Step.{found, each_length, TriesAll}
 use Rattle.searches.specs.Code.Capacity.{variables_in}
-use Rattle.searches.specs.Code.Asked.{some_holds, Asked, resume, coming_in, between, levels, LevelsIn, levels_of, Around, LiteralAsked}
+use Rattle.searches.specs.Code.Asked.{some_holds, Asked, resume, coming_in, between, level_at, levels, LevelsIn, levels_of, Around, LiteralAsked}
 use Rattle.searches.specs.Code.Repeats.{Agree, AgreeUpTo}
 use Rattle.searches.specs.Code.Failed.{rest_of, Within, Noted, first_values, Settled, Remembers, FailedAround, RemembersAround, Remembering, Remembered}
 use Rattle.matching.specs.declared.Bindings.{Bindings}
+use Rattle.searches.specs.declared.failed.Rest.{Rest}
+use Rattle.searches.specs.declared.literal.Level.{Level}
 use Rattle.searches.specs.declared.literal.Pending.{Pending}
 use Rattle.searches.specs.declared.repeats.Sure.{Sure}
 use Rattle.matching.proofs.PartLaws.{row_empty}
@@ -60,7 +62,7 @@ around_agree p x qs vs us h = resume_agree ((p, x) ∷ qs) (variables_in p ++ co
 -- ---- what is remembered
 
 module _ (text terms : List ℕ) (qs : List (Pattern × Pattern)) (base : Values Atom) where
-  pub around_none : Remembers (FailedAround text terms qs base) (replicate 2048 0)
+  pub around_none : Remembers (FailedAround text terms qs base) (replicate 512 (rest_of 0 0 0 0))
   around_none = remembers_none (FailedAround text terms qs base) (λ r none over. record { none = λ h. absurd (none h); levels = λ h. absurd (over h) })
 
   module _ {pattern row : List ℕ} {at start : ℕ} (here : Stands terms pattern at) (there : Stands terms row start)
@@ -89,13 +91,13 @@ module _ (text terms : List ℕ) (qs : List (Pattern × Pattern)) (base : Values
   }
 
   -- they are known to have no match
-  pub out_known : {words : List ℕ} (vs : Values Atom) → Agree (coming_in qs) vs base → Remembers (FailedAround text terms qs base) words
-      → (at start : ℕ) → Within words (rest_of 1 0 at start) → false ≡ resume qs vs
+  pub out_known : {rests : List Rest} (vs : Values Atom) → Agree (coming_in qs) vs base → Remembers (FailedAround text terms qs base) rests
+      → (at start : ℕ) → Within rests (rest_of 1 0 at start) → false ≡ resume qs vs
   out_known vs closed so at start within = sym ((remembered (FailedAround text terms qs base) so within).levels (omega arith) vs closed)
 
   -- they are found to have none
-  pub out_noted : {words now : List ℕ} {x : Bool} (vs : Values Atom) → Agree (coming_in qs) vs base → x ≡ resume qs vs → x ≡ false
-      → Remembers (FailedAround text terms qs base) words → (at start : ℕ) → Noted words (rest_of 1 0 at start) now → Remembers (FailedAround text terms qs base) now
+  pub out_noted : {rests now : List Rest} {x : Bool} (vs : Values Atom) → Agree (coming_in qs) vs base → x ≡ resume qs vs → x ≡ false
+      → Remembers (FailedAround text terms qs base) rests → (at start : ℕ) → Noted rests (rest_of 1 0 at start) now → Remembers (FailedAround text terms qs base) now
   out_noted vs closed e fails so at start noted = remembers_more (FailedAround text terms qs base) so (levels_found vs closed (sym e ∙ fails) at start) noted
 
 -- ---- the returns of `literal_tries`
@@ -104,15 +106,15 @@ module _ {text terms pattern : List ℕ} {at : ℕ} {row : List ℕ} {start : �
     (qs : List (Pattern × Pattern)) (base : Values Atom) (closed : Agree (variables_in (row_of text pattern) ++ coming_in qs) (values_of text terms b) base)
     (tries : TriesAll text pattern row (values_of text terms b)) where
   -- it is remembered that no length matches
-  pub lengths_known : {words : List ℕ} → 24 ≤ length pattern → Remembers (FailedAround text terms qs base) words
-      → Within words (rest_of at (at + length pattern) start (start + length row)) → false ≡ some_holds (resume qs) (each_length text true pattern row (values_of text terms b))
+  pub lengths_known : {rests : List Rest} → 24 ≤ length pattern → Remembers (FailedAround text terms qs base) rests
+      → Within rests (rest_of at (at + length pattern) start (start + length row)) → false ≡ some_holds (resume qs) (each_length text true pattern row (values_of text terms b))
   lengths_known long so within =
       sym (sym (ap (some_holds (resume qs)) (tries true))
       ∙ none_left text terms qs base asked.pattern_stands asked.row_stands (values_of text terms b) closed long (remembered (FailedAround text terms qs base) so within))
 
   -- no length matches, which is remembered
-  pub lengths_noted : {words now : List ℕ} {x : Bool} → x ≡ some_holds (resume qs) (each_length text true pattern row (values_of text terms b)) → x ≡ false
-      → Remembers (FailedAround text terms qs base) words → Noted words (rest_of at (at + length pattern) start (start + length row)) now
+  pub lengths_noted : {rests now : List Rest} {x : Bool} → x ≡ some_holds (resume qs) (each_length text true pattern row (values_of text terms b)) → x ≡ false
+      → Remembers (FailedAround text terms qs base) rests → Noted rests (rest_of at (at + length pattern) start (start + length row)) now
       → Remembers (FailedAround text terms qs base) now
   lengths_noted e fails so noted =
       remembers_more (FailedAround text terms qs base) so
@@ -120,14 +122,12 @@ module _ {text terms pattern : List ℕ} {at : ℕ} {row : List ℕ} {start : �
 
 -- ---- levels
 
--- the variables to come are those of the patterns, whatever the rows are
-pub coming_same : (text terms ends row_ends row_ends' : List ℕ) (at start start' n : ℕ)
-    → coming_in (levels text terms ends row_ends at start n) ≡ coming_in (levels text terms ends row_ends' at start' n)
+-- the variables to come are those of the patterns, wherever the row begins
+pub coming_same : (text terms : List ℕ) (ends : List Level) (at start start' n : ℕ)
+    → coming_in (levels text terms ends at start n) ≡ coming_in (levels text terms ends at start' n)
 unfolding levels coming_in
-coming_same text terms ends row_ends row_ends' at start start' zero = refl
-coming_same text terms ends row_ends row_ends' at start start' (suc n) =
-    ap (λ l. variables_in (between text terms at (get_or ends n 0)) ++ l)
-    (coming_same text terms ends row_ends row_ends' (get_or ends n 0) (get_or row_ends n 0) (get_or row_ends' n 0) n)
+coming_same text terms ends at start start' zero = refl
+coming_same text terms ends at start start' (suc n) = refl
 
 -- ---- variables that got no value since
 
@@ -147,62 +147,58 @@ closed_both l m low high one two vs h w o = go (occurs_either w l m o)
     go (inr k) = two vs (λ v i. h v (occurs_right v l m i)) w k
 
 -- `closed_around`: n levels are left, of which the innermost begins here
-pub record Looked (text terms : List ℕ) (p : Pending) (at : ℕ) (keys : List ℕ) (sure count from n : ℕ) : Type 0 where
+pub record Looked (text terms : List ℕ) (p : Pending) (at : ℕ) (b : Bindings) (sure from n : ℕ) : Type 0 where
   pub few : n ≤ 33
   pub row_from : ℕ
-  pub inside : LevelsIn text terms p.patterns p.rows from row_from n
-  pub whole : (starts sizes : List ℕ) → Kept text terms (places keys starts sizes count)
-      → Closed (coming_in (levels text terms p.patterns p.rows from row_from n)) (values_up_to text terms keys starts sizes sure) (values_up_to text terms keys starts sizes count)
-      → (rows : List ℕ) (start : ℕ)
-      → Closed (coming_in (levels text terms p.patterns rows at start p.count)) (values_up_to text terms keys starts sizes sure) (values_up_to text terms keys starts sizes count)
+  pub inside : LevelsIn text terms p.levels from row_from n
+  pub whole : Kept text terms b
+      → Closed (coming_in (levels text terms p.levels from row_from n)) (first_values text terms b sure) (values_of text terms b)
+      → (start : ℕ) → Closed (coming_in (levels text terms p.levels at start p.count)) (first_values text terms b sure) (values_of text terms b)
 
-module _ {text terms : List ℕ} {p : Pending} {at : ℕ} (keys : List ℕ) (sure count : ℕ) where
-  pub looked_start : (start : ℕ) → Around text terms p at start → Looked text terms p at keys sure count at p.count
+module _ {text terms : List ℕ} {p : Pending} {at : ℕ} (b : Bindings) (sure : ℕ) where
+  pub looked_start : (start : ℕ) → Around text terms p at start → Looked text terms p at b sure at p.count
   looked_start start around = record {
     few = around.few;
     row_from = start;
     inside = around.levels_in;
-    whole = λ starts sizes kept h rows other. rw (coming_same text terms p.patterns rows p.rows at other start p.count) h;
+    whole = λ kept h other. rw (coming_same text terms p.levels at other start p.count) h;
   }
 
-module _ {text terms : List ℕ} {p : Pending} {at : ℕ} {keys : List ℕ} {sure count from n : ℕ} (so : Looked text terms p at keys sure count from n) where
+module _ {text terms : List ℕ} {p : Pending} {at : ℕ} {b : Bindings} {sure from n : ℕ} (so : Looked text terms p at b sure from n) where
   -- no level is left
-  pub looked_all : n ≡ 0 → (rows : List ℕ) (start : ℕ) (starts sizes : List ℕ) (vs : Values Atom) → Kept text terms (places keys starts sizes count)
-      → Agree (coming_in (levels text terms p.patterns rows at start p.count)) (values_up_to text terms keys starts sizes sure) vs
-      → Agree (coming_in (levels text terms p.patterns rows at start p.count)) (values_up_to text terms keys starts sizes count) vs
+  pub looked_all : n ≡ 0 → Kept text terms b → (start : ℕ) → Closed (coming_in (levels text terms p.levels at start p.count)) (first_values text terms b sure) (values_of text terms b)
   unfolding levels coming_in
-  looked_all none rows start starts sizes vs kept =
-      so.whole starts sizes kept (rw none (closed_none (values_up_to text terms keys starts sizes sure) (values_up_to text terms keys starts sizes count))) rows start vs
+  looked_all none kept start = so.whole kept (rw none (closed_none (first_values text terms b sure) (values_of text terms b))) start
 
-  module _ (left : n ≡ 0 → ⊥) {end : ℕ} (ends : end ≡ get_or p.patterns (n - 1) 0) where
+  module _ (left : n ≡ 0 → ⊥) {end : ℕ} (ends : end ≡ (level_at p.levels (n - 1)).pattern_end) where
     some : n ≡ suc (n - 1)
     some = omega (arith, left)
 
-    next : LevelsIn text terms p.patterns p.rows from so.row_from (suc (n - 1))
-    next = subst (LevelsIn text terms p.patterns p.rows from so.row_from) some so.inside
+    next : LevelsIn text terms p.levels from so.row_from (suc (n - 1))
+    next = subst (LevelsIn text terms p.levels from so.row_from) some so.inside
 
     -- the innermost
     pub looked_level : (from ≤ end) × (end ≤ length terms)
     looked_level = (omega (arith, next.0), omega (arith, next.1))
 
-    coming_level : coming_in (levels text terms p.patterns p.rows from so.row_from n)
-        ≡ variables_in (between text terms from end) ++ coming_in (levels text terms p.patterns p.rows end (get_or p.rows (n - 1) 0) (n - 1))
+    coming_level : coming_in (levels text terms p.levels from so.row_from n)
+        ≡ variables_in (between text terms from end) ++ coming_in (levels text terms p.levels end (level_at p.levels (n - 1)).row_end (n - 1))
     unfolding levels coming_in
-    coming_level = ap (λ k. coming_in (levels text terms p.patterns p.rows from so.row_from k)) some ∙ rw ends
+    coming_level = ap (λ k. coming_in (levels text terms p.levels from so.row_from k)) some ∙ rw ends
 
     -- its variables got no value
-    pub looked_next : ((starts sizes : List ℕ) (vs : Values Atom) → Kept text terms (places keys starts sizes count)
-        → AgreeUpTo text terms (take (end - from) (drop from terms)) keys starts sizes sure vs → AgreeUpTo text terms (take (end - from) (drop from terms)) keys starts sizes count vs)
-        → Looked text terms p at keys sure count end (n - 1)
+    pub looked_next : (Kept text terms b → (vs : Values Atom)
+        → AgreeUpTo text terms (take (end - from) (drop from terms)) b sure vs → AgreeUpTo text terms (take (end - from) (drop from terms)) b b.count vs)
+        → Looked text terms p at b sure end (n - 1)
     looked_next closed = record {
       few = omega (arith, so.few);
-      row_from = get_or p.rows (n - 1) 0;
+      row_from = (level_at p.levels (n - 1)).row_end;
       inside = rw ends next.5;
       whole =
-          λ starts sizes kept h. so.whole starts sizes kept
+          λ kept h. so.whole kept
           (rw coming_level (closed_both (variables_in (between text terms from end))
-          (coming_in (levels text terms p.patterns p.rows end (get_or p.rows (n - 1) 0) (n - 1)))
-          (values_up_to text terms keys starts sizes sure) (values_up_to text terms keys starts sizes count) (λ vs. closed starts sizes vs kept) h));
+          (coming_in (levels text terms p.levels end (level_at p.levels (n - 1)).row_end (n - 1)))
+          (first_values text terms b sure) (values_of text terms b) (closed kept) h));
     }
 
 -- `holds_here`: these variables have the values of the fixed places
@@ -222,33 +218,33 @@ closed_levels {text} {terms} {b = b} {s} at closed known =
 
 module _ {text terms : List ℕ} where
   -- nothing is known
-  pub remembering_nothing : (pattern : List ℕ) (qs : List (Pattern × Pattern)) (b : Bindings) {s : Sure} (words : List ℕ) → s.fixed ≡ 0 → s.places ≡ 0 → s.here ≡ false
-      → Remembering text terms pattern qs b s words
-  remembering_nothing pattern qs b words fixed places elsewhere = record {
+  pub remembering_nothing : (pattern : List ℕ) (qs : List (Pattern × Pattern)) (b : Bindings) {s : Sure} (rests : List Rest) → s.fixed ≡ 0 → s.places ≡ 0 → s.here ≡ false
+      → Remembering text terms pattern qs b s rests
+  remembering_nothing pattern qs b rests fixed places elsewhere = record {
     settled = record { low = omega arith; few = omega arith; same = λ w o. ap (λ n. value_in (first_values text terms b n) w) (places ∙ sym fixed) };
     here = λ e. absurd (false_not_true (sym elsewhere ∙ e));
   }
 
   -- nothing is remembered yet
   pub remembering_none : (pattern : List ℕ) (qs : List (Pattern × Pattern)) (b : Bindings) (n : ℕ) → n ≤ b.count
-      → Remembering text terms pattern qs b (record { fixed = n; places = n; here = true }) (replicate 2048 0)
+      → Remembering text terms pattern qs b (record { fixed = n; places = n; here = true }) (replicate 512 (rest_of 0 0 0 0))
   remembering_none pattern qs b n low = record {
     settled = settled_fixed (variables_in (row_of text pattern) ++ coming_in qs) b n true low;
     here = λ e. around_none text terms qs (first_values text terms b n);
   }
 
   -- a search that remembers nothing more
-  pub remembered_unchanged : {qs : List (Pattern × Pattern)} {b : Bindings} {s : Sure} {words now : List ℕ} → (s.here ≡ true → RemembersAround text terms qs b s words) → now ≡ words
-      → Remembered text terms qs b s words now
+  pub remembered_unchanged : {qs : List (Pattern × Pattern)} {b : Bindings} {s : Sure} {rests now : List Rest} → (s.here ≡ true → RemembersAround text terms qs b s rests) → now ≡ rests
+      → Remembered text terms qs b s rests now
   remembered_unchanged so e = record { here = λ h. remembers_same (so h) e; elsewhere = λ h. e }
 
-  module _ {pattern : List ℕ} {qs : List (Pattern × Pattern)} {b : Bindings} {s : Sure} {words : List ℕ} (so : Remembering text terms pattern qs b s words) where
+  module _ {pattern : List ℕ} {qs : List (Pattern × Pattern)} {b : Bindings} {s : Sure} {rests : List Rest} (so : Remembering text terms pattern qs b s rests) where
     -- all places are looked at
     pub remembering_all : s.here ≡ true → Agree (variables_in (row_of text pattern) ++ coming_in qs) (values_of text terms b) (first_values text terms b s.fixed)
-        → Remembering text terms pattern qs b (record { fixed = s.fixed; places = b.count; here = true }) words
+        → Remembering text terms pattern qs b (record { fixed = s.fixed; places = b.count; here = true }) rests
     remembering_all known closed = record { settled = settled_all so.settled true closed; here = λ e. so.here known }
 
-    pub remembered_same : {now : List ℕ} → now ≡ words → Remembered text terms qs b s words now
+    pub remembered_same : {now : List Rest} → now ≡ rests → Remembered text terms qs b s rests now
     remembered_same e = remembered_unchanged so.here e
 
     -- what is around alone
@@ -256,32 +252,32 @@ module _ {text terms : List ℕ} where
     settled_around = settled_fewer so.settled (coming_in qs) (λ w o. occurs_right w (variables_in (row_of text pattern)) (coming_in qs) o)
 
     -- one variable more has a value
-    pub remembering_bound : {key start size : ℕ} {c : Bindings} → Bound b key start size c → Remembering text terms pattern qs c s words
+    pub remembering_bound : {key start size : ℕ} {c : Bindings} → Bound b key start size c → Remembering text terms pattern qs c s rests
     remembering_bound more = record {
       settled = settled_more so.settled more;
       here = λ h. rw (first_more text terms more s.fixed (settled_low so.settled)) (so.here h);
     }
 
-    pub remembered_bound : {key start size : ℕ} {c : Bindings} {now : List ℕ} → Bound b key start size c → Remembered text terms qs c s words now
-        → Remembered text terms qs b s words now
+    pub remembered_bound : {key start size : ℕ} {c : Bindings} {now : List Rest} → Bound b key start size c → Remembered text terms qs c s rests now
+        → Remembered text terms qs b s rests now
     remembered_bound more after = record {
       here = λ h. rw (first_more text terms more s.fixed (settled_low so.settled)) at (after.here h);
       elsewhere = after.elsewhere;
     }
 
   -- what is remembered of the levels around here
-  pub remembered_here : {qs : List (Pattern × Pattern)} {b : Bindings} {s : Sure} {words now : List ℕ} → s.here ≡ true → RemembersAround text terms qs b s now
-      → Remembered text terms qs b s words now
+  pub remembered_here : {qs : List (Pattern × Pattern)} {b : Bindings} {s : Sure} {rests now : List Rest} → s.here ≡ true → RemembersAround text terms qs b s now
+      → Remembered text terms qs b s rests now
   remembered_here known so = record { here = λ h. so; elsewhere = λ h. absurd (false_not_true (sym h ∙ known)) }
 
   -- one search after another
-  pub remembered_then : {qs : List (Pattern × Pattern)} {b : Bindings} {s : Sure} {words then now : List ℕ} → Remembered text terms qs b s words then
-      → Remembered text terms qs b s then now → Remembered text terms qs b s words now
+  pub remembered_then : {qs : List (Pattern × Pattern)} {b : Bindings} {s : Sure} {rests then now : List Rest} → Remembered text terms qs b s rests then
+      → Remembered text terms qs b s then now → Remembered text terms qs b s rests now
   remembered_then one two = record { here = two.here; elsewhere = λ h. two.elsewhere h ∙ one.elsewhere h }
 
   -- before a search, from after the one before it
-  pub remembering_then : {pattern : List ℕ} {qs : List (Pattern × Pattern)} {b : Bindings} {s : Sure} {words now : List ℕ} → Remembering text terms pattern qs b s words
-      → Remembered text terms qs b s words now → Remembering text terms pattern qs b s now
+  pub remembering_then : {pattern : List ℕ} {qs : List (Pattern × Pattern)} {b : Bindings} {s : Sure} {rests now : List Rest} → Remembering text terms pattern qs b s rests
+      → Remembered text terms qs b s rests now → Remembering text terms pattern qs b s now
   remembering_then so after = record { settled = so.settled; here = after.here }
 
 -- ---- to a part of the pattern at the same level
@@ -301,11 +297,11 @@ module _ {text terms pattern : List ℕ} {at : ℕ} {row : List ℕ} {start : �
         let row_end : start + n + length (from n row) ≡ start + length row = omega (arith, from_length n row) in
         rw (pattern_end, row_end)
 
-    pub remembered_later : {b : Bindings} {s : Sure} {words now : List ℕ} → Remembered text terms around_later b s words now → Remembered text terms around b s words now
+    pub remembered_later : {b : Bindings} {s : Sure} {rests now : List Rest} → Remembered text terms around_later b s rests now → Remembered text terms around b s rests now
     remembered_later after = rw same_around at after
 
-    pub remembering_later : {b : Bindings} {s : Sure} {words : List ℕ} → Begin pattern m → Remembering text terms pattern around b s words
-        → Remembering text terms (from m pattern) around_later b s words
+    pub remembering_later : {b : Bindings} {s : Sure} {rests : List Rest} → Begin pattern m → Remembering text terms pattern around b s rests
+        → Remembering text terms (from m pattern) around_later b s rests
     remembering_later begins so = rw same_around (record {
       settled = settled_fewer so.settled (variables_in (row_of text (from m pattern)) ++ coming_in around) (λ w o. later_variables text pattern (coming_in around) w begins o);
       here = so.here;

@@ -15,6 +15,7 @@ use Rattle.matching.specs.Code.Bound.{values_up_to, values_of}
 use Rattle.matching.specs.Code.Step.{found}
 use Rattle.searches.specs.Code.Capacity.{variables_in, size_of, Once, Capacity}
 use Rattle.searches.specs.Code.Asked.{first_in}
+use Rattle.matching.specs.declared.Binding.{Binding}
 use Rattle.matching.specs.declared.Bindings.{Bindings}
 use Rattle.matching.proofs.SameLaws.{false_not_true, variable_refl}
 use Rattle.matching.proofs.SearchLaws.{in_when, in_each, in_all_or_first, bound_every}
@@ -181,13 +182,13 @@ capacity_start p h =
 -- ---- places
 
 -- so many places are so many values
-pub values_size : (text terms keys starts sizes : List ℕ) (n : ℕ) → size_of (values_up_to text terms keys starts sizes n) ≡ n
+pub values_size : (text terms : List ℕ) (places : List Binding) (n : ℕ) → size_of (values_up_to text terms places n) ≡ n
 unfolding values_up_to size_of
-values_size text terms keys starts sizes zero = refl
-values_size text terms keys starts sizes (suc n) = ap suc (values_size text terms keys starts sizes n)
+values_size text terms places zero = refl
+values_size text terms places (suc n) = ap suc (values_size text terms places n)
 
 -- there is a place for a variable to come that has no value
 pub bindings_left : (text terms : List ℕ) (coming : List Variable) (b : Bindings) → Capacity coming (values_of text terms b)
     → (v : Variable) → occurs v coming ≡ true → value_in (values_of text terms b) v ≡ none → b.count < 32
 bindings_left text terms coming b c v h n =
-    omega (arith, place_left coming (values_of text terms b) c v h n, values_size text terms b.keys b.starts b.sizes b.count)
+    omega (arith, place_left coming (values_of text terms b) c v h n, values_size text terms b.places b.count)

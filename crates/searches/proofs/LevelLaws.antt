@@ -20,8 +20,9 @@ use Rattle.matching.specs.Code.Part.{row_of, from, Begin, at_start, one_on, Stan
 use Rattle.matching.specs.Code.Bound.{values_of, Kept, Bound}
 use Rattle.matching.specs.Code.Step.{found, Free, Facing, first_variable, each_length, each_inside}
 use Rattle.searches.specs.Code.Capacity.{variables_in, Capacity}
-use Rattle.searches.specs.Code.Asked.{some_holds, Asked, nesting, resume, coming_in, between, levels, LevelsIn, levels_of, Around, LiteralAsked}
+use Rattle.searches.specs.Code.Asked.{some_holds, Asked, nesting, resume, coming_in, between, level_at, levels, LevelsIn, levels_of, Around, LiteralAsked}
 use Rattle.matching.specs.declared.Bindings.{Bindings}
+use Rattle.searches.specs.declared.literal.Level.{Level}
 use Rattle.searches.specs.declared.literal.Pending.{Pending}
 use Rattle.matching.proofs.PartLaws.{row_node}
 use Rattle.matching.proofs.CutLaws.{from_length, from_all, from_from, stands_from, begin_inside}
@@ -80,44 +81,46 @@ later_nesting text pattern (one_on {n} some b) =
 -- ---- levels
 
 -- the innermost, and those around it
-levels_one : (text terms ends row_ends : List ℕ) (at start n : ℕ)
-    → levels text terms ends row_ends at start (suc n)
-    ≡ (between text terms at (get_or ends n 0), between text terms start (get_or row_ends n 0)) ∷ levels text terms ends row_ends (get_or ends n 0) (get_or row_ends n 0) n
+levels_one : (text terms : List ℕ) (ends : List Level) (at start n : ℕ)
+    → levels text terms ends at start (suc n)
+    ≡ (between text terms at (level_at ends n).pattern_end, between text terms start (level_at ends n).row_end)
+    ∷ levels text terms ends (level_at ends n).pattern_end (level_at ends n).row_end n
 unfolding levels
-levels_one text terms ends row_ends at start n = refl
+levels_one text terms ends at start n = refl
 
-levels_in_same : (text terms : List ℕ) {es es' rs rs' : List ℕ} {a a' s s' n n' : ℕ} → es ≡ es' → rs ≡ rs' → a ≡ a' → s ≡ s' → n ≡ n'
-    → LevelsIn text terms es rs a s n → LevelsIn text terms es' rs' a' s' n'
-levels_in_same text terms {es} {es'} {rs} {rs'} {a} {a'} {s} {s'} {n} e1 e2 e3 e4 e5 l =
-    subst (λ (k : ℕ). LevelsIn text terms es' rs' a' s' k) e5
-    (subst (λ (k : ℕ). LevelsIn text terms es' rs' a' k n) e4
-    (subst (λ (k : ℕ). LevelsIn text terms es' rs' k s n) e3
-    (subst (λ (k : List ℕ). LevelsIn text terms es' k a s n) e2
-    (subst (λ (k : List ℕ). LevelsIn text terms k rs a s n) e1 l))))
+levels_in_same : (text terms : List ℕ) (n : ℕ) {es es' : List Level} {a a' s s' : ℕ} → es ≡ es' → a ≡ a' → s ≡ s' → LevelsIn text terms es a s n → LevelsIn text terms es' a' s' n
+levels_in_same text terms n {es} {es'} {a} {a'} {s} {s'} e1 e2 e3 l =
+    subst (λ (k : ℕ). LevelsIn text terms es' a' k n) e3
+    (subst (λ (k : ℕ). LevelsIn text terms es' k s n) e2
+    (subst (λ (k : List Level). LevelsIn text terms k a s n) e1 l))
 
 -- ---- a level more does not touch those around it
 
-module _ (text terms ends row_ends : List ℕ) (k x y : ℕ) where
-  levels_set : (at start n : ℕ) → n ≤ k → levels text terms (set ends k x) (set row_ends k y) at start n ≡ levels text terms ends row_ends at start n
+module _ (text terms : List ℕ) (ends : List Level) (k x y : ℕ) where
+  abbrev level : Level
+  level = record { pattern_end = x; row_end = y }
+
+  abbrev with_level : List Level
+  with_level = set ends k level
+
+  other_level : (n : ℕ) → n < k → level_at with_level n ≡ level_at ends n
+  other_level n h = get_or-set_other ends k n level (record { pattern_end = 0; row_end = 0 }) (λ e. omega arith)
+
+  levels_set : (at start n : ℕ) → n ≤ k → levels text terms with_level at start n ≡ levels text terms ends at start n
   unfolding levels
   levels_set at start zero h = refl
-  levels_set at start (suc n) h =
-      rw (
-        get_or-set_other ends k n x 0 (λ e. omega arith),
-        get_or-set_other row_ends k n y 0 (λ e. omega arith),
-        levels_set (get_or ends n 0) (get_or row_ends n 0) n (omega arith),
-      )
+  levels_set at start (suc n) h = rw (other_level n (omega arith), levels_set (level_at ends n).pattern_end (level_at ends n).row_end n (omega arith))
 
-  levels_push : (at start : ℕ) → k < length ends → k < length row_ends
-      → levels text terms (set ends k x) (set row_ends k y) at start (suc k) ≡ (between text terms at x, between text terms start y) ∷ levels text terms ends row_ends x y k
+  levels_push : (at start : ℕ) → k < length ends
+      → levels text terms with_level at start (suc k) ≡ (between text terms at x, between text terms start y) ∷ levels text terms ends x y k
   unfolding levels
-  levels_push at start h i = rw (get_or-set_same ends k x 0 h, get_or-set_same row_ends k y 0 i, levels_set x y k (omega arith))
+  levels_push at start h = rw (get_or-set_same ends k level (record { pattern_end = 0; row_end = 0 }) h, levels_set x y k (omega arith))
 
-  levels_in_set : (at start n : ℕ) → n ≤ k → LevelsIn text terms ends row_ends at start n → LevelsIn text terms (set ends k x) (set row_ends k y) at start n
+  levels_in_set : (at start n : ℕ) → n ≤ k → LevelsIn text terms ends at start n → LevelsIn text terms with_level at start n
   levels_in_set at start zero h l = tt
   levels_in_set at start (suc n) h l =
-      rw (get_or-set_other ends k n x 0 (λ e. omega arith), get_or-set_other row_ends k n y 0 (λ e. omega arith))
-      (l.0, l.1, l.2, l.3, l.4, levels_in_set (get_or ends n 0) (get_or row_ends n 0) n (omega arith) l.5)
+      rw (other_level n (omega arith))
+      (l.0, l.1, l.2, l.3, l.4, levels_in_set (level_at ends n).pattern_end (level_at ends n).row_end n (omega arith) l.5)
 
 -- ---- from a part to a part
 
@@ -170,19 +173,18 @@ module _ {text terms pattern : List ℕ} {at : ℕ} {row : List ℕ} {start : �
       pub level_ready : p.count < 33
       level_ready = omega (arith, deeper)
 
-      module _ (q : Pending) (more : q.count ≡ suc p.count) (ends : q.patterns ≡ set p.patterns p.count (at + length pattern))
-          (row_ends_lem : q.rows ≡ set p.rows p.count (start + length row)) where
+      module _ (q : Pending) (more : q.count ≡ suc p.count)
+          (ends : q.levels ≡ set p.levels p.count (record { pattern_end = at + length pattern; row_end = start + length row })) where
         pattern_inside : at + 24 + length (take (m - 24) (drop 24 pattern)) ≡ at + m
         pattern_inside = omega (arith, length-take (m - 24) (drop 24 pattern), length-drop 24 pattern, end_low pattern some, end_high pattern)
 
         row_inside : start + 24 + length (take (n - 24) (drop 24 row)) ≡ start + n
         row_inside = omega (arith, length-take (n - 24) (drop 24 row), length-drop 24 row, end_low row facing.some, end_high row)
 
-        new_end : get_or q.patterns p.count 0 ≡ at + length pattern
-        new_end = rw ends (get_or-set_same p.patterns p.count (at + length pattern) 0 (omega (arith, asked.around.patterns, level_ready)))
-
-        new_row_end : get_or q.rows p.count 0 ≡ start + length row
-        new_row_end = rw row_ends_lem (get_or-set_same p.rows p.count (start + length row) 0 (omega (arith, asked.around.rows, level_ready)))
+        new_level : level_at q.levels p.count ≡ record { pattern_end = at + length pattern; row_end = start + length row }
+        new_level =
+            rw ends (get_or-set_same p.levels p.count (record { pattern_end = at + length pattern; row_end = start + length row })
+            (record { pattern_end = 0; row_end = 0 }) (omega (arith, asked.around.long, level_ready)))
 
         -- the parts after the brackets
         rest_between : between text terms (at + m) (at + length pattern) ≡ row_of text (rest 24 end_of pattern)
@@ -202,14 +204,13 @@ module _ {text terms pattern : List ℕ} {at : ℕ} {row : List ℕ} {start : �
         pub level_more : levels_of text terms q (at + 24 + length (take (m - 24) (drop 24 pattern))) (start + 24 + length (take (n - 24) (drop 24 row)))
             ≡ (row_of text (rest 24 end_of pattern), row_of text (rest 24 end_of row)) ∷ levels_of text terms p (at + length pattern) (start + length row)
         level_more =
-            rw (pattern_inside, row_inside, more, ends, row_ends_lem, ← rest_between, ← row_between)
-            (levels_push text terms p.patterns p.rows p.count (at + length pattern) (start + length row) (at + m) (start + n)
-            (omega (arith, asked.around.patterns, level_ready)) (omega (arith, asked.around.rows, level_ready)))
+            rw (pattern_inside, row_inside, more, ends, ← rest_between, ← row_between)
+            (levels_push text terms p.levels p.count (at + length pattern) (start + length row) (at + m) (start + n) (omega (arith, asked.around.long, level_ready)))
 
-        outer_levels : LevelsIn text terms q.patterns q.rows (at + length pattern) (start + length row) p.count
+        outer_levels : LevelsIn text terms q.levels (at + length pattern) (start + length row) p.count
         outer_levels =
-            levels_in_same text terms {a = at + length pattern} {s = start + length row} {n = p.count} (sym ends) (sym row_ends_lem) refl refl refl
-            (levels_in_set text terms p.patterns p.rows p.count (at + length pattern) (start + length row) (at + length pattern)
+            levels_in_same text terms p.count {a = at + length pattern} {s = start + length row} (sym ends) refl refl
+            (levels_in_set text terms p.levels p.count (at + length pattern) (start + length row) (at + length pattern)
             (start + length row) p.count (omega arith) asked.around.levels_in)
 
         -- the contents of the brackets, with that level around them
@@ -219,9 +220,8 @@ module _ {text terms pattern : List ℕ} {at : ℕ} {row : List ℕ} {start : �
           asked = rw level_more (asked_inside asked.asked some facing m n p-end r-end);
           around = rw (pattern_inside, row_inside) (record {
             few = omega (arith, more, level_ready);
-            patterns = rw ends (length-set p.patterns p.count (at + length pattern) ∙ asked.around.patterns);
-            rows = rw row_ends_lem (length-set p.rows p.count (start + length row) ∙ asked.around.rows);
-            levels_in = rw (more, new_end, new_row_end) (
+            long = rw ends (length-set p.levels p.count (record { pattern_end = at + length pattern; row_end = start + length row }) ∙ asked.around.long);
+            levels_in = rw (more, new_level) (
               omega (arith, end_high pattern),
               asked.asked.pattern_stands.inside,
               omega (arith, end_high row),
@@ -254,16 +254,16 @@ out_none text terms p at start vs e = rw e
 
 module _ {text terms : List ℕ} {p : Pending} {at start : ℕ} {b : Bindings} (small : length terms < 65536) (around : Around text terms p at start)
     (kept : Kept text terms b) (capacity : Capacity (coming_in (levels_of text terms p at start)) (values_of text terms b))
-    (positive : 1 ≤ p.count) {e r : ℕ} (e-is : e ≡ get_or p.patterns (p.count - 1) 0) (r-is : r ≡ get_or p.rows (p.count - 1) 0) where
+    (positive : 1 ≤ p.count) {e r : ℕ} (e-is : e ≡ (level_at p.levels (p.count - 1)).pattern_end) (r-is : r ≡ (level_at p.levels (p.count - 1)).row_end) where
   -- what is around this level
   abbrev pub outer : Pending
-  outer = record { patterns = p.patterns; rows = p.rows; count = p.count - 1 }
+  outer = record { levels = p.levels; count = p.count - 1 }
 
   some : p.count ≡ suc (p.count - 1)
   some = omega arith
 
-  inner : LevelsIn text terms p.patterns p.rows at start (suc (p.count - 1))
-  inner = subst (LevelsIn text terms p.patterns p.rows at start) some around.levels_in
+  inner : LevelsIn text terms p.levels at start (suc (p.count - 1))
+  inner = subst (LevelsIn text terms p.levels at start) some around.levels_in
 
   pub out_pattern : (at ≤ e) × (e ≤ length terms)
   out_pattern = (omega (arith, inner.0), omega (arith, inner.1))
@@ -288,7 +288,7 @@ module _ {text terms : List ℕ} {p : Pending} {at start : ℕ} {b : Bindings} (
       ≡ (row_of text (take (e - at) (drop at terms)), row_of text (take (r - start) (drop start terms)))
       ∷ levels_of text terms outer (at + length (take (e - at) (drop at terms))) (start + length (take (r - start) (drop start terms)))
   levels_out =
-      rw (pattern_size_lem, row_size, e-is, r-is) (ap (levels text terms p.patterns p.rows at start) some ∙ levels_one text terms p.patterns p.rows at start (p.count - 1))
+      rw (pattern_size_lem, row_size, e-is, r-is) (ap (levels text terms p.levels at start) some ∙ levels_one text terms p.levels at start (p.count - 1))
 
   -- what they are answered
   pub out_answer : (x : Bool)
@@ -310,10 +310,8 @@ module _ {text terms : List ℕ} {p : Pending} {at start : ℕ} {b : Bindings} (
     };
     around = record {
       few = omega (arith, around.few);
-      patterns = around.patterns;
-      rows = around.rows;
-      levels_in =
-          levels_in_same text terms {es = p.patterns} {rs = p.rows} {n = p.count - 1} refl refl (sym e-is ∙ sym pattern_size_lem) (sym r-is ∙ sym row_size) refl inner.5;
+      long = around.long;
+      levels_in = levels_in_same text terms (p.count - 1) {es = p.levels} refl (sym e-is ∙ sym pattern_size_lem) (sym r-is ∙ sym row_size) inner.5;
     };
     deep = rw e-is inner.4;
   }

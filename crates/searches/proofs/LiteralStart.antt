@@ -27,10 +27,10 @@ module _ (text terms : List ℕ) (p : Pending) (alone : p.count ≡ 0) (b : Bind
   -- there are places for all variables of the pattern, and for all its levels of brackets
   pub literal_start : (pattern : List ℕ) (at : ℕ) (row : List ℕ) (start : ℕ) → length terms < 65536 → Stands terms pattern at → Stands terms row start
       → distinct (variables_in (row_of text pattern)) ≤ 32 → nesting (row_of text pattern) ≤ 33
-      → length p.patterns ≡ 33 → length p.rows ≡ 33 → Kept text terms b
+      → length p.levels ≡ 33 → Kept text terms b
       → LiteralAsked text terms pattern at row start p b
   unfolding coming_in
-  literal_start pattern at row start small here there few deep patterns rows kept =
+  literal_start pattern at row start small here there few deep long kept =
       record {
         asked = record {
           small = small;
@@ -39,7 +39,7 @@ module _ (text terms : List ℕ) (p : Pending) (alone : p.count ≡ 0) (b : Bind
           kept = kept;
           capacity = rw (levels_none (at + length pattern) (start + length row), unbound) (capacity_start (row_of text pattern) few);
         };
-        around = record { few = omega arith; patterns = patterns; rows = rows; levels_in = rw alone tt };
+        around = record { few = omega arith; long = long; levels_in = rw alone tt };
         deep = omega arith;
       }
 

@@ -6,8 +6,8 @@ use mathlib.Core.Logic.{◌⊎◌, inl, inr}
 use mathlib.Core.Path.{◌≡◌, refl, sym, ap, ◌∙◌}
 use native.Mathlib.Omega.{arith}
 use native.Mathlib.Decide.{dec_lt}
-use lib.ListN.{length, drop, get_or, length-take, length-drop}
-use lib.Seq.{take_all}
+use lib.ListN.{length, take, drop, get_or, length-take, length-drop, length-append}
+use lib.Seq.{take_all, take-append_seam, drop-append_seam}
 use Rattle.file.specs.Word.{word_at}
 use Rattle.file.specs.Forest.{contents, rest}
 use Rattle.file.specs.Head.{term_at}
@@ -21,11 +21,12 @@ use Rattle.matching.specs.Shadow.{same_atom}
 use Rattle.matching.specs.Code.Part.{row_of, from, Stands, atom_of, term_row}
 use Rattle.searches.specs.Code.Capacity.{variables_in}
 use Rattle.matching.specs.Match.{Values, value_in}
-use Rattle.matching.specs.Code.Bound.{variable_at, values_up_to, Kept, places}
+use Rattle.matching.specs.Code.Bound.{place_at, variable_at, values_up_to, Kept}
+use Rattle.matching.specs.declared.Bindings.{Bindings}
 use Rattle.searches.specs.Code.Repeats.{atom_at, Alone, Disjoint, AgreeUpTo}
 use Rattle.matching.proofs.SameLaws.{false_not_true, variable_refl}
 use Rattle.matching.proofs.PartLaws.{row_empty, row_node}
-use Rattle.matching.proofs.CutLaws.{from_length, stands_part, stands_from, stands_term}
+use Rattle.matching.proofs.CutLaws.{from_length, from_drop, from_from, stands_part, stands_from, stands_term}
 use Rattle.matching.proofs.AtomLaws.{variable_kind_lem}
 use Rattle.matching.proofs.BoundLaws.{term_from_lem}
 use Rattle.matching.proofs.VariableLaws.{occurs_cases, occurs_either}
@@ -182,6 +183,24 @@ record_at part i k e long =
     let j : 0 + i ≡ 24 * k = omega arith in
     rw j at here
 
+-- what is left from a position on, cut into its first record and the others
+module _ (part left record_bytes others : List ℕ) (i : ℕ) (here : left ≡ from i part) (cut : left ≡ record_bytes ++ others) (size : length record_bytes ≡ 24) where
+  cut_from : from i part ≡ record_bytes ++ others
+  cut_from = sym here ∙ cut
+
+  pub cut_long : 24 ≤ length (from i part)
+  cut_long = rw cut_from (omega (arith, length-append record_bytes others))
+
+  pub cut_record : term_at record_bytes 0 ≡ term_at (from i part) 0
+  cut_record =
+      let front : record_bytes ≡ take (length record_bytes) (drop 0 (from i part)) = rw cut_from (sym (take-append_seam record_bytes others)) in
+      stands_term (from i part) record_bytes 0 (record { inside = omega (arith, cut_long); same = front }) (omega arith)
+
+  pub cut_others : others ≡ from (i + 24) part
+  cut_others =
+      let behind : drop 24 (from i part) ≡ others = rw (cut_from, ← size) (drop-append_seam record_bytes others) in
+      sym behind ∙ sym (from_drop 24 (from i part)) ∙ from_from 24 i part
+
 module _ {text first part : List ℕ} {i : ℕ} (so_far : Past text first part i) where
   -- what is compared with each record
   abbrev a : Atom
@@ -255,28 +274,28 @@ module _ {text part behind : List ℕ} {i : ℕ} (so_far : Across text part behi
             let here : m ≡ so_far.count = omega arith in
             new v (ap (atom_of text) (record_at part i so_far.count so_far.counted long) ∙ ap (atom_at text part) (sym here) ∙ e)
 
-    pub across_symbol : {kind : ℕ} → kind ≡ word_at (from i part) 0 → kind ≤ 2 → Across text part behind (i + 24)
-    across_symbol told h = across_next (λ v e. absurd (omega (arith, told, (variable_kind_lem text (from i part) e).0)))
+    pub across_symbol : (bytes : List ℕ) → term_at bytes 0 ≡ term_at (from i part) 0 → word_at bytes 0 ≤ 2 → Across text part behind (i + 24)
+    across_symbol bytes same h = across_next (λ v e. absurd (omega (arith, (variable_kind_lem text bytes (ap (atom_of text) same ∙ e)).0)))
 
     pub across_alone : Alone text (atom_of text (term_at (from i part) 0)) behind → Across text part behind (i + 24)
     across_alone alone = across_next (λ v e. rw e at alone)
 
 -- ---- what `closed` has gone through: none of a pattern's variables has a value in so many places more
 
-module _ {text terms keys starts sizes : List ℕ} {count : ℕ} (pattern : List ℕ) (kept : Kept text terms (places keys starts sizes count)) {i key : ℕ}
-    (low : i < count) (is_key : key ≡ get_or keys i 0)
+module _ {text terms : List ℕ} {b : Bindings} (pattern : List ℕ) (kept : Kept text terms b) {i key : ℕ}
+    (low : i < b.count) (is_key : key ≡ (place_at b.places i).key)
     (alone : 2 < word_at (from key terms) 0 → Alone text (atom_of text (term_at (from key terms) 0)) pattern) where
   -- the next place has a variable's record for its key
-  key_named : atom_of text (term_at (from key terms) 0) ≡ variable (variable_at text terms (get_or keys i 0))
-  key_named = rw (is_key, term_from_lem terms (get_or keys i 0) (kept.keyed i low)) (kept.named i low)
+  key_named : atom_of text (term_at (from key terms) 0) ≡ variable (variable_at text terms (place_at b.places i).key)
+  key_named = rw (is_key, term_from_lem terms (place_at b.places i).key (kept.keyed i low)) (kept.named i low)
 
   -- it is none of the pattern's variables
-  other_variable : (w : Variable) → occurs w (variables_in (row_of text pattern)) ≡ true → same_variable (variable_at text terms (get_or keys i 0)) w ≡ false
+  other_variable : (w : Variable) → occurs w (variables_in (row_of text pattern)) ≡ true → same_variable (variable_at text terms (place_at b.places i).key) w ≡ false
   other_variable w o =
       let (m, inside, e) = occurs_at text (length pattern) pattern (omega arith) w o in
       rw (key_named, e) at (alone (variable_kind_lem text (from key terms) key_named).0 m inside)
 
-  pub closed_next : (vs : Values Atom) → AgreeUpTo text terms pattern keys starts sizes i vs → AgreeUpTo text terms pattern keys starts sizes (i + 1) vs
+  pub closed_next : (vs : Values Atom) → AgreeUpTo text terms pattern b i vs → AgreeUpTo text terms pattern b (i + 1) vs
   unfolding values_up_to value_in
   closed_next vs so_far w o =
       let e : i + 1 ≡ suc i = omega arith in

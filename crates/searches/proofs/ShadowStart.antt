@@ -15,7 +15,7 @@ use Rattle.matching.specs.Code.Step.{found}
 use Rattle.searches.specs.Code.Capacity.{variables_in}
 use Rattle.searches.specs.Code.Asked.{first_in, Asked, matched_values}
 use Rattle.matching.specs.declared.Bindings.{Bindings}
-use Rattle.searches.specs.declared.shadow.Matched.{Matched}
+use Rattle.std.specs.Prelude.{Some, None, Option as Maybe, is_some}
 use Rattle.searches.proofs.CapacityLaws.{capacity_start}
 
 module _ (text terms : List ℕ) (b : Bindings) (unbound : values_of text terms b ≡ none_bound) where
@@ -31,15 +31,14 @@ module _ (text terms : List ℕ) (b : Bindings) (unbound : values_of text terms 
   }
 
   -- there is a first match exactly when there is a match
-  first_some_in : (ok : Bool) (us : Values Atom) (l : List (Values Atom)) → cond ok (some us) none ≡ first_in l → ok ≡ some_in l
-  first_some_in true us [] e = cc
-  first_some_in true us (vs ∷ l) e = refl
-  first_some_in false us [] e = refl
-  first_some_in false us (vs ∷ l) e = cc
+  first_some_in : (m : Maybe Bindings) (l : List (Values Atom)) → matched_values text terms m ≡ first_in l → is_some m ≡ some_in l
+  first_some_in (Some us) [] e = cc
+  first_some_in (Some us) (vs ∷ l) e = refl
+  first_some_in None [] e = refl
+  first_some_in None (vs ∷ l) e = cc
 
   -- what the search answers
-  pub shadow_answer_lem : (pattern row : List ℕ) (m : Matched) → matched_values text terms m ≡ first_in (found false (row_of text pattern) (row_of text row) (values_of text terms b))
-      → m.ok ≡ shadows (row_of text pattern) (row_of text row)
+  pub shadow_answer_lem : (pattern row : List ℕ) (m : Maybe Bindings) → matched_values text terms m ≡ first_in (found false (row_of text pattern) (row_of text row) (values_of text terms b))
+      → is_some m ≡ shadows (row_of text pattern) (row_of text row)
   unfolding shadows_with own_values
-  shadow_answer_lem pattern row m e =
-      first_some_in m.ok (values_of text terms m.bindings) (found false (row_of text pattern) (row_of text row) none_bound) (rw unbound at e)
+  shadow_answer_lem pattern row m e = first_some_in m (found false (row_of text pattern) (row_of text row) none_bound) (rw unbound at e)

@@ -22,7 +22,7 @@ use Rattle.matching.specs.Code.Bound.{values_of, Bound}
 use Rattle.matching.specs.Code.Step.{found, each_length, each_inside, Free, first_variable}
 use Rattle.searches.specs.Code.Asked.{first_in, Asked, matched_values}
 use Rattle.matching.specs.declared.Bindings.{Bindings}
-use Rattle.searches.specs.declared.shadow.Matched.{Matched}
+use Rattle.std.specs.Prelude.{Some, None, Option as Maybe, is_some}
 use Rattle.matching.proofs.PartLaws.{row_empty, row_node}
 use Rattle.matching.proofs.CutLaws.{begin_inside}
 use Rattle.searches.proofs.LengthLaws.{left_at, length_at, left_first, left_last, left_more, length_search}
@@ -62,22 +62,22 @@ module _ (text pattern row : List ℕ) (back : Bool) (vs : Values Atom) (short :
 
 -- ---- the returns of `shadow_run`
 
+some_of : (m : Maybe Bindings) → is_some m ≡ true → (us : Bindings) × (m ≡ Some us)
+some_of None e = cc
+some_of (Some us) e = (us, refl)
+
 module _ (text terms : List ℕ) where
-  -- the values of a match that there is, and of one that there is not
-  pub matched_yes : (m : Matched) → m.ok ≡ true → matched_values text terms m ≡ some (values_of text terms m.bindings)
-  matched_yes m e = rw e
+  -- there is a match, or none
+  pub matched_no : (m : Maybe Bindings) → is_some m ≡ false → matched_values text terms m ≡ none
+  matched_no None e = refl
+  matched_no (Some c) e = cc
 
-  pub matched_no : (m : Matched) → m.ok ≡ false → matched_values text terms m ≡ none
-  matched_no m e = rw e
+  module _ (b : Bindings) (pattern row : List ℕ) (short : length pattern < 24) where
+    pub run_match : length row < 24 → some (values_of text terms b) ≡ first_in (found false (row_of text pattern) (row_of text row) (values_of text terms b))
+    run_match h = rw (end_both text pattern row false (values_of text terms b) short h)
 
-  pub run_end : (b : Bindings) (pattern row : List ℕ) → length pattern < 24
-      → cond (ltb (length row) 24) (some (values_of text terms b)) none ≡ first_in (found false (row_of text pattern) (row_of text row) (values_of text terms b))
-  run_end b pattern row short = go (dec_lt (length row) 24)
-    where
-      go : Dec (length row < 24)
-          → cond (ltb (length row) 24) (some (values_of text terms b)) none ≡ first_in (found false (row_of text pattern) (row_of text row) (values_of text terms b))
-      go (yes h) = rw (lt-ltb (length row) 24 h, end_both text pattern row false (values_of text terms b) short h)
-      go (no h) = rw (le-ltb (length row) 24 (omega arith), end_one text pattern row false (values_of text terms b) short (omega arith))
+    pub run_left : 24 ≤ length row → none ≡ first_in (found false (row_of text pattern) (row_of text row) (values_of text terms b))
+    run_left h = rw (end_one text pattern row false (values_of text terms b) short h)
 
 -- ---- the returns of `shadow_lengths`
 
@@ -95,7 +95,7 @@ module _ {text terms pattern : List ℕ} {at : ℕ} {row : List ℕ} {start : �
   pub lengths_start : first_in all_lengths ≡ first_in (lengths_left 0)
   lengths_start = ap first_in (left_first text false pattern row (values_of text terms b))
 
-  module _ {end n : ℕ} (ends : end ≡ end_of pattern) (begin : Begin row n) {c : Bindings} (more : Bound b at start n c) (m : Matched)
+  module _ {end n : ℕ} (ends : end ≡ end_of pattern) (begin : Begin row n) {c : Bindings} (more : Bound b at start n c) (m : Maybe Bindings)
       (answer : matched_values text terms m ≡ first_in (found false (row_of text (from end pattern)) (row_of text (from n row)) (values_of text terms c)))
       (whole : first_in all_lengths ≡ first_in (lengths_left n)) where
     here : matched_values text terms m ≡ first_in (this_length n)
@@ -105,11 +105,11 @@ module _ {text terms pattern : List ℕ} {at : ℕ} {row : List ℕ} {start : �
         (values_more asked some_left free (begin_inside begin) more))
 
     -- this length matches
-    pub length_found : m.ok ≡ true → matched_values text terms m ≡ first_in all_lengths
-    length_found e = go (dec_lt (length (from n row)) 24)
+    found_with : {us : Bindings} → m ≡ Some us → matched_values text terms m ≡ first_in all_lengths
+    found_with {us} e = go (dec_lt (length (from n row)) 24)
       where
-        first : first_in (this_length n) ≡ some (values_of text terms m.bindings)
-        first = sym here ∙ matched_yes text terms m e
+        first : first_in (this_length n) ≡ some (values_of text terms us)
+        first = sym here ∙ ap (matched_values text terms) e
 
         go : Dec (length (from n row) < 24) → matched_values text terms m ≡ first_in all_lengths
         go (yes h) = rw (whole, left_last text false pattern row (values_of text terms b) n h, first_some (this_length n) [] _ first, e)
@@ -121,13 +121,16 @@ module _ {text terms pattern : List ℕ} {at : ℕ} {row : List ℕ} {start : �
               e,
             )
 
-    module _ (e : m.ok ≡ false) where
+    pub length_found : is_some m ≡ true → matched_values text terms m ≡ first_in all_lengths
+    length_found h = found_with (some_of m h).1
+
+    module _ (e : is_some m ≡ false) where
       first_no : first_in (this_length n) ≡ none
       first_no = sym here ∙ matched_no text terms m e
 
       -- no length does
       pub length_none : length (from n row) < 24 → matched_values text terms m ≡ first_in all_lengths
-      length_none h = rw (whole, left_last text false pattern row (values_of text terms b) n h, first_none (this_length n) [] first_no, e)
+      length_none h = rw (whole, left_last text false pattern row (values_of text terms b) n h, first_none (this_length n) [] first_no, matched_no text terms m e)
 
       -- one more is left
       pub length_next : 24 ≤ length (from n row) → first_in all_lengths ≡ first_in (lengths_left (n + end_of (from n row)))
@@ -150,7 +153,7 @@ module _ {X Y : Type 0} (f : X → List Y) where
       rw (same, append-nil (f x))
 
 module _ {text terms pattern : List ℕ} {at : ℕ} {row : List ℕ} {start : ℕ} {b : Bindings} (asked : Asked text terms pattern at row start [] b)
-    {m n : ℕ} (p : m ≡ end_of pattern) (q : n ≡ end_of row) (inner : Matched)
+    {m n : ℕ} (p : m ≡ end_of pattern) (q : n ≡ end_of row) (inner : Maybe Bindings)
     (here : matched_values text terms inner ≡ first_in (found false (row_of text (take (m - 24) (drop 24 pattern))) (row_of text (take (n - 24) (drop 24 row))) (values_of text terms b))) where
   contents_first : matched_values text terms inner ≡ first_in (found false (row_of text (contents 24 end_of pattern)) (row_of text (contents 24 end_of row)) (values_of text terms b))
   contents_first = rw (p, q) at here
@@ -159,22 +162,21 @@ module _ {text terms pattern : List ℕ} {at : ℕ} {row : List ℕ} {start : �
   after_inside us = found false (row_of text (rest 24 end_of pattern)) (row_of text (rest 24 end_of row)) us
 
   -- the contents do not match
-  pub inside_none : inner.ok ≡ false → matched_values text terms inner ≡ first_in (each_inside text false pattern row (values_of text terms b))
+  pub inside_none : inner ≡ None → none ≡ first_in (each_inside text false pattern row (values_of text terms b))
   inside_none e =
-      matched_no text terms inner e
-      ∙ sym (first_each_none after_inside (found false (row_of text (contents 24 end_of pattern)) (row_of text (contents 24 end_of row)) (values_of text terms b))
-      (sym contents_first ∙ matched_no text terms inner e))
+      sym (first_each_none after_inside (found false (row_of text (contents 24 end_of pattern)) (row_of text (contents 24 end_of row)) (values_of text terms b))
+      (sym contents_first ∙ ap (matched_values text terms) e))
 
   -- they do: the values of their first match
-  pub inside_first : inner.ok ≡ true
-      → first_in (found false (row_of text (contents 24 end_of pattern)) (row_of text (contents 24 end_of row)) (values_of text terms b)) ≡ some (values_of text terms inner.bindings)
-  inside_first e = sym contents_first ∙ matched_yes text terms inner e
+  module _ {us : Bindings} (e : inner ≡ Some us) where
+    pub inside_first : first_in (found false (row_of text (contents 24 end_of pattern)) (row_of text (contents 24 end_of row)) (values_of text terms b)) ≡ some (values_of text terms us)
+    inside_first = sym contents_first ∙ ap (matched_values text terms) e
 
-  -- and the rest with these
-  pub inside_some : (x : Option (Values Atom)) → inner.ok ≡ true
-      → x ≡ first_in (found false (row_of text (from m pattern)) (row_of text (from n row)) (values_of text terms inner.bindings))
-      → x ≡ first_in (each_inside text false pattern row (values_of text terms b))
-  inside_some x e k =
-      (rw (p, q) at k)
-      ∙ sym (first_each_some after_inside (found false (row_of text (contents 24 end_of pattern)) (row_of text (contents 24 end_of row)) (values_of text terms b))
-      (values_of text terms inner.bindings) (inside_first e))
+    -- and the rest with these
+    pub inside_some : (x : Option (Values Atom))
+        → x ≡ first_in (found false (row_of text (from m pattern)) (row_of text (from n row)) (values_of text terms us))
+        → x ≡ first_in (each_inside text false pattern row (values_of text terms b))
+    inside_some x k =
+        (rw (p, q) at k)
+        ∙ sym (first_each_some after_inside (found false (row_of text (contents 24 end_of pattern)) (row_of text (contents 24 end_of row)) (values_of text terms b))
+        (values_of text terms us) inside_first)

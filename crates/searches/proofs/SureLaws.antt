@@ -6,6 +6,7 @@ use mathlib.Core.List.{List, [], append-nil}
 use mathlib.Core.Path.{◌≡◌, refl, ◌∙◌}
 use native.Mathlib.Omega.{arith}
 use native.Mathlib.Decide.{dec_lt}
+use Rattle.std.specs.Prelude.{Some, None, Option as Maybe}
 use lib.ListN.{length, take, drop}
 use Rattle.file.specs.Forest.{contents}
 use Rattle.law.specs.Runs.{end_of}
@@ -14,8 +15,9 @@ use Rattle.matching.specs.Code.Part.{row_of, from, Begin, at_start, one_on}
 use Rattle.matching.specs.Code.Bound.{values_up_to, values_of, Bound}
 use Rattle.searches.specs.Code.Capacity.{variables_in}
 use Rattle.searches.specs.Code.Repeats.{Agree}
-use Rattle.searches.specs.Code.Failed.{first_values, Settled, Failed, Remembers, Fixed}
+use Rattle.searches.specs.Code.Failed.{first_values, Settled, Failed, Remembers, Fixed, MatchKept}
 use Rattle.matching.specs.declared.Bindings.{Bindings}
+use Rattle.searches.specs.declared.failed.Rest.{Rest}
 use Rattle.searches.specs.declared.repeats.Sure.{Sure}
 use Rattle.matching.proofs.CutLaws.{from_all}
 use Rattle.matching.proofs.BoundLaws.{values_set}
@@ -35,7 +37,7 @@ module _ (text terms : List ℕ) where
   pub first_more : {b : Bindings} {key start size : ℕ} {c : Bindings} → Bound b key start size c → (n : ℕ) → n ≤ b.count
       → first_values text terms c n ≡ first_values text terms b n
   first_more {b} {key} {start} {size} more n low =
-      rw (more.keys, more.starts, more.sizes, values_set text terms b.keys b.starts b.sizes b.count key start size n low)
+      rw (more.places, values_set text terms b.places b.count (record { key = key; start = start; size = size }) n low)
 
   -- where more of the first places are the same, fewer are
   first_fewer : (b c : Bindings) (n : ℕ) → first_values text terms c n ≡ first_values text terms b n → (m : ℕ) → m ≤ n
@@ -65,16 +67,30 @@ module _ {text terms : List ℕ} where
   fixed_fewer {b} {r} {n} f m low = record { few = omega (arith, f.few); same = first_fewer text terms b r n f.same m low }
 
   -- what is remembered holds with the same first places
-  pub remembers_fixed : {b c : Bindings} {n : ℕ} {words : List ℕ} → Fixed text terms b n c
-      → Remembers (Failed text terms (first_values text terms b n)) words → Remembers (Failed text terms (first_values text terms c n)) words
+  pub remembers_fixed : {b c : Bindings} {n : ℕ} {rests : List Rest} → Fixed text terms b n c
+      → Remembers (Failed text terms (first_values text terms b n)) rests → Remembers (Failed text terms (first_values text terms c n)) rests
   remembers_fixed f so = rw f.same so
 
-  pub remembers_back : {b c : Bindings} {n : ℕ} {words : List ℕ} → Fixed text terms b n c
-      → Remembers (Failed text terms (first_values text terms c n)) words → Remembers (Failed text terms (first_values text terms b n)) words
+  pub remembers_back : {b c : Bindings} {n : ℕ} {rests : List Rest} → Fixed text terms b n c
+      → Remembers (Failed text terms (first_values text terms c n)) rests → Remembers (Failed text terms (first_values text terms b n)) rests
   remembers_back f so = rw f.same at so
 
   pub fixed_bound : {b : Bindings} {key start size : ℕ} {c : Bindings} → Bound b key start size c → (n : ℕ) → n ≤ b.count → Fixed text terms b n c
   fixed_bound more n low = record { few = omega (arith, more.more); same = first_more text terms more n low }
+
+-- ---- the values of a match
+
+module _ {text terms : List ℕ} where
+  match_each : {b c : Bindings} {n k : ℕ} (r : Maybe Bindings) → ((m : Bindings) → Fixed text terms c k m → Fixed text terms b n m) → MatchKept text terms c k r
+      → MatchKept text terms b n r
+  match_each None f h = record { kept = tt }
+  match_each (Some m) f h = record { kept = (h.kept.0, f m h.kept.1) }
+
+  pub match_after : {b c : Bindings} {n : ℕ} {r : Maybe Bindings} → Fixed text terms b n c → MatchKept text terms c n r → MatchKept text terms b n r
+  match_after {r = r} fixed h = match_each r (λ m k. fixed_after fixed k) h
+
+  pub match_fewer : {b : Bindings} {n : ℕ} {r : Maybe Bindings} (m : ℕ) → m ≤ n → MatchKept text terms b n r → MatchKept text terms b m r
+  match_fewer {r = r} m low h = match_each r (λ s k. fixed_fewer k m low) h
 
 -- ---- the places that are settled
 

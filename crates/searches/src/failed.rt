@@ -1,49 +1,65 @@
-// Rests of a pattern and of a row that have no match: what a search remembers of them, so that it does not try them again. A rest has four words, the positions
-// among the term records where the two rests begin and end.
+// Rests of a pattern and of a row that have no match: what a search remembers of them, so that it does not try them again.
 ghost use Rattle.std.specs.Prelude.{◌≡◌, true, ◌<◌, length};
 ghost use Rattle.searches.specs.Code.Failed.{rest_of, Within, Noted};
 
-use matching::bound::{narrow, wide};
-
-// The number of the four words for a rest: one for each record that a row can begin with. A later rest takes the place of an earlier one; the rests that are
-// asked about again are mostly the last ones.
-fn slot(start: usize) -> usize
-    ensures { result < 512 }
-{
-    start / 24 % 512
+// A rest of a pattern and one of a row: the positions among the term records where they begin and end.
+#[derive(Clone, Copy, PartialEq, Eq)]
+pub struct Rest {
+    pub at: u16,
+    pub end: u16,
+    pub start: u16,
+    pub row_end: u16,
 }
 
-// Is it remembered that these rests have no match?
-pub fn failed_before(
-    failed: &[u16; 2048],
-    at: usize,
-    end: usize,
-    start: usize,
-    row_end: usize,
-) -> bool
-    ensures { result ≡ true → Within failed.now (rest_of at end start row_end) }
-{
-    let i = 4 * slot(start);
-    if wide(failed[i]) != at {
-        return false;
+impl Rest {
+    pub const NONE: Rest = Rest {
+        at: 0,
+        end: 0,
+        start: 0,
+        row_end: 0,
+    };
+
+    pub fn new(at: usize, end: usize, start: usize, row_end: usize) -> Rest
+        requires { (at < 65536) × (end < 65536) × (start < 65536) × (row_end < 65536) }
+        ensures { result ≡ rest_of at end start row_end }
+    {
+        Rest {
+            at: at as u16,
+            end: end as u16,
+            start: start as u16,
+            row_end: row_end as u16,
+        }
     }
-    if wide(failed[i + 1]) != end {
-        return false;
+
+    // The number of its place: one for each record that a row can begin with. A later rest takes the place of an earlier one; the rests that are asked about
+    // again are mostly the last ones.
+    fn place(self) -> usize
+        ensures { result < 512 }
+    {
+        usize::from(self.start) / 24 % 512
     }
-    if wide(failed[i + 2]) != start {
-        return false;
-    }
-    wide(failed[i + 3]) == row_end
 }
 
-// Remembers that these rests have no match.
-pub fn note_failed(failed: &mut [u16; 2048], at: usize, end: usize, start: usize, row_end: usize)
-    requires { (at < 65536) × (end < 65536) × (start < 65536) × (row_end < 65536) × (length failed.old ≡ 2048) }
-    ensures { Noted failed.old (rest_of at end start row_end) failed.new }
-{
-    let i = 4 * slot(start);
-    failed[i] = narrow(at);
-    failed[i + 1] = narrow(end);
-    failed[i + 2] = narrow(start);
-    failed[i + 3] = narrow(row_end);
+// The rests that a search remembers.
+#[derive(Drop)]
+pub struct Rests {
+    pub places: [Rest; 512],
+}
+
+impl Rests {
+    // Is it remembered that these rests have no match?
+    pub fn has(&self, rest: Rest) -> bool
+        requires { length self.now.places ≡ 512 }
+        ensures { result ≡ true → Within self.now.places rest }
+    {
+        self.places[rest.place()] == rest
+    }
+
+    // Remembers that these rests have no match.
+    pub fn note(&mut self, rest: Rest)
+        requires { length self.old.places ≡ 512 }
+        ensures { Noted self.old.places rest self.new.places }
+    {
+        self.places[rest.place()] = rest;
+    }
 }

@@ -1,5 +1,5 @@
 // Literal matching: does a pattern match a row without variables, calls and blocks? A bracket whose contents matched is gone back into.
-ghost use Rattle.std.specs.Prelude.{◌≡◌, true, false, List, ◌++◌, ℕ, suc, ◌+◌, ◌≤◌, ◌<◌, length, get_or, set};
+ghost use Rattle.std.specs.Prelude.{◌≡◌, true, false, ◌++◌, ℕ, suc, ◌+◌, ◌≤◌, ◌<◌, length, set};
 ghost use Rattle.std.proofs.Math.Option.{none};
 ghost use Rattle.file.specs.Forest.{contents, rest};
 ghost use Rattle.law.specs.Runs.{end_of};
@@ -8,96 +8,88 @@ ghost use Rattle.matching.specs.Literal.{literal_matches};
 ghost use Rattle.matching.specs.Code.Part.{row_of, literal_part, symbols_of, Stands};
 ghost use Rattle.matching.specs.Pattern.{Atom};
 ghost use Rattle.matching.specs.Match.{Values};
-ghost use Rattle.matching.specs.Code.Bound.{values_up_to, values_of, Kept, places};
+ghost use Rattle.matching.specs.Code.Bound.{place_at, values_up_to, values_of, Kept};
 ghost use Rattle.matching.specs.Code.Step.{found, each_length, each_inside, Free, Facing, TriesAll, Stopped, first_variable};
 ghost use Rattle.searches.specs.Code.Capacity.{variables_in, Capacity};
-ghost use Rattle.searches.specs.Code.Asked.{some_holds, nesting, resume, coming_in, pending, levels_of, Around, LiteralAsked};
+ghost use Rattle.searches.specs.Code.Asked.{some_holds, nesting, resume, coming_in, levels_of, Around, LiteralAsked};
 ghost use Rattle.searches.specs.Code.Repeats.{Agree, Disjoint};
 ghost use Rattle.searches.specs.Code.Failed.{Settled, RemembersAround, Remembering, Remembered};
 
-use crate::failed::{failed_before, note_failed};
+use crate::failed::{Rest, Rests};
 use crate::repeats::{Sure, closed, stands_apart};
 use file::word_at;
 use law::runs::end_of;
-use matching::bound::{bind, narrow, none, wide};
 use matching::front::known_front;
-use matching::{Bindings, First, Known};
+use matching::{Bindings, Known, Stop};
 
 // `failed` is what is remembered, where `sure.here`: of rests and then all that is around them, whose variables have the values of the fixed places of `sure`, or none.
 
-// What is still to be matched around the brackets that were gone into: the positions among the term records where each level of the pattern and of the
-// row ends, the outermost first. A level begins where the one inside it ends.
+// The positions among the term records where a level of the pattern and of the row ends.
+#[derive(Clone, Copy)]
+pub struct Level {
+    pub pattern_end: u16,
+    pub row_end: u16,
+}
+
+// What is still to be matched around the brackets that were gone into: where each level ends, the outermost first. A level begins where the one inside it ends.
 #[derive(Clone, Copy)]
 pub struct Pending {
-    pub patterns: [u16; 33],
-    pub rows: [u16; 33],
+    pub levels: [Level; 33],
     pub count: usize,
 }
 
-// Nothing is around.
-fn alone() -> Pending
-    ensures { (result.count ≡ 0) × (length result.patterns ≡ 33) × (length result.rows ≡ 33) }
-{
-    Pending {
-        patterns: [0; 33],
-        rows: [0; 33],
-        count: 0,
+impl Pending {
+    // Nothing is around.
+    fn none() -> Pending
+        ensures { (result.count ≡ 0) × (length result.levels ≡ 33) }
+    {
+        Pending {
+            levels: [Level {
+                pattern_end: 0,
+                row_end: 0,
+            }; 33],
+            count: 0,
+        }
+    }
+
+    // One level more.
+    fn push(&self, pattern_end: usize, row_end: usize) -> Pending
+        requires { (pattern_end < 65536) × (row_end < 65536) × (self.now.count < 33) × (length self.now.levels ≡ 33) }
+        ensures { (result.count ≡ suc self.now.count) × (result.levels ≡ set self.now.levels self.now.count (record { pattern_end = pattern_end; row_end = row_end })) }
+    {
+        let mut more = *self;
+        more.levels[self.count] = Level {
+            pattern_end: pattern_end as u16,
+            row_end: row_end as u16,
+        };
+        more.count += 1;
+        more
     }
 }
 
-// One level more.
-fn push(pending: Pending, pattern_end: usize, row_end: usize) -> Pending
-    requires { (pattern_end < 65536) × (row_end < 65536) × (pending.count < 33) × (length pending.patterns ≡ 33) × (length pending.rows ≡ 33) }
-    ensures { (result.count ≡ suc pending.count) × (result.patterns ≡ set pending.patterns pending.count pattern_end) × (result.rows ≡ set pending.rows pending.count row_end) }
-{
-    let at = pending.count;
-    let mut next = pending;
-    next.patterns[at] = narrow(pattern_end);
-    next.rows[at] = narrow(row_end);
-    next.count = at + 1;
-    next
-}
-
-// Nothing is known of the places, and what is remembered is not of the levels around here.
-fn unsure() -> Sure
-    ensures { (result.fixed ≡ 0) × (result.places ≡ 0) × (result.here ≡ false) }
-{
-    Sure {
-        fixed: 0,
-        places: 0,
-        here: false,
-    }
-}
-
-// Has no variable of the levels around a value in the places from `sure` on? `patterns` has where the levels end: by reference, so that they are not copied.
+// Has no variable of the levels around a value in the places from `sure` on? The levels begin at `at`; each begins where the one before it ends.
 fn closed_around(
     text: &[u8],
     terms: &[u8],
-    patterns: &[u16; 33],
-    levels: usize,
+    outer: &Pending,
     at: usize,
-    keys: &[u16; 32],
+    b: &Bindings,
     sure: usize,
-    count: usize,
 ) -> bool
-    requires { (sure ≤ count) × (count ≤ 32) × ((i : ℕ) → i < count → get_or keys.now i 0 + 24 ≤ length terms.now) × ((rows : List ℕ) × ((start : ℕ) × Around text.now terms.now (pending patterns.now rows levels) at start)) }
-    ensures { result ≡ true → (rows : List ℕ) (start : ℕ) (starts sizes : List ℕ) (vs : Values Atom) → Kept text.now terms.now (places keys.now starts sizes count)
-        → Agree (coming_in (levels_of text.now terms.now (pending patterns.now rows levels) at start)) (values_up_to text.now terms.now keys.now starts sizes sure) vs
-        → Agree (coming_in (levels_of text.now terms.now (pending patterns.now rows levels) at start)) (values_up_to text.now terms.now keys.now starts sizes count) vs }
+    requires { (sure ≤ b.now.count) × (b.now.count ≤ 32) × (length b.now.places ≡ 32) × ((i : ℕ) → i < b.now.count → (place_at b.now.places i).key + 24 ≤ length terms.now) × ((start : ℕ) × Around text.now terms.now outer.now at start) }
+    ensures { result ≡ true → Kept text.now terms.now b.now → (start : ℕ) (vs : Values Atom)
+        → Agree (coming_in (levels_of text.now terms.now outer.now at start)) (values_up_to text.now terms.now b.now.places sure) vs
+        → Agree (coming_in (levels_of text.now terms.now outer.now at start)) (values_of text.now terms.now b.now) vs }
 {
-    let mut n = levels;
     let mut from = at;
-    loop {
-        if n == 0 {
-            break true;
-        }
-        n -= 1;
-        let end = wide(patterns[n]);
-        if !closed(text, terms, &terms[from..end], keys, sure, count) {
-            break false;
+    for n in (0..outer.count).rev() {
+        let end = usize::from(outer.levels[n].pattern_end);
+        if !closed(text, terms, &terms[from..end], b, sure) {
+            return false;
         }
         from = end;
     }
+    true
 }
 
 // Is what is remembered of the levels around here, and have their variables and those of the pattern the values of the fixed places, or none? The levels begin at
@@ -106,97 +98,86 @@ fn holds_here(
     text: &[u8],
     terms: &[u8],
     pattern: &[u8],
-    patterns: &[u16; 33],
-    levels: usize,
+    outer: &Pending,
     end: usize,
-    keys: &[u16; 32],
-    count: usize,
+    b: &Bindings,
     sure: Sure,
 ) -> bool
-    requires { (sure.places ≤ count) × (count ≤ 32) × ((i : ℕ) → i < count → get_or keys.now i 0 + 24 ≤ length terms.now) × ((rows : List ℕ) × ((start : ℕ) × Around text.now terms.now (pending patterns.now rows levels) end start)) }
-    ensures { result ≡ true → (sure.here ≡ true) × ((rows : List ℕ) (start : ℕ) (starts sizes : List ℕ) → Kept text.now terms.now (places keys.now starts sizes count) → (vs : Values Atom)
-        → Agree (variables_in (row_of text.now pattern.now) ++ coming_in (levels_of text.now terms.now (pending patterns.now rows levels) end start)) (values_up_to text.now terms.now keys.now starts sizes sure.places) vs
-        → Agree (variables_in (row_of text.now pattern.now) ++ coming_in (levels_of text.now terms.now (pending patterns.now rows levels) end start)) (values_up_to text.now terms.now keys.now starts sizes count) vs) }
+    requires { (sure.places ≤ b.now.count) × (b.now.count ≤ 32) × (length b.now.places ≡ 32) × ((i : ℕ) → i < b.now.count → (place_at b.now.places i).key + 24 ≤ length terms.now) × ((start : ℕ) × Around text.now terms.now outer.now end start) }
+    ensures { result ≡ true → (sure.here ≡ true) × (Kept text.now terms.now b.now → (start : ℕ) (vs : Values Atom)
+        → Agree (variables_in (row_of text.now pattern.now) ++ coming_in (levels_of text.now terms.now outer.now end start)) (values_up_to text.now terms.now b.now.places sure.places) vs
+        → Agree (variables_in (row_of text.now pattern.now) ++ coming_in (levels_of text.now terms.now outer.now end start)) (values_of text.now terms.now b.now) vs) }
 {
-    if !sure.here {
-        return false;
-    }
     let places = sure.places;
-    if !closed_around(text, terms, patterns, levels, end, keys, places, count) {
-        return false;
-    }
-    closed(text, terms, pattern, keys, places, count)
+    sure.here
+        && closed_around(text, terms, outer, end, b, places)
+        && closed(text, terms, pattern, b, places)
 }
 
 // Everything that is left at this level is matched: the next level out, or all. What is remembered is of other levels.
-#[cycle(literal_anew_literal_apart_literal_bracket_literal_end_literal_first_literal_inside_literal_lengths_literal_out_literal_run_literal_tries)]
+#[cycle(literal)]
 fn literal_out(
     text: &[u8],
     terms: &[u8],
     at: usize,
     start: usize,
-    outer: Pending,
+    outer: &Pending,
     b: Bindings,
-    failed: &mut [u16; 2048],
+    failed: &mut Rests,
 ) -> bool
-    requires terms_len_bound { (length terms.now < 65536) × Around text.now terms.now outer at start × Kept text.now terms.now b }
-    requires capacity { Capacity (coming_in (levels_of text.now terms.now outer at start)) (values_of text.now terms.now b) }
-    ensures { (result ≡ resume (levels_of text.now terms.now outer at start) (values_of text.now terms.now b)) × (failed.new ≡ failed.old) }
+    requires terms_len_bound { (length terms.now < 65536) × Around text.now terms.now outer.now at start × Kept text.now terms.now b }
+    requires capacity { Capacity (coming_in (levels_of text.now terms.now outer.now at start)) (values_of text.now terms.now b) }
+    ensures { (result ≡ resume (levels_of text.now terms.now outer.now at start) (values_of text.now terms.now b)) × (failed.new.places ≡ failed.old.places) }
 {
-    let n = outer.count;
-    if n == 0 {
+    if outer.count == 0 {
         return true;
     }
-    let top = n - 1;
-    let mut out = outer;
+    let top = outer.count - 1;
+    let mut out = *outer;
     out.count = top;
-    let end = wide(outer.patterns[top]);
-    let row_end = wide(outer.rows[top]);
-    let pattern = &terms[at..end];
-    let row = &terms[start..row_end];
-    let sure = unsure();
-    literal_run(text, terms, pattern, at, row, start, out, b, sure, failed)
+    let level = outer.levels[top];
+    let pattern = &terms[at..usize::from(level.pattern_end)];
+    let row = &terms[start..usize::from(level.row_end)];
+    let sure = Sure::none();
+    literal_run(text, terms, pattern, at, row, start, &out, b, sure, failed)
 }
 
 // The same, unless it is remembered that all that is around has no match. A rest from 1 to 0 stands for this. It has the position of the pattern's end in place of a
 // row's, so that no rest of the row takes its place.
-#[cycle(literal_anew_literal_apart_literal_bracket_literal_end_literal_first_literal_inside_literal_lengths_literal_out_literal_run_literal_tries)]
+#[cycle(literal)]
 fn literal_end(
     text: &[u8],
     terms: &[u8],
     at: usize,
     start: usize,
-    outer: Pending,
+    outer: &Pending,
     b: Bindings,
     sure: Sure,
-    failed: &mut [u16; 2048],
+    failed: &mut Rests,
 ) -> bool
-    requires terms_len_bound { (length terms.now < 65536) × Around text.now terms.now outer at start × Kept text.now terms.now b × (at ≤ length terms.now) }
-    requires capacity { Capacity (coming_in (levels_of text.now terms.now outer at start)) (values_of text.now terms.now b) }
-    requires settled { Settled text.now terms.now (coming_in (levels_of text.now terms.now outer at start)) b sure × (sure.here ≡ true → RemembersAround text.now terms.now (levels_of text.now terms.now outer at start) b sure failed.old) }
-    ensures { (result ≡ resume (levels_of text.now terms.now outer at start) (values_of text.now terms.now b))
-        × Remembered text.now terms.now (levels_of text.now terms.now outer at start) b sure failed.old failed.new }
+    requires terms_len_bound { (length terms.now < 65536) × Around text.now terms.now outer.now at start × Kept text.now terms.now b × (at ≤ length terms.now) }
+    requires capacity { Capacity (coming_in (levels_of text.now terms.now outer.now at start)) (values_of text.now terms.now b) }
+    requires settled { Settled text.now terms.now (coming_in (levels_of text.now terms.now outer.now at start)) b sure × (sure.here ≡ true → RemembersAround text.now terms.now (levels_of text.now terms.now outer.now at start) b sure failed.old.places) }
+    ensures { (result ≡ resume (levels_of text.now terms.now outer.now at start) (values_of text.now terms.now b))
+        × Remembered text.now terms.now (levels_of text.now terms.now outer.now at start) b sure failed.old.places failed.new.places }
 {
-    let none = &terms[at..at];
-    let levels = outer.count;
-    let len = b.count;
-    let ends = &outer.patterns;
-    let keys = &b.keys;
-    if !holds_here(text, terms, none, ends, levels, at, keys, len, sure) {
+    let nothing = &terms[at..at];
+    if !holds_here(text, terms, nothing, outer, at, &b, sure) {
         return literal_out(text, terms, at, start, outer, b, failed);
     }
-    if failed_before(failed, 1, 0, at, at) {
+    let rests = Rest::new(1, 0, at, at);
+    if failed.has(rests) {
         return false;
     }
     let found = literal_out(text, terms, at, start, outer, b, failed);
     if !found {
-        note_failed(failed, 1, 0, at, at);
+        failed.note(rests);
     }
     found
 }
 
 // An e. variable without a value, then the rest of the pattern: every length in turn.
-#[cycle(literal_anew_literal_apart_literal_bracket_literal_end_literal_first_literal_inside_literal_lengths_literal_out_literal_run_literal_tries)]
+#[cycle(literal)]
 fn literal_lengths(
     text: &[u8],
     terms: &[u8],
@@ -204,16 +185,16 @@ fn literal_lengths(
     at: usize,
     row: &[u8],
     start: usize,
-    outer: Pending,
+    outer: &Pending,
     b: Bindings,
     sure: Sure,
-    failed: &mut [u16; 2048],
+    failed: &mut Rests,
 ) -> bool
-    requires literal_asked { LiteralAsked text.now terms.now pattern.now at row.now start outer b × (24 ≤ length pattern.now) × Remembering text.now terms.now pattern.now (levels_of text.now terms.now outer (at + length pattern.now) (start + length row.now)) b sure failed.old }
+    requires literal_asked { LiteralAsked text.now terms.now pattern.now at row.now start outer.now b × (24 ≤ length pattern.now) × Remembering text.now terms.now pattern.now (levels_of text.now terms.now outer.now (at + length pattern.now) (start + length row.now)) b sure failed.old.places }
     requires free { Free (row_of text.now pattern.now) (first_variable text.now pattern.now) (values_of text.now terms.now b) }
-    ensures { (result ≡ some_holds (resume (levels_of text.now terms.now outer (at + length pattern.now) (start + length row.now)))
+    ensures { (result ≡ some_holds (resume (levels_of text.now terms.now outer.now (at + length pattern.now) (start + length row.now)))
         (each_length text.now true pattern.now row.now (values_of text.now terms.now b)))
-        × Remembered text.now terms.now (levels_of text.now terms.now outer (at + length pattern.now) (start + length row.now)) b sure failed.old failed.new }
+        × Remembered text.now terms.now (levels_of text.now terms.now outer.now (at + length pattern.now) (start + length row.now)) b sure failed.old.places failed.new.places }
 {
     let end = end_of(pattern);
     let rest = &pattern[end..];
@@ -221,7 +202,7 @@ fn literal_lengths(
     let mut n = 0;
     loop {
         let left = &row[n..];
-        let more = bind(b, at, start, n);
+        let more = b.bind(at, start, n);
         let j = start + n;
         if literal_run(text, terms, rest, next, left, j, outer, more, sure, failed) {
             break true;
@@ -235,7 +216,7 @@ fn literal_lengths(
 
 // The same, with a search that remembers anew, from the values that there are now.
 #[inline(never)]
-#[cycle(literal_anew_literal_apart_literal_bracket_literal_end_literal_first_literal_inside_literal_lengths_literal_out_literal_run_literal_tries)]
+#[cycle(literal)]
 fn literal_anew(
     text: &[u8],
     terms: &[u8],
@@ -243,21 +224,18 @@ fn literal_anew(
     at: usize,
     row: &[u8],
     start: usize,
-    outer: Pending,
+    outer: &Pending,
     b: Bindings,
 ) -> bool
-    requires literal_asked { LiteralAsked text.now terms.now pattern.now at row.now start outer b × (24 ≤ length pattern.now) }
+    requires literal_asked { LiteralAsked text.now terms.now pattern.now at row.now start outer.now b × (24 ≤ length pattern.now) }
     requires free { Free (row_of text.now pattern.now) (first_variable text.now pattern.now) (values_of text.now terms.now b) }
-    ensures { result ≡ some_holds (resume (levels_of text.now terms.now outer (at + length pattern.now) (start + length row.now)))
+    ensures { result ≡ some_holds (resume (levels_of text.now terms.now outer.now (at + length pattern.now) (start + length row.now)))
         (each_length text.now true pattern.now row.now (values_of text.now terms.now b)) }
 {
-    let mut failed: [u16; 2048] = [0; 2048];
-    let len = b.count;
-    let all = Sure {
-        fixed: len,
-        places: len,
-        here: true,
+    let mut failed = Rests {
+        places: [Rest::NONE; 512],
     };
+    let all = Sure::fixed(b.count);
     literal_lengths(
         text,
         terms,
@@ -274,7 +252,7 @@ fn literal_anew(
 
 // The same, unless it is remembered that there is no match: where the variables of the pattern and of the levels around have the values of the fixed places, or none,
 // this does not depend on the others.
-#[cycle(literal_anew_literal_apart_literal_bracket_literal_end_literal_first_literal_inside_literal_lengths_literal_out_literal_run_literal_tries)]
+#[cycle(literal)]
 fn literal_tries(
     text: &[u8],
     terms: &[u8],
@@ -282,44 +260,40 @@ fn literal_tries(
     at: usize,
     row: &[u8],
     start: usize,
-    outer: Pending,
+    outer: &Pending,
     b: Bindings,
     sure: Sure,
-    failed: &mut [u16; 2048],
+    failed: &mut Rests,
 ) -> bool
-    requires literal_asked { LiteralAsked text.now terms.now pattern.now at row.now start outer b × (24 ≤ length pattern.now) × Remembering text.now terms.now pattern.now (levels_of text.now terms.now outer (at + length pattern.now) (start + length row.now)) b sure failed.old }
+    requires literal_asked { LiteralAsked text.now terms.now pattern.now at row.now start outer.now b × (24 ≤ length pattern.now) × Remembering text.now terms.now pattern.now (levels_of text.now terms.now outer.now (at + length pattern.now) (start + length row.now)) b sure failed.old.places }
     requires free { Free (row_of text.now pattern.now) (first_variable text.now pattern.now) (values_of text.now terms.now b) }
     requires tries_all { TriesAll text.now pattern.now row.now (values_of text.now terms.now b) }
-    ensures { (result ≡ some_holds (resume (levels_of text.now terms.now outer (at + length pattern.now) (start + length row.now)))
+    ensures { (result ≡ some_holds (resume (levels_of text.now terms.now outer.now (at + length pattern.now) (start + length row.now)))
         (each_length text.now true pattern.now row.now (values_of text.now terms.now b)))
-        × Remembered text.now terms.now (levels_of text.now terms.now outer (at + length pattern.now) (start + length row.now)) b sure failed.old failed.new }
+        × Remembered text.now terms.now (levels_of text.now terms.now outer.now (at + length pattern.now) (start + length row.now)) b sure failed.old.places failed.new.places }
 {
     let end = at + pattern.len();
-    let row_end = start + row.len();
-    let levels = outer.count;
-    let len = b.count;
-    let ends = &outer.patterns;
-    let keys = &b.keys;
-    if !holds_here(text, terms, pattern, ends, levels, end, keys, len, sure) {
+    if !holds_here(text, terms, pattern, outer, end, &b, sure) {
         return literal_anew(text, terms, pattern, at, row, start, outer, b);
     }
-    if failed_before(failed, at, end, start, row_end) {
+    let rests = Rest::new(at, end, start, start + row.len());
+    if failed.has(rests) {
         return false;
     }
     let all = Sure {
-        fixed: sure.fixed,
-        places: len,
+        places: b.count,
         here: true,
+        ..sure
     };
     let found = literal_lengths(text, terms, pattern, at, row, start, outer, b, all, failed);
     if !found {
-        note_failed(failed, at, end, start, row_end);
+        failed.note(rests);
     }
     found
 }
 
 // A bracket against a bracket: the contents, and then what is around them. What is remembered is of other levels.
-#[cycle(literal_anew_literal_apart_literal_bracket_literal_end_literal_first_literal_inside_literal_lengths_literal_out_literal_run_literal_tries)]
+#[cycle(literal)]
 fn literal_inside(
     text: &[u8],
     terms: &[u8],
@@ -327,29 +301,31 @@ fn literal_inside(
     at: usize,
     row: &[u8],
     start: usize,
-    outer: Pending,
+    outer: &Pending,
     b: Bindings,
-    failed: &mut [u16; 2048],
+    failed: &mut Rests,
 ) -> bool
-    requires { LiteralAsked text.now terms.now pattern.now at row.now start outer b × (24 ≤ length pattern.now) × Facing (row_of text.now pattern.now) row.now }
-    ensures { (result ≡ some_holds (resume (levels_of text.now terms.now outer (at + length pattern.now) (start + length row.now)))
+    requires { LiteralAsked text.now terms.now pattern.now at row.now start outer.now b × (24 ≤ length pattern.now) × Facing (row_of text.now pattern.now) row.now }
+    ensures { (result ≡ some_holds (resume (levels_of text.now terms.now outer.now (at + length pattern.now) (start + length row.now)))
         (each_inside text.now true pattern.now row.now (values_of text.now terms.now b)))
-        × (failed.new ≡ failed.old) }
+        × (failed.new.places ≡ failed.old.places) }
 {
     let m = end_of(pattern);
     let n = end_of(row);
-    let around = push(outer, at + pattern.len(), start + row.len());
+    let around = outer.push(at + pattern.len(), start + row.len());
     let contents = &pattern[24..m];
     let inside = &row[24..n];
     let i = at + 24;
     let j = start + 24;
-    let sure = unsure();
-    literal_run(text, terms, contents, i, inside, j, around, b, sure, failed)
+    let sure = Sure::none();
+    literal_run(
+        text, terms, contents, i, inside, j, &around, b, sure, failed,
+    )
 }
 
 // A bracket against a bracket, with nothing around and no variable in common with the rest: one match of the contents is as good as another, so that contents and
 // rest are asked for by themselves, and nothing is gone back into.
-#[cycle(literal_anew_literal_apart_literal_bracket_literal_end_literal_first_literal_inside_literal_lengths_literal_out_literal_run_literal_tries)]
+#[cycle(literal)]
 fn literal_apart(
     text: &[u8],
     terms: &[u8],
@@ -357,16 +333,16 @@ fn literal_apart(
     at: usize,
     row: &[u8],
     start: usize,
-    outer: Pending,
+    outer: &Pending,
     b: Bindings,
     sure: Sure,
-    failed: &mut [u16; 2048],
+    failed: &mut Rests,
 ) -> bool
-    requires literal_asked { LiteralAsked text.now terms.now pattern.now at row.now start outer b × (24 ≤ length pattern.now) × Facing (row_of text.now pattern.now) row.now × Remembering text.now terms.now pattern.now (levels_of text.now terms.now outer (at + length pattern.now) (start + length row.now)) b sure failed.old }
-    requires count_value { (outer.count ≡ 0) × Disjoint (variables_in (row_of text.now (contents 24 end_of pattern.now))) (variables_in (row_of text.now (rest 24 end_of pattern.now))) }
-    ensures { (result ≡ some_holds (resume (levels_of text.now terms.now outer (at + length pattern.now) (start + length row.now)))
+    requires literal_asked { LiteralAsked text.now terms.now pattern.now at row.now start outer.now b × (24 ≤ length pattern.now) × Facing (row_of text.now pattern.now) row.now × Remembering text.now terms.now pattern.now (levels_of text.now terms.now outer.now (at + length pattern.now) (start + length row.now)) b sure failed.old.places }
+    requires count_value { (outer.now.count ≡ 0) × Disjoint (variables_in (row_of text.now (contents 24 end_of pattern.now))) (variables_in (row_of text.now (rest 24 end_of pattern.now))) }
+    ensures { (result ≡ some_holds (resume (levels_of text.now terms.now outer.now (at + length pattern.now) (start + length row.now)))
         (each_inside text.now true pattern.now row.now (values_of text.now terms.now b)))
-        × Remembered text.now terms.now (levels_of text.now terms.now outer (at + length pattern.now) (start + length row.now)) b sure failed.old failed.new }
+        × Remembered text.now terms.now (levels_of text.now terms.now outer.now (at + length pattern.now) (start + length row.now)) b sure failed.old.places failed.new.places }
 {
     let m = end_of(pattern);
     let n = end_of(row);
@@ -385,7 +361,7 @@ fn literal_apart(
 }
 
 // A bracket against a bracket.
-#[cycle(literal_anew_literal_apart_literal_bracket_literal_end_literal_first_literal_inside_literal_lengths_literal_out_literal_run_literal_tries)]
+#[cycle(literal)]
 fn literal_bracket(
     text: &[u8],
     terms: &[u8],
@@ -393,15 +369,15 @@ fn literal_bracket(
     at: usize,
     row: &[u8],
     start: usize,
-    outer: Pending,
+    outer: &Pending,
     b: Bindings,
     sure: Sure,
-    failed: &mut [u16; 2048],
+    failed: &mut Rests,
 ) -> bool
-    requires { LiteralAsked text.now terms.now pattern.now at row.now start outer b × (24 ≤ length pattern.now) × Facing (row_of text.now pattern.now) row.now × Remembering text.now terms.now pattern.now (levels_of text.now terms.now outer (at + length pattern.now) (start + length row.now)) b sure failed.old }
-    ensures { (result ≡ some_holds (resume (levels_of text.now terms.now outer (at + length pattern.now) (start + length row.now)))
+    requires { LiteralAsked text.now terms.now pattern.now at row.now start outer.now b × (24 ≤ length pattern.now) × Facing (row_of text.now pattern.now) row.now × Remembering text.now terms.now pattern.now (levels_of text.now terms.now outer.now (at + length pattern.now) (start + length row.now)) b sure failed.old.places }
+    ensures { (result ≡ some_holds (resume (levels_of text.now terms.now outer.now (at + length pattern.now) (start + length row.now)))
         (each_inside text.now true pattern.now row.now (values_of text.now terms.now b)))
-        × Remembered text.now terms.now (levels_of text.now terms.now outer (at + length pattern.now) (start + length row.now)) b sure failed.old failed.new }
+        × Remembered text.now terms.now (levels_of text.now terms.now outer.now (at + length pattern.now) (start + length row.now)) b sure failed.old.places failed.new.places }
 {
     let m = end_of(pattern);
     let contents = &pattern[24..m];
@@ -412,7 +388,7 @@ fn literal_bracket(
 }
 
 // Is there a match of a pattern with a row, and then of all that is around them? By what the pattern's first record leaves to do.
-#[cycle(literal_anew_literal_apart_literal_bracket_literal_end_literal_first_literal_inside_literal_lengths_literal_out_literal_run_literal_tries)]
+#[cycle(literal)]
 fn literal_first(
     text: &[u8],
     terms: &[u8],
@@ -420,41 +396,39 @@ fn literal_first(
     at: usize,
     row: &[u8],
     start: usize,
-    outer: Pending,
+    outer: &Pending,
     b: Bindings,
     sure: Sure,
-    failed: &mut [u16; 2048],
-    first: First,
+    failed: &mut Rests,
+    stop: Stop,
 ) -> bool
-    requires literal_asked { LiteralAsked text.now terms.now pattern.now at row.now start outer b × Remembering text.now terms.now pattern.now (levels_of text.now terms.now outer (at + length pattern.now) (start + length row.now)) b sure failed.old }
-    requires stopped { Stopped text.now pattern.now row.now (values_of text.now terms.now b) first }
-    ensures { (result ≡ some_holds (resume (levels_of text.now terms.now outer (at + length pattern.now) (start + length row.now)))
+    requires literal_asked { LiteralAsked text.now terms.now pattern.now at row.now start outer.now b × Remembering text.now terms.now pattern.now (levels_of text.now terms.now outer.now (at + length pattern.now) (start + length row.now)) b sure failed.old.places }
+    requires stopped { Stopped text.now pattern.now row.now (values_of text.now terms.now b) stop }
+    ensures { (result ≡ some_holds (resume (levels_of text.now terms.now outer.now (at + length pattern.now) (start + length row.now)))
         (found true (row_of text.now pattern.now) (row_of text.now row.now) (values_of text.now terms.now b)))
-        × Remembered text.now terms.now (levels_of text.now terms.now outer (at + length pattern.now) (start + length row.now)) b sure failed.old failed.new }
+        × Remembered text.now terms.now (levels_of text.now terms.now outer.now (at + length pattern.now) (start + length row.now)) b sure failed.old.places failed.new.places }
 {
-    match first {
-        First::Fails => false,
-        First::Goes(_, _) => false,
-        First::Binds(n) => {
+    match stop {
+        Stop::Binds(n) => {
             let end = end_of(pattern);
             let rest = &pattern[end..];
             let left = &row[n..];
             let next = at + end;
-            let more = bind(b, at, start, n);
+            let more = b.bind(at, start, n);
             let j = start + n;
             literal_run(text, terms, rest, next, left, j, outer, more, sure, failed)
         }
-        First::Tries => {
+        Stop::Tries => {
             literal_tries(text, terms, pattern, at, row, start, outer, b, sure, failed)
         }
-        First::Inside => {
+        Stop::Inside => {
             literal_bracket(text, terms, pattern, at, row, start, outer, b, sure, failed)
         }
     }
 }
 
 // Is there a match of a pattern with a row, and then of all that is around them?
-#[cycle(literal_anew_literal_apart_literal_bracket_literal_end_literal_first_literal_inside_literal_lengths_literal_out_literal_run_literal_tries)]
+#[cycle(literal)]
 fn literal_run(
     text: &[u8],
     terms: &[u8],
@@ -462,39 +436,34 @@ fn literal_run(
     at: usize,
     row: &[u8],
     start: usize,
-    outer: Pending,
+    outer: &Pending,
     b: Bindings,
     sure: Sure,
-    failed: &mut [u16; 2048],
+    failed: &mut Rests,
 ) -> bool
-    requires { LiteralAsked text.now terms.now pattern.now at row.now start outer b × Remembering text.now terms.now pattern.now (levels_of text.now terms.now outer (at + length pattern.now) (start + length row.now)) b sure failed.old }
-    ensures { (result ≡ some_holds (resume (levels_of text.now terms.now outer (at + length pattern.now) (start + length row.now)))
+    requires { LiteralAsked text.now terms.now pattern.now at row.now start outer.now b × Remembering text.now terms.now pattern.now (levels_of text.now terms.now outer.now (at + length pattern.now) (start + length row.now)) b sure failed.old.places }
+    ensures { (result ≡ some_holds (resume (levels_of text.now terms.now outer.now (at + length pattern.now) (start + length row.now)))
         (found true (row_of text.now pattern.now) (row_of text.now row.now) (values_of text.now terms.now b)))
-        × Remembered text.now terms.now (levels_of text.now terms.now outer (at + length pattern.now) (start + length row.now)) b sure failed.old failed.new }
+        × Remembered text.now terms.now (levels_of text.now terms.now outer.now (at + length pattern.now) (start + length row.now)) b sure failed.old.places failed.new.places }
 {
-    let len = b.count;
-    match known_front(text, terms, pattern, row, &b.keys, &b.starts, &b.sizes, len) {
+    match known_front(text, terms, pattern, row, &b) {
         Known::Fails => false,
         Known::End(_, n) => {
-            let left = &row[n..];
-            if left.len() < 24 {
-                let next = at + pattern.len();
-                let end = start + row.len();
-                return literal_end(text, terms, next, end, outer, b, sure, failed);
-            }
-            false
+            let next = at + pattern.len();
+            let end = start + row.len();
+            row[n..].len() < 24 && literal_end(text, terms, next, end, outer, b, sure, failed)
         }
-        Known::Stop(m, n, first) => {
+        Known::Stops(m, n, stop) => {
             let rest = &pattern[m..];
             let left = &row[n..];
             let i = at + m;
             let j = start + n;
-            literal_first(text, terms, rest, i, left, j, outer, b, sure, failed, first)
+            literal_first(text, terms, rest, i, left, j, outer, b, sure, failed, stop)
         }
     }
 }
 
-// Has a part no variable, call or block at any depth?
+// Has a part no variable, call or block at any depth? Each step is a term long.
 pub fn is_literal(part: &[u8]) -> bool
     ensures { result ≡ literal_part part.now }
 {
@@ -506,13 +475,8 @@ pub fn is_literal(part: &[u8]) -> bool
         }
         let kind = word_at(rest, 0);
         let end = end_of(rest);
-        if 2 < kind {
-            if kind != 6 {
-                break false;
-            }
-            if !is_literal(&rest[24..end]) {
-                break false;
-            }
+        if 2 < kind && (kind != 6 || !is_literal(&rest[24..end])) {
+            break false;
         }
         i += end;
     }
@@ -532,13 +496,11 @@ pub fn search_literal(
     requires pattern_bound { (distinct (variables_in (row_of text.now pattern.now)) ≤ 32) × (nesting (row_of text.now pattern.now) ≤ 33) × (literal_part row.now ≡ true) }
     ensures { result ≡ literal_matches (row_of text.now pattern.now) (symbols_of text.now row.now) }
 {
-    let mut failed: [u16; 2048] = [0; 2048];
-    let sure = Sure {
-        fixed: 0,
-        places: 0,
-        here: true,
+    let mut failed = Rests {
+        places: [Rest::NONE; 512],
     };
-    let outer = alone();
+    let outer = Pending::none();
+    let sure = Sure::fixed(0);
     literal_run(
         text,
         terms,
@@ -546,8 +508,8 @@ pub fn search_literal(
         at,
         row,
         start,
-        outer,
-        none(),
+        &outer,
+        Bindings::none(),
         sure,
         &mut failed,
     )

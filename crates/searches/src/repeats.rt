@@ -1,17 +1,17 @@
 // Variables that stand again elsewhere, or have a value already.
-ghost use Rattle.std.specs.Prelude.{◌≡◌, true, false, List, ℕ, ◌+◌, ◌≤◌, ◌<◌, length, get_or};
+ghost use Rattle.std.specs.Prelude.{◌≡◌, true, false, ℕ, ◌+◌, ◌≤◌, ◌<◌, length};
 ghost use Rattle.file.specs.Word.{word_at};
 ghost use Rattle.file.specs.Head.{term_at};
 ghost use Rattle.matching.specs.Pattern.{Atom};
 ghost use Rattle.matching.specs.Match.{Values};
 ghost use Rattle.matching.specs.Code.Part.{row_of, atom_of};
-ghost use Rattle.matching.specs.Code.Bound.{Kept, places};
+ghost use Rattle.matching.specs.Code.Bound.{place_at, Kept};
 ghost use Rattle.searches.specs.Code.Capacity.{variables_in};
 ghost use Rattle.searches.specs.Code.Repeats.{Alone, AgreeUpTo, Disjoint};
 
 use file::word_at;
+use matching::Bindings;
 use matching::atoms::variables_same;
-use matching::bound::wide;
 
 // Of a search's places, how many keep their values as long as it remembers, and of how many more it is known that their variables stand neither in the pattern nor in
 // what is around it; and whether what it remembers is of what is around the pattern here.
@@ -22,77 +22,75 @@ pub struct Sure {
     pub here: bool,
 }
 
+impl Sure {
+    // Nothing is known of the places, and what is remembered is not of the levels around here.
+    pub fn none() -> Sure
+        ensures { (result.fixed ≡ 0) × (result.places ≡ 0) × (result.here ≡ false) }
+    {
+        Sure {
+            fixed: 0,
+            places: 0,
+            here: false,
+        }
+    }
+
+    // So many places keep their values, and nothing is known of others.
+    pub fn fixed(places: usize) -> Sure
+        ensures { result ≡ record { fixed = places; places = places; here = true } }
+    {
+        Sure {
+            fixed: places,
+            places,
+            here: true,
+        }
+    }
+}
+
 // Is the variable that stands first in one part a record of another, at any depth?
 pub fn again(text: &[u8], first: &[u8], part: &[u8]) -> bool
     requires { 24 ≤ length first.now }
     ensures { 2 < word_at first.now 0 → (result ≡ false → Alone text.now (atom_of text.now (term_at first.now 0)) part.now)
         × (result ≡ true → Alone text.now (atom_of text.now (term_at first.now 0)) part.now → ⊥) }
 {
-    let mut i = 0;
-    loop {
-        let left = &part[i..];
-        if left.len() < 24 {
-            break false;
+    for record in part.chunks_exact(24) {
+        if variables_same(text, first, record) {
+            return true;
         }
-        if variables_same(text, first, left) {
-            break true;
-        }
-        i += 24;
     }
+    false
 }
 
 // Have a part and one behind it no variable in common? What stands inside calls is looked at too.
 fn disjoint_variables(text: &[u8], part: &[u8], behind: &[u8]) -> bool
     ensures { result ≡ true → Disjoint (variables_in (row_of text.now part.now)) (variables_in (row_of text.now behind.now)) }
 {
-    let mut i = 0;
-    loop {
-        let left = &part[i..];
-        if left.len() < 24 {
-            break true;
+    for record in part.chunks_exact(24) {
+        if 2 < word_at(record, 0) && again(text, record, behind) {
+            return false;
         }
-        if 2 < word_at(left, 0) {
-            if again(text, left, behind) {
-                break false;
-            }
-        }
-        i += 24;
     }
+    true
 }
 
 // Is nothing around a part but what is behind it, with which it has no variable in common?
 pub fn stands_apart(text: &[u8], part: &[u8], behind: &[u8], around: usize) -> bool
     ensures { result ≡ true → (around ≡ 0) × Disjoint (variables_in (row_of text.now part.now)) (variables_in (row_of text.now behind.now)) }
 {
-    if around != 0 {
-        return false;
-    }
-    disjoint_variables(text, part, behind)
+    around == 0 && disjoint_variables(text, part, behind)
 }
 
 // Has no variable of a pattern a value in the places from `sure` on? Only keys are looked at.
-pub fn closed(
-    text: &[u8],
-    terms: &[u8],
-    pattern: &[u8],
-    keys: &[u16; 32],
-    sure: usize,
-    count: usize,
-) -> bool
-    requires { (sure ≤ count) × (count ≤ 32) × ((i : ℕ) → i < count → get_or keys.now i 0 + 24 ≤ length terms.now) }
-    ensures { result ≡ true → (starts sizes : List ℕ) (vs : Values Atom) → Kept text.now terms.now (places keys.now starts sizes count)
-        → AgreeUpTo text.now terms.now pattern.now keys.now starts sizes sure vs
-        → AgreeUpTo text.now terms.now pattern.now keys.now starts sizes count vs }
+pub fn closed(text: &[u8], terms: &[u8], pattern: &[u8], b: &Bindings, sure: usize) -> bool
+    requires { (sure ≤ b.now.count) × (b.now.count ≤ 32) × (length b.now.places ≡ 32) × ((i : ℕ) → i < b.now.count → (place_at b.now.places i).key + 24 ≤ length terms.now) }
+    ensures { result ≡ true → Kept text.now terms.now b.now → (vs : Values Atom)
+        → AgreeUpTo text.now terms.now pattern.now b.now sure vs
+        → AgreeUpTo text.now terms.now pattern.now b.now b.now.count vs }
 {
-    let mut i = sure;
-    loop {
-        if i == count {
-            break true;
-        }
-        let key = wide(keys[i]);
+    for i in sure..b.count {
+        let key = usize::from(b.places[i].key);
         if again(text, &terms[key..], pattern) {
-            break false;
+            return false;
         }
-        i += 1;
     }
+    true
 }

@@ -4,30 +4,22 @@ ghost use Rattle.std.proofs.Math.Option.{none};
 ghost use Rattle.law.specs.Variables.{distinct};
 ghost use Rattle.matching.specs.Shadow.{shadows};
 ghost use Rattle.matching.specs.Code.Part.{row_of, Stands};
-ghost use Rattle.matching.specs.Code.Bound.{values_of, Kept};
+ghost use Rattle.matching.specs.Code.Bound.{values_of};
 ghost use Rattle.matching.specs.Code.Step.{found, each_length, each_inside, Free, Facing, TriesAll, Stopped, first_variable};
 ghost use Rattle.searches.specs.Code.Capacity.{variables_in};
 ghost use Rattle.searches.specs.Code.Asked.{first_in, Asked, matched_values};
-ghost use Rattle.searches.specs.Code.Failed.{first_values, Settled, Failed, Remembers, Fixed};
+ghost use Rattle.searches.specs.Code.Failed.{first_values, Settled, Failed, Remembers, MatchKept};
 
-use crate::failed::{failed_before, note_failed};
+use crate::failed::{Rest, Rests};
 use crate::repeats::{Sure, closed};
 use law::runs::end_of;
-use matching::bound::{bind, none};
 use matching::front::known_front;
-use matching::{Bindings, First, Known};
+use matching::{Bindings, Known, Stop};
 
 // `failed` is what is remembered, of rests whose variables have the values of the fixed places of `sure`, or none.
 
-// Whether there is a match, and the values of the first.
-#[derive(Clone, Copy)]
-pub struct Matched {
-    pub ok: bool,
-    pub bindings: Bindings,
-}
-
 // An e. variable without a value, then the rest of the pattern: every length in turn.
-#[cycle(shadow_anew_shadow_first_shadow_inside_shadow_lengths_shadow_run_shadow_tries)]
+#[cycle(shadow)]
 fn shadow_lengths(
     text: &[u8],
     terms: &[u8],
@@ -37,14 +29,13 @@ fn shadow_lengths(
     start: usize,
     b: Bindings,
     sure: Sure,
-    failed: &mut [u16; 2048],
-) -> Matched
-    requires asked { Asked text.now terms.now pattern.now at row.now start [] b × (24 ≤ length pattern.now) × Settled text.now terms.now (variables_in (row_of text.now pattern.now)) b sure × Remembers (Failed text.now terms.now (first_values text.now terms.now b sure.fixed)) failed.old }
+    failed: &mut Rests,
+) -> Option<Bindings>
+    requires asked { Asked text.now terms.now pattern.now at row.now start [] b × (24 ≤ length pattern.now) × Settled text.now terms.now (variables_in (row_of text.now pattern.now)) b sure × Remembers (Failed text.now terms.now (first_values text.now terms.now b sure.fixed)) failed.old.places }
     requires free { Free (row_of text.now pattern.now) (first_variable text.now pattern.now) (values_of text.now terms.now b) }
-    ensures { Kept text.now terms.now result.bindings
-        × (matched_values text.now terms.now result ≡ first_in (each_length text.now false pattern.now row.now (values_of text.now terms.now b)))
-        × Remembers (Failed text.now terms.now (first_values text.now terms.now b sure.fixed)) failed.new
-        × Fixed text.now terms.now b sure.fixed result.bindings }
+    ensures { (matched_values text.now terms.now result ≡ first_in (each_length text.now false pattern.now row.now (values_of text.now terms.now b)))
+        × Remembers (Failed text.now terms.now (first_values text.now terms.now b sure.fixed)) failed.new.places
+        × MatchKept text.now terms.now b sure.fixed result }
 {
     let end = end_of(pattern);
     let rest = &pattern[end..];
@@ -52,13 +43,10 @@ fn shadow_lengths(
     let mut n = 0;
     loop {
         let left = &row[n..];
-        let more = bind(b, at, start, n);
-        let m = shadow_run(text, terms, rest, next, left, start + n, more, sure, failed);
-        if m.ok {
-            break m;
-        }
-        if left.len() < 24 {
-            break m;
+        let more = b.bind(at, start, n);
+        let found = shadow_run(text, terms, rest, next, left, start + n, more, sure, failed);
+        if found.is_some() || left.len() < 24 {
+            break found;
         }
         n += end_of(left);
     }
@@ -66,7 +54,7 @@ fn shadow_lengths(
 
 // The same, with a search that remembers anew, from the values that there are now.
 #[inline(never)]
-#[cycle(shadow_anew_shadow_first_shadow_inside_shadow_lengths_shadow_run_shadow_tries)]
+#[cycle(shadow)]
 fn shadow_anew(
     text: &[u8],
     terms: &[u8],
@@ -75,26 +63,22 @@ fn shadow_anew(
     row: &[u8],
     start: usize,
     b: Bindings,
-) -> Matched
+) -> Option<Bindings>
     requires asked { Asked text.now terms.now pattern.now at row.now start [] b × (24 ≤ length pattern.now) }
     requires free { Free (row_of text.now pattern.now) (first_variable text.now pattern.now) (values_of text.now terms.now b) }
-    ensures { Kept text.now terms.now result.bindings
-        × (matched_values text.now terms.now result ≡ first_in (each_length text.now false pattern.now row.now (values_of text.now terms.now b)))
-        × Fixed text.now terms.now b b.count result.bindings }
+    ensures { (matched_values text.now terms.now result ≡ first_in (each_length text.now false pattern.now row.now (values_of text.now terms.now b)))
+        × MatchKept text.now terms.now b b.count result }
 {
-    let mut failed: [u16; 2048] = [0; 2048];
-    let len = b.count;
-    let all = Sure {
-        fixed: len,
-        places: len,
-        here: true,
+    let mut failed = Rests {
+        places: [Rest::NONE; 512],
     };
+    let all = Sure::fixed(b.count);
     shadow_lengths(text, terms, pattern, at, row, start, b, all, &mut failed)
 }
 
 // The same, unless it is remembered that there is no match: where the variables of the pattern have the values of the fixed places, or none, this does not
 // depend on the others.
-#[cycle(shadow_anew_shadow_first_shadow_inside_shadow_lengths_shadow_run_shadow_tries)]
+#[cycle(shadow)]
 fn shadow_tries(
     text: &[u8],
     terms: &[u8],
@@ -104,43 +88,36 @@ fn shadow_tries(
     start: usize,
     b: Bindings,
     sure: Sure,
-    failed: &mut [u16; 2048],
-) -> Matched
-    requires asked { Asked text.now terms.now pattern.now at row.now start [] b × (24 ≤ length pattern.now) × Settled text.now terms.now (variables_in (row_of text.now pattern.now)) b sure × Remembers (Failed text.now terms.now (first_values text.now terms.now b sure.fixed)) failed.old }
+    failed: &mut Rests,
+) -> Option<Bindings>
+    requires asked { Asked text.now terms.now pattern.now at row.now start [] b × (24 ≤ length pattern.now) × Settled text.now terms.now (variables_in (row_of text.now pattern.now)) b sure × Remembers (Failed text.now terms.now (first_values text.now terms.now b sure.fixed)) failed.old.places }
     requires free { Free (row_of text.now pattern.now) (first_variable text.now pattern.now) (values_of text.now terms.now b) }
     requires tries_all { TriesAll text.now pattern.now row.now (values_of text.now terms.now b) }
-    ensures { Kept text.now terms.now result.bindings
-        × (matched_values text.now terms.now result ≡ first_in (each_length text.now false pattern.now row.now (values_of text.now terms.now b)))
-        × Remembers (Failed text.now terms.now (first_values text.now terms.now b sure.fixed)) failed.new
-        × Fixed text.now terms.now b sure.fixed result.bindings }
+    ensures { (matched_values text.now terms.now result ≡ first_in (each_length text.now false pattern.now row.now (values_of text.now terms.now b)))
+        × Remembers (Failed text.now terms.now (first_values text.now terms.now b sure.fixed)) failed.new.places
+        × MatchKept text.now terms.now b sure.fixed result }
 {
-    let len = b.count;
-    let places = sure.places;
-    if !closed(text, terms, pattern, &b.keys, places, len) {
+    if !closed(text, terms, pattern, &b, sure.places) {
         return shadow_anew(text, terms, pattern, at, row, start, b);
     }
-    let end = at + pattern.len();
-    let row_end = start + row.len();
-    if failed_before(failed, at, end, start, row_end) {
-        return Matched {
-            ok: false,
-            bindings: b,
-        };
+    let rests = Rest::new(at, at + pattern.len(), start, start + row.len());
+    if failed.has(rests) {
+        return None;
     }
     let all = Sure {
-        fixed: sure.fixed,
-        places: len,
+        places: b.count,
         here: true,
+        ..sure
     };
-    let m = shadow_lengths(text, terms, pattern, at, row, start, b, all, failed);
-    if !m.ok {
-        note_failed(failed, at, end, start, row_end);
+    let found = shadow_lengths(text, terms, pattern, at, row, start, b, all, failed);
+    if found.is_none() {
+        failed.note(rests);
     }
-    m
+    found
 }
 
 // A bracket against a bracket: the first match of the contents, then the rest.
-#[cycle(shadow_anew_shadow_first_shadow_inside_shadow_lengths_shadow_run_shadow_tries)]
+#[cycle(shadow)]
 fn shadow_inside(
     text: &[u8],
     terms: &[u8],
@@ -150,13 +127,12 @@ fn shadow_inside(
     start: usize,
     b: Bindings,
     sure: Sure,
-    failed: &mut [u16; 2048],
-) -> Matched
-    requires { Asked text.now terms.now pattern.now at row.now start [] b × (24 ≤ length pattern.now) × Facing (row_of text.now pattern.now) row.now × Settled text.now terms.now (variables_in (row_of text.now pattern.now)) b sure × Remembers (Failed text.now terms.now (first_values text.now terms.now b sure.fixed)) failed.old }
-    ensures { Kept text.now terms.now result.bindings
-        × (matched_values text.now terms.now result ≡ first_in (each_inside text.now false pattern.now row.now (values_of text.now terms.now b)))
-        × Remembers (Failed text.now terms.now (first_values text.now terms.now b sure.fixed)) failed.new
-        × Fixed text.now terms.now b sure.fixed result.bindings }
+    failed: &mut Rests,
+) -> Option<Bindings>
+    requires { Asked text.now terms.now pattern.now at row.now start [] b × (24 ≤ length pattern.now) × Facing (row_of text.now pattern.now) row.now × Settled text.now terms.now (variables_in (row_of text.now pattern.now)) b sure × Remembers (Failed text.now terms.now (first_values text.now terms.now b sure.fixed)) failed.old.places }
+    ensures { (matched_values text.now terms.now result ≡ first_in (each_inside text.now false pattern.now row.now (values_of text.now terms.now b)))
+        × Remembers (Failed text.now terms.now (first_values text.now terms.now b sure.fixed)) failed.new.places
+        × MatchKept text.now terms.now b sure.fixed result }
 {
     let m = end_of(pattern);
     let n = end_of(row);
@@ -164,16 +140,8 @@ fn shadow_inside(
     let inside = &row[24..n];
     let i = at + 24;
     let j = start + 24;
-    let first = shadow_run(text, terms, contents, i, inside, j, b, sure, failed);
-    if !first.ok {
-        return first;
-    }
-    let more = first.bindings;
-    let kept = Sure {
-        fixed: sure.fixed,
-        places: sure.fixed,
-        here: true,
-    };
+    let more = shadow_run(text, terms, contents, i, inside, j, b, sure, failed)?;
+    let kept = Sure::fixed(sure.fixed);
     let rest = &pattern[m..];
     let left = &row[n..];
     let next = at + m;
@@ -181,7 +149,7 @@ fn shadow_inside(
 }
 
 // The first match of a pattern with a row, by what the pattern's first record leaves to do.
-#[cycle(shadow_anew_shadow_first_shadow_inside_shadow_lengths_shadow_run_shadow_tries)]
+#[cycle(shadow)]
 fn shadow_first(
     text: &[u8],
     terms: &[u8],
@@ -191,40 +159,31 @@ fn shadow_first(
     start: usize,
     b: Bindings,
     sure: Sure,
-    failed: &mut [u16; 2048],
-    first: First,
-) -> Matched
-    requires asked { Asked text.now terms.now pattern.now at row.now start [] b × Settled text.now terms.now (variables_in (row_of text.now pattern.now)) b sure × Remembers (Failed text.now terms.now (first_values text.now terms.now b sure.fixed)) failed.old }
-    requires stopped { Stopped text.now pattern.now row.now (values_of text.now terms.now b) first }
-    ensures { Kept text.now terms.now result.bindings
-        × (matched_values text.now terms.now result ≡ first_in (found false (row_of text.now pattern.now) (row_of text.now row.now) (values_of text.now terms.now b)))
-        × Remembers (Failed text.now terms.now (first_values text.now terms.now b sure.fixed)) failed.new
-        × Fixed text.now terms.now b sure.fixed result.bindings }
+    failed: &mut Rests,
+    stop: Stop,
+) -> Option<Bindings>
+    requires asked { Asked text.now terms.now pattern.now at row.now start [] b × Settled text.now terms.now (variables_in (row_of text.now pattern.now)) b sure × Remembers (Failed text.now terms.now (first_values text.now terms.now b sure.fixed)) failed.old.places }
+    requires stopped { Stopped text.now pattern.now row.now (values_of text.now terms.now b) stop }
+    ensures { (matched_values text.now terms.now result ≡ first_in (found false (row_of text.now pattern.now) (row_of text.now row.now) (values_of text.now terms.now b)))
+        × Remembers (Failed text.now terms.now (first_values text.now terms.now b sure.fixed)) failed.new.places
+        × MatchKept text.now terms.now b sure.fixed result }
 {
-    match first {
-        First::Fails => Matched {
-            ok: false,
-            bindings: b,
-        },
-        First::Goes(_, _) => Matched {
-            ok: false,
-            bindings: b,
-        },
-        First::Binds(n) => {
+    match stop {
+        Stop::Binds(n) => {
             let end = end_of(pattern);
             let rest = &pattern[end..];
             let left = &row[n..];
-            let more = bind(b, at, start, n);
+            let more = b.bind(at, start, n);
             let next = at + end;
             shadow_run(text, terms, rest, next, left, start + n, more, sure, failed)
         }
-        First::Tries => shadow_tries(text, terms, pattern, at, row, start, b, sure, failed),
-        First::Inside => shadow_inside(text, terms, pattern, at, row, start, b, sure, failed),
+        Stop::Tries => shadow_tries(text, terms, pattern, at, row, start, b, sure, failed),
+        Stop::Inside => shadow_inside(text, terms, pattern, at, row, start, b, sure, failed),
     }
 }
 
 // The first match of a pattern with a row.
-#[cycle(shadow_anew_shadow_first_shadow_inside_shadow_lengths_shadow_run_shadow_tries)]
+#[cycle(shadow)]
 fn shadow_run(
     text: &[u8],
     terms: &[u8],
@@ -234,33 +193,22 @@ fn shadow_run(
     start: usize,
     b: Bindings,
     sure: Sure,
-    failed: &mut [u16; 2048],
-) -> Matched
-    requires { Asked text.now terms.now pattern.now at row.now start [] b × Settled text.now terms.now (variables_in (row_of text.now pattern.now)) b sure × Remembers (Failed text.now terms.now (first_values text.now terms.now b sure.fixed)) failed.old }
-    ensures { Kept text.now terms.now result.bindings
-        × (matched_values text.now terms.now result ≡ first_in (found false (row_of text.now pattern.now) (row_of text.now row.now) (values_of text.now terms.now b)))
-        × Remembers (Failed text.now terms.now (first_values text.now terms.now b sure.fixed)) failed.new
-        × Fixed text.now terms.now b sure.fixed result.bindings }
+    failed: &mut Rests,
+) -> Option<Bindings>
+    requires { Asked text.now terms.now pattern.now at row.now start [] b × Settled text.now terms.now (variables_in (row_of text.now pattern.now)) b sure × Remembers (Failed text.now terms.now (first_values text.now terms.now b sure.fixed)) failed.old.places }
+    ensures { (matched_values text.now terms.now result ≡ first_in (found false (row_of text.now pattern.now) (row_of text.now row.now) (values_of text.now terms.now b)))
+        × Remembers (Failed text.now terms.now (first_values text.now terms.now b sure.fixed)) failed.new.places
+        × MatchKept text.now terms.now b sure.fixed result }
 {
-    let len = b.count;
-    match known_front(text, terms, pattern, row, &b.keys, &b.starts, &b.sizes, len) {
-        Known::Fails => Matched {
-            ok: false,
-            bindings: b,
-        },
-        Known::End(_, n) => {
-            let left = &row[n..];
-            Matched {
-                ok: left.len() < 24,
-                bindings: b,
-            }
-        }
-        Known::Stop(m, n, first) => {
+    match known_front(text, terms, pattern, row, &b) {
+        Known::Fails => None,
+        Known::End(_, n) => { if row[n..].len() < 24 { Some(b) } else { None } }
+        Known::Stops(m, n, stop) => {
             let rest = &pattern[m..];
             let left = &row[n..];
             let i = at + m;
             let j = start + n;
-            shadow_first(text, terms, rest, i, left, j, b, sure, failed, first)
+            shadow_first(text, terms, rest, i, left, j, b, sure, failed, stop)
         }
     }
 }
@@ -279,12 +227,10 @@ pub fn search_shadow(
     requires earlier_bound { distinct (variables_in (row_of text.now earlier.now)) ≤ 32 }
     ensures { result ≡ shadows (row_of text.now earlier.now) (row_of text.now later.now) }
 {
-    let mut failed: [u16; 2048] = [0; 2048];
-    let sure = Sure {
-        fixed: 0,
-        places: 0,
-        here: true,
+    let mut failed = Rests {
+        places: [Rest::NONE; 512],
     };
+    let sure = Sure::fixed(0);
     shadow_run(
         text,
         terms,
@@ -292,9 +238,9 @@ pub fn search_shadow(
         at,
         later,
         start,
-        none(),
+        Bindings::none(),
         sure,
         &mut failed,
     )
-    .ok
+    .is_some()
 }

@@ -1,5 +1,6 @@
 -- What the two matchers ask for, and what they answer.
 use Rattle.std.specs.Prelude.{ℕ, zero, suc, ◌+◌, ◌-◌, ◌≤◌, ◌<◌, max, Bool, true, false, cond, ◌||◌, List, [], ◌∷◌, ◌++◌, ◌≡◌, length, take, drop, get_or}
+use Rattle.std.specs.Prelude.{Some, None, Option as Maybe}
 use Rattle.std.proofs.Math.Option.{Option, none, some}
 use Rattle.law.specs.Expression.{nothing, symbol, brackets}
 use Rattle.law.specs.Variables.{Variable}
@@ -10,7 +11,7 @@ use Rattle.matching.specs.Code.Bound.{values_of, Kept}
 use Rattle.matching.specs.Code.Step.{found}
 use Rattle.searches.specs.Code.Capacity.{variables_in, Capacity}
 use Rattle.matching.specs.declared.Bindings.{Bindings}
-use Rattle.searches.specs.declared.shadow.Matched.{Matched}
+use Rattle.searches.specs.declared.literal.Level.{Level}
 use Rattle.searches.specs.declared.literal.Pending.{Pending}
 
 -- the first of a list
@@ -33,8 +34,9 @@ pub record Asked (text terms pattern : List ℕ) (at : ℕ) (row : List ℕ) (st
   pub capacity : Capacity (variables_in (row_of text pattern) ++ coming) (values_of text terms b)
 
 -- the values of the first match, if there is one
-abbrev pub matched_values : List ℕ → List ℕ → Matched → Option (Values Atom)
-matched_values text terms m = cond m.ok (some (values_of text terms m.bindings)) none
+abbrev pub matched_values : List ℕ → List ℕ → Maybe Bindings → Option (Values Atom)
+matched_values text terms None = none
+matched_values text terms (Some b) = some (values_of text terms b)
 
 -- ---- going back into brackets: what is still to be matched around the brackets that were gone into, the innermost first
 
@@ -58,33 +60,33 @@ coming_in (q ∷ qs) = variables_in q.0 ++ coming_in qs
 abbrev pub between : List ℕ → List ℕ → ℕ → ℕ → Pattern
 between text terms a e = row_of text (take (e - a) (drop a terms))
 
-module _ (text terms ends row_ends : List ℕ) where
+-- the level of a number; there are 33
+abbrev pub level_at : List Level → ℕ → Level
+level_at ends i = get_or ends i (record { pattern_end = 0; row_end = 0 })
+
+module _ (text terms : List ℕ) (ends : List Level) where
   -- the n innermost levels, the first of which begins at these positions of the pattern and of the row
   unfoldable pub levels : ℕ → ℕ → ℕ → List (Pattern × Pattern)
   levels at start zero = []
   levels at start (suc n) =
-      (between text terms at (get_or ends n 0), between text terms start (get_or row_ends n 0)) ∷ levels (get_or ends n 0) (get_or row_ends n 0) n
+      (between text terms at (level_at ends n).pattern_end, between text terms start (level_at ends n).row_end)
+      ∷ levels (level_at ends n).pattern_end (level_at ends n).row_end n
 
   -- each begins where the one before it ends, and the brackets in them are not too deep
   abbrev pub LevelsIn : ℕ → ℕ → ℕ → Type 0
   LevelsIn at start zero = Unit {0}
   LevelsIn at start (suc n) =
-      (at ≤ get_or ends n 0) × (get_or ends n 0 ≤ length terms) × (start ≤ get_or row_ends n 0) × (get_or row_ends n 0 ≤ length terms)
-      × (n + nesting (between text terms at (get_or ends n 0)) ≤ 33)
-      × LevelsIn (get_or ends n 0) (get_or row_ends n 0) n
-
--- levels whose ends are these
-abbrev pub pending : List ℕ → List ℕ → ℕ → Pending
-pending patterns rows count = record { patterns = patterns; rows = rows; count = count }
+      (at ≤ (level_at ends n).pattern_end) × ((level_at ends n).pattern_end ≤ length terms) × (start ≤ (level_at ends n).row_end) × ((level_at ends n).row_end ≤ length terms)
+      × (n + nesting (between text terms at (level_at ends n).pattern_end) ≤ 33)
+      × LevelsIn (level_at ends n).pattern_end (level_at ends n).row_end n
 
 abbrev pub levels_of : List ℕ → List ℕ → Pending → ℕ → ℕ → List (Pattern × Pattern)
-levels_of text terms p at start = levels text terms p.patterns p.rows at start p.count
+levels_of text terms p at start = levels text terms p.levels at start p.count
 
 pub record Around (text terms : List ℕ) (p : Pending) (at start : ℕ) : Type 0 where
   pub few : p.count ≤ 33
-  pub patterns : length p.patterns ≡ 33
-  pub rows : length p.rows ≡ 33
-  pub levels_in : LevelsIn text terms p.patterns p.rows at start p.count
+  pub long : length p.levels ≡ 33
+  pub levels_in : LevelsIn text terms p.levels at start p.count
 
 -- a pattern and a row, and the levels around them; there are places for all their variables, and for the levels of brackets in brackets
 pub record LiteralAsked (text terms pattern : List ℕ) (at : ℕ) (row : List ℕ) (start : ℕ) (p : Pending) (b : Bindings) : Type 0 where

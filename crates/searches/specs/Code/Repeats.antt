@@ -7,6 +7,7 @@ use Rattle.matching.specs.Match.{Values, value_in}
 use Rattle.matching.specs.Shadow.{same_atom}
 use Rattle.matching.specs.Code.Part.{row_of, atom_of}
 use Rattle.matching.specs.Code.Bound.{values_up_to}
+use Rattle.matching.specs.declared.Bindings.{Bindings}
 use Rattle.searches.specs.Code.Capacity.{variables_in}
 
 -- the atom that a record of a part is, by the record's number
@@ -27,5 +28,5 @@ module _ {A : Type 0} where
   Agree l vs us = (w : Variable) → occurs w l ≡ true → value_in vs w ≡ value_in us w
 
 -- for a pattern's variables, the values in the first n places are these
-abbrev pub AgreeUpTo : List ℕ → List ℕ → List ℕ → List ℕ → List ℕ → List ℕ → ℕ → Values Atom → Type 0
-AgreeUpTo text terms pattern keys starts sizes n vs = Agree (variables_in (row_of text pattern)) (values_up_to text terms keys starts sizes n) vs
+abbrev pub AgreeUpTo : List ℕ → List ℕ → List ℕ → Bindings → ℕ → Values Atom → Type 0
+AgreeUpTo text terms pattern b n vs = Agree (variables_in (row_of text pattern)) (values_up_to text terms b.places n) vs

@@ -1,0 +1,9 @@
+use Rattle.matching.specs.Pattern.{Atom}
+use Rattle.matching.specs.Match.{Values}
+use Rattle.matching.specs.Code.Bound.{Kept}
+use Rattle.searches.specs.Code.Repeats.{AgreeUpTo}
+use Rattle.searches.proofs.repeats.closed.Given as goal
+
+-- none of the pattern's variables has a value in the places that were looked at
+abbrev pub invariant-loop-i : goal.invariant-loop-i
+invariant-loop-i l = Kept l.text l.terms l.b → (vs : Values Atom) → AgreeUpTo l.text l.terms l.pattern l.b l.sure vs → AgreeUpTo l.text l.terms l.pattern l.b l.i vs
