@@ -20,7 +20,7 @@ use crate::gather::{OWN, gather};
 use formats::Slots;
 use formats::call::clear_store;
 use formats::slots::slots_of;
-use law::Index;
+use law::{Index, Law};
 use lints::levels::settings_allowed;
 use messages::put_message;
 use pages::{page_length, put_heading, put_page};
@@ -79,7 +79,7 @@ fn print(
     if page.len() < length {
         return Err(Turned::Page);
     }
-    put_page(law, index, own, count, page);
+    put_page(&Law { bytes: law, index }, own, count, page);
     Ok(length)
 }
 

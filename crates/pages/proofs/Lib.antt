@@ -1,5 +1,4 @@
 pub mod FieldLaws
-pub mod NumberLaws
 pub mod LineLaws
 pub mod PageLaws
 pub mod LayoutLaws

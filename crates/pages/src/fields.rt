@@ -4,7 +4,7 @@ ghost use Rattle.buffers.specs.Decimal.{decimal};
 ghost use Rattle.buffers.specs.Code.Put.{Put, largest};
 ghost use Rattle.pages.specs.Page.{left, right, next_field, cut};
 
-use buffers::{put, put_byte};
+use buffers::{put, put_byte, put_decimal};
 
 // The columns of a line, of a name in it, and of a number with the space before it.
 const COLUMNS: usize = 72;
@@ -31,21 +31,14 @@ fn put_left(word: &[u8], columns: usize, out: &mut [u8], at: usize) -> usize
     put_spaces(columns - word.len(), out, end)
 }
 
-// A field of ten columns with a number at the right, after a space. The digits are found from the last one on.
+// A field of ten columns with a number at the right, after a space.
 pub fn put_number(n: usize, out: &mut [u8], at: usize) -> usize
     requires { (n < 10000000000) × (at + 145 ≤ largest) }
     ensures { Put out.old at (next_field (right 10 (decimal n))) result out.new }
 {
-    let mut field = [b' '; NUMBER];
-    let mut rest = n;
-    let mut i = 10;
-    while 10 <= rest {
-        field[i] = b'0' + (rest % 10) as u8;
-        rest /= 10;
-        i -= 1;
-    }
-    field[i] = b'0' + rest as u8;
-    put(&field[..NUMBER], out, at)
+    let digits = put_decimal(n, &mut [], 0); // no byte fits: only their number is found
+    let first = put_spaces(NUMBER - digits, out, at);
+    put_decimal(n, out, first)
 }
 
 // A function's name, cut where it is longer than its field.
@@ -56,6 +49,6 @@ pub fn put_name(name: &[u8], out: &mut [u8], at: usize) -> usize
     if name.len() <= NAME {
         return put_left(name, NAME, out, at);
     }
-    let end = put(&name[..23], out, at);
+    let end = put(&name[..NAME - 1], out, at);
     put_byte(b'+', out, end)
 }
