@@ -13,22 +13,14 @@ pub fn copy_words(from: &[u32], to: &mut [u32])
     requires { length from.now ≡ length to.old }
     ensures { to.new ≡ from.now }
 {
-    let mut i = 0;
-    while i < from.len() {
-        to[i] = from[i];
-        i += 1;
-    }
+    to.copy_from_slice(from);
 }
 
 // Every word is 0.
 pub fn clear_words(words: &mut [u32])
     ensures { words.new ≡ replicate (length words.old) 0 }
 {
-    let mut i = 0;
-    while i < words.len() {
-        words[i] = 0;
-        i += 1;
-    }
+    words.fill(0);
 }
 
 // Bytes put at a position, as far as there is room. The position after all of them in any case.
@@ -36,10 +28,9 @@ pub fn put(piece: &[u8], out: &mut [u8], at: usize) -> usize
     requires { at + length piece.now ≤ largest }
     ensures { Put out.old at piece.now result out.new }
 {
-    let mut i = 0;
-    while i < piece.len() && at + i < out.len() {
-        out[at + i] = piece[i];
-        i += 1;
+    if at < out.len() {
+        let fits = piece.len().min(out.len() - at);
+        out[at..at + fits].copy_from_slice(&piece[..fits]);
     }
     at + piece.len()
 }
