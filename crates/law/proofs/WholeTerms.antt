@@ -40,5 +40,5 @@ module _ (P : List ℕ → Type 0) (none : (s : List ℕ) → length s < 24 → 
   each_part s = part_up_to (length s) s (omega arith)
 
 -- the terms that the iterator goes over, as a chain of iterators asks for them
-pub YieldsList-from_terms : (s : Terms) → YieldsList (λ before item later. YieldsTerm before.0.now item later.0.now) (λ part. part.now) s (term_parts s.0.now)
-YieldsList-from_terms s = YieldsList-from_shown _ _ (λ t. term_parts t.0.now) (λ t u h. ap length h.0) (λ t x u h. h.1) s
+pub YieldsList-from_terms : {s : Terms} (part : List ℕ) → s.0.now ≡ part → YieldsList (λ before item later. YieldsTerm before.0.now item later.0.now) (λ x. x.now) s (term_parts part)
+YieldsList-from_terms {s} part e = rw (← e) (YieldsList-from_shown _ _ (λ t. term_parts t.0.now) (λ t u h. ap length h.0) (λ t x u h. h.1) s)

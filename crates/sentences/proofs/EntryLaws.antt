@@ -15,7 +15,7 @@ use Rattle.searches.specs.Code.Asked.{some_holds, resume}
 use Rattle.matching.proofs.SameLaws.{false_not_true, symbol_refl, atom_sound}
 use Rattle.searches.proofs.LiteralParts.{literal_found}
 use Rattle.sentences.specs.Code.Loose.{once_each}
-use Rattle.sentences.specs.Code.Ahead.{passes}
+use Rattle.sentences.specs.Code.Ahead.{passes, Matches}
 use Rattle.sentences.proofs.LooseLaws.{loose_misses_nothing, loose_found}
 
 module _ (back : Bool) (p x : Pattern) where
@@ -34,33 +34,24 @@ module _ (back : Bool) (p x : Pattern) where
   unfolding value_in
   some_found o h = loose_found same_atom literal symbol_like single_term back p x none_bound o (λ w i. refl) h
 
-holds_some : (l : List (Values Atom)) → some_in l ≡ true → some_holds (resume []) l ≡ true
+holds_some : (l : List (Values Atom)) → some_in l ≡ some_holds (resume []) l
 unfolding some_holds resume
-holds_some [] h = absurd (false_not_true h)
-holds_some (vs ∷ l) h = refl
+holds_some [] = refl
+holds_some (vs ∷ l) = refl
 
--- where there is no match, however brackets are gone back into
-module _ (text pattern row : List ℕ) (none : (back : Bool) → found back (row_of text pattern) (row_of text row) none_bound ≡ []) where
-  pub shadow_none : false ≡ shadows (row_of text pattern) (row_of text row)
+module _ (text pattern row : List ℕ) where
+  pub known_not : passes (row_of text pattern) (row_of text row) ≡ false → Matches text pattern row false
+  known_not h back = ap some_in (none_found back (row_of text pattern) (row_of text row) h)
+
+  pub known_uneven : ((back : Bool) → found back (row_of text pattern) (row_of text row) none_bound ≡ []) → Matches text pattern row false
+  known_uneven none back = ap some_in (none back)
+
+  pub known_once : passes (row_of text pattern) (row_of text row) ≡ true → once_each (variables_in (row_of text pattern)) ≡ true → Matches text pattern row true
+  known_once h o back = some_found back (row_of text pattern) (row_of text row) o h
+
+  pub shadow_known : {b : Bool} → Matches text pattern row b → b ≡ shadows (row_of text pattern) (row_of text row)
   unfolding shadows_with own_values
-  shadow_none = sym (ap some_in (none false))
+  shadow_known h = sym (h false)
 
-  pub literal_none : literal_part row ≡ true → false ≡ literal_matches (row_of text pattern) (symbols_of text row)
-  unfolding some_holds
-  literal_none k = sym (ap (some_holds (resume [])) (none true)) ∙ literal_found text row (row_of text pattern) k
-
-module _ (text pattern row : List ℕ) {r : Bool} (told : r ≡ passes (row_of text pattern) (row_of text row)) where
-  pub shadow_not : r ≡ false → false ≡ shadows (row_of text pattern) (row_of text row)
-  shadow_not h = shadow_none text pattern row (λ back. none_found back (row_of text pattern) (row_of text row) (sym told ∙ h))
-
-  pub shadow_once : r ≡ true → once_each (variables_in (row_of text pattern)) ≡ true → true ≡ shadows (row_of text pattern) (row_of text row)
-  unfolding shadows_with own_values
-  shadow_once h o = sym (some_found false (row_of text pattern) (row_of text row) o (sym told ∙ h))
-
-  pub literal_not : literal_part row ≡ true → r ≡ false → false ≡ literal_matches (row_of text pattern) (symbols_of text row)
-  literal_not k h = literal_none text pattern row (λ back. none_found back (row_of text pattern) (row_of text row) (sym told ∙ h)) k
-
-  pub literal_once : literal_part row ≡ true → r ≡ true → once_each (variables_in (row_of text pattern)) ≡ true
-      → true ≡ literal_matches (row_of text pattern) (symbols_of text row)
-  literal_once k h o =
-      sym (holds_some _ (some_found true (row_of text pattern) (row_of text row) o (sym told ∙ h))) ∙ literal_found text row (row_of text pattern) k
+  pub literal_known : literal_part row ≡ true → {b : Bool} → Matches text pattern row b → b ≡ literal_matches (row_of text pattern) (symbols_of text row)
+  literal_known k h = sym (h true) ∙ holds_some _ ∙ literal_found text row (row_of text pattern) k

@@ -1,39 +1,41 @@
 -- The front of a pattern with a row, where both are parts of the term records: what `fits`, `front` and `leftmost` answer at each return.
-use Prim.Native.Nat.{ℕ, zero, suc, ◌+◌, ◌-◌, ◌≤◌, ◌<◌}
+use Prim.Native.Nat.{ℕ, zero, suc, ◌-◌, ◌≤◌, ◌<◌}
 use mathlib.Core.Bool.{Bool, true, false, cond, ◌&&◌}
 use mathlib.Core.List.{List}
 use mathlib.Core.Logic.{◌⊎◌, inl, inr}
-use mathlib.Core.Option.{Option, none, some}
-use mathlib.Core.Path.{◌≡◌, refl, sym, ◌∙◌}
+use mathlib.Core.Option as maybe
+use mathlib.Core.Option.{none, some}
+use mathlib.Core.Path.{◌≡◌, refl, sym, ap, ◌∙◌}
 use native.Mathlib.Omega.{arith}
+use Rattle.std.specs.Prelude.{Option, Some, None, is_some}
+use Rattle.std.specs.Borrow.{Bor}
 use lib.ListN.{length, take, drop}
+use lib.Dec.{lit<}
 use Rattle.file.specs.Word.{word_at}
 use Rattle.file.specs.Forest.{rest}
 use Rattle.file.specs.Head.{term_from, term_at}
 use Rattle.file.specs.declared.Symbol as heads
+use Rattle.file.proofs.Forest.{rest_falls}
 use Rattle.file.specs.declared.Term.{Term}
 use Rattle.file.specs.declared.Term.TheVariants.{Symbol as Symbolic, SVariable, TVariable, EVariable, Bracket, Call, Block}
 use Rattle.law.specs.Expression.{nothing, symbol, brackets}
 use Rattle.law.specs.Runs.{end_of}
-use Rattle.law.proofs.RunLaws.{end_high}
+use Rattle.law.proofs.RunLaws.{end_low, end_high}
 use Rattle.matching.specs.Pattern.{literal, Pattern}
 use Rattle.matching.specs.Shadow.{same_atom, symbol_like, single_term}
-use Rattle.matching.specs.Code.Part.{row_of, from, symbol_at, atom_of, term_row, is_bracket}
+use Rattle.matching.specs.Code.Part.{row_of, symbol_at, atom_of, term_row, is_bracket}
 use Rattle.matching.specs.Code.Step.{open_term, may_stand}
 use Rattle.matching.proofs.SameLaws.{false_not_true}
 use Rattle.matching.proofs.PartLaws.{row_empty, row_node}
-use Rattle.matching.proofs.CutLaws.{from_all, from_length, from_from}
 use Rattle.matching.proofs.StepLaws.{symbol_from}
 use Rattle.sentences.specs.Code.Greedy.{open_atom, next, or_else, atom_fits, bracket_fits, front_of, leftmost_of}
-use Rattle.sentences.specs.Code.Ahead.{passes, front_in, leftmost_in, ahead_of, AheadIn, OpenStart, fits_heads, fits_first}
-use Rattle.sentences.specs.declared.loose.Ahead.{Ahead}
-use Rattle.sentences.specs.declared.loose.Ahead.TheVariants.{At, Fails}
+use Rattle.sentences.specs.Code.Ahead.{passes, front_in, leftmost_in, ahead_of, OpenStart, fits_heads, fits_first}
 use Rattle.sentences.proofs.GreedyLaws.{next_some}
 
 -- ---- first terms
 
 module _ {X Y : Type 0} where
-  next_cond : (b : Bool) (x : X) (g : X → Option Y) → next (cond b (some x) none) g ≡ cond b (g x) none
+  next_cond : (b : Bool) (x : X) (g : X → maybe.Option Y) → next (cond b (some x) none) g ≡ cond b (g x) none
   next_cond true x g = refl
   next_cond false x g = refl
 
@@ -135,7 +137,7 @@ open_other (suc (suc (suc (suc (suc (suc zero)))))) a b h = refl
 open_other (suc (suc (suc (suc (suc (suc (suc zero))))))) a b h = refl
 open_other (suc (suc (suc (suc (suc (suc (suc (suc k)))))))) a b h = refl
 
-high_fits : (text : List ℕ) (kind a b : ℕ) (u : Term) (inside : Bool) → 3 ≤ kind → is_bracket (term_from kind a b) ≡ false
+high_fits : (text : List ℕ) (kind a b : ℕ) (u : Term) (inside : Bool) → 3 ≤ kind → (kind ≡ 6 → ⊥)
     → may_stand (term_from kind a b) u ≡ fits_heads text (term_from kind a b) u inside
 unfolding term_from
 high_fits text zero a b u inside h n = absurd (omega arith)
@@ -144,9 +146,13 @@ high_fits text (suc (suc zero)) a b u inside h n = absurd (omega arith)
 high_fits text (suc (suc (suc zero))) a b u inside h n = refl
 high_fits text (suc (suc (suc (suc zero)))) a b u inside h n = refl
 high_fits text (suc (suc (suc (suc (suc zero))))) a b u inside h n = refl
-high_fits text (suc (suc (suc (suc (suc (suc zero)))))) a b u inside h n = absurd (false_not_true (sym n))
+high_fits text (suc (suc (suc (suc (suc (suc zero)))))) a b u inside h n = absurd (n refl)
 high_fits text (suc (suc (suc (suc (suc (suc (suc zero))))))) a b u inside h n = refl
 high_fits text (suc (suc (suc (suc (suc (suc (suc (suc k)))))))) a b u inside h n = refl
+
+bracket_six : (kind a b : ℕ) → kind ≡ 6 → is_bracket (term_from kind a b) ≡ true
+unfolding term_from
+bracket_six kind a b e = rw e
 
 symbol_fits : (text : List ℕ) (t u : Term) (inside : Bool) (x : heads.Symbol) → t ≡ Symbolic x → same_atom (atom_of text t) (atom_of text u) ≡ fits_heads text t u inside
 symbol_fits text t u inside x e = rw e
@@ -170,20 +176,23 @@ module _ (text pattern row : List ℕ) where
       let (x, s) = symbol_from (word_at pattern 0) (word_at pattern 4) (word_at pattern 8) (omega (arith, told)) in
       e ∙ symbol_fits text (term_at pattern 0) (term_at row 0) _ x s
 
-  module _ {p : Bool} (first : p ≡ is_bracket (term_at pattern 0)) where
-    pub fits_variable : {kind : ℕ} → kind ≡ word_at pattern 0 → 3 ≤ kind → p ≡ false → {t u : Term} → t ≡ term_at pattern 0 → u ≡ term_at row 0
-        → {r : Bool} → r ≡ may_stand t u → r ≡ fits_first text pattern row
+  pub fits_variable : {kind : ℕ} → kind ≡ word_at pattern 0 → 3 ≤ kind → (kind ≡ 6 → ⊥) → {t u : Term} → t ≡ term_at pattern 0 → u ≡ term_at row 0
+      → {r : Bool} → r ≡ may_stand t u → r ≡ fits_first text pattern row
+  unfolding term_at
+  fits_variable {kind} told h n i j e =
+      e ∙ rw (i, j) (high_fits text (word_at pattern 0) (word_at pattern 4) (word_at pattern 8) (term_at row 0) _ (omega (arith, told)) (λ six. n (told ∙ six)))
+
+  module _ {kind : ℕ} (told : kind ≡ word_at pattern 0) (six : kind ≡ 6) {q : Bool} (second : q ≡ is_bracket (term_at row 0)) where
+    bracket_first : is_bracket (term_at pattern 0) ≡ true
     unfolding term_at
-    fits_variable {kind} told h n i j e =
-        e ∙ rw (i, j) (high_fits text (word_at pattern 0) (word_at pattern 4) (word_at pattern 8) (term_at row 0) _ (omega (arith, told)) (sym first ∙ n))
+    bracket_first = bracket_six (word_at pattern 0) (word_at pattern 4) (word_at pattern 8) (sym told ∙ six)
 
-    module _ (bracket : p ≡ true) {q : Bool} (second : q ≡ is_bracket (term_at row 0)) where
-      pub fits_none : q ≡ false → false ≡ fits_first text pattern row
-      fits_none d = rw (← first, bracket, ← second, d)
+    pub fits_none : q ≡ false → q ≡ fits_first text pattern row
+    fits_none d = rw (bracket_first, ← second, d)
 
-      pub fits_inside : q ≡ true → {m n : ℕ} → m ≡ end_of pattern → n ≡ end_of row → {r : Bool}
-          → r ≡ passes (row_of text (take (m - 24) (drop 24 pattern))) (row_of text (take (n - 24) (drop 24 row))) → r ≡ fits_first text pattern row
-      fits_inside d ends row_ends_lem e = e ∙ rw (← first, bracket, ← second, d, ends, row_ends_lem)
+    pub fits_inside : q ≡ true → {m n : ℕ} → m ≡ end_of pattern → n ≡ end_of row → {r : Bool}
+        → r ≡ passes (row_of text (take (m - 24) (drop 24 pattern))) (row_of text (take (n - 24) (drop 24 row))) → r ≡ fits_first text pattern row
+    fits_inside d ends row_ends_lem e = e ∙ rw (bracket_first, ← second, d, ends, row_ends_lem)
 
 -- first symbols that differ
 pub symbols_part : (text pattern row : List ℕ) → 24 ≤ length pattern → 24 ≤ length row → {kind : ℕ} → kind ≡ word_at pattern 0 → kind ≤ 2
@@ -193,60 +202,48 @@ symbols_part text pattern row long more {kind} told h fit e =
     rw (row_node text pattern long, row_node text row more)
     (front_heads text (term_at pattern 0) (not_open pattern told (λ five. omega (arith, five))) _ _ (term_at row 0) _ _ ∙ rw no)
 
--- ---- what `front` has gone through: from i and j on the pattern and the row are left
+-- ---- what `front` has gone through: `left` and `right` are left of the pattern and the row
 
-abbrev Answers : List ℕ → List ℕ → List ℕ → Ahead → Type 0
-Answers text pattern row r = AheadIn pattern row r × (ahead_of text pattern row r ≡ front_in (row_of text pattern) (row_of text row))
+pub record Fronted (text pattern row left right : List ℕ) : Type 0 where
+  pub within : length left ≤ length pattern
+  pub same : front_in (row_of text pattern) (row_of text row) ≡ front_in (row_of text left) (row_of text right)
 
-pub record Fronted (text pattern row : List ℕ) (i j : ℕ) : Type 0 where
-  pub within : i ≤ length pattern
-  pub row_within : j ≤ length row
-  pub left : front_in (row_of text pattern) (row_of text row) ≡ front_in (row_of text (from i pattern)) (row_of text (from j row))
+pub fronted : (text pattern row : List ℕ) → Fronted text pattern row pattern row
+fronted text pattern row = record { within = omega arith; same = refl }
 
-pub fronted : (text pattern row : List ℕ) → Fronted text pattern row 0 0
-fronted text pattern row = record { within = omega arith; row_within = omega arith; left = rw (from_all pattern, from_all row) }
-
-module _ {text pattern row : List ℕ} {i j : ℕ} (so_far : Fronted text pattern row i j) where
+module _ {text pattern row left right : List ℕ} (so_far : Fronted text pattern row left right) where
   -- nothing is left of the pattern
-  pub front_end : length (from i pattern) < 24 → Answers text pattern row (At i j)
+  pub front_end : length left < 24 → some (row_of text left, row_of text right) ≡ front_in (row_of text pattern) (row_of text row)
   unfolding front_of
-  front_end h = ((so_far.within, so_far.row_within), sym (so_far.left ∙ rw (row_empty text (from i pattern) h)))
+  front_end h = sym (so_far.same ∙ rw (row_empty text left h))
 
-  module _ (long : 24 ≤ length (from i pattern)) {kind : ℕ} (told : kind ≡ word_at (from i pattern) 0) where
+  module _ (long : 24 ≤ length left) {kind : ℕ} (told : kind ≡ word_at left 0) where
     -- an e. variable
-    pub front_open_term : kind ≡ 5 → Answers text pattern row (At i j)
-    front_open_term h = (
-      (so_far.within, so_far.row_within),
-      sym (so_far.left ∙ rw (row_node text (from i pattern) long) (front_stops text (term_at (from i pattern) 0) (is_open_lem (from i pattern) told h) _ _ _)),
-    )
+    pub front_open_term : kind ≡ 5 → some (row_of text left, row_of text right) ≡ front_in (row_of text pattern) (row_of text row)
+    front_open_term h = sym (so_far.same ∙ rw (row_node text left long) (front_stops text (term_at left 0) (is_open_lem left told h) _ _ _))
 
     module _ (closed : kind ≡ 5 → ⊥) where
       -- nothing is left of the row
-      pub front_short : length (from j row) < 24 → Answers text pattern row Fails
-      front_short h = (
-        tt,
-        sym (so_far.left
-            ∙ rw (row_node text (from i pattern) long, row_empty text (from j row) h) (front_none text (term_at (from i pattern) 0) (not_open (from i pattern) told closed) _ _)),
-      )
+      pub front_short : length right < 24 → none ≡ front_in (row_of text pattern) (row_of text row)
+      front_short h =
+          sym (so_far.same ∙ rw (row_node text left long, row_empty text right h) (front_none text (term_at left 0) (not_open left told closed) _ _))
 
-      module _ (more : 24 ≤ length (from j row)) {t : Bool} (fit : t ≡ fits_first text (from i pattern) (from j row)) where
-        front_step : front_in (row_of text pattern) (row_of text row)
-            ≡ cond t (front_in (row_of text (rest 24 end_of (from i pattern))) (row_of text (rest 24 end_of (from j row)))) none
+      module _ (more : 24 ≤ length right) {t : Bool} (fit : t ≡ fits_first text left right) where
+        front_step : front_in (row_of text pattern) (row_of text row) ≡ cond t (front_in (row_of text (rest 24 end_of left)) (row_of text (rest 24 end_of right))) none
         front_step =
-            so_far.left
-            ∙ rw (fit, row_node text (from i pattern) long, row_node text (from j row) more)
-            (front_heads text (term_at (from i pattern) 0) (not_open (from i pattern) told closed) _ _ (term_at (from j row) 0) _ _)
+            so_far.same
+            ∙ rw (fit, row_node text left long, row_node text right more)
+            (front_heads text (term_at left 0) (not_open left told closed) _ _ (term_at right 0) _ _)
 
         -- the first terms do not fit
-        pub front_differs : t ≡ false → Answers text pattern row Fails
-        front_differs e = (tt, sym (front_step ∙ rw e))
+        pub front_differs : t ≡ false → none ≡ front_in (row_of text pattern) (row_of text row)
+        front_differs e = sym (front_step ∙ rw e)
 
         -- they do
-        pub front_next : t ≡ true → {m n : ℕ} → m ≡ end_of (from i pattern) → n ≡ end_of (from j row) → Fronted text pattern row (i + m) (j + n)
-        front_next e {m} {n} p q = record {
-          within = omega (arith, from_length i pattern, so_far.within, end_high (from i pattern));
-          row_within = omega (arith, from_length j row, so_far.row_within, end_high (from j row));
-          left = front_step ∙ rw (e, ← p, ← q, from_from m i pattern, from_from n j row);
+        pub front_next : t ≡ true → {later after : List ℕ} → later ≡ rest 24 end_of left → after ≡ rest 24 end_of right → Fronted text pattern row later after
+        front_next e p q = record {
+          within = omega (arith, so_far.within, ap length p, rest_falls 24 end_of (lit< tt) end_low end_high left long);
+          same = front_step ∙ rw (e, p, q);
         }
 
 -- ---- what is left of a pattern is empty or begins with an e. variable
@@ -265,7 +262,7 @@ front_open (brackets c p) x z e =
     let (y, f, g) = next_some (bracket_fits same_atom literal symbol_like single_term c x) (λ u. front_in p u) z e in
     front_open p y z g
 
-or_else_lem : {X : Type 0} (o u : Option X) (z : X) → or_else o u ≡ some z → (o ≡ some z) ⊎ (u ≡ some z)
+or_else_lem : {X : Type 0} (o u : maybe.Option X) (z : X) → or_else o u ≡ some z → (o ≡ some z) ⊎ (u ≡ some z)
 or_else_lem none u z e = inr e
 or_else_lem (some x) u z e = inl e
 
@@ -301,46 +298,45 @@ leftmost_there text p Bracket c x e = rw e
 leftmost_there text p (Call a b) c x e = rw e
 leftmost_there text p (Block n) c x e = rw e
 
-abbrev Finds : List ℕ → List ℕ → List ℕ → Ahead → Type 0
-Finds text pattern row r = AheadIn pattern row r × (ahead_of text pattern row r ≡ leftmost_in (row_of text pattern) (row_of text row))
+pub record Sought (text pattern row right : List ℕ) : Type 0 where
+  pub same : leftmost_in (row_of text pattern) (row_of text row) ≡ leftmost_in (row_of text pattern) (row_of text right)
 
-pub record Sought (text pattern row : List ℕ) (j : ℕ) : Type 0 where
-  pub within : j ≤ length row
-  pub left : leftmost_in (row_of text pattern) (row_of text row) ≡ leftmost_in (row_of text pattern) (row_of text (from j row))
-
-pub sought : (text pattern row : List ℕ) → Sought text pattern row 0
-sought text pattern row = record { within = omega arith; left = rw (from_all row) }
-
-module _ {text pattern row : List ℕ} {j : ℕ} (so_far : Sought text pattern row j) {r : Ahead} (answer : Answers text pattern (from j row) r) where
+module _ {text pattern row right : List ℕ} (so_far : Sought text pattern row right) where
   -- here
-  pub sought_within : {m n : ℕ} → r ≡ At m n → n ≤ length (from j row)
-  sought_within e = let known : Answers text pattern (from j row) (At _ _) = rw e at answer in known.0.1
+  pub sought_here : (z : Pattern × Pattern) → some z ≡ front_in (row_of text pattern) (row_of text right) → some z ≡ leftmost_in (row_of text pattern) (row_of text row)
+  sought_here z e = sym (so_far.same ∙ leftmost_here (row_of text pattern) (row_of text right) z (sym e))
 
-  pub sought_here : {m n : ℕ} → r ≡ At m n → Finds text pattern row (At m (j + n))
-  sought_here {m} {n} e =
-      let known : Answers text pattern (from j row) (At m n) = rw e at answer in (
-        (known.0.0, omega (arith, known.0.1, from_length j row, so_far.within)),
-        rw (← from_from n j row) (sym (so_far.left ∙ leftmost_here (row_of text pattern) (row_of text (from j row)) _ (sym known.1))),
-      )
-
-  module _ (fails : r ≡ Fails) where
-    front_fails : front_in (row_of text pattern) (row_of text (from j row)) ≡ none
-    front_fails = let known : Answers text pattern (from j row) Fails = rw fails at answer in sym known.1
-
+  module _ (fails : none ≡ front_in (row_of text pattern) (row_of text right)) where
     -- nowhere
-    pub sought_nowhere : length (from j row) < 24 → Finds text pattern row Fails
+    pub sought_nowhere : length right < 24 → none ≡ leftmost_in (row_of text pattern) (row_of text row)
     unfolding leftmost_of
     sought_nowhere h =
-        let e : row_of text (from j row) ≡ nothing = row_empty text (from j row) h in
-        (tt, sym (so_far.left ∙ rw e (rw e at front_fails)))
+        let e : row_of text right ≡ nothing = row_empty text right h in
+        sym (so_far.same ∙ rw e (sym (rw e at fails)))
 
     -- later
-    pub sought_later : 24 ≤ length (from j row) → {n : ℕ} → n ≡ end_of (from j row) → Sought text pattern row (j + n)
-    sought_later more {n} q =
-        let node = row_node text (from j row) more in
-        let step : leftmost_in (row_of text pattern) (row_of text (from j row)) ≡ leftmost_in (row_of text pattern) (row_of text (rest 24 end_of (from j row))) =
-        rw node (leftmost_there text (row_of text pattern) (term_at (from j row) 0) _ _ (rw node at front_fails)) in
-        record {
-          within = omega (arith, from_length j row, so_far.within, end_high (from j row));
-          left = so_far.left ∙ step ∙ rw (← q, from_from n j row);
-        }
+    pub sought_later : 24 ≤ length right → {later : List ℕ} → later ≡ rest 24 end_of right → Sought text pattern row later
+    sought_later more q =
+        let node = row_node text right more in
+        let step : leftmost_in (row_of text pattern) (row_of text right) ≡ leftmost_in (row_of text pattern) (row_of text (rest 24 end_of right)) =
+        rw node (leftmost_there text (row_of text pattern) (term_at right 0) _ _ (rw node at (sym fails))) in
+        record { same = so_far.same ∙ step ∙ rw q }
+
+  -- what `leftmost` answers where it stops, and what it goes on with
+  module _ (r : Option (Bor (List ℕ) × Bor (List ℕ))) (told : ahead_of text r ≡ front_in (row_of text pattern) (row_of text right)) {found : Bool} (is_found : found ≡ is_some r) where
+    pub sought_answer : (found ≡ true) ⊎ ((found ≡ false) × (length right < 24)) → ahead_of text r ≡ leftmost_in (row_of text pattern) (row_of text row)
+    sought_answer h = go r told (sym is_found) h
+      where
+        go : (o : Option (Bor (List ℕ) × Bor (List ℕ))) → ahead_of text o ≡ front_in (row_of text pattern) (row_of text right) → is_some o ≡ found
+            → (found ≡ true) ⊎ ((found ≡ false) × (length right < 24)) → ahead_of text o ≡ leftmost_in (row_of text pattern) (row_of text row)
+        go (Some z) e i h = sought_here _ e
+        go None e i (inl here) = absurd (false_not_true (i ∙ here))
+        go None e i (inr (nowhere, short)) = sought_nowhere e short
+
+    pub sought_next : found ≡ false → 24 ≤ length right → {later : List ℕ} → later ≡ rest 24 end_of right → Sought text pattern row later
+    sought_next h = go r told (sym is_found ∙ h)
+      where
+        go : (o : Option (Bor (List ℕ) × Bor (List ℕ))) → ahead_of text o ≡ front_in (row_of text pattern) (row_of text right) → is_some o ≡ false
+            → 24 ≤ length right → {later : List ℕ} → later ≡ rest 24 end_of right → Sought text pattern row later
+        go (Some z) e i = absurd (false_not_true (sym i))
+        go None e i = sought_later e

@@ -1,5 +1,5 @@
 -- Variables of a part's records: where no two records are the same variable, no variable of the pattern is repeated; what `once` has gone through.
-use Prim.Native.Nat.{ℕ, zero, suc, ◌+◌, ◌*◌, ◌-◌, ◌≤◌, ◌<◌}
+use Prim.Native.Nat.{ℕ, zero, suc, ◌+◌, ◌*◌, ◌-◌, ◌/◌, ◌≤◌, ◌<◌}
 use mathlib.Core.Bool.{Bool, true, false, not}
 use mathlib.Core.List.{List, [], ◌∷◌, ◌++◌}
 use mathlib.Core.Logic.{◌⊎◌, inl, inr}
@@ -154,72 +154,55 @@ module _ (text : List ℕ) where
               fresh 0 (d + o) w (omega (arith, end_low part long, ends)) (omega (arith, stands.inside)) e
               (ap (atom_of text) (sym (stands_at part (rest 24 end_of part) d o stands j)) ∙ b)
 
--- ---- what `once` has gone through
+-- ---- what `once` has gone through: the first `count` records
 
-pub record Apart (text part : List ℕ) (i : ℕ) : Type 0 where
-  pub within : i ≤ length part
-  pub count : ℕ
-  pub counted : i ≡ 24 * count
-  pub fresh : FreshBelow text part count
+module _ (text part : List ℕ) (count : ℕ) (so_far : FreshBelow text part count) where
+  pub apart_all : length part / 24 ≤ count → once_each (variables_in (row_of text part)) ≡ true
+  apart_all whole = fresh_once text (length part) part (omega arith) (λ m n v low high. so_far m n v (omega arith) low high)
 
-pub apart_none : (text part : List ℕ) → Apart text part 0
-apart_none text part = record { within = omega arith; count = 0; counted = refl; fresh = λ m n v low. absurd (omega arith) }
+  one_more : ((n : ℕ) (v : Variable) → count < n → 24 * n + 24 ≤ length part → atom_at text part count ≡ variable v → atom_at text part n ≡ variable v → ⊥)
+      → FreshBelow text part (count + 1)
+  one_more new m n v low = go m n v (dec_lt m count) low
+    where
+      go : (m n : ℕ) (v : Variable) → Dec (m < count) → m < count + 1 → m < n → 24 * n + 24 ≤ length part
+          → atom_at text part m ≡ variable v → atom_at text part n ≡ variable v → ⊥
+      go m n v (yes below) low later inside p q = so_far m n v below later inside p q
+      go m n v (no above) low later inside p q =
+          let here : m ≡ count = omega arith in
+          new n v (omega arith) inside (ap (atom_at text part) (sym here) ∙ p) q
 
-module _ {text part : List ℕ} {i : ℕ} (so_far : Apart text part i) where
-  pub apart_all : length (from i part) < 24 → once_each (variables_in (row_of text part)) ≡ true
-  apart_all h =
-      fresh_once text (length part) part (omega arith)
-      (λ m n v low high. so_far.fresh m n v (omega (arith, from_length i part, so_far.counted, so_far.within)) low high)
+  module _ (inside : count < length part / 24) where
+    long : 24 ≤ length (from (24 * count) part)
+    long = omega (arith, from_length (24 * count) part)
 
-  module _ (long : 24 ≤ length (from i part)) where
-    one_more : ((n : ℕ) (v : Variable) → so_far.count < n → 24 * n + 24 ≤ length part → atom_at text part so_far.count ≡ variable v → atom_at text part n ≡ variable v → ⊥)
-        → Apart text part (i + 24)
-    one_more new = record {
-      within = omega (arith, from_length i part, so_far.within);
-      count = suc so_far.count;
-      counted = omega (arith, so_far.counted);
-      fresh = λ m n v low. go m n v (dec_lt m so_far.count) low;
-    }
-      where
-        go : (m n : ℕ) (v : Variable) → Dec (m < so_far.count) → m < suc so_far.count → m < n → 24 * n + 24 ≤ length part
-            → atom_at text part m ≡ variable v → atom_at text part n ≡ variable v → ⊥
-        go m n v (yes below) low later inside p q = so_far.fresh m n v below later inside p q
-        go m n v (no above) low later inside p q =
-            let here : m ≡ so_far.count = omega arith in
-            new n v (omega arith) inside (ap (atom_at text part) (sym here) ∙ p) q
+    the_record : term_at (from (24 * count) part) 0 ≡ term_at part (24 * count)
+    the_record = record_at part (24 * count) count refl long
 
-    the_record : term_at (from i part) 0 ≡ term_at part (24 * so_far.count)
-    the_record = record_at part i so_far.count so_far.counted long
-
-    module _ {kind : ℕ} (told : kind ≡ word_at (from i part) 0) where
-      -- a symbol
-      pub apart_symbol : kind ≤ 2 → Apart text part (i + 24)
-      apart_symbol h =
-          one_more (λ n v later inside p q. absurd (omega (arith, told, (variable_kind_lem text (from i part) (ap (atom_of text) the_record ∙ p)).0)))
-
-      -- a bracket, a call or a block
-      pub apart_other : 6 ≤ kind → Apart text part (i + 24)
-      apart_other h =
-          one_more (λ n v later inside p q. absurd (omega (arith, told, (variable_kind_lem text (from i part) (ap (atom_of text) the_record ∙ p)).1)))
+    -- no variable
+    pub apart_other : {kind : ℕ} → kind ≡ word_at (from (24 * count) part) 0 → (3 ≤ kind → kind ≤ 5 → ⊥) → FreshBelow text part (count + 1)
+    apart_other told other =
+        one_more (λ n v later inside p q.
+        let kinds = variable_kind_lem text (from (24 * count) part) (ap (atom_of text) the_record ∙ p) in
+        other (omega (arith, told, kinds.0)) (omega (arith, told, kinds.1)))
 
     -- a variable
-    pub apart_variable : Alone text (atom_of text (term_at (from i part) 0)) (from 24 (from i part)) → Apart text part (i + 24)
+    pub apart_variable : Alone text (atom_of text (term_at (from (24 * count) part) 0)) (from 24 (from (24 * count) part)) → FreshBelow text part (count + 1)
     apart_variable alone = one_more new
       where
-        new : (n : ℕ) (v : Variable) → so_far.count < n → 24 * n + 24 ≤ length part → atom_at text part so_far.count ≡ variable v → atom_at text part n ≡ variable v → ⊥
+        new : (n : ℕ) (v : Variable) → count < n → 24 * n + 24 ≤ length part → atom_at text part count ≡ variable v → atom_at text part n ≡ variable v → ⊥
         new n v later inside p q =
-            let j : ℕ = n - suc so_far.count in
-            let place : i + 24 ≡ 24 * suc so_far.count = omega (arith, so_far.counted) in
-            let left : from 24 (from i part) ≡ from (24 * suc so_far.count) part = from_from 24 i part ∙ ap (λ k. from k part) place in
-            let stands : Stands part (from (24 * suc so_far.count) part) (24 * suc so_far.count) =
-            rw (nothing_before (24 * suc so_far.count)) at (stands_from part part 0 (24 * suc so_far.count) (stands_whole part) (omega arith)) in
-            let fits : 24 * j + 24 ≤ length (from (24 * suc so_far.count) part) = omega (arith, from_length (24 * suc so_far.count) part) in
-            let same_place : suc so_far.count + j ≡ n = omega arith in
-            let there : atom_at text (from 24 (from i part)) j ≡ variable v =
+            let j : ℕ = n - suc count in
+            let place : 24 * count + 24 ≡ 24 * suc count = omega arith in
+            let left : from 24 (from (24 * count) part) ≡ from (24 * suc count) part = from_from 24 (24 * count) part ∙ ap (λ k. from k part) place in
+            let stands : Stands part (from (24 * suc count) part) (24 * suc count) =
+            rw (nothing_before (24 * suc count)) at (stands_from part part 0 (24 * suc count) (stands_whole part) (omega arith)) in
+            let fits : 24 * j + 24 ≤ length (from (24 * suc count) part) = omega (arith, from_length (24 * suc count) part) in
+            let same_place : suc count + j ≡ n = omega arith in
+            let there : atom_at text (from 24 (from (24 * count) part)) j ≡ variable v =
             ap (λ s. atom_at text s j) left
-            ∙ ap (atom_of text) (stands_at part (from (24 * suc so_far.count) part) (suc so_far.count) j stands fits)
+            ∙ ap (atom_of text) (stands_at part (from (24 * suc count) part) (suc count) j stands fits)
             ∙ ap (atom_at text part) same_place ∙ q in
-            let mine : atom_of text (term_at (from i part) 0) ≡ variable v = ap (atom_of text) the_record ∙ p in
+            let mine : atom_of text (term_at (from (24 * count) part) 0) ≡ variable v = ap (atom_of text) the_record ∙ p in
             let no = alone j (rw (sym left) at fits) in
             false_not_true (sym (rw (mine, there) at no) ∙ variable_refl v)
           where

@@ -1,15 +1,20 @@
 -- The loose test of parts of the term records: what `has_open`, `skip`, `last`, `loose_open` and `loose` answer at each return.
 use Prim.Native.Nat.{ℕ, suc, ◌+◌, ◌-◌, ◌≤◌, ◌<◌}
-use mathlib.Core.Bool.{Bool, true, false, not}
+use mathlib.Core.Bool.{Bool, true, false, not, ◌||◌}
 use mathlib.Core.List.{List}
-use mathlib.Core.Logic.{inr}
-use mathlib.Core.Option.{some}
+use mathlib.Core.Logic.{◌⊎◌, inl, inr, ◌≢◌}
+use mathlib.Core.Option.{none, some}
 use mathlib.Core.Path.{◌≡◌, refl, sym, ap, ◌∙◌}
 use native.Mathlib.Omega.{arith}
 use native.Mathlib.Decide.{dec_lt}
 use lib.ListN.{length}
-use lib.Dec.{ltb}
-use borrow.Author.Tests.{lt-ltb, le-ltb}
+use lib.Dec.{ltb, leb, eqb, lit<}
+use borrow.Author.Tests.{lt-ltb, lt-leb, le-ltb}
+use Rattle.std.proofs.lemmas.Bool.Decides.{eqb_tells}
+use Rattle.std.specs.List.{list_any}
+use Rattle.file.proofs.Forest.{rest_falls}
+use Rattle.law.specs.Code.Whole.{term_parts}
+use Rattle.law.proofs.WholeTerms.{parts_none, parts_node, each_part}
 use Rattle.file.specs.Word.{word_at}
 use Rattle.file.specs.Forest.{contents, rest}
 use Rattle.file.specs.Head.{term_at}
@@ -20,17 +25,14 @@ use Rattle.law.specs.Runs.{end_of}
 use Rattle.law.proofs.RunLaws.{end_low, end_high}
 use Rattle.matching.specs.Pattern.{literal, Pattern}
 use Rattle.matching.specs.Shadow.{same_atom, symbol_like, single_term}
-use Rattle.matching.specs.Code.Part.{row_of, from, atom_of, term_row}
+use Rattle.matching.specs.Code.Part.{row_of, atom_of, term_row}
 use Rattle.matching.specs.Code.Step.{open_term}
 use Rattle.matching.proofs.SameLaws.{false_not_true}
 use Rattle.matching.proofs.PartLaws.{row_empty, row_node}
-use Rattle.matching.proofs.CutLaws.{from_all, from_length, from_from}
 use Rattle.sentences.specs.Code.Loose.{loosely}
 use Rattle.sentences.specs.Code.Greedy.{EndOf, left_passes, opens}
 use Rattle.matching.specs.Order.{terms_in}
-use Rattle.sentences.specs.Code.Ahead.{passes, front_in, leftmost_in, end_passes, ahead_of, AheadIn, OpenStart, Skipped}
-use Rattle.sentences.specs.declared.loose.Ahead.{Ahead}
-use Rattle.sentences.specs.declared.loose.Ahead.TheVariants.{At, Fails}
+use Rattle.sentences.specs.Code.Ahead.{passes, front_in, leftmost_in, end_passes, OpenStart, Skipped}
 use Rattle.sentences.proofs.GreedyLaws.{whole_end, end_end, end_some, front_loosely, leftmost_loosely, last_loosely, last_short}
 use Rattle.sentences.proofs.FrontLaws.{is_open_lem, not_open, front_open, leftmost_open, symbols_part}
 
@@ -57,31 +59,18 @@ module _ (text : List ℕ) where
   opens_later (Call a b) c p o = refl
   opens_later (Block n) c p o = refl
 
-pub record Seen (pattern : List ℕ) (i : ℕ) : Type 0 where
-  pub within : i ≤ length pattern
-  pub left : (text : List ℕ) → opens (row_of text pattern) ≡ opens (row_of text (from i pattern))
-
-pub seen : (pattern : List ℕ) → Seen pattern 0
-seen pattern = record { within = omega arith; left = λ text. rw (from_all pattern) }
-
-module _ {pattern : List ℕ} {i : ℕ} (so_far : Seen pattern i) where
-  pub seen_none : length (from i pattern) < 24 → (text : List ℕ) → false ≡ opens (row_of text pattern)
-  unfolding opens
-  seen_none h text = sym (so_far.left text ∙ rw (row_empty text (from i pattern) h))
-
-  module _ (long : 24 ≤ length (from i pattern)) {kind : ℕ} (told : kind ≡ word_at (from i pattern) 0) where
-    pub seen_open : kind ≡ 5 → (text : List ℕ) → true ≡ opens (row_of text pattern)
-    seen_open h text =
-        sym (so_far.left text ∙ rw (row_node text (from i pattern) long) (opens_here text (term_at (from i pattern) 0) _ _ (is_open_lem (from i pattern) told h)))
-
-    pub seen_next : (kind ≡ 5 → ⊥) → {e : ℕ} → e ≡ end_of (from i pattern) → Seen pattern (i + e)
-    seen_next h {e} ends = record {
-      within = omega (arith, from_length i pattern, so_far.within, end_high (from i pattern));
-      left = λ text. so_far.left text ∙ step text ∙ rw (← ends, from_from e i pattern);
-    }
-      where
-        step : (text : List ℕ) → opens (row_of text (from i pattern)) ≡ opens (row_of text (rest 24 end_of (from i pattern)))
-        step text = rw (row_node text (from i pattern) long) (opens_later text (term_at (from i pattern) 0) _ _ (not_open (from i pattern) told h))
+-- it is asked of each term in turn
+pub opens_any : (text part : List ℕ) → list_any (λ s. eqb (word_at s 0) 5) (term_parts part) ≡ opens (row_of text part)
+unfolding opens
+opens_any text =
+    each_part (λ part. list_any (λ s. eqb (word_at s 0) 5) (term_parts part) ≡ opens (row_of text part))
+    (λ part h. rw (parts_none part h, row_empty text part h))
+    (λ part long below. rw (parts_node part long, row_node text part long, below) (turn part (eqb_tells (word_at part 0) 5)))
+  where
+    turn : (part : List ℕ) → ((eqb (word_at part 0) 5 ≡ true) × (word_at part 0 ≡ 5)) ⊎ ((eqb (word_at part 0) 5 ≡ false) × (word_at part 0 ≢ 5))
+        → (eqb (word_at part 0) 5 || opens (row_of text (rest 24 end_of part))) ≡ opens (term_row text (term_at part 0) (row_of text (contents 24 end_of part)) (row_of text (rest 24 end_of part)))
+    turn part (inl (e, five)) = rw e (sym (opens_here text (term_at part 0) _ _ (is_open_lem part refl five)))
+    turn part (inr (e, other)) = rw e (sym (opens_later text (term_at part 0) _ _ (not_open part refl other)))
 
 -- ---- the first term of a part, and the rest
 
@@ -104,63 +93,47 @@ module _ (text : List ℕ) where
   term_end (Call a b) c p = inr (whole_end p)
   term_end (Block n) c p = inr (whole_end p)
 
-module _ (part : List ℕ) (i : ℕ) (some_left : 24 ≤ length (from i part)) {e : ℕ} (ends : e ≡ end_of (from i part)) (text : List ℕ) where
-  pub next_row : row_of text (from i part)
-      ≡ term_row text (term_at (from i part) 0) (row_of text (contents 24 end_of (from i part))) (row_of text (from (i + e) part))
-  next_row = rw (ends, ← from_from (end_of (from i part)) i part) (row_node text (from i part) some_left)
+module _ (part : List ℕ) (some_left : 24 ≤ length part) {later : List ℕ} (behind : later ≡ rest 24 end_of part) (text : List ℕ) where
+  pub next_terms : terms_in (row_of text part) ≡ suc (terms_in (row_of text later))
+  next_terms = rw (row_node text part some_left, behind) (term_terms text (term_at part 0) _ (row_of text (rest 24 end_of part)))
 
-  next_terms : terms_in (row_of text (from i part)) ≡ suc (terms_in (row_of text (from (i + e) part)))
-  next_terms = rw next_row (term_terms text (term_at (from i part) 0) _ (row_of text (from (i + e) part)))
+  next_end : EndOf (row_of text later) (row_of text part)
+  next_end = rw (row_node text part some_left, behind) (term_end text (term_at part 0) _ (row_of text (rest 24 end_of part)))
 
-  next_end : EndOf (row_of text (from (i + e) part)) (row_of text (from i part))
-  next_end = rw next_row (term_end text (term_at (from i part) 0) _ (row_of text (from (i + e) part)))
+-- ---- how many terms a part has
 
--- ---- what `terms_in` has gone through
+pub terms_count : (text part : List ℕ) → length (term_parts part) ≡ terms_in (row_of text part)
+terms_count text =
+    each_part (λ part. length (term_parts part) ≡ terms_in (row_of text part))
+    (λ part h. rw (parts_none part h, row_empty text part h))
+    (λ part long below. rw (parts_node part long, next_terms part long refl text, below))
 
-pub record Counted (part : List ℕ) (count i : ℕ) : Type 0 where
-  pub within : i ≤ length part
-  pub few : count ≤ i
-  pub left : (text : List ℕ) → terms_in (row_of text part) ≡ count + terms_in (row_of text (from i part))
-
-pub count_begun : (part : List ℕ) → Counted part 0 0
-count_begun part = record { within = omega arith; few = omega arith; left = λ text. rw (from_all part) (omega arith) }
-
-module _ {part : List ℕ} {count i : ℕ} (so_far : Counted part count i) where
-  pub count_all : length (from i part) < 24 → ((text : List ℕ) → count ≡ terms_in (row_of text part)) × (count ≤ length part)
-  count_all h = (λ text. sym (so_far.left text ∙ rw (row_empty text (from i part) h) (omega arith)), omega (arith, so_far.few, so_far.within))
-
-  pub count_next : 24 ≤ length (from i part) → {e later : ℕ} → e ≡ end_of (from i part) → later ≡ count + 1 → Counted part later (i + e)
-  count_next long ends more = record {
-    within = omega (arith, from_length i part, so_far.within, end_high (from i part));
-    few = omega (arith, so_far.few, end_low (from i part) long);
-    left = λ text. omega (arith, so_far.left text, next_terms part i long ends text);
-  }
+pub terms_few : (part : List ℕ) → length (term_parts part) ≤ length part
+terms_few =
+    each_part (λ part. length (term_parts part) ≤ length part)
+    (λ part h. rw (parts_none part h) (omega arith))
+    (λ part long below. rw (parts_node part long) (omega (arith, rest_falls 24 end_of (lit< tt) end_low end_high part long)))
 
 -- ---- what `skip` has gone through
 
-pub skip_begun : (row : List ℕ) (count : ℕ) → Skipped row count count 0
-skip_begun row count = record {
-  within = omega arith;
-  end = λ text. rw (from_all row) (whole_end (row_of text row));
-  counted = λ text. rw (from_all row);
-}
+pub skip_begun : (row : List ℕ) → Skipped row 0 row
+skip_begun row = record { end = λ text. whole_end (row_of text row); counted = λ text. omega arith }
 
-module _ {row : List ℕ} {count left n : ℕ} (so_far : Skipped row count left n) (enough : (text : List ℕ) → count ≤ terms_in (row_of text row)) (more : 0 < left) where
+module _ {row left : List ℕ} {count : ℕ} (so_far : Skipped row count left) where
   -- a term is left
-  pub skip_some : 24 ≤ length (from n row)
-  skip_some = go (dec_lt (length (from n row)) 24)
+  pub skip_some : {most : ℕ} → ((text : List ℕ) → most ≤ terms_in (row_of text row)) → count < most → 24 ≤ length left
+  skip_some {most} enough more = go (dec_lt (length left) 24)
     where
-      go : Dec (length (from n row) < 24) → 24 ≤ length (from n row)
+      go : Dec (length left < 24) → 24 ≤ length left
       go (no h) = omega arith
       go (yes h) =
-          let none_left : terms_in (row_of List.[] (from n row)) ≡ 0 = ap terms_in (row_empty List.[] (from n row) h) in
+          let none_left : terms_in (row_of List.[] left) ≡ 0 = ap terms_in (row_empty List.[] left h) in
           absurd (omega (arith, none_left, so_far.counted List.[], enough List.[]))
 
-  pub skip_next : {e : ℕ} → e ≡ end_of (from n row) → {later : ℕ} → later ≡ left - 1 → Skipped row count later (n + e)
-  skip_next {e} ends less = record {
-    within = omega (arith, from_length n row, so_far.within, end_high (from n row));
-    end = λ text. end_end (row_of text row) (row_of text (from n row)) _ (next_end row n skip_some ends text) (so_far.end text);
-    counted = λ text. omega (arith, so_far.counted text, next_terms row n skip_some ends text);
+  pub skip_next : 24 ≤ length left → {later : List ℕ} → later ≡ rest 24 end_of left → Skipped row (count + 1) later
+  skip_next long {later} behind = record {
+    end = λ text. end_end (row_of text row) (row_of text left) _ (next_end left long behind text) (so_far.end text);
+    counted = λ text. omega (arith, so_far.counted text, next_terms left long behind text);
   }
 
 -- ---- what `last` answers at each return
@@ -177,14 +150,14 @@ module _ (text pattern row : List ℕ) where
       sym (rw (row_empty text pattern h) (end_some (λ y. passes nothing y) (row_of text row) nothing (nothing_end (row_of text row)) refl))
 
   module _ (closed : opens (row_of text pattern) ≡ false) {terms room : ℕ} (needed : terms ≡ terms_in (row_of text pattern)) (had : room ≡ terms_in (row_of text row)) where
-    pub last_few : room < terms → false ≡ end_passes (row_of text pattern) (row_of text row)
-    last_few h = sym (last_short same_atom literal symbol_like single_term (row_of text pattern) closed (row_of text row) (omega (arith, needed, had)))
+    pub last_few : room < terms → leb terms room ≡ end_passes (row_of text pattern) (row_of text row)
+    last_few h = lt-leb terms room h ∙ sym (last_short same_atom literal symbol_like single_term (row_of text pattern) closed (row_of text row) (omega (arith, needed, had)))
 
-    pub last_there : terms ≤ room → {start : ℕ} → Skipped row (room - terms) 0 start → {r : Bool} → r ≡ passes (row_of text pattern) (row_of text (from start row))
+    pub last_there : terms ≤ room → {left : List ℕ} → Skipped row (room - terms) left → {r : Bool} → r ≡ passes (row_of text pattern) (row_of text left)
         → r ≡ end_passes (row_of text pattern) (row_of text row)
-    last_there h {start} skipped e =
+    last_there h {left} skipped e =
         e
-        ∙ sym (last_loosely same_atom literal symbol_like single_term (row_of text pattern) closed (row_of text row) (row_of text (from start row)) (skipped.end text)
+        ∙ sym (last_loosely same_atom literal symbol_like single_term (row_of text pattern) closed (row_of text row) (row_of text left) (skipped.end text)
         (omega (arith, skipped.counted text, needed, had)))
 
 -- ---- what `loose_open` has gone through
@@ -219,93 +192,64 @@ empty_passes text part = go (dec_lt (length part) 24)
     go (yes h) = rw (row_empty text part h, lt-ltb (length part) 24 h)
     go (no h) = rw (row_node text part (omega arith), le-ltb (length part) 24 (omega arith)) (nothing_passes text (term_at part 0) _ _)
 
-pub record Opened (text pattern row : List ℕ) (i j : ℕ) : Type 0 where
-  pub within : i ≤ length pattern
-  pub row_within : j ≤ length row
-  pub start : OpenStart (row_of text (from i pattern))
-  pub left : passes (row_of text pattern) (row_of text row) ≡ passes (row_of text (from i pattern)) (row_of text (from j row))
+pub record Opened (text pattern row left right : List ℕ) : Type 0 where
+  pub within : length left ≤ length pattern
+  pub start : OpenStart (row_of text left)
+  pub same : passes (row_of text pattern) (row_of text row) ≡ passes (row_of text left) (row_of text right)
 
-pub opened : (text pattern row : List ℕ) → OpenStart (row_of text pattern) → Opened text pattern row 0 0
-opened text pattern row o = record {
-  within = omega arith;
-  row_within = omega arith;
-  start = rw (from_all pattern) o;
-  left = rw (from_all pattern, from_all row);
-}
+pub opened : (text pattern row : List ℕ) → OpenStart (row_of text pattern) → Opened text pattern row pattern row
+opened text pattern row o = record { within = omega arith; start = o; same = refl }
 
-module _ {text pattern row : List ℕ} {i j : ℕ} (so_far : Opened text pattern row i j) where
+module _ {text pattern row left right : List ℕ} (so_far : Opened text pattern row left right) where
   -- nothing is left of the pattern
-  pub opened_end : length (from i pattern) < 24 → ltb (length (from j row)) 24 ≡ passes (row_of text pattern) (row_of text row)
-  opened_end h = sym (so_far.left ∙ rw (row_empty text (from i pattern) h) (empty_passes text (from j row)))
+  pub opened_end : length left < 24 → ltb (length right) 24 ≡ passes (row_of text pattern) (row_of text row)
+  opened_end h = sym (so_far.same ∙ rw (row_empty text left h) (empty_passes text right))
 
-  module _ (long : 24 ≤ length (from i pattern)) {e : ℕ} (ends : e ≡ end_of (from i pattern)) where
-    opened_rest : passes (row_of text pattern) (row_of text row) ≡ end_passes (row_of text (from e (from i pattern))) (row_of text (from j row))
+  module _ (long : 24 ≤ length left) {segment : List ℕ} (behind : segment ≡ rest 24 end_of left) where
+    opened_rest : passes (row_of text pattern) (row_of text row) ≡ end_passes (row_of text segment) (row_of text right)
     opened_rest =
-        let node = row_node text (from i pattern) long in
-        let step : passes (row_of text (from i pattern)) (row_of text (from j row)) ≡ end_passes (row_of text (rest 24 end_of (from i pattern))) (row_of text (from j row)) =
-        rw node (open_first text (term_at (from i pattern) 0) _ _ (row_of text (from j row)) (rw node at so_far.start)) in
-        so_far.left ∙ step ∙ rw (← ends)
+        let node = row_node text left long in
+        let step : passes (row_of text left) (row_of text right) ≡ end_passes (row_of text (rest 24 end_of left)) (row_of text right) =
+        rw node (open_first text (term_at left 0) _ _ (row_of text right) (rw node at so_far.start)) in
+        so_far.same ∙ step ∙ rw behind
 
     -- the last segment
-    pub opened_last : {r : Bool} → r ≡ end_passes (row_of text (from e (from i pattern))) (row_of text (from j row)) → r ≡ passes (row_of text pattern) (row_of text row)
+    pub opened_last : {r : Bool} → r ≡ end_passes (row_of text segment) (row_of text right) → r ≡ passes (row_of text pattern) (row_of text row)
     opened_last h = h ∙ sym opened_rest
 
-    module _ {o : Bool} (told : (t : List ℕ) → o ≡ opens (row_of t (from e (from i pattern)))) (later : o ≡ true) (r : Ahead)
-        (answer : AheadIn (from e (from i pattern)) (from j row) r
-        × (ahead_of text (from e (from i pattern)) (from j row) r ≡ leftmost_in (row_of text (from e (from i pattern))) (row_of text (from j row)))) where
+    module _ (later : opens (row_of text segment) ≡ true) where
       opened_leftmost : passes (row_of text pattern) (row_of text row)
-          ≡ left_passes same_atom literal symbol_like single_term (ahead_of text (from e (from i pattern)) (from j row) r)
-      opened_leftmost =
-          opened_rest
-          ∙ leftmost_loosely same_atom literal symbol_like single_term (row_of text (from e (from i pattern))) (sym (told text) ∙ later) (row_of text (from j row))
-          ∙ ap (left_passes same_atom literal symbol_like single_term) (sym answer.1)
+          ≡ left_passes same_atom literal symbol_like single_term (leftmost_in (row_of text segment) (row_of text right))
+      opened_leftmost = opened_rest ∙ leftmost_loosely same_atom literal symbol_like single_term (row_of text segment) later (row_of text right)
 
       -- a segment that stands nowhere
-      pub opened_fails : r ≡ Fails → false ≡ passes (row_of text pattern) (row_of text row)
-      opened_fails h = sym (opened_leftmost ∙ rw h)
+      pub opened_fails : none ≡ leftmost_in (row_of text segment) (row_of text right) → false ≡ passes (row_of text pattern) (row_of text row)
+      opened_fails h = sym (opened_leftmost ∙ rw (← h))
 
       -- one that stands somewhere
-      pub opened_within : {m n : ℕ} → r ≡ At m n → (m ≤ length (from e (from i pattern))) × (n ≤ length (from j row))
-      opened_within h = rw h at answer.0
-
-      pub opened_next : {m n : ℕ} → r ≡ At m n → Opened text pattern row (i + (e + m)) (j + n)
-      opened_next {m} {n} h =
-          let inside = opened_within h in
-          let pattern_left : from m (from e (from i pattern)) ≡ from (i + (e + m)) pattern = from_from m e (from i pattern) ∙ from_from (e + m) i pattern in
-          let row_left : from n (from j row) ≡ from (j + n) row = from_from n j row in
-          let place : some (row_of text (from m (from e (from i pattern))), row_of text (from n (from j row)))
-          ≡ leftmost_in (row_of text (from e (from i pattern))) (row_of text (from j row)) = rw h at answer.1 in
-          let open-left = leftmost_open (row_of text (from e (from i pattern))) (row_of text (from j row)) _ (sym place) in
-          record {
-            within = omega (arith, inside.0, from_length e (from i pattern), from_length i pattern, so_far.within, ends, end_high (from i pattern));
-            row_within = omega (arith, inside.1, from_length j row, so_far.row_within);
-            start = rw pattern_left at open-left;
-            left = opened_leftmost ∙ rw (h, pattern_left, row_left);
-          }
+      pub opened_next : {next after : List ℕ} → length next ≤ length segment
+          → some (row_of text next, row_of text after) ≡ leftmost_in (row_of text segment) (row_of text right) → Opened text pattern row next after
+      opened_next {next} {after} shorter h = record {
+        within = omega (arith, so_far.within, ap length behind, rest_falls 24 end_of (lit< tt) end_low end_high left long);
+        start = leftmost_open (row_of text segment) (row_of text right) _ (sym h);
+        same = opened_leftmost ∙ rw (← h);
+      }
 
 -- ---- what `loose` answers at each return
 
-module _ (text pattern row : List ℕ) (r : Ahead)
-    (answer : AheadIn pattern row r × (ahead_of text pattern row r ≡ front_in (row_of text pattern) (row_of text row))) where
-  loose_front : passes (row_of text pattern) (row_of text row) ≡ left_passes same_atom literal symbol_like single_term (ahead_of text pattern row r)
-  loose_front =
-      front_loosely same_atom literal symbol_like single_term (row_of text pattern) (row_of text row)
-      ∙ ap (left_passes same_atom literal symbol_like single_term) (sym answer.1)
+module _ (text pattern row : List ℕ) where
+  loose_front : passes (row_of text pattern) (row_of text row) ≡ left_passes same_atom literal symbol_like single_term (front_in (row_of text pattern) (row_of text row))
+  loose_front = front_loosely same_atom literal symbol_like single_term (row_of text pattern) (row_of text row)
 
-  pub loose_fails : r ≡ Fails → false ≡ passes (row_of text pattern) (row_of text row)
-  loose_fails h = sym (loose_front ∙ rw h)
+  pub loose_fails : none ≡ front_in (row_of text pattern) (row_of text row) → false ≡ passes (row_of text pattern) (row_of text row)
+  loose_fails h = sym (loose_front ∙ rw (← h))
 
-  pub loose_within : {m n : ℕ} → r ≡ At m n → (m ≤ length pattern) × (n ≤ length row)
-  loose_within h = rw h at answer.0
+  module _ (left right : List ℕ) (h : some (row_of text left, row_of text right) ≡ front_in (row_of text pattern) (row_of text row)) where
+    pub loose_start : OpenStart (row_of text left)
+    loose_start = front_open (row_of text pattern) (row_of text row) _ (sym h)
 
-  pub loose_start : {m n : ℕ} → r ≡ At m n → OpenStart (row_of text (from m pattern))
-  loose_start {m} {n} h =
-      let place : some (row_of text (from m pattern), row_of text (from n row)) ≡ front_in (row_of text pattern) (row_of text row) = rw h at answer.1 in
-      front_open (row_of text pattern) (row_of text row) _ (sym place)
-
-  pub loose_goes : {m n : ℕ} → r ≡ At m n → {b : Bool} → b ≡ passes (row_of text (from m pattern)) (row_of text (from n row))
-      → b ≡ passes (row_of text pattern) (row_of text row)
-  loose_goes h e = e ∙ sym (loose_front ∙ rw h)
+    pub loose_goes : {b : Bool} → b ≡ passes (row_of text left) (row_of text right) → b ≡ passes (row_of text pattern) (row_of text row)
+    loose_goes e = e ∙ sym (loose_front ∙ rw (← h))
 
 -- ---- what `parted` answers
 

@@ -1,12 +1,17 @@
 -- Numbers of terms: a pattern whose e. variables outside brackets all stand there evenly often has as many terms as what it matches, but for an even number;
--- what `odd_terms`, `odd_times` and `evenly` have gone through.
-use Prim.Native.Nat.{ℕ, ◌+◌, ◌≤◌, ◌<◌}
-use mathlib.Core.Bool.{Bool, true, false, cond, not, ◌||◌, beq}
+-- what `odd_times` and `evenly` go through.
+use Prim.Native.Nat.{ℕ, suc, ◌%◌}
+use mathlib.Core.Bool.{Bool, true, false, cond, not, ◌||◌}
 use mathlib.Core.List.{List, [], ◌∷◌}
-use mathlib.Core.Logic.{◌⊎◌, inl, inr}
+use mathlib.Core.Logic.{◌⊎◌, inl, inr, ◌≢◌}
 use mathlib.Core.Path.{◌≡◌, refl, sym, ap, ◌∙◌}
 use native.Mathlib.Omega.{arith}
 use lib.ListN.{length}
+use lib.Dec.{eqb}
+use borrow.Author.Tests.{eq-eqb, ne_eqb}
+use Rattle.std.proofs.lemmas.Bool.Decides.{eqb_tells}
+use Rattle.std.specs.List.{filter, All}
+use Rattle.file.specs.Forest.{contents, rest}
 use Rattle.file.specs.Word.{word_at}
 use Rattle.file.specs.Head.{term_at}
 use Rattle.file.specs.declared.Term.{Term}
@@ -15,25 +20,24 @@ use Rattle.law.specs.Tree.{Kind, symbol_kind, term_kind, expression_kind}
 use Rattle.law.specs.Expression.{Terms, nothing, symbol, brackets, ◌⊕◌}
 use Rattle.law.specs.Variables.{Variable, same_variable, occurs}
 use Rattle.law.specs.Runs.{end_of}
-use Rattle.law.proofs.RunLaws.{end_high}
+use Rattle.law.specs.Code.Whole.{term_parts}
+use Rattle.law.proofs.WholeTerms.{parts_none, parts_node, each_part}
 use Rattle.law.specs.Symbol.{Symbol, character}
 use Rattle.matching.specs.Pattern.{Atom, literal, variable, Pattern}
 use Rattle.matching.specs.Match.{Values, none_bound, some_in}
 use Rattle.matching.specs.Fill.{Plain, filled, OfKind, Kinded}
 use Rattle.matching.specs.Shadow.{same_atom, symbol_like, single_term}
-use Rattle.matching.specs.Code.Part.{row_of, from, variable_from, atom_of, term_row}
+use Rattle.matching.specs.Code.Part.{row_of, variable_from, atom_of, term_row}
 use Rattle.matching.specs.Code.Step.{found, open_term}
 use Rattle.matching.proofs.SameLaws.{false_not_true, variable_sound, variable_refl, atom_sound}
-use Rattle.matching.proofs.AtomLaws.{variable_kind_lem}
 use Rattle.matching.proofs.SearchLaws.{none_kinded}
 use Rattle.matching.proofs.FillLaws.{fills_of_match}
 use Rattle.matching.proofs.VariableLaws.{occurs_cases}
-use Rattle.matching.proofs.PartLaws.{row_empty}
-use Rattle.matching.proofs.CutLaws.{from_all, from_length}
+use Rattle.matching.specs.Order.{terms_in}
+use Rattle.matching.proofs.PartLaws.{row_empty, row_node}
 use Rattle.sentences.specs.Code.Greedy.{open_kind}
 use Rattle.sentences.specs.Code.Parity.{differ, odd_terms, outside, odd_in, Evenly}
 use Rattle.sentences.proofs.FrontLaws.{not_open}
-use Rattle.sentences.proofs.OpenLaws.{next_row}
 
 -- ---- one of two
 
@@ -177,54 +181,36 @@ uneven_none p x even apart back = go (found back p x none_bound) refl
         (none_kinded symbol_like single_term) (ap some_in e) in
         absurd (apart (sym (even_filled literal f.value symbol_like single_term f.kinded p f.plain even) ∙ ap odd_terms f.fills))
 
--- two tests that differ are not the same
-beq_refl : (b : Bool) → beq b b ≡ true
-beq_refl true = refl
-beq_refl false = refl
+-- ---- odd numbers
 
-pub uneven_answer : (p x : Pattern) → Evenly p → {a b : Bool} → a ≡ odd_terms p → b ≡ odd_terms x → beq a b ≡ false → (back : Bool) → found back p x none_bound ≡ []
-uneven_answer p x even {a} {b} i j h = uneven_none p x even (λ k. absurd (false_not_true (sym h ∙ (rw (i ∙ k ∙ sym j) (beq_refl b)))))
+odd_next : (n : ℕ) → eqb (suc n % 2) 1 ≡ not (eqb (n % 2) 1)
+odd_next n = go (eqb_tells (n % 2) 1)
+  where
+    go : ((eqb (n % 2) 1 ≡ true) × (n % 2 ≡ 1)) ⊎ ((eqb (n % 2) 1 ≡ false) × (n % 2 ≢ 1)) → eqb (suc n % 2) 1 ≡ not (eqb (n % 2) 1)
+    go (inl (e, one)) = rw e (ne_eqb (suc n % 2) 1 (λ h. omega arith))
+    go (inr (e, other)) = rw e (eq-eqb (suc n % 2) 1 (omega arith))
 
--- ---- what `odd_terms` has gone through
+same_odd : (m n : ℕ) → eqb (m % 2) 1 ≡ eqb (n % 2) 1 → m % 2 ≡ n % 2
+same_odd m n h = go (eqb_tells (m % 2) 1) (eqb_tells (n % 2) 1)
+  where
+    go : ((eqb (m % 2) 1 ≡ true) × (m % 2 ≡ 1)) ⊎ ((eqb (m % 2) 1 ≡ false) × (m % 2 ≢ 1))
+        → ((eqb (n % 2) 1 ≡ true) × (n % 2 ≡ 1)) ⊎ ((eqb (n % 2) 1 ≡ false) × (n % 2 ≢ 1)) → m % 2 ≡ n % 2
+    go (inl (d, one)) (inl (e, also)) = omega arith
+    go (inl (d, one)) (inr (e, other)) = absurd (false_not_true (sym e ∙ sym h ∙ d))
+    go (inr (d, other)) (inl (e, one)) = absurd (false_not_true (sym d ∙ h ∙ e))
+    go (inr (d, other)) (inr (e, another)) = omega arith
 
-module _ (text : List ℕ) where
-  term_odd : (x : Term) (c p : Pattern) → odd_terms (term_row text x c p) ≡ not (odd_terms p)
-  unfolding odd_terms
-  term_odd (Symbolic x) c p = refl
-  term_odd (SVariable a b) c p = refl
-  term_odd (TVariable a b) c p = refl
-  term_odd (EVariable a b) c p = refl
-  term_odd Bracket c p = refl
-  term_odd (Call a b) c p = refl
-  term_odd (Block n) c p = refl
+odd_counted : {A : Type 0} → (x : Terms A) → odd_terms x ≡ eqb (terms_in x % 2) 1
+unfolding odd_terms
+odd_counted nothing = refl
+odd_counted (symbol a x) = rw (odd_counted x) (sym (odd_next (terms_in x)))
+odd_counted (brackets c x) = rw (odd_counted x) (sym (odd_next (terms_in x)))
 
-pub record OddSoFar (part : List ℕ) (odd : Bool) (i : ℕ) : Type 0 where
-  pub within : i ≤ length part
-  pub left : (text : List ℕ) → odd_terms (row_of text part) ≡ differ odd (odd_terms (row_of text (from i part)))
+pub uneven_answer : (p x : Pattern) → Evenly p → {a b : ℕ} → a ≡ terms_in p → b ≡ terms_in x → (a % 2 ≡ b % 2 → ⊥) → (back : Bool) → found back p x none_bound ≡ []
+uneven_answer p x even {a} {b} i j h =
+    uneven_none p x even (λ k. h (rw (i, j) (same_odd (terms_in p) (terms_in x) (sym (odd_counted p) ∙ k ∙ odd_counted x))))
 
-pub odd_begun : (part : List ℕ) → OddSoFar part false 0
-odd_begun part = record { within = omega arith; left = λ text. rw (from_all part) }
-
--- one more is counted
-differ_one : (a b : Bool) → differ a (not b) ≡ differ (not a) b
-differ_one true true = refl
-differ_one true false = refl
-differ_one false b = refl
-
-module _ {part : List ℕ} {odd : Bool} {i : ℕ} (so_far : OddSoFar part odd i) where
-  pub odd_all : length (from i part) < 24 → (text : List ℕ) → odd ≡ odd_terms (row_of text part)
-  unfolding odd_terms
-  odd_all h text = sym (so_far.left text ∙ rw (row_empty text (from i part) h) (differ_none odd))
-
-  pub odd_next : 24 ≤ length (from i part) → {e : ℕ} → e ≡ end_of (from i part) → OddSoFar part (not odd) (i + e)
-  odd_next long {e} ends = record {
-    within = omega (arith, from_length i part, so_far.within, end_high (from i part));
-    left = λ text.
-        so_far.left text
-        ∙ rw (next_row part i long ends text, term_odd text (term_at (from i part) 0) _ (row_of text (from (i + e) part))) (differ_one odd _);
-  }
-
--- ---- what `odd_times` has gone through
+-- ---- what `odd_times` counts
 
 module _ (text : List ℕ) (v : Variable) where
   -- the first term of a part is the variable, or it stands as often after it
@@ -238,36 +224,24 @@ module _ (text : List ℕ) (v : Variable) where
   term_times (Call a b) c p = refl
   term_times (Block n) c p = refl
 
-pub record TimesSoFar (text first pattern : List ℕ) (odd : Bool) (i : ℕ) : Type 0 where
-  pub within : i ≤ length pattern
-  pub left : (v : Variable) → atom_of text (term_at first 0) ≡ variable v
-      → odd_in v (outside (row_of text pattern)) ≡ differ odd (odd_in v (outside (row_of text (from i pattern))))
+  module _ (atom : Atom) (is_variable : atom ≡ variable v) where
+    pub times_counted : (part : List ℕ) → eqb (length (filter (λ s. same_atom atom (atom_of text (term_at s 0))) (term_parts part)) % 2) 1 ≡ odd_in v (outside (row_of text part))
+    unfolding odd_in outside
+    times_counted =
+        each_part (λ part. eqb (length (filter test (term_parts part)) % 2) 1 ≡ odd_in v (outside (row_of text part)))
+        (λ part h. rw (parts_none part h, row_empty text part h))
+        (λ part long below.
+        rw (parts_node part long, row_node text part long, term_times (term_at part 0) (row_of text (contents 24 end_of part)) (row_of text (rest 24 end_of part)), ← is_variable, ← below)
+        (turn part (test part) (filter test (term_parts (rest 24 end_of part)))))
+      where
+        test : List ℕ → Bool
+        test = λ s. same_atom atom (atom_of text (term_at s 0))
 
-pub times_begun : (text first pattern : List ℕ) → TimesSoFar text first pattern false 0
-times_begun text first pattern = record { within = omega arith; left = λ v e. rw (from_all pattern) }
+        turn : (s : List ℕ) (b : Bool) (l : List (List ℕ)) → eqb (length (cond b (s ∷ l) l) % 2) 1 ≡ differ b (eqb (length l % 2) 1)
+        turn s true l = odd_next (length l)
+        turn s false l = refl
 
-module _ {text first pattern : List ℕ} {odd : Bool} {i : ℕ} (so_far : TimesSoFar text first pattern odd i) where
-  pub times_all : length (from i pattern) < 24 → (v : Variable) → atom_of text (term_at first 0) ≡ variable v → odd ≡ odd_in v (outside (row_of text pattern))
-  unfolding odd_in outside
-  times_all h v e = sym (so_far.left v e ∙ rw (row_empty text (from i pattern) h) (differ_none odd))
-
-  module _ (long : 24 ≤ length (from i pattern)) {e : ℕ} (ends : e ≡ end_of (from i pattern))
-      {same : Bool} (told : 2 < word_at first 0 → same ≡ same_atom (atom_of text (term_at first 0)) (atom_of text (term_at (from i pattern) 0))) where
-    times_next : {later : Bool} → ((b : Bool) → differ odd (differ same b) ≡ differ later b) → TimesSoFar text first pattern later (i + e)
-    times_next counts = record {
-      within = omega (arith, from_length i pattern, so_far.within, end_high (from i pattern));
-      left = λ v h.
-          so_far.left v h
-          ∙ rw (next_row pattern i long ends text, term_times text v (term_at (from i pattern) 0) _ (row_of text (from (i + e) pattern)), ← h, ← told (variable_kind_lem text first h).0) (counts _);
-    }
-
-    pub times_one : same ≡ true → {later : Bool} → later ≡ not odd → TimesSoFar text first pattern later (i + e)
-    times_one h k = times_next (λ b. rw (h, k) (differ_one odd b))
-
-    pub times_none : same ≡ false → {later : Bool} → later ≡ odd → TimesSoFar text first pattern later (i + e)
-    times_none h k = times_next (λ b. rw (h, k))
-
--- ---- what `evenly` has gone through
+-- ---- what `evenly` asks
 
 -- a variable that stands oddly often stands somewhere
 odd_occurs : (v : Variable) (l : List Variable) → odd_in v l ≡ true → occurs v l ≡ true
@@ -307,41 +281,38 @@ module _ (text : List ℕ) (v : Variable) (expression : open_kind v.kind ≡ tru
   open_either (Call a b) c p h = inr h
   open_either (Block n) c p h = inr h
 
-pub record EvenSoFar (text pattern : List ℕ) (i : ℕ) : Type 0 where
-  pub within : i ≤ length pattern
-  pub left : (v : Variable) → open_kind v.kind ≡ true → odd_in v (outside (row_of text pattern)) ≡ true → occurs v (outside (row_of text (from i pattern))) ≡ true
+-- an e. variable that is the first of a part stands evenly often in the pattern
+pub record Even (text pattern part : List ℕ) : Type 0 where
+  pub often : word_at part 0 ≡ 5 → (v : Variable) → atom_of text (term_at part 0) ≡ variable v → odd_in v (outside (row_of text pattern)) ≡ false
 
-pub even_begun : (text pattern : List ℕ) → EvenSoFar text pattern 0
-even_begun text pattern = record { within = omega arith; left = λ v expression h. rw (from_all pattern) (odd_occurs v (outside (row_of text pattern)) h) }
-
-module _ {text pattern : List ℕ} {i : ℕ} (so_far : EvenSoFar text pattern i) where
-  pub even_all : length (from i pattern) < 24 → Evenly (row_of text pattern)
-  unfolding outside occurs
-  even_all h v expression = go (odd_in v (outside (row_of text pattern))) (λ k. so_far.left v expression k)
+module _ (text pattern : List ℕ) (v : Variable) (expression : open_kind v.kind ≡ true) (odd : odd_in v (outside (row_of text pattern)) ≡ true) where
+  -- a variable that stands oddly often is none of them
+  none_first : (part : List ℕ) → Even text pattern part → open_term (term_at part 0) ≡ true → atom_of text (term_at part 0) ≡ variable v → ⊥
+  none_first part even o a = go (eqb_tells (word_at part 0) 5)
     where
-      go : (b : Bool) → (b ≡ true → occurs v (outside (row_of text (from i pattern))) ≡ true) → b ≡ false
-      go false k = refl
-      go true k = absurd (false_not_true (rw (row_empty text (from i pattern) h) at (k refl)))
+      go : ((eqb (word_at part 0) 5 ≡ true) × (word_at part 0 ≡ 5)) ⊎ ((eqb (word_at part 0) 5 ≡ false) × (word_at part 0 ≢ 5)) → ⊥
+      go (inl (e, five)) = false_not_true (sym (even.often five v a) ∙ odd)
+      go (inr (e, other)) = false_not_true (sym (not_open part refl other) ∙ o)
 
-  module _ (long : 24 ≤ length (from i pattern)) {kind : ℕ} (told : kind ≡ word_at (from i pattern) 0) {e : ℕ} (ends : e ≡ end_of (from i pattern)) where
-    -- the first term, if it is an e. variable, stands evenly often
-    even_next : ((v : Variable) → open_term (term_at (from i pattern) 0) ≡ true → atom_of text (term_at (from i pattern) 0) ≡ variable v
-        → odd_in v (outside (row_of text pattern)) ≡ false) → EvenSoFar text pattern (i + e)
-    even_next first = record {
-      within = omega (arith, from_length i pattern, so_far.within, end_high (from i pattern));
-      left = λ v expression h. later v h
-          (open_either text v expression (term_at (from i pattern) 0) _ (row_of text (from (i + e) pattern)) (rw (next_row pattern i long ends text) at (so_far.left v expression h)));
-    }
-      where
-        later : (v : Variable) → odd_in v (outside (row_of text pattern)) ≡ true
-            → ((open_term (term_at (from i pattern) 0) ≡ true) × (atom_of text (term_at (from i pattern) 0) ≡ variable v)) ⊎ (occurs v (outside (row_of text (from (i + e) pattern))) ≡ true)
-            → occurs v (outside (row_of text (from (i + e) pattern))) ≡ true
-        later v h (inl (o, a)) = absurd (false_not_true (sym (first v o a) ∙ h))
-        later v h (inr k) = k
+  none_stands : (part : List ℕ) → All (Even text pattern) (term_parts part) → occurs v (outside (row_of text part)) ≡ true → ⊥
+  unfolding outside occurs
+  none_stands =
+      each_part (λ part. All (Even text pattern) (term_parts part) → occurs v (outside (row_of text part)) ≡ true → ⊥)
+      (λ part h all stands. false_not_true (rw (row_empty text part h) at stands))
+      (λ part long below all stands.
+      let parts = parts_node part long in
+      let each : All (Even text pattern) (part ∷ term_parts (rest 24 end_of part)) = rw parts at all in
+      turn part (each 0 part (omega arith)) (below (λ k d h. each (suc k) d (omega arith)))
+      (open_either text v expression (term_at part 0) _ _ (rw (row_node text part long) at stands)))
+    where
+      turn : (part : List ℕ) → Even text pattern part → (occurs v (outside (row_of text (rest 24 end_of part))) ≡ true → ⊥)
+          → ((open_term (term_at part 0) ≡ true) × (atom_of text (term_at part 0) ≡ variable v)) ⊎ (occurs v (outside (row_of text (rest 24 end_of part))) ≡ true) → ⊥
+      turn part even below (inl (o, a)) = none_first part even o a
+      turn part even below (inr later) = below later
 
-    pub even_open : {odd : Bool} → ((v : Variable) → atom_of text (term_at (from i pattern) 0) ≡ variable v → odd ≡ odd_in v (outside (row_of text pattern))) → odd ≡ false
-        → EvenSoFar text pattern (i + e)
-    even_open times h = even_next (λ v o a. sym (times v a) ∙ h)
-
-    pub even_other : (kind ≡ 5 → ⊥) → EvenSoFar text pattern (i + e)
-    even_other h = even_next (λ v o a. absurd (false_not_true (sym (not_open (from i pattern) told h) ∙ o)))
+pub even_all : (text pattern : List ℕ) → All (Even text pattern) (term_parts pattern) → Evenly (row_of text pattern)
+even_all text pattern all v expression = go (odd_in v (outside (row_of text pattern))) refl
+  where
+    go : (b : Bool) → odd_in v (outside (row_of text pattern)) ≡ b → b ≡ false
+    go false k = refl
+    go true k = absurd (none_stands text pattern v expression k pattern all (odd_occurs v (outside (row_of text pattern)) k))

@@ -2,6 +2,7 @@
 use Prim.Native.Nat.{ℕ, ◌+◌, ◌*◌, ◌≤◌, ◌<◌}
 use mathlib.Core.Bool.{Bool, true, false}
 use mathlib.Core.List.{List}
+use mathlib.Core.Logic.{◌⊎◌, inl, inr}
 use mathlib.Core.Option.{none, some}
 use mathlib.Core.Path.{◌≡◌, sym, ◌∙◌}
 use native.Mathlib.Omega.{arith}
@@ -35,8 +36,11 @@ use Rattle.searches.specs.Code.Capacity.{variables_in}
 use Rattle.searches.specs.Code.Asked.{nesting}
 use Rattle.sentences.specs.Entry.{pattern_in, argument_part, argument_in, literal_call, shadow_in, no_sentence_lem, not_literal}
 use Rattle.sentences.specs.Entry.{answered, recognise_in, shadow_outcome, recognise_outcome, shadow_answer, recognise_answer}
-use Rattle.sentences.specs.declared.Shadowed.{Shadowed}
-use Rattle.sentences.specs.declared.Recognised.{Recognised}
+use Rattle.std.specs.Prelude.{IsErrAnd}
+use Rattle.sentences.specs.declared.errors.ShadowError.{ShadowError}
+use Rattle.sentences.specs.declared.errors.ShadowError.TheVariants as shadow_errors
+use Rattle.sentences.specs.declared.errors.MatchError.{MatchError}
+use Rattle.sentences.specs.declared.errors.MatchError.TheVariants as match_errors
 use Rattle.matching.proofs.PartLaws.{row_run}
 use Rattle.searches.proofs.LiteralParts.{part_literal, part_symbols}
 use Rattle.sentences.proofs.SentencePatterns.{pattern_distinct, pattern_nesting}
@@ -179,13 +183,11 @@ module _ (bytes index : List ℕ) (indexed : Indexed bytes index) where
     pub sentence_inside : (s : ℕ) → s < n → s < (file_of bytes).sentences.count
     sentence_inside s h = omega (arith, count_is)
 
-    pub shadow_no_earlier : (s t : ℕ) → n ≤ s → given none ≡ given (shadow_in (file_of bytes) s t)
+    -- one of them is no sentence
+    pub shadow_none : (s t : ℕ) → (n ≤ s) ⊎ ((s < n) × (n ≤ t)) → given none ≡ given (shadow_in (file_of bytes) s t)
     unfolding shadow_in
-    shadow_no_earlier s t h = rw (le-ltb s (file_of bytes).sentences.count (omega (arith, count_is)))
-
-    pub shadow_no_later : (s t : ℕ) → s < n → n ≤ t → given none ≡ given (shadow_in (file_of bytes) s t)
-    unfolding shadow_in
-    shadow_no_later s t h k =
+    shadow_none s t (inl h) = rw (le-ltb s (file_of bytes).sentences.count (omega (arith, count_is)))
+    shadow_none s t (inr (h, k)) =
         rw (lt-ltb s (file_of bytes).sentences.count (omega (arith, count_is)), le-ltb t (file_of bytes).sentences.count (omega (arith, count_is)))
 
     pub shadow_answered : (s t : ℕ) (r : Bool) → s < n → t < n
@@ -233,19 +235,24 @@ module _ (bytes : List ℕ) (answer : Result (Unit {0}) Refusal) (verdict : chec
   pub law_asked : (index : List ℕ) → IndexAfter answer bytes index → answer ≡ Ok tt → Indexed bytes index × Accepted bytes
   law_asked index k e = (rw e at k, (law_read e).0)
 
-  pub shadow_refused : (s t : ℕ) (why : Refusal) → answer ≡ Err why → refused (number_of why) ≡ shadow_outcome bytes s t
+  pub shadow_refused : (s t : ℕ) (why : Refusal) → answer ≡ Err why → (r : Result Bool ShadowError) → IsErrAnd r (λ error. error ≡ shadow_errors.Refused why)
+      → shadow_answer r ≡ shadow_outcome bytes s t
   unfolding shadow_outcome
-  shadow_refused s t why e = rw (law_refused why e)
+  shadow_refused s t why e (Ok b) h = absurd h
+  shadow_refused s t why e (Err error) h = rw (h, law_refused why e)
 
-  pub shadow_accepted : (s t : ℕ) (r : Shadowed) → answer ≡ Ok tt → shadow_answer r ≡ given (shadow_in (file_of bytes) s t) → shadow_answer r ≡ shadow_outcome bytes s t
+  pub shadow_accepted : (s t : ℕ) (r : Result Bool ShadowError) → answer ≡ Ok tt → (law : List ℕ) → law ≡ bytes
+      → shadow_answer r ≡ given (shadow_in (file_of law) s t) → shadow_answer r ≡ shadow_outcome bytes s t
   unfolding shadow_outcome
-  shadow_accepted s t r e is = rw (law_read e).1 is
+  shadow_accepted s t r e law same is = rw (law_read e).1 (rw same at is)
 
-  pub recognise_refused : (s t : ℕ) (why : Refusal) → answer ≡ Err why → refused (number_of why) ≡ recognise_outcome bytes s t
-  unfolding recognise_outcome
-  recognise_refused s t why e = rw (law_refused why e)
-
-  pub recognise_accepted : (s t : ℕ) (r : Recognised) → answer ≡ Ok tt → recognise_answer r ≡ given (recognise_in (file_of bytes) s t)
+  pub recognise_refused : (s t : ℕ) (why : Refusal) → answer ≡ Err why → (r : Result Bool MatchError) → IsErrAnd r (λ error. error ≡ match_errors.Refused why)
       → recognise_answer r ≡ recognise_outcome bytes s t
   unfolding recognise_outcome
-  recognise_accepted s t r e is = rw (law_read e).1 is
+  recognise_refused s t why e (Ok b) h = absurd h
+  recognise_refused s t why e (Err error) h = rw (h, law_refused why e)
+
+  pub recognise_accepted : (s t : ℕ) (r : Result Bool MatchError) → answer ≡ Ok tt → (law : List ℕ) → law ≡ bytes
+      → recognise_answer r ≡ given (recognise_in (file_of law) s t) → recognise_answer r ≡ recognise_outcome bytes s t
+  unfolding recognise_outcome
+  recognise_accepted s t r e law same is = rw (law_read e).1 (rw same at is)

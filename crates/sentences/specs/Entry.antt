@@ -1,5 +1,5 @@
 -- What a law file answers when it is asked about its sentences and calls, by the numbers of their records, from 0.
-use Rattle.std.specs.Prelude.{ℕ, ◌+◌, ◌*◌, Bool, cond, ◌&&◌, List, eqb, ltb}
+use Rattle.std.specs.Prelude.{ℕ, ◌+◌, ◌*◌, Bool, cond, ◌&&◌, List, eqb, ltb, Result, Ok, Err}
 use Rattle.std.proofs.Math.Option.{Option, none, some}
 use Rattle.file.specs.Answer.{Answer, refused, given, map_answer}
 use Rattle.file.specs.Word.{word_at}
@@ -11,10 +11,10 @@ use Rattle.law.specs.Law.{law_of}
 use Rattle.matching.specs.Pattern.{Pattern, pattern_of}
 use Rattle.matching.specs.Shadow.{shadows}
 use Rattle.matching.specs.Literal.{is_literal, literal_terms, literal_matches}
-use Rattle.sentences.specs.declared.Shadowed.{Shadowed}
-use Rattle.sentences.specs.declared.Shadowed.TheVariants as shadowed
-use Rattle.sentences.specs.declared.Recognised.{Recognised}
-use Rattle.sentences.specs.declared.Recognised.TheVariants as recognised
+use Rattle.sentences.specs.declared.errors.ShadowError.{ShadowError}
+use Rattle.sentences.specs.declared.errors.ShadowError.TheVariants as shadow_errors
+use Rattle.sentences.specs.declared.errors.MatchError.{MatchError}
+use Rattle.sentences.specs.declared.errors.MatchError.TheVariants as match_errors
 
 module _ (file : File) where
   -- the pattern of the sentence s
@@ -59,14 +59,14 @@ shadow_outcome bytes earlier later = map_answer (λ law. shadow_in (file_of byte
 unfoldable pub recognise_outcome : List ℕ → ℕ → ℕ → Answer Recognition
 recognise_outcome bytes s t = map_answer (λ law. recognise_in (file_of bytes) s t) (law_of bytes)
 
--- what the enums say, with document 01's number of each refusal
-abbrev pub shadow_answer : Shadowed → Answer (Option Bool)
-shadow_answer (shadowed.Refused why) = refused (number_of why)
-shadow_answer shadowed.NoSentence = given none
-shadow_answer (shadowed.Answered b) = given (some b)
+-- what the answers say, with document 01's number of each refusal
+abbrev pub shadow_answer : Result Bool ShadowError → Answer (Option Bool)
+shadow_answer (Err (shadow_errors.Refused why)) = refused (number_of why)
+shadow_answer (Err shadow_errors.NoSentence) = given none
+shadow_answer (Ok b) = given (some b)
 
-abbrev pub recognise_answer : Recognised → Answer Recognition
-recognise_answer (recognised.Refused why) = refused (number_of why)
-recognise_answer recognised.NoSentence = given no_sentence_lem
-recognise_answer recognised.NotLiteral = given not_literal
-recognise_answer (recognised.Answered b) = given (answered b)
+abbrev pub recognise_answer : Result Bool MatchError → Answer Recognition
+recognise_answer (Err (match_errors.Refused why)) = refused (number_of why)
+recognise_answer (Err match_errors.NoSentence) = given no_sentence_lem
+recognise_answer (Err match_errors.NotLiteral) = given not_literal
+recognise_answer (Ok b) = given (answered b)

@@ -11,141 +11,88 @@ ghost use Rattle.sentences.specs.Code.Ahead.{passes, front_in, leftmost_in, end_
 
 use file::{term_at, word_at};
 use law::runs::end_of;
+use law::whole::{Terms, after};
 use matching::atoms::{atoms_same, characters_same, is_bracket};
 use matching::terms::may_stand;
 use searches::repeats::again;
-
-// Where a pattern and a row stand once the pattern's terms before its first e. variable are matched.
-#[derive(Clone, Copy)]
-pub enum Ahead {
-    At(usize, usize),
-    Fails,
-}
 
 // Has a pattern an e. variable outside brackets?
 fn has_open(pattern: &[u8]) -> bool
     ensures { (text : List ℕ) → result ≡ opens (row_of text pattern.now) }
 {
-    let mut i = 0;
-    loop {
-        let left = &pattern[i..];
-        if left.len() < 24 {
-            break false;
-        }
-        if word_at(left, 0) == 5 {
-            break true;
-        }
-        i += end_of(left);
-    }
+    Terms(pattern).any(|part| word_at(part, 0) == 5)
 }
 
 // How many terms a part has; brackets are one term.
-fn terms_in(part: &[u8]) -> usize
+pub fn terms_in(part: &[u8]) -> usize
     ensures { ((text : List ℕ) → result ≡ terms_in (row_of text part.now)) × (result ≤ length part.now) }
 {
-    let mut count = 0;
-    let mut i = 0;
-    loop {
-        let left = &part[i..];
-        if left.len() < 24 {
-            break count;
-        }
-        count += 1;
-        i += end_of(left);
-    }
+    Terms(part).count()
 }
 
-// Where a row stands after so many terms.
-fn skip(row: &[u8], count: usize) -> usize
+// What a row has after so many terms.
+fn skip(row: &[u8], count: usize) -> &[u8]
     requires { (text : List ℕ) → count ≤ terms_in (row_of text row.now) }
-    ensures { Skipped row.now count 0 result }
+    ensures { Skipped row.now count result.now }
 {
-    let mut n = 0;
-    let mut left = count;
-    loop {
-        if left == 0 {
-            break n;
-        }
-        left -= 1;
-        n += end_of(&row[n..]);
+    let mut left = row;
+    for _ in 0..count {
+        left = after(left);
     }
+    left
 }
 
-// May the first term of a pattern, no symbol and no e. variable, stand for the first term of a row? A bracket asks about the contents.
+// May the first term of a pattern, no e. variable, stand for the first term of a row? A bracket asks about the contents.
 #[cycle(fits_front_last_leftmost_loose_loose_open)]
 fn fits(text: &[u8], pattern: &[u8], row: &[u8]) -> bool
-    requires { (24 ≤ length pattern.now) × (24 ≤ length row.now) × (3 ≤ word_at pattern.now 0) }
+    requires { (24 ≤ length pattern.now) × (24 ≤ length row.now) }
     ensures { result ≡ fits_first text.now pattern.now row.now }
 {
-    if !is_bracket(pattern) {
-        return may_stand(term_at(pattern, 0), term_at(row, 0));
+    match word_at(pattern, 0) {
+        0 => characters_same(pattern, row),
+        1 | 2 => atoms_same(text, pattern, row),
+        6 => {
+            let contents = &pattern[24..end_of(pattern)];
+            is_bracket(row) && loose(text, contents, &row[24..end_of(row)])
+        }
+        _ => may_stand(term_at(pattern, 0), term_at(row, 0)),
     }
-    if !is_bracket(row) {
-        return false;
-    }
-    let m = end_of(pattern);
-    let n = end_of(row);
-    loose(text, &pattern[24..m], &row[24..n])
 }
 
-// The pattern's terms up to its first e. variable or its end, with the front of the row.
+// What a pattern has from its first e. variable on, and a row after what the terms before that variable stand for; none where they stand for no front of the
+// row.
 #[cycle(fits_front_last_leftmost_loose_loose_open)]
-fn front(text: &[u8], pattern: &[u8], row: &[u8]) -> Ahead
-    ensures { AheadIn pattern.now row.now result
-        × (ahead_of text.now pattern.now row.now result ≡ front_in (row_of text.now pattern.now) (row_of text.now row.now)) }
+fn front<'a>(text: &[u8], pattern: &'a [u8], row: &'a [u8]) -> Option<(&'a [u8], &'a [u8])>
+    ensures { AheadIn pattern.now result
+        × (ahead_of text.now result ≡ front_in (row_of text.now pattern.now) (row_of text.now row.now)) }
 {
-    let mut i = 0;
-    let mut j = 0;
-    loop {
-        let left = &pattern[i..];
-        let right = &row[j..];
-        if left.len() < 24 {
-            break Ahead::At(i, j);
+    let mut left = pattern;
+    let mut right = row;
+    // Both go on by a term at a time, whose size varies.
+    while 24 <= left.len() && word_at(left, 0) != 5 {
+        if right.len() < 24 || !fits(text, left, right) {
+            return None;
         }
-        let kind = word_at(left, 0);
-        if kind == 5 {
-            break Ahead::At(i, j);
-        }
-        if right.len() < 24 {
-            break Ahead::Fails;
-        }
-        if kind == 0 {
-            if !characters_same(left, right) {
-                break Ahead::Fails;
-            }
-        } else if kind < 3 {
-            if !atoms_same(text, left, right) {
-                break Ahead::Fails;
-            }
-        } else {
-            if !fits(text, left, right) {
-                break Ahead::Fails;
-            }
-        }
-        i += end_of(left);
-        j += end_of(right);
+        left = after(left);
+        right = after(right);
     }
+    Some((left, right))
 }
 
 // The same at the leftmost place of the row where it is had.
 #[cycle(fits_front_last_leftmost_loose_loose_open)]
-fn leftmost(text: &[u8], pattern: &[u8], row: &[u8]) -> Ahead
-    ensures { AheadIn pattern.now row.now result
-        × (ahead_of text.now pattern.now row.now result ≡ leftmost_in (row_of text.now pattern.now) (row_of text.now row.now)) }
+fn leftmost<'a>(text: &[u8], pattern: &'a [u8], row: &'a [u8]) -> Option<(&'a [u8], &'a [u8])>
+    ensures { AheadIn pattern.now result
+        × (ahead_of text.now result ≡ leftmost_in (row_of text.now pattern.now) (row_of text.now row.now)) }
 {
-    let mut j = 0;
+    let mut right = row;
+    // The last place is the end of the row, where no term is.
     loop {
-        let right = &row[j..];
-        match front(text, pattern, right) {
-            Ahead::At(m, n) => {
-                break Ahead::At(m, j + n);
-            }
-            Ahead::Fails => {}
+        let ahead = front(text, pattern, right);
+        if ahead.is_some() || right.len() < 24 {
+            return ahead;
         }
-        if right.len() < 24 {
-            break Ahead::Fails;
-        }
-        j += end_of(right);
+        right = after(right);
     }
 }
 
@@ -160,11 +107,7 @@ fn last(text: &[u8], pattern: &[u8], row: &[u8]) -> bool
     }
     let terms = terms_in(pattern);
     let room = terms_in(row);
-    if room < terms {
-        return false;
-    }
-    let start = skip(row, room - terms);
-    loose(text, pattern, &row[start..])
+    terms <= room && loose(text, pattern, skip(row, room - terms))
 }
 
 // The loose test of a pattern that is empty or begins with an e. variable.
@@ -173,29 +116,21 @@ fn loose_open(text: &[u8], pattern: &[u8], row: &[u8]) -> bool
     requires { OpenStart (row_of text.now pattern.now) }
     ensures { result ≡ passes (row_of text.now pattern.now) (row_of text.now row.now) }
 {
-    let mut i = 0;
-    let mut j = 0;
-    loop {
-        let left = &pattern[i..];
-        let right = &row[j..];
-        if left.len() < 24 {
-            break right.len() < 24;
+    let mut left = pattern;
+    let mut right = row;
+    // The pattern goes on by a segment at a time: an e. variable and the terms before the next.
+    while 24 <= left.len() {
+        let segment = after(left);
+        if !has_open(segment) {
+            return last(text, segment, right);
         }
-        let end = end_of(left);
-        let rest = &left[end..];
-        if !has_open(rest) {
-            break last(text, rest, right);
-        }
-        match leftmost(text, rest, right) {
-            Ahead::Fails => {
-                break false;
-            }
-            Ahead::At(m, n) => {
-                i += end + m;
-                j += n;
-            }
-        }
+        let Some((later, rest)) = leftmost(text, segment, right) else {
+            return false;
+        };
+        left = later;
+        right = rest;
     }
+    right.len() < 24
 }
 
 // Does a pattern match a row, each occurrence of a variable taken for a variable of its own?
@@ -204,8 +139,8 @@ pub fn loose(text: &[u8], pattern: &[u8], row: &[u8]) -> bool
     ensures { result ≡ passes (row_of text.now pattern.now) (row_of text.now row.now) }
 {
     match front(text, pattern, row) {
-        Ahead::Fails => false,
-        Ahead::At(m, n) => loose_open(text, &pattern[m..], &row[n..]),
+        None => false,
+        Some((left, right)) => loose_open(text, left, right),
     }
 }
 
@@ -213,40 +148,25 @@ pub fn loose(text: &[u8], pattern: &[u8], row: &[u8]) -> bool
 pub fn parted(text: &[u8], pattern: &[u8], row: &[u8]) -> bool
     ensures { result ≡ true → passes (row_of text.now pattern.now) (row_of text.now row.now) ≡ false }
 {
-    if pattern.len() < 24 {
+    if pattern.len() < 24 || row.len() < 24 {
         return false;
     }
-    if row.len() < 24 {
-        return false;
+    match word_at(pattern, 0) {
+        0 => !characters_same(pattern, row),
+        1 | 2 => !atoms_same(text, pattern, row),
+        _ => false,
     }
-    let kind = word_at(pattern, 0);
-    if kind == 0 {
-        return !characters_same(pattern, row);
-    }
-    if 2 < kind {
-        return false;
-    }
-    !atoms_same(text, pattern, row)
 }
 
 // Does a pattern show that it has no variable twice? What stands inside calls is looked at too.
 pub fn once(text: &[u8], pattern: &[u8]) -> bool
     ensures { result ≡ true → once_each (variables_in (row_of text.now pattern.now)) ≡ true }
 {
-    let mut i = 0;
-    loop {
-        let left = &pattern[i..];
-        if left.len() < 24 {
-            break true;
+    for i in 0..pattern.len() / 24 {
+        let left = &pattern[24 * i..];
+        if (3..=5).contains(&word_at(left, 0)) && again(text, left, &left[24..]) {
+            return false;
         }
-        let kind = word_at(left, 0);
-        if 2 < kind {
-            if kind < 6 {
-                if again(text, left, &left[24..]) {
-                    break false;
-                }
-            }
-        }
-        i += 24;
     }
+    true
 }

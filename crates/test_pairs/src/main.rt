@@ -6,9 +6,8 @@
 // of all functions and blocks are asked about, so that a case may spread its patterns over several.
 #![tactic(auto)]
 
-use law::places::{sentences, terms};
-use law::Index;
-use sentences::{Recognised, Shadowed, matches_in, shadows_in};
+use law::{AcceptedLaw, Index};
+use sentences::{MatchError, ShadowError, matches_in, shadows_in};
 use std::io;
 use std::io::{BufWriter, Read, Write};
 use test_cases::{LABEL, LAW, print_decimal, read_label, read_law};
@@ -32,19 +31,15 @@ fn print_shadowed<W: Write>(
     output: &mut W,
     earlier: usize,
     later: usize,
-    answer: Shadowed,
+    answer: Result<bool, ShadowError>,
 ) -> io::Result<()> {
-    match answer {
-        Shadowed::Refused(_) => print_line(output, earlier, b" is refused beside ", later),
-        Shadowed::NoSentence => print_line(output, earlier, b" has no sentence ", later),
-        Shadowed::Answered(yes) => {
-            if yes {
-                print_line(output, earlier, b" shadows ", later)
-            } else {
-                print_line(output, earlier, b" does not shadow ", later)
-            }
-        }
-    }
+    let words: &[u8] = match answer {
+        Ok(true) => b" shadows ",
+        Ok(false) => b" does not shadow ",
+        Err(ShadowError::NoSentence) => b" has no sentence ",
+        Err(ShadowError::Refused(_)) => b" is refused beside ",
+    };
+    print_line(output, earlier, words, later)
 }
 
 // Writes whether a sentence matches the argument of a call, and nothing where that is not literal.
@@ -52,58 +47,38 @@ fn print_recognised<W: Write>(
     output: &mut W,
     sentence: usize,
     term: usize,
-    answer: Recognised,
+    answer: Result<bool, MatchError>,
 ) -> io::Result<()> {
-    match answer {
-        Recognised::Refused(_) => print_line(
-            output,
-            sentence,
-            b" is refused beside the call at ",
-            term,
-        ),
-        Recognised::NoSentence => print_line(
-            output,
-            sentence,
-            b" is no sentence for the call at ",
-            term,
-        ),
-        Recognised::NotLiteral => Ok(()),
-        Recognised::Answered(yes) => {
-            if yes {
-                print_line(output, sentence, b" matches the call at ", term)
-            } else {
-                print_line(output, sentence, b" does not match the call at ", term)
-            }
-        }
-    }
+    let words: &[u8] = match answer {
+        Ok(true) => b" matches the call at ",
+        Ok(false) => b" does not match the call at ",
+        Err(MatchError::NotLiteral) => return Ok(()),
+        Err(MatchError::NoSentence) => b" is no sentence for the call at ",
+        Err(MatchError::Refused(_)) => b" is refused beside the call at ",
+    };
+    print_line(output, sentence, words, term)
 }
 
 // Asks about a sentence and each one before it.
 fn print_earlier<W: Write>(output: &mut W, law: &[u8], later: usize) -> io::Result<()> {
-    let mut earlier = 0;
-    while earlier < later {
+    for earlier in 0..later {
         print_shadowed(output, earlier, later, shadows_in(law, earlier, later))?;
-        earlier += 1;
     }
     Ok(())
 }
 
 // Asks about each two of so many sentences.
 fn print_pairs<W: Write>(output: &mut W, law: &[u8], count: usize) -> io::Result<()> {
-    let mut later = 0;
-    while later < count {
+    for later in 0..count {
         print_earlier(output, law, later)?;
-        later += 1;
     }
     Ok(())
 }
 
 // Asks about a term record and each of so many sentences.
 fn print_call<W: Write>(output: &mut W, law: &[u8], count: usize, term: usize) -> io::Result<()> {
-    let mut sentence = 0;
-    while sentence < count {
+    for sentence in 0..count {
         print_recognised(output, sentence, term, matches_in(law, sentence, term))?;
-        sentence += 1;
     }
     Ok(())
 }
@@ -115,29 +90,24 @@ fn print_calls<W: Write>(
     count: usize,
     records: usize,
 ) -> io::Result<()> {
-    let mut term = 0;
-    while term < records {
+    for term in 0..records {
         print_call(output, law, count, term)?;
-        term += 1;
     }
     Ok(())
 }
 
 // Writes the end of a case's line, and the lines after it.
-fn print_answers<W: Write>(output: &mut W, law: &[u8]) -> io::Result<()> {
+fn print_answers<W: Write>(output: &mut W, bytes: &[u8]) -> io::Result<()> {
     let mut index: Index = [0; 972];
-    match law::read_law(law, &mut index) {
-        Ok(()) => {
-            output.write_all(b" accepted\n")?;
-            print_pairs(output, law, sentences(&index))?;
-            print_calls(output, law, sentences(&index), terms(&index))
-        }
-        Err(refusal) => {
-            output.write_all(b" refused ")?;
-            print_decimal(output, u64::from(u32::from(refusal)))?;
-            output.write_all(b"\n")
-        }
+    if let Err(refusal) = law::read_law(bytes, &mut index) {
+        output.write_all(b" refused ")?;
+        print_decimal(output, u64::from(u32::from(refusal)))?;
+        return output.write_all(b"\n");
     }
+    output.write_all(b" accepted\n")?;
+    let law = AcceptedLaw::new(bytes, &index).law;
+    print_pairs(output, bytes, law.sentences())?;
+    print_calls(output, bytes, law.sentences(), law.terms())
 }
 
 // Reads a law and answers it. A law that does not fit or is cut short is left without an answer.
