@@ -201,8 +201,8 @@ fn shadow_run(
         × MatchKept text.now terms.now b sure.fixed result }
 {
     match known_front(text, terms, pattern, row, &b) {
-        Known::Fails => None,
-        Known::End(_, n) => { if row[n..].len() < 24 { Some(b) } else { None } }
+        Known::End(_, n) if row[n..].len() < 24 => Some(b),
+        Known::End(_, _) | Known::Fails => None,
         Known::Stops(m, n, stop) => {
             let rest = &pattern[m..];
             let left = &row[n..];

@@ -167,8 +167,8 @@ shadow_run-shadow_first-requires t c =
       ((calls.asked_later start.0 _ _ passed.begins passed.within, sure.settled_later _ start.1 passed.begins, start.2), stopped),
     )
 
-pub shadow_run-returns-then-row-n-lt24 : goal.shadow_run-returns-then-row-n-lt24
-shadow_run-returns-then-row-n-lt24 t c =
+pub shadow_run-returns-in-End : goal.shadow_run-returns-in-End
+shadow_run-returns-in-End t c =
     let start = c.requires in
     let (passed, short) = known.known_end c.known_front.ensures _ _ c.in-End.is in (
       answers.run_match _ _ _ _ _ short c.if-row-n-lt24.true ∙ sym (ap first_in (passed.search false)),
@@ -176,8 +176,8 @@ shadow_run-returns-then-row-n-lt24 t c =
       record { kept = (start.0.kept, sure.fixed_same _ _ (sure.settled_low start.1)) },
     )
 
-pub shadow_run-returns-else-row-n-lt24 : goal.shadow_run-returns-else-row-n-lt24
-shadow_run-returns-else-row-n-lt24 t c =
+pub shadow_run-returns-in-End-2 : goal.shadow_run-returns-in-End-2
+shadow_run-returns-in-End-2 t c =
     let (passed, short) = known.known_end c.known_front.ensures _ _ c.in-End.is in
     (answers.run_left _ _ c.args.b _ _ short c.if-row-n-lt24.false ∙ sym (ap first_in (passed.search false)), c.requires.2, record { kept = tt })
 
