@@ -2,22 +2,22 @@
 use Prim.Native.Nat.{ℕ, zero, suc, ◌+◌, ◌-◌, ◌%◌, ◌≤◌, ◌<◌, min}
 use mathlib.Core.Bool.{Bool, true, false, cond}
 use mathlib.Core.List.{List, [], ◌∷◌}
-use mathlib.Core.Logic.{◌↔◌}
+use mathlib.Core.Logic.{◌↔◌, ◌⊎◌, inl, inr}
 use mathlib.Core.Path.{◌≡◌, refl, sym, ap, ◌∙◌}
 use native.Mathlib.Omega.{arith}
 use native.Mathlib.Decide.{dec_lt}
 use native.Mathlib.Nat.{zero-add}
-use lib.ListN.{length, take, drop, get_or, set, replicate, length-drop, length-replicate}
-use lib.Seq.{take_all, take-nil}
+use lib.ListN.{length, take, drop, set, replicate, length-replicate}
+use lib.Seq.{take_all}
 use lib.Dec.{leb}
 use Rattle.shapes.specs.Format.{Shapes, Format, never, of, size, is_open}
 use Rattle.shapes.specs.Join.{join_rows, join_formats}
-use Rattle.shapes.specs.Disjoint.{disjoint_rows, disjoint_formats}
+use Rattle.shapes.specs.Disjoint.{disjoint_formats}
 use Rattle.shapes.specs.Same.{same_format}
 use Rattle.shapes.specs.Words.{shape_words, filled, used_words, format_words, Encodable, shapes_in, read_format}
-use Rattle.shapes.specs.Code.Words.{row_end, FormatIn}
+use Rattle.shapes.specs.Code.Words.{FormatIn}
 use Rattle.buffers.specs.Written.{written}
-use Rattle.shapes.specs.Code.First.{ShapesWritten}
+use Rattle.shapes.specs.Code.Rows.{ShapesWritten}
 use Rattle.shapes.proofs.JoinLaws.{join_size_left}
 use Rattle.shapes.proofs.SameLaws.{same_equal, same_itself}
 use Rattle.shapes.proofs.WordLaws.{words_length, format_words_length, read_write}
@@ -38,62 +38,38 @@ pub format_in_words : (limit : ℕ) (words : List ℕ) → limit ≤ 127 → For
 format_in_words limit words l x = rw (format_in_read limit words l x) x.same
 
 -- a header that says never
-pub read_never : (s : List ℕ) (t : Bool) → t ≡ leb 512 (get_or s 0 0) → t ≡ true → read_format s ≡ never
+pub read_never : (s : List ℕ) (w : ℕ) (words : List ℕ) → s ≡ w ∷ words → leb 512 w ≡ true → read_format s ≡ never
 unfolding read_format
-read_never s t e h = rw (← e, h)
+read_never s w words e h = rw (e, h)
 
--- a row that ends at the last word at most
-row_within : (k : ℕ) (s : List ℕ) → 1 ≤ length s → take (min (1 + k) (length s) - 1) (drop 1 s) ≡ take k (drop 1 s)
-row_within k s h = go (dec_lt k (length s))
+-- a header that does not, with as many words after it as it says and as there are
+pub read_row : (s : List ℕ) (w : ℕ) (words : List ℕ) (n : ℕ) → s ≡ w ∷ words → leb 512 w ≡ false → n ≡ min (w % 256) (length words)
+    → read_format s ≡ of (shapes_in (leb 256 w) (take n words))
+unfolding read_format
+read_row s w words n e h r = rw (e, h, r, take_within (w % 256) words)
   where
-    go : Dec (k < length s) → take (min (1 + k) (length s) - 1) (drop 1 s) ≡ take k (drop 1 s)
-    go (yes l) =
-        let e : min (1 + k) (length s) - 1 ≡ k = omega arith in
-        rw e
-    go (no l) = take_all (min (1 + k) (length s) - 1) (drop 1 s) (omega (arith, length-drop 1 s)) ∙ sym (take_all k (drop 1 s) (omega (arith, length-drop 1 s)))
+    take_within : (k : ℕ) (words : List ℕ) → take (min k (length words)) words ≡ take k words
+    take_within k words = go (dec_lt k (length words))
+      where
+        go : Dec (k < length words) → take (min k (length words)) words ≡ take k words
+        go (yes l) =
+            let e : min k (length words) ≡ k = omega arith in
+            rw e
+        go (no l) = take_all (min k (length words)) words (omega arith) ∙ sym (take_all k words (omega arith))
 
--- a header that does not, with an end and an openness that the code computed
-pub read_row : (s : List ℕ) (t : Bool) (e : ℕ) (o : Bool) → 1 ≤ length s → t ≡ leb 512 (get_or s 0 0) → t ≡ false → e ≡ row_end s → o ≡ leb 256 (get_or s 0 0)
-    → read_format s ≡ of (shapes_in o (take (e - 1) (drop 1 s)))
-unfolding read_format row_end
-read_row s t e o l p q r v = rw (← p, q, r, v, row_within (get_or s 0 0 % 256) s l)
-
--- the same, of any words
-pub read_shapes : (s : List ℕ) (t : Bool) (o : Bool) (words : List ℕ) → t ≡ leb 512 (get_or s 0 0) → t ≡ false → o ≡ leb 256 (get_or s 0 0)
-    → words ≡ take (get_or s 0 0 % 256) (drop 1 s) → read_format s ≡ of (shapes_in o words)
+-- no words are the empty row
+pub read_none : (s : List ℕ) → length s ≡ 0 → read_format s ≡ of (shapes_in false s)
 unfolding read_format
-read_shapes s t o words p q v w = rw (← p, q, v, w)
-
--- where there are none, and where they end at the last word at most
-pub header_none : (s : List ℕ) → length s < 1 → 0 ≡ get_or s 0 0
-header_none [] h = refl
-header_none (w ∷ s) h = absurd (omega arith)
-
-pub shapes_of_none : (s : List ℕ) → length s < 1 → s ≡ take (get_or s 0 0 % 256) (drop 1 s)
-shapes_of_none [] h = sym (take-nil (0 % 256))
-shapes_of_none (w ∷ s) h = absurd (omega arith)
-
-pub shapes_of_some : (s : List ℕ) (e : ℕ) → 1 ≤ length s → e ≡ row_end s → take (e - 1) (drop 1 s) ≡ take (get_or s 0 0 % 256) (drop 1 s)
-unfolding row_end
-shapes_of_some s e l r = rw r (row_within (get_or s 0 0 % 256) s l)
+read_none [] e = refl
+read_none (w ∷ s) e = absurd (omega arith)
 
 -- ---- disjointness
 
 -- never shares nothing
-pub disjoint_never_left : (a b : List ℕ) (t : Bool) → t ≡ leb 512 (get_or a 0 0) → t ≡ true → true ≡ disjoint_formats (read_format a) (read_format b)
-disjoint_never_left a b t e h = rw (read_never a t e h)
-
-pub disjoint_never_right : (a b : List ℕ) (t : Bool) → t ≡ leb 512 (get_or b 0 0) → t ≡ true → true ≡ disjoint_formats (read_format a) (read_format b)
-disjoint_never_right a b t e h = rw (read_never b t e h) (go (read_format a))
-  where
-    go : (f : Format) → true ≡ disjoint_formats f never
-    go never = refl
-    go (of f) = refl
-
--- the rows' answer is that of the formats
-pub disjoint_rows_are : (a b : List ℕ) (f g : Shapes) (r : Bool) → read_format a ≡ of f → read_format b ≡ of g → r ≡ disjoint_rows f g
-    → r ≡ disjoint_formats (read_format a) (read_format b)
-disjoint_rows_are a b f g r p q e = rw (p, q) e
+pub disjoint_with_never : (f g : Format) → (f ≡ never) ⊎ (g ≡ never) → true ≡ disjoint_formats f g
+disjoint_with_never never g h = refl
+disjoint_with_never (of f) never h = refl
+disjoint_with_never (of f) (of g) h = elim h [ inl e ↦ cc | inr e ↦ cc ]
 
 -- ---- join
 
@@ -113,13 +89,13 @@ join_format_in limit a b words l x y e = record {
 }
 
 -- never with a format
-pub join_never_left : (limit : ℕ) (a b words : List ℕ) (t : Bool) → limit ≤ 127 → FormatIn limit b → t ≡ leb 512 (get_or a 0 0) → t ≡ true → words ≡ b
+pub join_never_left : (limit : ℕ) (a b words : List ℕ) → limit ≤ 127 → FormatIn limit b → read_format a ≡ never → words ≡ b
     → words ≡ format_words limit (join_formats (read_format a) (read_format b))
-join_never_left limit a b words t l y e h w = w ∙ rw (read_never a t e h) (format_in_words limit b l y)
+join_never_left limit a b words l y e w = w ∙ rw e (format_in_words limit b l y)
 
-pub join_never_right : (limit : ℕ) (a b words : List ℕ) (t : Bool) → limit ≤ 127 → FormatIn limit a → t ≡ leb 512 (get_or b 0 0) → t ≡ true → words ≡ a
+pub join_never_right : (limit : ℕ) (a b words : List ℕ) → limit ≤ 127 → FormatIn limit a → read_format b ≡ never → words ≡ a
     → words ≡ format_words limit (join_formats (read_format a) (read_format b))
-join_never_right limit a b words t l x e h w = w ∙ rw (read_never b t e h, join_with_never (read_format a)) (format_in_words limit a l x)
+join_never_right limit a b words l x e w = w ∙ rw (e, join_with_never (read_format a)) (format_in_words limit a l x)
   where
     join_with_never : (f : Format) → join_formats f never ≡ f
     join_with_never never = refl

@@ -3,8 +3,6 @@ pub mod JoinLaws
 pub mod DisjointLaws
 pub mod SameLaws
 pub mod WordLaws
-pub mod LeafWordLaws
 pub mod FirstLaws
 pub mod FormatLaws
-pub mod ListLaws
 pub mod DisplayLaws

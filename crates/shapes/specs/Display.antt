@@ -1,12 +1,10 @@
 -- A format as formats.rs displays it: `never`, or its items between `[` and `]`, one space between them, with `..` last where it is open.
 -- docs/SPECIFICATION.md, 6.1.
-use Rattle.std.specs.Prelude.{ℕ, true, false, List, [], ◌∷◌, ◌++◌, drop}
+use Rattle.std.specs.Prelude.{ℕ, true, false, List, [], ◌∷◌, ◌++◌, drop, Option, Some, None}
 use Rattle.file.specs.Answer.{Answer, refused, given}
 use Rattle.shapes.specs.Leaf.{leaf_byte}
 use Rattle.shapes.specs.Format.{Shapes, end, item, group, Format, never, of}
 use Rattle.buffers.specs.Fitted.{fitted_at}
-use Rattle.shapes.specs.declared.display.Shown.{Shown}
-use Rattle.shapes.specs.declared.display.Shown.TheVariants.{At, NoRoom}
 
 -- the items of a row, each after a space; a bracket's contents stand as a format between `(` and `)`
 unfoldable pub spaced : Shapes → List ℕ
@@ -22,9 +20,9 @@ display (of f) = 91 ∷ drop 1 (spaced f) ++ 93 ∷ []
 -- ---- a text put into a buffer
 
 -- the position after the text; or 13, "the text does not fit"
-abbrev pub shown_answer : Shown → Answer ℕ
-shown_answer (At next) = given next
-shown_answer NoRoom = refused 13
+abbrev pub shown_answer : Option ℕ → Answer ℕ
+shown_answer (Some next) = given next
+shown_answer None = refused 13
 
 -- a format's text at a position of a buffer: all of it is written; where there is no room for all of it the buffer stays as it is
 abbrev pub display_at : List ℕ → ℕ → Format → Answer ℕ × List ℕ

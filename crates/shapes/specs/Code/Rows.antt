@@ -1,0 +1,58 @@
+-- The code's rows of shapes, and a row's first shape.
+use Rattle.std.specs.Prelude.{ℕ, ◌+◌, ◌-◌, ◌≤◌, ◌<◌, Bool, not, ◌≡◌, List, length}
+use Rattle.shapes.specs.Leaf.{unknown, holds_brackets, join_leaves, leaves_apart}
+use Rattle.shapes.specs.Format.{Shapes, item, group, of, size, is_open}
+use Rattle.shapes.specs.Join.{join_rows}
+use Rattle.shapes.specs.Disjoint.{disjoint_rows}
+use Rattle.shapes.specs.Words.{shape_words, shapes_in, read_format}
+use Rattle.shapes.specs.declared.row.Row.{Row}
+use Rattle.shapes.specs.declared.row.Shape.{Shape}
+use Rattle.shapes.specs.declared.row.Shape.TheVariants.{Leaf, Bracket}
+use Rattle.shapes.specs.Code.Leaves.{leaf_meant}
+use Rattle.buffers.specs.Written.{written}
+
+-- the shapes that a row's words say
+abbrev pub row_meant : Row → Shapes
+row_meant r = shapes_in r.is_open r.words.now
+
+-- a shape in front of a row
+abbrev pub in_front : Shape → Shapes → Shapes
+in_front (Leaf b) f = item (leaf_meant b) f
+in_front (Bracket c) f = group (row_meant c) f
+
+-- how many words a shape has
+abbrev pub word_count : Shape → ℕ
+word_count (Leaf b) = 1
+word_count (Bracket c) = 1 + length c.words.now
+
+-- the row that a format's words say
+pub record IsRowOf (format : List ℕ) (row : Row) : Type 0 where
+  pub same : read_format format ≡ of (row_meant row)
+  pub few : length row.words.now < 256
+  pub within : length row.words.now ≤ length format - 1
+
+-- a row is its first shape in front of the rest
+pub record IsFirstAndRest (whole : Row) (first : Shape) (rest : Row) : Type 0 where
+  pub parts : row_meant whole ≡ in_front first (row_meant rest)
+  pub ends : rest.is_open ≡ whole.is_open
+  pub count : length whole.words.now ≡ word_count first + length rest.words.now
+
+-- is no term of both shapes?
+abbrev pub apart : Shape → Shape → Bool
+apart (Leaf a) (Leaf b) = leaves_apart (leaf_meant a) (leaf_meant b)
+apart (Leaf a) (Bracket d) = not (holds_brackets (leaf_meant a))
+apart (Bracket c) (Leaf b) = not (holds_brackets (leaf_meant b))
+apart (Bracket c) (Bracket d) = disjoint_rows (row_meant c) (row_meant d)
+
+-- the join of two shapes, in front of a row
+abbrev pub first_join : Shape → Shape → Shapes → Shapes
+first_join (Leaf a) (Leaf b) f = item (join_leaves (leaf_meant a) (leaf_meant b)) f
+first_join (Leaf a) (Bracket d) f = item unknown f
+first_join (Bracket c) (Leaf b) f = item unknown f
+first_join (Bracket c) (Bracket d) f = group (join_rows (row_meant c) (row_meant d)) f
+
+-- shapes were written at a position: the position after them, whether their row is open, and the words that then stand
+pub record ShapesWritten (f : Shapes) (old : List ℕ) (at next : ℕ) (o : Bool) (new : List ℕ) : Type 0 where
+  pub after : next ≡ at + size f
+  pub ends : o ≡ is_open f
+  pub words : new ≡ written old at (shape_words f)
