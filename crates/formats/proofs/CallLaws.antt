@@ -1,6 +1,7 @@
 -- From the argument formats and the rounds to the whole call.
 use Prim.Native.Nat.{ℕ, zero, suc, ◌+◌, ◌*◌, ◌≤◌, ◌<◌}
-use mathlib.Core.Bool.{Bool, true, false, ◌||◌}
+use mathlib.Core.Bool.{Bool, true, false, ◌||◌, false≢true}
+use Rattle.std.specs.Result.{is_err}
 use mathlib.Core.List.{List, [], ◌∷◌, ◌++◌}
 use mathlib.Core.Path.{◌≡◌, refl, sym, ap, ◌∙◌}
 use native.Mathlib.Omega.{arith}
@@ -15,15 +16,19 @@ use Rattle.formats.specs.FormatOf.{Results, result_shapes, pattern_shapes}
 use Rattle.formats.specs.Infer.{Entry, Inferred, Rounds, names_of, all_at, find, join_results, join_patterns, round, rounds_from, round_limit, arguments, infer_within, infer}
 use Rattle.formats.specs.Store.{store_size}
 use Rattle.formats.specs.Code.Entries.{StoreHolds, start_of}
-use Rattle.formats.specs.Code.Turns.{RoundAsked, Holding, arguments_stop, rounds_stop, ArgumentsIs, RoundsIs, StartedIs, InferIs}
+use Rattle.formats.specs.Code.Turns.{RoundAsked, Holding, too_wide, arguments_stop, rounds_stop, ArgumentsIs, RoundsIs, StartedIs, InferIs}
 use Rattle.formats.specs.Call.{inferred_outcome, law_outcome, call_outcome, infer_outcome}
-use Rattle.formats.specs.declared.infer.Inference.{Inference}
-use Rattle.formats.specs.declared.infer.Inference.TheVariants.{TooWide, Ran}
-use Rattle.formats.specs.declared.Answered.{Answered}
-use Rattle.formats.specs.declared.Answered.TheVariants.{Refused, ShapesOver, StoreShort, Formed}
+use Rattle.std.specs.Prelude.{Result, Ok, Err}
+use Rattle.formats.specs.declared.slots.Slots.{Slots}
+use Rattle.formats.specs.declared.placed.Placed.{Placed}
+use Rattle.formats.specs.declared.TooWide.{TooWide}
+use Rattle.formats.specs.declared.Inferred as code
+use Rattle.formats.specs.declared.Unformed.{Unformed}
+use Rattle.formats.specs.declared.Unformed.TheVariants as unformed
 use Rattle.formats.proofs.EntryLaws.{name_of, updated, changes, infer_given, infer_arguments_over, infer_rounds_over}
 use Rattle.formats.proofs.StateLaws.{read_past, start_holds}
 use Rattle.formats.proofs.RoundSteps.{names_at_most}
+use Rattle.formats.proofs.TurnSteps.{made_not, made_is}
 use Rattle.formats.specs.Code.Slots.{SlotsOf, file_names}
 use Rattle.file.specs.Sections.{file_of, number_of}
 use Rattle.file.proofs.Answers.{map_refused, map_given}
@@ -31,8 +36,6 @@ use Rattle.law.specs.Code.Index.{Indexed, Readable}
 use Rattle.law.specs.Reading.{tree_of}
 use Rattle.law.specs.Law.{law_of, check_answer, check_of}
 use Rattle.law.specs.Code.Accepted.{IndexAfter}
-use Rattle.std.specs.declared.result.Result.{Result}
-use Rattle.std.specs.declared.result.Result.TheVariants.{Ok, Err}
 use Rattle.file.specs.declared.Refusal.{Refusal}
 use Rattle.law.proofs.Accepted.{law_accepted}
 use Rattle.law.proofs.Allowed.{accepted_readable}
@@ -111,35 +114,32 @@ infer_ten limit law =
 
 -- ---- the arguments, then the rounds
 
-false_true : false ≡ true → ⊥
-false_true e = let z : ◌≡◌ {A = ℕ} 0 1 = cc in omega arith
-
 module _ (limit : ℕ) (law : Law) (tail : List ℕ) where
   abbrev start : List Entry
   start = all_at never (names_of law)
 
   -- a pattern passes the limit on shapes
-  pub started_over : (after : List ℕ) (ok : Bool) → ok ≡ false → ArgumentsIs limit (names_of law) (arguments limit law start) (arguments_stop limit law start) start tail after ok
-      → StartedIs limit (names_of law) (infer limit law) tail after TooWide
+  pub started_over : (after : List ℕ) (ok : Result (Unit {0}) TooWide) → ok ≡ Err too_wide → ArgumentsIs limit (names_of law) (arguments limit law start) (arguments_stop limit law start) start tail after ok
+      → StartedIs limit (names_of law) (infer limit law) tail after (Err too_wide)
   started_over after ok e h = go (arguments limit law start) refl h
     where
       go : (a : Answer (List Entry)) → arguments limit law start ≡ a → ArgumentsIs limit (names_of law) a (arguments_stop limit law start) start tail after ok
-          → StartedIs limit (names_of law) (infer limit law) tail after TooWide
-      go (given found) is k = absurd (false_true (sym e ∙ k.1))
+          → StartedIs limit (names_of law) (infer limit law) tail after (Err too_wide)
+      go (given found) is k = absurd (made_not tt (sym k.1 ∙ e))
       go (refused n) is k = rw (infer_arguments_over limit law n is) (arguments_stop limit law start, start, k.0, refl)
 
   -- the argument formats are there
-  pub started_arguments : (after : List ℕ) (ok : Bool) → ok ≡ true → ArgumentsIs limit (names_of law) (arguments limit law start) (arguments_stop limit law start) start tail after ok
+  pub started_arguments : (after : List ℕ) (ok : Result (Unit {0}) TooWide) → ok ≡ Ok tt → ArgumentsIs limit (names_of law) (arguments limit law start) (arguments_stop limit law start) start tail after ok
       → (found : List Entry) × (arguments limit law start ≡ given found) × StoreHolds limit (names_of law) found start tail after
   started_arguments after ok e h = go (arguments limit law start) refl h
     where
       go : (a : Answer (List Entry)) → arguments limit law start ≡ a → ArgumentsIs limit (names_of law) a (arguments_stop limit law start) start tail after ok
           → (found : List Entry) × (arguments limit law start ≡ given found) × StoreHolds limit (names_of law) found start tail after
       go (given found) is k = (found, is, k.0)
-      go (refused n) is k = absurd (false_true (sym k.1 ∙ e))
+      go (refused n) is k = absurd (made_not tt (sym e ∙ k.1))
 
   -- and the rounds
-  pub started_rounds : (found : List Entry) (after : List ℕ) (r : Inference) (most : ℕ) → most ≡ round_limit law → arguments limit law start ≡ given found
+  pub started_rounds : (found : List Entry) (after : List ℕ) (r : Result code.Inferred TooWide) (most : ℕ) → most ≡ round_limit law → arguments limit law start ≡ given found
       → RoundsIs limit (names_of law) (rounds_from limit most law start 0) (rounds_stop limit most law start) found tail after r
       → StartedIs limit (names_of law) (infer limit law) tail after r
   started_rounds found after r most rounds a h = go (rounds_from limit (round_limit law) law start 0) refl (rw rounds at h)
@@ -155,10 +155,10 @@ holding {limit} {names} {found} {results} {tail} h = record { arguments = found;
 
 -- ---- the store before it
 
-module _ {bytes index slots : List ℕ} {limit : ℕ} (h : Indexed bytes index) (readable : Readable (file_of bytes)) (places : SlotsOf (file_of bytes) slots)
-    (small : limit ≤ 64) (count : ℕ) (names : count ≡ get_or slots 576 0) where
+module _ {bytes index : List ℕ} {slots : Slots} {limit : ℕ} (h : Indexed bytes index) (readable : Readable (file_of bytes)) (places : SlotsOf (file_of bytes) slots)
+    (small : limit ≤ 64) (count : ℕ) (names : count ≡ length (file_names (file_of bytes))) where
   pub store_asked : RoundAsked bytes index slots limit count
-  store_asked = record { indexed = h; readable = readable; places = places; names = names ∙ places.count; small = small }
+  store_asked = record { indexed = h; readable = readable; places = places; names = names; small = small }
 
   pub store_few : 2 * count ≤ 128
   store_few = omega (arith, names_at_most store_asked)
@@ -168,19 +168,29 @@ module _ {bytes index slots : List ℕ} {limit : ℕ} (h : Indexed bytes index) 
   store_started tail store is =
       rw is (start_holds limit (2 * count) (file_names (file_of bytes)) tail (omega (arith, names_at_most store_asked, store_asked.names)) (omega (arith, store_asked.names)))
 
+-- what is asked of a placed law
+pub placed_asked : (placed : Placed) → RoundAsked placed.law.bytes.now placed.law.index.now placed.slots.now placed.limit (length (file_names (file_of placed.law.bytes.now)))
+placed_asked placed = store_asked placed.law.indexed placed.readable placed.places placed.small _ refl
+
+-- what the test of an answer tells
+pub refused_is : (r : Result code.Inferred TooWide) → is_err r ≡ true → r ≡ Err too_wide
+refused_is (Ok made) e = absurd (false≢true e)
+refused_is (Err wide) e = refl
+
+pub given_is : (r : Result code.Inferred TooWide) → is_err r ≡ false → (made : code.Inferred) × (r ≡ Ok made)
+given_is (Ok made) e = (made, refl)
+given_is (Err wide) e = absurd (false≢true (sym e))
+
 -- ---- the store after it
 
-ran_wide : (rounds : ℕ) (settled : Bool) → Ran rounds settled ≡ TooWide → ⊥
-ran_wide rounds settled e = let z : ◌≡◌ {A = ℕ} 0 1 = cc in omega arith
-
-module _ (limit : ℕ) (law : Law) (before middle : List ℕ) (r : Inference) (h : StartedIs limit (names_of law) (infer limit law) (drop (store_size limit) before) middle r) where
+module _ (limit : ℕ) (law : Law) (before middle : List ℕ) (r : Result code.Inferred TooWide) (h : StartedIs limit (names_of law) (infer limit law) (drop (store_size limit) before) middle r) where
   -- it is cleared where a row has too many shapes
-  pub infer_cleared : (after : List ℕ) → r ≡ TooWide → after ≡ replicate (store_size limit) 0 ++ drop (store_size limit) middle
-      → InferIs limit (infer limit law) before after TooWide
+  pub infer_cleared : (after : List ℕ) → r ≡ Err too_wide → after ≡ replicate (store_size limit) 0 ++ drop (store_size limit) middle
+      → InferIs limit (infer limit law) before after (Err too_wide)
   infer_cleared after e cleared = go (infer limit law) h
     where
-      go : (a : Answer Inferred) → StartedIs limit (names_of law) a (drop (store_size limit) before) middle r → InferIs limit a before after TooWide
-      go (given i) k = absurd (ran_wide i.rounds i.settled (sym k.1 ∙ e))
+      go : (a : Answer Inferred) → StartedIs limit (names_of law) a (drop (store_size limit) before) middle r → InferIs limit a before after (Err too_wide)
+      go (given i) k = absurd (made_not _ (sym k.1 ∙ e))
       go (refused n) k =
           let past : drop (store_size limit) middle ≡ drop (store_size limit) before = store_past k.2 in
           (cleared ∙ rw past, refl)
@@ -191,38 +201,36 @@ module _ (limit : ℕ) (law : Law) (before middle : List ℕ) (r : Inference) (h
               let none : store_size limit + 0 ≡ store_size limit = omega arith in
               rw none at (read_past held 0)
 
-  pub infer_ran : (rounds : ℕ) (settled : Bool) → r ≡ Ran rounds settled → InferIs limit (infer limit law) before middle (Ran rounds settled)
-  infer_ran rounds settled e = go (infer limit law) h
+  pub infer_ran : (made : code.Inferred) → r ≡ Ok made → InferIs limit (infer limit law) before middle (Ok made)
+  infer_ran made e = go (infer limit law) h
     where
-      go : (a : Answer Inferred) → StartedIs limit (names_of law) a (drop (store_size limit) before) middle r → InferIs limit a before middle (Ran rounds settled)
+      go : (a : Answer Inferred) → StartedIs limit (names_of law) a (drop (store_size limit) before) middle r → InferIs limit a before middle (Ok made)
       go (given i) k = (k.0.words, sym e ∙ k.1)
-      go (refused n) k = absurd (ran_wide rounds settled (sym e ∙ k.3))
+      go (refused n) k = absurd (made_not made (sym e ∙ k.3))
 
 -- ---- what the call answers
 
 pub outcome_short : (limit : ℕ) (law : Law) (before : List ℕ) → length before < store_size limit
-    → infer_outcome StoreShort before ≡ law_outcome limit before (given law)
+    → infer_outcome (Err unformed.StoreShort) before ≡ law_outcome limit before (given law)
 outcome_short limit law before short = rw (lt-ltb (length before) (store_size limit) short, law_outcome)
 
-module _ (limit : ℕ) (law : Law) (before after : List ℕ) (long : store_size limit ≤ length before) (r : Inference)
+module _ (limit : ℕ) (law : Law) (before after : List ℕ) (long : store_size limit ≤ length before) (r : Result code.Inferred TooWide)
     (h : InferIs limit (infer limit law) before after r) where
-  pub outcome_over : r ≡ TooWide → infer_outcome ShapesOver after ≡ law_outcome limit before (given law)
+  pub outcome_over : r ≡ Err too_wide → infer_outcome (Err unformed.TooWide) after ≡ law_outcome limit before (given law)
   outcome_over e = rw (le-ltb (length before) (store_size limit) long, law_outcome) (go (infer limit law) (infer_ten limit law) h)
     where
-      go : (a : Answer Inferred) → OnlyTen a → InferIs limit a before after r → infer_outcome ShapesOver after ≡ inferred_outcome limit before a
-      go (given i) ten k = absurd (ran_wide i.rounds i.settled (sym k.1 ∙ e))
+      go : (a : Answer Inferred) → OnlyTen a → InferIs limit a before after r → infer_outcome (Err unformed.TooWide) after ≡ inferred_outcome limit before a
+      go (given i) ten k = absurd (made_not _ (sym k.1 ∙ e))
       go (refused n) ten k = rw (ten, k.0)
 
-  pub outcome_formed : (rounds : ℕ) (settled : Bool) → r ≡ Ran rounds settled → infer_outcome (Formed rounds settled) after ≡ law_outcome limit before (given law)
-  outcome_formed rounds settled e = rw (le-ltb (length before) (store_size limit) long, law_outcome) (go (infer limit law) h)
+  pub outcome_formed : (made : code.Inferred) → r ≡ Ok made → infer_outcome (Ok made) after ≡ law_outcome limit before (given law)
+  outcome_formed made e = rw (le-ltb (length before) (store_size limit) long, law_outcome) (go (infer limit law) h)
     where
-      go : (a : Answer Inferred) → InferIs limit a before after r → infer_outcome (Formed rounds settled) after ≡ inferred_outcome limit before a
-      go (refused n) k = absurd (ran_wide rounds settled (sym e ∙ k.1))
+      go : (a : Answer Inferred) → InferIs limit a before after r → infer_outcome (Ok made) after ≡ inferred_outcome limit before a
+      go (refused n) k = absurd (made_not made (sym e ∙ k.1))
       go (given i) k =
-          let same : Ran i.rounds i.settled ≡ Ran rounds settled = sym k.1 ∙ e in
-          let rounds_same : i.rounds ≡ rounds = cc in
-          let settled_same : i.settled ≡ settled = cc in
-          rw (rounds_same, settled_same, k.0)
+          let same : made ≡ record { rounds = i.rounds; settled = i.settled } = made_is (sym e ∙ k.1) in
+          rw (same, k.0)
 
 -- ---- a law that is accepted, and one that is not
 
@@ -240,12 +248,12 @@ pub call_accepted : (bytes index : List ℕ) (answer : Result (Unit {0}) Refusal
 call_accepted bytes index answer e h k = (rw e at k, (law_read bytes answer e h).0)
 
 pub outcome_accepted : (limit : ℕ) (bytes store after : List ℕ) (answer : Result (Unit {0}) Refusal) → answer ≡ Ok tt → check_answer answer ≡ check_of bytes
-    → (r : Answered) → infer_outcome r after ≡ law_outcome limit store (given (tree_of (file_of bytes))) → infer_outcome r after ≡ call_outcome limit bytes store
+    → (r : Result code.Inferred Unformed) → infer_outcome r after ≡ law_outcome limit store (given (tree_of (file_of bytes))) → infer_outcome r after ≡ call_outcome limit bytes store
 unfolding call_outcome
 outcome_accepted limit bytes store after answer e h r is = rw (law_read bytes answer e h).1 is
 
 pub outcome_refused : (limit : ℕ) (bytes store : List ℕ) (why : Refusal) (answer : Result (Unit {0}) Refusal) → answer ≡ Err why → check_answer answer ≡ check_of bytes
-    → infer_outcome (Refused why) store ≡ call_outcome limit bytes store
+    → infer_outcome (Err (unformed.Refused why)) store ≡ call_outcome limit bytes store
 unfolding call_outcome
 outcome_refused limit bytes store why answer e h =
     let refusal : refused (number_of why) ≡ check_of bytes = rw e at h in

@@ -1,11 +1,9 @@
 -- The functions' turns one after the other (specs/Code/Turns.antt): what the store holds after the first f functions, for the arguments and for a round.
 use Prim.Native.Nat.{ℕ, ◌+◌, ◌*◌, ◌≤◌, ◌<◌}
-use mathlib.Core.Bool.{Bool, true, false, not, ◌||◌, or-true, or-false}
+use mathlib.Core.Bool.{Bool, true, false, not, ◌||◌}
 use mathlib.Core.List.{List}
-use mathlib.Core.Logic.{◌⊎◌, inl, inr}
-use mathlib.Core.Path.{◌≡◌, refl, sym, ◌∙◌}
+use mathlib.Core.Path.{◌≡◌, refl, sym, ap, ◌∙◌}
 use native.Mathlib.Omega.{arith}
-use denote.Enum.Declared.{tag_of}
 use lib.ListN.{length, get_or}
 use Rattle.file.specs.Answer.{Answer, refused, given}
 use Rattle.file.specs.Sections.{File, file_of}
@@ -22,19 +20,21 @@ use Rattle.formats.specs.Infer.{Entry, find, arguments, round}
 use Rattle.formats.specs.Code.Entries.{format_in, put, StoreHolds}
 use Rattle.formats.specs.Code.Slots.{file_names, function_folded, position}
 use Rattle.formats.specs.Code.Rows.{format_at}
-use Rattle.formats.specs.Code.Turns.{RoundAsked, Holding, results_in, rows_joined, format_number, turn_of, TurnIs, arguments_stop, round_stop, ArgumentsIs, RoundIs}
-use Rattle.formats.specs.declared.infer.Turn.{Turn}
-use Rattle.formats.specs.declared.infer.Turn.TheVariants.{Over, Changed, Same}
+use Rattle.formats.specs.Code.Turns.{RoundAsked, Holding, results_in, rows_joined, format_number, too_wide, TurnIs, arguments_stop, round_stop, ArgumentsIs, RoundIs}
+use Rattle.std.specs.Prelude.{Result, Ok, Err}
+use Rattle.formats.specs.declared.slots.Slots.{Slots}
+use Rattle.formats.specs.declared.infer.Side.{Side}
+use Rattle.formats.specs.declared.infer.Side.TheVariants as side
+use Rattle.formats.specs.declared.TooWide.{TooWide}
 use Rattle.formats.proofs.EntryLaws.{format_encodable, function_results, function_patterns, arguments_next, arguments_over_lem, arguments_end}
 use Rattle.formats.proofs.EntryLaws.{arguments_stop_next, arguments_stop_over, round_next, round_over, round_end, round_stop_next, round_stop_over}
 use Rattle.formats.proofs.SlotLaws.{function_placed}
 use Rattle.formats.proofs.StateLaws.{whole_length, read_argument_format, read_result_format, write_argument, write_result}
 use Rattle.formats.proofs.SentenceLaws.{results_said}
-use Rattle.formats.specs.contracts.infer.Turn.{the_type}
-use Rattle.formats.proofs.TurnSteps.{rows_encodable}
+use Rattle.formats.proofs.TurnSteps.{rows_encodable, made_not, made_is}
 
 -- the number of functions, as the index says it
-pub functions_read : {bytes index slots : List ℕ} {limit count : ℕ} → RoundAsked bytes index slots limit count → (most : ℕ) → most ≡ get_or index 4 0
+pub functions_read : {bytes index : List ℕ} {slots : Slots} {limit count : ℕ} → RoundAsked bytes index slots limit count → (most : ℕ) → most ≡ get_or index 4 0
     → most ≡ (file_of bytes).functions.count
 functions_read h most e = e ∙ h.indexed.words.functions
 
@@ -43,38 +43,11 @@ abbrev place_of : File → ℕ → ℕ
 place_of file f = position (file_names file) (function_folded file f)
 
 -- a function's turn, with the results that the store says before it
-abbrev pub FunctionTurn : ℕ → File → Bool → ℕ → List ℕ → List ℕ → Turn → Type 0
+abbrev pub FunctionTurn : ℕ → File → Side → ℕ → List ℕ → List ℕ → Result Bool TooWide → Type 0
 FunctionTurn limit file patterns f before after r =
     TurnIs limit
     (rows_joined limit patterns (find (results_in limit (file_names file) before)) never (keep (sentences_of file f) (sentences_at file (first_sentence file f))))
     (format_number patterns (position (file_names file) (function_folded file f))) before after r
-
--- a turn that was given is not over
-never_over : (same : Bool) → turn_of same ≡ Over → ⊥
-never_over true e = let z : ◌≡◌ {A = ℕ} 0 1 = cc in omega arith
-never_over false e = let z : ◌≡◌ {A = ℕ} 0 1 = cc in omega arith
-
--- turns by the tag that the code matches
-pub tag_over : (r : Turn) → tag_of the_type r ≡ 0 → r ≡ Over
-tag_over Over e = refl
-tag_over Changed e = absurd (omega arith)
-tag_over Same e = absurd (omega arith)
-
-pub tag_not_over : (r : Turn) → (tag_of the_type r ≡ 1) ⊎ (tag_of the_type r ≡ 2) → r ≡ Over → ⊥
-tag_not_over Over (inl e) o = omega arith
-tag_not_over Over (inr e) o = omega arith
-tag_not_over Changed h o = never_over false o
-tag_not_over Same h o = never_over true o
-
-pub tag_changed : (r : Turn) → tag_of the_type r ≡ 1 → r ≡ Changed
-tag_changed Over e = absurd (omega arith)
-tag_changed Changed e = refl
-tag_changed Same e = absurd (omega arith)
-
-pub tag_same : (r : Turn) → tag_of the_type r ≡ 2 → r ≡ Same
-tag_same Over e = absurd (omega arith)
-tag_same Changed e = absurd (omega arith)
-tag_same Same e = refl
 
 -- ---- the arguments
 
@@ -108,16 +81,16 @@ module _ {limit : ℕ} {file : File} {start store : List ℕ} {f : ℕ} (from : 
 
   -- after the last function
   pub arguments_all : file.functions.count ≤ f → (found results : List Entry) (tail : List ℕ) → StoreHolds limit (file_names file) found results tail start
-      → ArgumentsIs limit (file_names file) (arguments limit (tree_of file) found) (arguments_stop limit (tree_of file) found) results tail store true
+      → ArgumentsIs limit (file_names file) (arguments limit (tree_of file) found) (arguments_stop limit (tree_of file) found) results tail store (Ok tt)
   arguments_all done found results tail h =
       let now = from found results tail h in
       rw (now.left ∙ arguments_end limit file now.entries f done) (now.holds, refl)
 
-  module _ (next : List ℕ) (r : Turn) (turn : FunctionTurn limit file true f store next r) where
+  module _ (next : List ℕ) (r : Result Bool TooWide) (turn : FunctionTurn limit file side.Pattern f store next r) where
     -- a pattern of the next function does not fit
-    pub arguments_refused : r ≡ Over → f < file.functions.count
+    pub arguments_refused : r ≡ Err too_wide → f < file.functions.count
         → (found results : List Entry) (tail : List ℕ) → StoreHolds limit (file_names file) found results tail start
-        → ArgumentsIs limit (file_names file) (arguments limit (tree_of file) found) (arguments_stop limit (tree_of file) found) results tail next false
+        → ArgumentsIs limit (file_names file) (arguments limit (tree_of file) found) (arguments_stop limit (tree_of file) found) results tail next (Err too_wide)
     arguments_refused over inside found results tail h = go (function_patterns limit file f) refl turn
       where
         now : ArgumentsLeft limit file found results tail f store
@@ -125,17 +98,17 @@ module _ {limit : ℕ} {file : File} {start store : List ℕ} {f : ℕ} (from : 
 
         go : (joined : Answer Format) → function_patterns limit file f ≡ joined
             → TurnIs limit joined (2 * place_of file f) store next r
-            → ArgumentsIs limit (file_names file) (arguments limit (tree_of file) found) (arguments_stop limit (tree_of file) found) results tail next false
+            → ArgumentsIs limit (file_names file) (arguments limit (tree_of file) found) (arguments_stop limit (tree_of file) found) results tail next (Err too_wide)
         go (given g) is (e, t) =
             let old : Format = read_format (format_at limit store (2 * place_of file f)) in
-            absurd (never_over (same_format (join_formats old g) old) (sym t ∙ over))
+            absurd (made_not (not (same_format (join_formats old g) old)) (sym t ∙ over))
         go (refused n) is (e, t) =
             rw (now.left ∙ arguments_over_lem limit file now.entries f n inside is, now.stops ∙ arguments_stop_over limit file now.entries f n inside is)
             (rw e now.holds, refl)
 
     -- they fit: they are joined to the format of its name
-    pub arguments_more : (r ≡ Over → ⊥) → f < file.functions.count → limit ≤ 64 → ArgumentsFrom limit file start (f + 1) next
-    arguments_more made inside few found results tail h = go (function_patterns limit file f) refl turn
+    pub arguments_more : (b : Bool) → r ≡ Ok b → f < file.functions.count → limit ≤ 64 → ArgumentsFrom limit file start (f + 1) next
+    arguments_more b made inside few found results tail h = go (function_patterns limit file f) refl turn
       where
         now : ArgumentsLeft limit file found results tail f store
         now = from found results tail h
@@ -143,7 +116,7 @@ module _ {limit : ℕ} {file : File} {start store : List ℕ} {f : ℕ} (from : 
         go : (joined : Answer Format) → function_patterns limit file f ≡ joined
             → TurnIs limit joined (2 * place_of file f) store next r
             → ArgumentsLeft limit file found results tail (f + 1) next
-        go (refused n) is (e, t) = absurd (made t)
+        go (refused n) is (e, t) = absurd (made_not b (sym made ∙ t))
         go (given g) is (e, t) =
             let placed : place_of file f < length (file_names file) = function_placed file f inside in
             let es : List Entry = now.entries in
@@ -153,7 +126,7 @@ module _ {limit : ℕ} {file : File} {start store : List ℕ} {f : ℕ} (from : 
             let small : Encodable limit new =
             join_encodable limit (format_in es (place_of file f)) g
             (format_encodable limit es (place_of file f) now.holds.entries.arguments_encodable)
-            (rows_encodable limit true (find es) (keep (sentences_of file f) (sentences_at file (first_sentence file f))) g is) in
+            (rows_encodable limit side.Pattern (find es) (keep (sentences_of file f) (sentences_at file (first_sentence file f))) g is) in
             record {
               entries = put (place_of file f) new es;
               holds = rw (e, old) (write_argument now.holds (place_of file f) new placed small);
@@ -186,23 +159,6 @@ RoundFrom limit file start f store changed =
 pub round_start : (limit : ℕ) (file : File) (store : List ℕ) → RoundFrom limit file store 0 store false
 round_start limit file store found results tail h = record { entries = results; holds = h; left = rw (tree_functions_lem file); stops = rw (tree_functions_lem file) }
 
--- what a turn that is not over makes of the mark that a format changed
-abbrev pub Marked : Turn → Bool → Bool → Type 0
-Marked r before after = ((r ≡ Changed) × (after ≡ true)) ⊎ ((r ≡ Same) × (after ≡ before))
-
-marked_not_over : (r : Turn) (before after : Bool) → Marked r before after → r ≡ Over → ⊥
-marked_not_over r before after (inl w) e = never_over false (sym w.0 ∙ e)
-marked_not_over r before after (inr w) e = never_over true (sym w.0 ∙ e)
-
-changed_same : Changed ≡ Same → ⊥
-changed_same e = let z : ◌≡◌ {A = ℕ} 0 1 = cc in omega arith
-
-marked_by : (same : Bool) (r : Turn) (before after : Bool) → r ≡ turn_of same → Marked r before after → after ≡ before || not same
-marked_by true r before after t (inl w) = absurd (changed_same (sym w.0 ∙ t))
-marked_by true r before after t (inr w) = w.1 ∙ sym (or-false before)
-marked_by false r before after t (inl w) = w.1 ∙ sym (or-true before)
-marked_by false r before after t (inr w) = absurd (changed_same (sym t ∙ w.0))
-
 module _ {limit : ℕ} {file : File} {start store : List ℕ} {f : ℕ} {changed : Bool} (from : RoundFrom limit file start f store changed) where
   -- the store still holds formats
   pub round_holding : Holding limit (file_names file) start → Holding limit (file_names file) store
@@ -215,18 +171,18 @@ module _ {limit : ℕ} {file : File} {start store : List ℕ} {f : ℕ} {changed
   round_long h = whole_length (from h.arguments h.results h.tail h.holds).holds ∙ sym (whole_length h.holds)
 
   -- after the last function
-  pub round_all : (r : Turn) → r ≡ turn_of (not changed) → file.functions.count ≤ f
+  pub round_all : file.functions.count ≤ f
       → (found results : List Entry) (tail : List ℕ) → StoreHolds limit (file_names file) found results tail start
-      → RoundIs limit (file_names file) (round limit (tree_of file) results false) (round_stop limit (tree_of file) results) found tail store r
-  round_all r is done found results tail h =
+      → RoundIs limit (file_names file) (round limit (tree_of file) results false) (round_stop limit (tree_of file) results) found tail store (Ok changed)
+  round_all done found results tail h =
       let now = from found results tail h in
-      rw (now.left ∙ round_end limit file now.entries f changed done) (now.holds, is)
+      rw (now.left ∙ round_end limit file now.entries f changed done) (now.holds, refl)
 
-  module _ (next : List ℕ) (r : Turn) (turn : FunctionTurn limit file false f store next r) where
+  module _ (next : List ℕ) (r : Result Bool TooWide) (turn : FunctionTurn limit file side.Result f store next r) where
     -- a result of the next function does not fit
-    pub round_refused : r ≡ Over → f < file.functions.count → limit ≤ 64
+    pub round_refused : r ≡ Err too_wide → f < file.functions.count → limit ≤ 64
         → (found results : List Entry) (tail : List ℕ) → StoreHolds limit (file_names file) found results tail start
-        → RoundIs limit (file_names file) (round limit (tree_of file) results false) (round_stop limit (tree_of file) results) found tail next Over
+        → RoundIs limit (file_names file) (round limit (tree_of file) results false) (round_stop limit (tree_of file) results) found tail next (Err too_wide)
     round_refused over inside few found results tail h =
         go (function_results limit file now.entries f) refl (rw (results_said now.holds (omega arith)) at turn)
       where
@@ -235,17 +191,17 @@ module _ {limit : ℕ} {file : File} {start store : List ℕ} {f : ℕ} {changed
 
         go : (joined : Answer Format) → function_results limit file now.entries f ≡ joined
             → TurnIs limit joined (2 * place_of file f + 1) store next r
-            → RoundIs limit (file_names file) (round limit (tree_of file) results false) (round_stop limit (tree_of file) results) found tail next Over
+            → RoundIs limit (file_names file) (round limit (tree_of file) results false) (round_stop limit (tree_of file) results) found tail next (Err too_wide)
         go (given g) is (e, t) =
             let old : Format = read_format (format_at limit store (2 * place_of file f + 1)) in
-            absurd (never_over (same_format (join_formats old g) old) (sym t ∙ over))
+            absurd (made_not (not (same_format (join_formats old g) old)) (sym t ∙ over))
         go (refused n) is (e, t) =
             rw (now.left ∙ round_over limit file now.entries f changed n inside is, now.stops ∙ round_stop_over limit file now.entries f n inside is)
             (rw e now.holds, refl)
 
     -- they fit: they are joined to the format of its name
-    pub round_more : (after : Bool) → Marked r changed after → f < file.functions.count → limit ≤ 64 → RoundFrom limit file start (f + 1) next after
-    round_more after marked inside few found results tail h =
+    pub round_more : (turned after : Bool) → r ≡ Ok turned → after ≡ changed || turned → f < file.functions.count → limit ≤ 64 → RoundFrom limit file start (f + 1) next after
+    round_more turned after made marked inside few found results tail h =
         go (function_results limit file now.entries f) refl (rw (results_said now.holds (omega arith)) at turn)
       where
         now : RoundLeft limit file found results tail f store changed
@@ -254,7 +210,7 @@ module _ {limit : ℕ} {file : File} {start store : List ℕ} {f : ℕ} {changed
         go : (joined : Answer Format) → function_results limit file now.entries f ≡ joined
             → TurnIs limit joined (2 * place_of file f + 1) store next r
             → RoundLeft limit file found results tail (f + 1) next after
-        go (refused n) is (e, t) = absurd (marked_not_over r changed after marked t)
+        go (refused n) is (e, t) = absurd (made_not turned (sym made ∙ t))
         go (given g) is (e, t) =
             let placed : place_of file f < length (file_names file) = function_placed file f inside in
             let es : List Entry = now.entries in
@@ -264,9 +220,9 @@ module _ {limit : ℕ} {file : File} {start store : List ℕ} {f : ℕ} {changed
             let small : Encodable limit new =
             join_encodable limit (format_in es (place_of file f)) g
             (format_encodable limit es (place_of file f) now.holds.entries.results_encodable)
-            (rows_encodable limit false (find es) (keep (sentences_of file f) (sentences_at file (first_sentence file f))) g is) in
+            (rows_encodable limit side.Result (find es) (keep (sentences_of file f) (sentences_at file (first_sentence file f))) g is) in
             let mark : after ≡ changed || not (same_format new (format_in es (place_of file f))) =
-            marked_by (same_format new (format_in es (place_of file f))) r changed after (rw old at t) marked in
+            marked ∙ ap (λ b. changed || b) (made_is (sym made ∙ rw old at t)) in
             record {
               entries = put (place_of file f) new es;
               holds = rw (e, old) (write_result now.holds (place_of file f) new placed small);

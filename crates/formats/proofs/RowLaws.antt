@@ -26,36 +26,26 @@ use Rattle.law.specs.Reading.{term_run, own}
 use Rattle.law.specs.Code.Index.{Readable, PartAt}
 use Rattle.law.proofs.RunLaws.{run_empty, run_node}
 use Rattle.law.proofs.PartLaws.{part_at, part_term, part_leaf, part_end_lem, contents_part, rest_part}
-use Rattle.shapes.specs.Leaf.{leaf_at, leaf_of}
-use Rattle.shapes.specs.Code.Words.{IsLeafWord, FormatIn}
+use Rattle.shapes.specs.Leaf as leaves
+use Rattle.shapes.specs.Leaf.{leaf_of, leaf_word}
+use Rattle.shapes.specs.Code.Words.{FormatIn}
 use Rattle.shapes.specs.Format.{Shapes, end, item, group, Format, never, of, size, is_open}
-use Rattle.shapes.specs.Words.{bracket_word, shape_words, format_words, Encodable}
+use Rattle.shapes.specs.Words.{bracket_word, shape_words, format_words, Encodable, read_format}
 use Rattle.buffers.specs.Written.{written}
 use Rattle.shapes.proofs.WordLaws.{words_length, format_words_length, read_write}
 use Rattle.buffers.proofs.WrittenLaws.{written_none, written_more, written_one, written_front, written_length}
 use Rattle.formats.specs.FormatOf.{variable_shapes, pattern_shapes, chain, extend, Results, result_shapes}
-use Rattle.formats.specs.Code.Slots.{call_folded}
-use Rattle.formats.specs.Code.Rows.{format_at, Knows, KeptOutside, RowIs, Between, Stored, stored_at, step_of, callee_shapes}
-use Rattle.formats.specs.Code.Rows.{step_shapes, part_shapes, first_shapes, RowAsked, LeafKind, left_of, Onward, LeavesAre}
-use Rattle.formats.specs.declared.Row.{Row}
-use Rattle.formats.specs.declared.Row.TheVariants.{Over, Ends}
-use Rattle.formats.specs.declared.rows.Step as steps
-
--- ---- words copied one by one
-
--- one word more
-pub copied_more : (store : List ℕ) (from : ℕ) (out : List ℕ) (to i : ℕ) → from + i < length store → to + i < length out
-    → set (written out to (take i (drop from store))) (to + i) (get_or store (from + i) 0) ≡ written out to (take (i + 1) (drop from store))
-copied_more store from out to i h k =
-    let words : List ℕ = take i (drop from store) in
-    let word : ℕ = get_or store (from + i) 0 in
-    let left : i < length (drop from store) = omega (arith, length-drop from store) in
-    let few : length words ≡ i = length-take-le i (drop from store) (omega arith) in
-    let fit : to + length words ≤ length out = omega (arith, few) in
-    let next : to + i ≡ to + length words = omega (arith, few) in
-    written_one (written out to words) (to + i) word (omega (arith, written_length out to words fit))
-    ∙ written_more out to (to + i) words (word ∷ []) fit next
-    ∙ rw (add-one, take-suc (drop from store) i 0 left, get_or-drop from store i 0)
+use Rattle.formats.specs.Code.Slots.{call_folded, IsCall}
+use Rattle.formats.specs.Code.Rows.{format_at, Knows, KeptOutside, Row, over, ends, RowIs, Between, Stored, stored_at, callee_shapes}
+use Rattle.formats.specs.Code.Rows.{term_shapes, part_shapes, first_shapes, RowAsked, LeafTerm, left_of, Onward, LeavesAre}
+use Rattle.std.specs.Prelude.{Some, None}
+use Rattle.file.specs.declared.Term.TheVariants as terms
+use Rattle.shapes.specs.declared.RowEnd.{RowEnd}
+use Rattle.shapes.specs.declared.leaf.Leaf.{Leaf}
+use Rattle.shapes.specs.declared.row.Row as rows
+use Rattle.shapes.specs.Code.Leaves.{leaf_meant, symbol_leaf}
+use Rattle.shapes.specs.Code.Rows.{row_meant, IsRowOf}
+use Rattle.formats.specs.declared.slots.Slots.{Slots}
 
 -- ---- a row, written or over
 
@@ -80,9 +70,12 @@ written_outside old at new most h k = go
         ∙ get_or-drop (at + length new) old (j - (at + length new)) 0
         ∙ ap (λ n. get_or old n 0) back
 
+some_is : {a b : RowEnd} → Some a ≡ Some b → a ≡ b
+some_is e = cc
+
 module _ (shapes : Shapes) (before after : List ℕ) (from most : ℕ) where
   -- shapes that pass the room
-  pub row_over : most < from + size shapes → length after ≡ length before → KeptOutside from most before after → RowIs shapes before after from most Over
+  pub row_over : most < from + size shapes → length after ≡ length before → KeptOutside from most before after → RowIs shapes before after from most over
   row_over h k others = record {
     fits = λ l. absurd (omega arith);
     over = λ l. refl;
@@ -92,7 +85,7 @@ module _ (shapes : Shapes) (before after : List ℕ) (from most : ℕ) where
 
   -- shapes that are written
   pub row_written : (n : ℕ) (o : Bool) → n ≡ from + size shapes → n ≤ most → o ≡ is_open shapes → most ≤ length before
-      → after ≡ written before from (shape_words shapes) → RowIs shapes before after from most (Ends n o)
+      → after ≡ written before from (shape_words shapes) → RowIs shapes before after from most (ends n o)
   row_written n o e h p k w = record {
     fits = λ l. (rw (e, p), w);
     over = λ l. absurd (omega arith);
@@ -101,28 +94,28 @@ module _ (shapes : Shapes) (before after : List ℕ) (from most : ℕ) where
   }
 
   -- a row that is over passes the room
-  pub over_passes : RowIs shapes before after from most Over → most < from + size shapes
+  pub over_passes : RowIs shapes before after from most over → most < from + size shapes
   over_passes r = go (dec_le (from + size shapes) most)
     where
       go : Dec (from + size shapes ≤ most) → most < from + size shapes
-      go (yes p) = let q : Over ≡ Ends (from + size shapes) (is_open shapes) = (r.fits p).0 in let z : ◌≡◌ {A = ℕ} 0 1 = cc in absurd (omega arith)
+      go (yes p) = let q : over ≡ ends (from + size shapes) (is_open shapes) = (r.fits p).0 in let z : ◌≡◌ {A = ℕ} 0 1 = cc in absurd (omega arith)
       go (no p) = omega arith
 
   -- a row that ends was written
-  pub ends_fits : (n : ℕ) (o : Bool) → RowIs shapes before after from most (Ends n o) → from + size shapes ≤ most
+  pub ends_fits : (n : ℕ) (o : Bool) → RowIs shapes before after from most (ends n o) → from + size shapes ≤ most
   ends_fits n o r = go (dec_le (from + size shapes) most)
     where
       go : Dec (from + size shapes ≤ most) → from + size shapes ≤ most
       go (yes p) = p
-      go (no p) = let q : Ends n o ≡ Over = r.over (omega arith) in let z : ◌≡◌ {A = ℕ} 0 1 = cc in absurd (omega arith)
+      go (no p) = let q : ends n o ≡ over = r.over (omega arith) in let z : ◌≡◌ {A = ℕ} 0 1 = cc in absurd (omega arith)
 
-  pub ends_at : (n : ℕ) (o : Bool) → RowIs shapes before after from most (Ends n o) → n ≡ from + size shapes
-  ends_at n o r = let q : Ends n o ≡ Ends (from + size shapes) (is_open shapes) = (r.fits (ends_fits n o r)).0 in cc
+  pub ends_at : (n : ℕ) (o : Bool) → RowIs shapes before after from most (ends n o) → n ≡ from + size shapes
+  ends_at n o r = ap (λ e. e.next) (some_is (r.fits (ends_fits n o r)).0)
 
-  pub ends_open : (n : ℕ) (o : Bool) → RowIs shapes before after from most (Ends n o) → o ≡ is_open shapes
-  ends_open n o r = let q : Ends n o ≡ Ends (from + size shapes) (is_open shapes) = (r.fits (ends_fits n o r)).0 in cc
+  pub ends_open : (n : ℕ) (o : Bool) → RowIs shapes before after from most (ends n o) → o ≡ is_open shapes
+  ends_open n o r = ap (λ e. e.is_open) (some_is (r.fits (ends_fits n o r)).0)
 
-  pub ends_words : (n : ℕ) (o : Bool) → RowIs shapes before after from most (Ends n o) → after ≡ written before from (shape_words shapes)
+  pub ends_words : (n : ℕ) (o : Bool) → RowIs shapes before after from most (ends n o) → after ≡ written before from (shape_words shapes)
   ends_words n o r = (r.fits (ends_fits n o r)).1
 
 -- what is outside is so too where less is inside
@@ -131,36 +124,36 @@ further j from later most h (inl l) = inl (omega arith)
 further j from later most h (inr l) = inr l
 
 -- an end: nothing is written
-pub row_end : (o : Bool) (before : List ℕ) (from most : ℕ) → from ≤ most → most ≤ length before → RowIs (end o) before before from most (Ends from o)
+pub row_end : (o : Bool) (before : List ℕ) (from most : ℕ) → from ≤ most → most ≤ length before → RowIs (end o) before before from most (ends from o)
 unfolding size is_open shape_words
 row_end o before from most h k = row_written (end o) before before from most from o (omega arith) h refl k (written_none before from)
 
 -- a leaf, and no room for it
-pub row_leaf : (word : ℕ) (before : List ℕ) (from most : ℕ) → IsLeafWord word → from < most → most ≤ length before
-    → RowIs (item (leaf_at word) (end false)) before (set before from word) from most (Ends (from + 1) false)
+pub row_leaf : (b : leaves.Leaf) (word : ℕ) (before : List ℕ) (from most : ℕ) → word ≡ leaf_word b → from < most → most ≤ length before
+    → RowIs (item b (end false)) before (set before from word) from most (ends (from + 1) false)
 unfolding size is_open shape_words
-row_leaf word before from most h l k =
-    row_written (item (leaf_at word) (end false)) before (set before from word) from most (from + 1) false (omega arith) (omega arith) refl k
-    (rw h (written_one before from word (omega arith)))
+row_leaf b word before from most h l k =
+    row_written (item b (end false)) before (set before from word) from most (from + 1) false (omega arith) (omega arith) refl k
+    (rw (← h) (written_one before from word (omega arith)))
 
-pub leaf_over : (word : ℕ) (before : List ℕ) (from most : ℕ) → most ≤ from → RowIs (item (leaf_at word) (end false)) before before from most Over
+pub leaf_over : (b : leaves.Leaf) (before : List ℕ) (from most : ℕ) → most ≤ from → RowIs (item b (end false)) before before from most over
 unfolding size
-leaf_over word before from most h = row_over (item (leaf_at word) (end false)) before before from most (omega arith) refl (λ j o. refl)
+leaf_over b before from most h = row_over (item b (end false)) before before from most (omega arith) refl (λ j o. refl)
 
 -- a bracket: no room for its word, no room for what is inside, and its word in front of what is inside
-pub group_none : (inside : Shapes) (before : List ℕ) (from most : ℕ) → most ≤ from → RowIs (group inside (end false)) before before from most Over
+pub group_none : (inside : Shapes) (before : List ℕ) (from most : ℕ) → most ≤ from → RowIs (group inside (end false)) before before from most over
 unfolding size
 group_none inside before from most h = row_over (group inside (end false)) before before from most (omega arith) refl (λ j o. refl)
 
-pub group_over : (inside : Shapes) (before after : List ℕ) (from most : ℕ) → RowIs inside before after (from + 1) most Over
-    → RowIs (group inside (end false)) before after from most Over
+pub group_over : (inside : Shapes) (before after : List ℕ) (from most : ℕ) → RowIs inside before after (from + 1) most over
+    → RowIs (group inside (end false)) before after from most over
 unfolding size
 group_over inside before after from most r =
     row_over (group inside (end false)) before after from most (omega (arith, over_passes inside before after (from + 1) most r)) r.kept
     (λ j o. r.outside j (further j from (from + 1) most (omega arith) o))
 
-pub group_written : (inside : Shapes) (before after : List ℕ) (from most n word : ℕ) (o : Bool) → RowIs inside before after (from + 1) most (Ends n o)
-    → most ≤ length before → word ≡ bracket_word (n - (from + 1)) o → RowIs (group inside (end false)) before (set after from word) from most (Ends n false)
+pub group_written : (inside : Shapes) (before after : List ℕ) (from most n word : ℕ) (o : Bool) → RowIs inside before after (from + 1) most (ends n o)
+    → most ≤ length before → word ≡ bracket_word (n - (from + 1)) o → RowIs (group inside (end false)) before (set after from word) from most (ends n false)
 unfolding size is_open shape_words
 group_written inside before after from most n word o r k e =
     let at : n ≡ from + 1 + size inside = ends_at inside before after (from + 1) most n o r in
@@ -217,16 +210,16 @@ chain_more (group c f) g = omega (arith, chain_more f g)
 
 module _ (f g : Shapes) (before middle : List ℕ) (from most : ℕ) where
   -- where the first row is over, both are
-  pub both_over : RowIs f before middle from most Over → RowIs (chain f g) before middle from most Over
+  pub both_over : RowIs f before middle from most over → RowIs (chain f g) before middle from most over
   both_over r =
       row_over (chain f g) before middle from most (omega (arith, over_passes f before middle from most r, chain_more f g)) r.kept r.outside
 
   -- where the first row ends open, that is all
-  pub both_open : (n : ℕ) (o : Bool) → o ≡ true → RowIs f before middle from most (Ends n o) → RowIs (chain f g) before middle from most (Ends n true)
-  both_open n o e r = rw (chain_open f g (sym (ends_open f before middle from most n o r) ∙ e), ← e) r
+  pub both_open : (n : ℕ) (o : Bool) → o ≡ true → RowIs f before middle from most (ends n o) → RowIs (chain f g) before middle from most (ends n o)
+  both_open n o e r = rw (chain_open f g (sym (ends_open f before middle from most n o r) ∙ e)) r
 
   -- where it ends closed, the other row follows
-  pub both_rows : (n : ℕ) (o : Bool) (after : List ℕ) (row : Row) → o ≡ false → RowIs f before middle from most (Ends n o) → most ≤ length before
+  pub both_rows : (n : ℕ) (o : Bool) (after : List ℕ) (row : Row) → o ≡ false → RowIs f before middle from most (ends n o) → most ≤ length before
       → RowIs g middle after n most row → RowIs (chain f g) before after from most row
   both_rows n o after row e r k s =
       let closed : is_open f ≡ false = sym (ends_open f before middle from most n o r) ∙ e in
@@ -254,41 +247,30 @@ extend_chain (some never) g = refl
 extend_chain (some (of f)) g = refl
 
 -- what a header says of so many shapes in a row that is closed or open
-header_parts : (n : ℕ) (o : Bool) → n ≤ 64
-    → ((n + cond o 256 0) % 256 ≡ n) × (leb 256 (n + cond o 256 0) ≡ o) × (n + cond o 256 0 < 512)
-header_parts n true h = (omega arith, le-leb 256 (n + 256) (omega arith), omega arith)
-header_parts n false h = (omega arith, lt-leb 256 (n + 0) (omega arith), omega arith)
+header_parts : (n : ℕ) (o : Bool) → n ≤ 64 → ((n + cond o 256 0) % 256 ≡ n) × (leb 256 (n + cond o 256 0) ≡ o)
+header_parts n true h = (omega arith, le-leb 256 (n + 256) (omega arith))
+header_parts n false h = (omega arith, lt-leb 256 (n + 0) (omega arith))
 
 -- a callee that has shapes: their number, how their row ends, and their words
-pub record Callee (shapes : Shapes) (limit header : ℕ) (words : List ℕ) : Type 0 where
-  pub number : size shapes ≡ header % 256
-  pub few : size shapes ≤ limit
-  pub opens : is_open shapes ≡ leb 256 header
-  pub same : shape_words shapes ≡ take (header % 256) words
+pub record Callee (shapes : Shapes) (words : List ℕ) (o : Bool) : Type 0 where
+  pub number : size shapes ≡ length words
+  pub opens : is_open shapes ≡ o
+  pub same : shape_words shapes ≡ words
 
--- a format by the words that it has
-never_words : (limit : ℕ) (f : Format) → Encodable limit f → limit ≤ 64 → 512 ≤ get_or (format_words limit f) 0 0 → callee_shapes (some f) ≡ end false
-never_words limit never h l n = refl
-never_words limit (of f) h l n = absurd (omega (arith, (header_parts (size f) (is_open f) (omega arith)).2))
-
-shapes_words : (limit : ℕ) (f : Format) → Encodable limit f → limit ≤ 64 → get_or (format_words limit f) 0 0 < 512
-    → Callee (callee_shapes (some f)) limit (get_or (format_words limit f) 0 0) (drop 1 (format_words limit f))
-shapes_words limit never h l n = absurd (omega arith)
-shapes_words limit (of f) h l n =
-    let (number, opens, small) = header_parts (size f) (is_open f) (omega arith) in record {
-      number = sym number;
-      few = h;
-      opens = sym opens;
-      same = rw number (sym (take_at (shape_words f) (replicate (limit + 1 - suc (length (shape_words f))) 0) (size f) (words_length f)));
+-- a format's row, by its words
+shapes_words : (limit : ℕ) (f : Format) → Encodable limit f → limit ≤ 64 → (words : List ℕ) (o : Bool) (row : Shapes) → f ≡ of row
+    → words ≡ take (get_or (format_words limit f) 0 0 % 256) (drop 1 (format_words limit f)) → o ≡ leb 256 (get_or (format_words limit f) 0 0)
+    → Callee (callee_shapes (some f)) words o
+shapes_words limit never h l words o row r w e = let z : ◌≡◌ {A = ℕ} 0 1 = cc in absurd (omega arith)
+shapes_words limit (of f) h l words o row r w e =
+    let (number, opens) = header_parts (size f) (is_open f) (omega arith) in
+    let same : shape_words f ≡ words =
+    rw (w, number) (sym (take_at (shape_words f) (replicate (limit + 1 - suc (length (shape_words f))) 0) (size f) (words_length f))) in
+    record {
+      number = omega (arith, words_length f, ap length same);
+      opens = sym (e ∙ opens);
+      same = same;
     }
-
--- words after the first of a part of the store
-after_first : (n limit : ℕ) (s : List ℕ) → n ≤ limit → take n (drop 1 (take (suc limit) s)) ≡ take n (drop 1 s)
-after_first n limit [] h = refl
-after_first n limit (x ∷ s) h = take-take n limit s h
-
-part_words : (n limit k : ℕ) (store words : List ℕ) → n ≤ limit → take (limit + 1) (drop k store) ≡ words → take n (drop 1 words) ≡ take n (drop (k + 1) store)
-part_words n limit k store words h e = rw (← e, add-one limit, after_first n limit (drop k store) h, drop-drop 1 k store)
 
 module _ (store : List ℕ) (limit count place : ℕ) where
   -- a name that no function has: the row ends open
@@ -306,57 +288,43 @@ module _ (store : List ℕ) (limit count place : ℕ) where
         ap length here.same ∙ format_words_length limit here.format here.encodable in
         omega (arith, words, length-take (limit + 1) (drop ((2 * place + 1) * (limit + 1)) store), length-drop ((2 * place + 1) * (limit + 1)) store)
 
-    header : get_or store ((2 * place + 1) * (limit + 1)) 0 ≡ get_or (format_words limit here.format) 0 0
-    header =
-        rw (← here.same, get_or-take (limit + 1) (drop ((2 * place + 1) * (limit + 1)) store) 0 0 (omega arith), get_or-drop ((2 * place + 1) * (limit + 1)) store 0 0, add-zero)
-
-    format : stored_at store limit count place ≡ some here.format
-    format = rw (lt-ltb place count known, here.same, read_write limit here.format here.encodable (omega (arith, stored.limited)))
+    format : stored_at store limit count place ≡ some (read_format (format_at limit store (2 * place + 1)))
+    format = rw (lt-ltb place count known)
 
     -- a function that never returns so far adds nothing
-    pub callee_never : 512 ≤ get_or store ((2 * place + 1) * (limit + 1)) 0 → callee_shapes (stored_at store limit count place) ≡ end false
-    callee_never h = rw format (never_words limit here.format here.encodable stored.limited (rw header at h))
+    pub callee_never : (words : List ℕ) → words ≡ format_at limit store (2 * place + 1) → read_format words ≡ never → callee_shapes (stored_at store limit count place) ≡ end false
+    callee_never words e n = rw (format, ← e, n)
 
     -- else its shapes are in the store
-    pub callee_shapes_lem : get_or store ((2 * place + 1) * (limit + 1)) 0 < 512
-        → Callee (callee_shapes (stored_at store limit count place)) limit (get_or store ((2 * place + 1) * (limit + 1)) 0)
-        (drop ((2 * place + 1) * (limit + 1) + 1) store)
-    callee_shapes_lem h =
-        let found = shapes_words limit here.format here.encodable stored.limited (rw header at h) in
-        rw (format, header) (record {
-          number = found.number;
-          few = found.few;
-          opens = found.opens;
-          same =
-              found.same
-              ∙ part_words (get_or (format_words limit here.format) 0 0 % 256) limit ((2 * place + 1) * (limit + 1)) store (format_words limit here.format)
-              (omega (arith, found.number, found.few)) here.same;
-        })
+    pub callee_shapes_lem : (words : List ℕ) (row : rows.Row) → words ≡ format_at limit store (2 * place + 1) → IsRowOf words row
+        → Callee (callee_shapes (stored_at store limit count place)) row.words.now row.is_open
+    callee_shapes_lem words row e r =
+        let same : words ≡ format_words limit here.format = e ∙ here.same in
+        let read : read_format words ≡ here.format = rw same (read_write limit here.format here.encodable (omega (arith, stored.limited))) in
+        rw (format, ← e, read)
+        (shapes_words limit here.format here.encodable stored.limited row.words.now row.is_open (row_meant row) (sym read ∙ r.same) (rw same at r.words) (rw same at r.opens))
 
-    -- the rows that are written for it, by its header
-    module _ (before : List ℕ) (from most : ℕ) (begins : from ≤ most) (room : most ≤ length before) where
-      pub row_never : 512 ≤ get_or store ((2 * place + 1) * (limit + 1)) 0
-          → RowIs (callee_shapes (stored_at store limit count place)) before before from most (Ends from false)
-      row_never h = rw (callee_never h) (row_end false before from most begins room)
+    -- the rows that are written for it
+    module _ (before : List ℕ) (from most : ℕ) (begins : from ≤ most) (room : most ≤ length before) (words : List ℕ) (is : words ≡ format_at limit store (2 * place + 1)) where
+      pub row_never : read_format words ≡ never → RowIs (callee_shapes (stored_at store limit count place)) before before from most (ends from false)
+      row_never n = rw (callee_never words is n) (row_end false before from most begins room)
 
-      pub row_callee_over : get_or store ((2 * place + 1) * (limit + 1)) 0 < 512 → most - from < get_or store ((2 * place + 1) * (limit + 1)) 0 % 256
-          → RowIs (callee_shapes (stored_at store limit count place)) before before from most Over
-      row_callee_over h l =
-          row_over (callee_shapes (stored_at store limit count place)) before before from most (omega (arith, (callee_shapes_lem h).number)) refl (λ j o. refl)
+      pub row_callee_over : (row : rows.Row) → IsRowOf words row → most - from < length row.words.now
+          → RowIs (callee_shapes (stored_at store limit count place)) before before from most over
+      row_callee_over row r l =
+          row_over (callee_shapes (stored_at store limit count place)) before before from most (omega (arith, (callee_shapes_lem words row is r).number)) refl (λ j o. refl)
 
-      pub row_callee : (after : List ℕ) → get_or store ((2 * place + 1) * (limit + 1)) 0 < 512
-          → get_or store ((2 * place + 1) * (limit + 1)) 0 % 256 ≤ most - from
-          → after ≡ written before from (take (get_or store ((2 * place + 1) * (limit + 1)) 0 % 256) (drop ((2 * place + 1) * (limit + 1) + 1) store))
-          → RowIs (callee_shapes (stored_at store limit count place)) before after from most
-          (Ends (from + get_or store ((2 * place + 1) * (limit + 1)) 0 % 256) (leb 256 (get_or store ((2 * place + 1) * (limit + 1)) 0)))
-      row_callee after h l w =
+      pub row_callee : (row : rows.Row) (after : List ℕ) → IsRowOf words row → length row.words.now ≤ most - from → after ≡ written before from row.words.now
+          → RowIs (callee_shapes (stored_at store limit count place)) before after from most (ends (from + length row.words.now) row.is_open)
+      row_callee row after r l w =
+          let found = callee_shapes_lem words row is r in
           row_written (callee_shapes (stored_at store limit count place)) before after from most _ _
-          (omega (arith, (callee_shapes_lem h).number)) (omega arith) (sym (callee_shapes_lem h).opens) room
-          (rw (callee_shapes_lem h).same w)
+          (omega (arith, found.number)) (omega arith) (sym found.opens) room
+          (rw found.same w)
 
   -- and where no function has its name
   pub row_unknown : (before : List ℕ) (from most : ℕ) → count ≤ place → from ≤ most → most ≤ length before
-      → RowIs (callee_shapes (stored_at store limit count place)) before before from most (Ends from true)
+      → RowIs (callee_shapes (stored_at store limit count place)) before before from most (ends from true)
   row_unknown before from most h k l = rw (callee_unknown h) (row_end true before from most k l)
 
 -- ---- a part of the term records, its first record before the rest
@@ -364,7 +332,7 @@ module _ (store : List ℕ) (limit count place : ℕ) where
 -- the first record, by its kind and the words a and b
 step_run : (text : List ℕ) (give : ℕ → ℕ → Sentences) (at : ℕ) (mark : Mark) (results : Results) (a b : ℕ) (inside after : Run) (kind : ℕ)
     → result_shapes results (term_run text give at mark (term_from kind a b) inside after)
-    ≡ chain (step_shapes (step_of (term_from kind a b)) (result_shapes results inside) (results (folded (take b (drop a text))))) (result_shapes results after)
+    ≡ chain (term_shapes (term_from kind a b) (result_shapes results inside) (results (folded (take b (drop a text))))) (result_shapes results after)
 unfolding result_shapes chain term_from
 step_run text give at mark results a b inside after zero = refl
 step_run text give at mark results a b inside after (suc zero) = refl
@@ -377,35 +345,37 @@ step_run text give at mark results a b inside after (suc (suc (suc (suc (suc (su
     extend_chain (results (folded (take b (drop a text)))) (result_shapes results after)
 step_run text give at mark results a b inside after (suc (suc (suc (suc (suc (suc (suc (suc kind)))))))) = refl
 
+-- an e. variable and a block end the row open
+pub open_term : (term : Term) (inside : Shapes) (known : Option Format)
+    → ((a : ℕ) × (b : ℕ) × (term ≡ terms.EVariable a b)) ⊎ ((n : ℕ) × (term ≡ terms.Block n)) → term_shapes term inside known ≡ end true
+open_term term inside known (inl e) = rw e.2
+open_term term inside known (inr e) = rw e.1
+
 -- only a record of kind 7 is a call
-call_kind : (a b kind : ℕ) → step_of (term_from kind a b) ≡ steps.TheVariants.Call → kind ≡ 7
+call_kind : (a b c d kind : ℕ) → term_from kind a b ≡ terms.Call c d → kind ≡ 7
 unfolding term_from
-call_kind a b zero h = let z : ◌≡◌ {A = ℕ} 0 1 = cc in absurd (omega arith)
-call_kind a b (suc zero) h = let z : ◌≡◌ {A = ℕ} 0 1 = cc in absurd (omega arith)
-call_kind a b (suc (suc zero)) h = let z : ◌≡◌ {A = ℕ} 0 1 = cc in absurd (omega arith)
-call_kind a b (suc (suc (suc zero))) h = let z : ◌≡◌ {A = ℕ} 0 1 = cc in absurd (omega arith)
-call_kind a b (suc (suc (suc (suc zero)))) h = let z : ◌≡◌ {A = ℕ} 0 1 = cc in absurd (omega arith)
-call_kind a b (suc (suc (suc (suc (suc zero))))) h = let z : ◌≡◌ {A = ℕ} 0 1 = cc in absurd (omega arith)
-call_kind a b (suc (suc (suc (suc (suc (suc zero)))))) h = let z : ◌≡◌ {A = ℕ} 0 1 = cc in absurd (omega arith)
-call_kind a b (suc (suc (suc (suc (suc (suc (suc zero))))))) h = refl
-call_kind a b (suc (suc (suc (suc (suc (suc (suc (suc kind)))))))) h = let z : ◌≡◌ {A = ℕ} 0 1 = cc in absurd (omega arith)
+call_kind a b c d zero h = let z : ◌≡◌ {A = ℕ} 0 1 = cc in absurd (omega arith)
+call_kind a b c d (suc zero) h = let z : ◌≡◌ {A = ℕ} 0 1 = cc in absurd (omega arith)
+call_kind a b c d (suc (suc zero)) h = let z : ◌≡◌ {A = ℕ} 0 1 = cc in absurd (omega arith)
+call_kind a b c d (suc (suc (suc zero))) h = let z : ◌≡◌ {A = ℕ} 0 1 = cc in absurd (omega arith)
+call_kind a b c d (suc (suc (suc (suc zero)))) h = let z : ◌≡◌ {A = ℕ} 0 1 = cc in absurd (omega arith)
+call_kind a b c d (suc (suc (suc (suc (suc zero))))) h = let z : ◌≡◌ {A = ℕ} 0 1 = cc in absurd (omega arith)
+call_kind a b c d (suc (suc (suc (suc (suc (suc zero)))))) h = let z : ◌≡◌ {A = ℕ} 0 1 = cc in absurd (omega arith)
+call_kind a b c d (suc (suc (suc (suc (suc (suc (suc zero))))))) h = refl
+call_kind a b c d (suc (suc (suc (suc (suc (suc (suc (suc kind)))))))) h = let z : ◌≡◌ {A = ℕ} 0 1 = cc in absurd (omega arith)
 
--- a shape of one word is written with it
-leaf_kind : (a b word kind : ℕ) → step_of (term_from kind a b) ≡ steps.TheVariants.Leaf word → IsLeafWord word
+-- a term that adds a shape alone has none inside it
+leaf_kind : (a b kind : ℕ) (leaf : Leaf) → LeafTerm (term_from kind a b) (Some leaf) → kind < 5
 unfolding term_from
-leaf_kind a b word zero h = let e : word ≡ 0 = cc in rw e
-leaf_kind a b word (suc zero) h = let e : word ≡ 2 = cc in rw e
-leaf_kind a b word (suc (suc zero)) h = let e : word ≡ 1 = cc in rw e
-leaf_kind a b word (suc (suc (suc zero))) h = let e : word ≡ 3 = cc in rw e
-leaf_kind a b word (suc (suc (suc (suc zero)))) h = let e : word ≡ 4 = cc in rw e
-leaf_kind a b word (suc (suc (suc (suc (suc zero))))) h = let z : ◌≡◌ {A = ℕ} 0 1 = cc in absurd (omega arith)
-leaf_kind a b word (suc (suc (suc (suc (suc (suc zero)))))) h = let z : ◌≡◌ {A = ℕ} 0 1 = cc in absurd (omega arith)
-leaf_kind a b word (suc (suc (suc (suc (suc (suc (suc zero))))))) h = let z : ◌≡◌ {A = ℕ} 0 1 = cc in absurd (omega arith)
-leaf_kind a b word (suc (suc (suc (suc (suc (suc (suc (suc kind)))))))) h = let z : ◌≡◌ {A = ℕ} 0 1 = cc in absurd (omega arith)
-
-pub step_leaf_word : (s : List ℕ) (word : ℕ) → step_of (term_at s 0) ≡ steps.TheVariants.Leaf word → IsLeafWord word
-unfolding term_at
-step_leaf_word s word h = leaf_kind (word_at s (0 + 4)) (word_at s (0 + 8)) word (word_at s 0) h
+leaf_kind a b zero leaf h = omega arith
+leaf_kind a b (suc zero) leaf h = omega arith
+leaf_kind a b (suc (suc zero)) leaf h = omega arith
+leaf_kind a b (suc (suc (suc zero))) leaf h = omega arith
+leaf_kind a b (suc (suc (suc (suc zero)))) leaf h = omega arith
+leaf_kind a b (suc (suc (suc (suc (suc zero))))) leaf h = let q = h (end true) none in let z : ◌≡◌ {A = ℕ} 0 1 = cc in absurd (omega arith)
+leaf_kind a b (suc (suc (suc (suc (suc (suc zero)))))) leaf h = let q = h (end true) none in let z : ◌≡◌ {A = ℕ} 0 1 = cc in absurd (omega arith)
+leaf_kind a b (suc (suc (suc (suc (suc (suc (suc zero))))))) leaf h = let q = h (end true) none in let z : ◌≡◌ {A = ℕ} 0 1 = cc in absurd (omega arith)
+leaf_kind a b (suc (suc (suc (suc (suc (suc (suc (suc kind)))))))) leaf h = let q = h (end true) none in let z : ◌≡◌ {A = ℕ} 0 1 = cc in absurd (omega arith)
 
 module _ (file : File) (results : Results) (at : ℕ) (p : List ℕ) where
   -- no records
@@ -423,35 +393,28 @@ module _ (file : File) (results : Results) (at : ℕ) (p : List ℕ) where
         (step_run file.text.records (own file) at _ results _ _ _ _ _)
 
     -- the store knows its call
-    pub call_known : (slots store : List ℕ) (limit count : ℕ) → Knows file slots store limit count results
-        → step_of (term_at p 0) ≡ steps.TheVariants.Call
-        → results (call_folded file at) ≡ stored_at store limit count (get_or slots (64 + at) 0)
+    pub call_known : (slots : Slots) (store : List ℕ) (limit count c d : ℕ) → Knows file slots store limit count results
+        → term_at p 0 ≡ terms.Call c d
+        → results (call_folded file at) ≡ stored_at store limit count (get_or slots.calls at 0)
     unfolding term_at
-    call_known slots store limit count knows h = go (dec_lt (get_or slots (64 + at) 0) count)
+    call_known slots store limit count c d knows h = go (dec_lt (get_or slots.calls at 0) count)
       where
-        kind : word_at file.terms.records (24 * at) ≡ 7
-        kind = call_kind _ _ _ (rw (part_term file readable at p part some) at h)
+        kind : IsCall file at
+        kind = call_kind _ _ c d _ (rw (part_term file readable at p part some) at h)
 
         inside : at < file.terms.count
         inside = part_at file readable at p part some
 
-        go : Dec (get_or slots (64 + at) 0 < count) → results (call_folded file at) ≡ stored_at store limit count (get_or slots (64 + at) 0)
-        go (yes k) = rw (lt-ltb (get_or slots (64 + at) 0) count k) (knows.known at inside kind k)
-        go (no k) = rw (le-ltb (get_or slots (64 + at) 0) count (omega arith)) (knows.unknown at inside kind (omega arith))
+        go : Dec (get_or slots.calls at 0 < count) → results (call_folded file at) ≡ stored_at store limit count (get_or slots.calls at 0)
+        go (yes k) = rw (lt-ltb (get_or slots.calls at 0) count k) (knows.known at inside kind k)
+        go (no k) = rw (le-ltb (get_or slots.calls at 0) count (omega arith)) (knows.unknown at inside kind (omega arith))
 
 -- ---- the rows that the code writes for a part, by the answers that it got
 
--- where a row ends, and one after another
-pub ends_between : {from most n : ℕ} {o : Bool} {row : Row} → row ≡ Ends n o → Between from most row → (from ≤ n) × (n ≤ most)
-ends_between e b = rw e at b
-
+-- where a row ends, one after another
 pub between_later : (from most n : ℕ) (row : Row) → from ≤ n → Between n most row → Between from most row
-between_later from most n Over h b = tt
-between_later from most n (Ends k o) h b = (omega (arith, b.0), b.1)
-
--- what the first record is, from the answers of the code
-pub step_is : (p : List ℕ) {term : Term} {step value : steps.Step} → term ≡ term_at p 0 → step ≡ step_of term → step ≡ value → step_of (term_at p 0) ≡ value
-step_is p e f g = rw (← e, ← f) g
+between_later from most n None h b = b
+between_later from most n (Some e) h b = (omega (arith, b.0), b.1)
 
 module _ {file : File} {at : ℕ} {p store : List ℕ} {limit count : ℕ} {before : List ℕ} {from most : ℕ}
     (asked : RowAsked file at p store limit count before from most) (some : 24 ≤ length p) where
@@ -488,49 +451,40 @@ module _ {file : File} {at : ℕ} {p store : List ℕ} {limit count : ℕ} {befo
 
   module _ (results : Results) {after : List ℕ} where
     -- a bracket: what is inside is over, and it is written
-    pub bracket_over : {e : ℕ} {row : Row} → e ≡ end_of p → row ≡ Over
+    pub bracket_over : {e : ℕ} {row : Row} → e ≡ end_of p → row ≡ over
         → RowIs (part_shapes file results (at + 1) (take (e - 24) (drop 24 p))) before after (from + 1) most row
-        → RowIs (group (part_shapes file results (at + 1) (contents 24 end_of p)) (end false)) before after from most Over
+        → RowIs (group (part_shapes file results (at + 1) (contents 24 end_of p)) (end false)) before after from most over
     bracket_over i k r =
         group_over (part_shapes file results (at + 1) (contents 24 end_of p)) before after from most (rw (i, k) at r)
 
-    pub bracket_written : {e n word : ℕ} {o : Bool} {row : Row} → e ≡ end_of p → row ≡ Ends n o → word ≡ bracket_word (n - (from + 1)) o
+    pub bracket_written : {e n word : ℕ} {o : Bool} {row : Row} → e ≡ end_of p → row ≡ ends n o → word ≡ bracket_word (n - (from + 1)) o
         → RowIs (part_shapes file results (at + 1) (take (e - 24) (drop 24 p))) before after (from + 1) most row
-        → RowIs (group (part_shapes file results (at + 1) (contents 24 end_of p)) (end false)) before (set after from word) from most (Ends n false)
+        → RowIs (group (part_shapes file results (at + 1) (contents 24 end_of p)) (end false)) before (set after from word) from most (ends n false)
     bracket_written {n = n} {word = word} {o = o} i k w r =
         group_written (part_shapes file results (at + 1) (contents 24 end_of p)) before after from most n word o (rw (i, k) at r) asked.room w
 
-    -- a first record of each kind
-    pub first_leaf : {word : ℕ} {row : Row} → step_of (term_at p 0) ≡ steps.TheVariants.Leaf word
-        → RowIs (item (leaf_at word) (end false)) before after from most row → RowIs (first_shapes file results at p) before after from most row
-    first_leaf e r = rw e r
-
-    pub first_bracket : {row : Row} → step_of (term_at p 0) ≡ steps.TheVariants.Bracket
-        → RowIs (group (part_shapes file results (at + 1) (contents 24 end_of p)) (end false)) before after from most row
-        → RowIs (first_shapes file results at p) before after from most row
-    first_bracket e r = rw e r
-
-    pub first_call : {slots : List ℕ} {place : ℕ} {row : Row} → step_of (term_at p 0) ≡ steps.TheVariants.Call → place ≡ get_or slots (64 + at) 0
+    -- a first record that is a call
+    pub first_call : {slots : Slots} {place c d : ℕ} {row : Row} → term_at p 0 ≡ terms.Call c d → place ≡ get_or slots.calls at 0
         → Knows file slots store limit count results → RowIs (callee_shapes (stored_at store limit count place)) before after from most row
         → RowIs (first_shapes file results at p) before after from most row
-    first_call {slots = slots} e i k r =
-        let same = call_known file results at p asked.readable asked.here some slots store limit count k e in
+    first_call {slots = slots} {c = c} {d = d} e i k r =
+        let same = call_known file results at p asked.readable asked.here some slots store limit count c d k e in
         rw (e, same, ← i) r
 
     -- the first record's row is over, or it ends open, and that is all; or the rest follows
-    pub row_first_over : {row : Row} → row ≡ Over → RowIs (first_shapes file results at p) before after from most row
-        → RowIs (part_shapes file results at p) before after from most Over
+    pub row_first_over : {row : Row} → row ≡ over → RowIs (first_shapes file results at p) before after from most row
+        → RowIs (part_shapes file results at p) before after from most over
     row_first_over e r =
         rw (part_first file results at p asked.readable asked.here some)
         (both_over (first_shapes file results at p) _ before after from most (rw e at r))
 
-    pub row_first_open : {n : ℕ} {o : Bool} {row : Row} → row ≡ Ends n o → o ≡ true → RowIs (first_shapes file results at p) before after from most row
-        → RowIs (part_shapes file results at p) before after from most (Ends n true)
+    pub row_first_open : {n : ℕ} {o : Bool} {row : Row} → row ≡ ends n o → o ≡ true → RowIs (first_shapes file results at p) before after from most row
+        → RowIs (part_shapes file results at p) before after from most (ends n o)
     row_first_open {n = n} {o = o} e h r =
         rw (part_first file results at p asked.readable asked.here some)
         (both_open (first_shapes file results at p) _ before after from most n o h (rw e at r))
 
-    pub row_first_rest : {middle : List ℕ} {n e k : ℕ} {o : Bool} {row next : Row} → row ≡ Ends n o → o ≡ false → e ≡ end_of p → k ≡ word_at p 12
+    pub row_first_rest : {middle : List ℕ} {n e k : ℕ} {o : Bool} {row next : Row} → row ≡ ends n o → o ≡ false → e ≡ end_of p → k ≡ word_at p 12
         → RowIs (first_shapes file results at p) before middle from most row
         → RowIs (part_shapes file results (at + 1 + k) (take (length p - e) (drop e p))) middle after n most next
         → RowIs (part_shapes file results at p) before after from most next
@@ -538,14 +492,9 @@ module _ {file : File} {at : ℕ} {p store : List ℕ} {limit count : ℕ} {befo
         rw (part_first file results at p asked.readable asked.here some)
         (both_rows (first_shapes file results at p) _ before middle from most n o after next h (rw f at r) asked.room (rw (i, l) at s))
 
--- a first record that ends the row open
-pub first_open : (file : File) (results : Results) (at : ℕ) (p before : List ℕ) (from most : ℕ) → from ≤ most → most ≤ length before
-    → step_of (term_at p 0) ≡ steps.TheVariants.Open → RowIs (first_shapes file results at p) before before from most (Ends from true)
-first_open file results at p before from most h k e = rw e (row_end true before from most h k)
-
 -- no records
 pub row_none : (file : File) (results : Results) (at : ℕ) (p before : List ℕ) (from most : ℕ) → length p < 24 → from ≤ most → most ≤ length before
-    → RowIs (part_shapes file results at p) before before from most (Ends from false)
+    → RowIs (part_shapes file results at p) before before from most (ends from false)
 row_none file results at p before from most n h k = rw (part_none file results at p n) (row_end false before from most h k)
 
 -- ---- patterns
@@ -561,7 +510,7 @@ pattern_row_lem (call m f inside after) = refl
 pattern_row_lem (block m inside ss after) = refl
 
 -- with no names every call is unknown
-pub knows_none : (file : File) (slots store : List ℕ) (limit : ℕ) → Knows file slots store limit 0 (λ _. none)
+pub knows_none : (file : File) (slots : Slots) (store : List ℕ) (limit : ℕ) → Knows file slots store limit 0 (λ _. none)
 knows_none file slots store limit = record {
   known = λ t h k l. absurd (omega arith);
   unknown = λ t h k l. refl;
@@ -593,24 +542,6 @@ left_next n p =
     ∙ drop-drop 24 (24 * n) p
     ∙ rw place (sym (left_drop (n + 1) p))
 
--- the words of the kinds
-pub kind_identifier : (kind : ℕ) → kind ≡ 1 → LeafKind kind 2
-unfolding term_from
-kind_identifier kind e a b = rw e
-
-pub kind_number_lem : (kind : ℕ) → kind ≡ 2 → LeafKind kind 1
-unfolding term_from
-kind_number_lem kind e a b = rw e
-
-pub kind_itself : (kind : ℕ) → kind < 5 → (kind ≡ 1 → ⊥) → (kind ≡ 2 → ⊥) → LeafKind kind kind
-unfolding term_from
-kind_itself zero h i j a b = refl
-kind_itself (suc zero) h i j a b = absurd (i refl)
-kind_itself (suc (suc zero)) h i j a b = absurd (j refl)
-kind_itself (suc (suc (suc zero))) h i j a b = refl
-kind_itself (suc (suc (suc (suc zero)))) h i j a b = refl
-kind_itself (suc (suc (suc (suc (suc kind))))) h i j a b = absurd (omega arith)
-
 -- no record yet
 pub leaves_none : (part before : List ℕ) (from most : ℕ) → LeavesAre part before before from most 0
 leaves_none part before from most file at store limit count asked = record {
@@ -619,18 +550,18 @@ leaves_none part before from most file at store limit count asked = record {
 }
 
 -- one record more
-pub leaves_next : (part before middle : List ℕ) (from most n word : ℕ) → LeavesAre part before middle from most n
-    → from + n < most → 24 * n + 24 ≤ length part → word_at (left_of n part) 0 < 5 → LeafKind (word_at (left_of n part) 0) word
+pub leaves_next : (part before middle : List ℕ) (from most n word : ℕ) (leaf : Leaf) → LeavesAre part before middle from most n
+    → from + n < most → 24 * n + 24 ≤ length part → LeafTerm (term_at (left_of n part) 0) (Some leaf) → word ≡ leaf_word (leaf_meant leaf)
     → LeavesAre part before (set middle (from + n) word) from most (n + 1)
 unfolding term_at
-leaves_next part before middle from most n word so_far room enough kind leaf file at store limit count asked = record {
+leaves_next part before middle from most n word leaf so_far room enough alone spelled file at store limit count asked = record {
   asked =
       rw (left_next n part, add-zero (at + n + 1), add_assoc at n 1) at
-      (asked_rest now whole {n = 0} {next = from + (n + 1)} {out = set middle (from + n) word} ends none_inside_lem (omega arith)
+      (asked_rest now whole {n = 0} {next = from + (n + 1)} {out = set middle (from + n) word} ends_here none_inside_lem (omega arith)
       (length-set middle (from + n) word));
   goes =
       λ results after row r. onward.goes results after row
-      (row_first_rest now whole results refl refl ends none_inside_lem (written results)
+      (row_first_rest now whole results refl refl ends_here none_inside_lem (written_leaf results)
       (rw (left_next n part, add-zero (at + n + 1), add_assoc at n 1, add_assoc from n 1) r));
 }
   where
@@ -643,17 +574,17 @@ leaves_next part before middle from most n word so_far room enough kind leaf fil
     whole : 24 ≤ length (left_of n part)
     whole = omega (arith, left_length n part)
 
+    small : word_at (left_of n part) 0 < 5
+    small = leaf_kind _ _ _ leaf alone
+
     none_inside_lem : 0 ≡ word_at (left_of n part) 12
-    none_inside_lem = sym (part_leaf file now.readable (at + n) (left_of n part) now.here whole (omega arith))
+    none_inside_lem = sym (part_leaf file now.readable (at + n) (left_of n part) now.here whole (omega (arith, small)))
 
-    ends : 24 ≡ end_of (left_of n part)
-    ends = omega (arith, part_end_lem file now.readable (at + n) (left_of n part) now.here whole, none_inside_lem)
+    ends_here : 24 ≡ end_of (left_of n part)
+    ends_here = omega (arith, part_end_lem file now.readable (at + n) (left_of n part) now.here whole, none_inside_lem)
 
-    step : step_of (term_at (left_of n part) 0) ≡ steps.TheVariants.Leaf word
-    step = leaf _ _
-
-    written : (results : Results) → RowIs (first_shapes file results (at + n) (left_of n part)) middle (set middle (from + n) word) (from + n) most (Ends (from + n + 1) false)
-    written results = first_leaf now whole results step (row_leaf word middle (from + n) most (step_leaf_word (left_of n part) word step) room now.room)
+    written_leaf : (results : Results) → RowIs (first_shapes file results (at + n) (left_of n part)) middle (set middle (from + n) word) (from + n) most (ends (from + n + 1) false)
+    written_leaf results = rw (alone _ _) (row_leaf (leaf_meant leaf) word middle (from + n) most spelled room now.room)
 
 -- a record's number is small
 pub asked_place : {file : File} {at : ℕ} {p store : List ℕ} {limit count : ℕ} {out : List ℕ} {from most : ℕ} → RowAsked file at p store limit count out from most → at ≤ 512

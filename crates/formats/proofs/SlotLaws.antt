@@ -1,7 +1,7 @@
 -- Laws of the sorted distinct names of a law and of their places (specs/Infer.antt, specs/Code/Slots.antt): a place is the number of names
 -- before it, and each name is counted at the last function that has it.
 use Prim.Native.Nat.{ℕ, zero, suc, ◌+◌, ◌*◌, ◌-◌, ◌≤◌, ◌<◌}
-use mathlib.Core.Bool.{Bool, true, false, cond, ◌||◌, true≢false, or-true}
+use mathlib.Core.Bool.{Bool, true, false, cond, ◌||◌, ◌&&◌, not, true≢false, or-true}
 use mathlib.Core.List.{List, [], ◌∷◌}
 use mathlib.Core.Path.{◌≡◌, refl, sym, ap, ◌∙◌}
 use native.Mathlib.Omega.{arith}
@@ -11,6 +11,8 @@ use native.Mathlib.Numerals.{add-one}
 use lib.ListN.{length, get_or, set, take, drop, replicate, length-set}
 use lib.Seq.{get_or-set_same, get_or-set_other}
 use Rattle.names.specs.Name.{folded, same_bytes, order_bytes}
+use Rattle.std.specs.Ordering.{is_lt}
+use Rattle.std.specs.Int.{from_bool}
 use Rattle.std.specs.declared.cmp.Ordering.{Ordering}
 use Rattle.std.specs.declared.cmp.Ordering.TheVariants.{Less, Equal, Greater}
 use Rattle.names.proofs.Laws.{same_sound, same_refl, order_refl, order_equal, less_greater, greater_less, less_trans}
@@ -23,8 +25,9 @@ use Rattle.law.specs.Reading.{function_name, functions_from, tree_of, sentences_
 use Rattle.law.proofs.IndexLaws.{zero_offset}
 use Rattle.law.proofs.Functions.{tree_length}
 use Rattle.formats.specs.Infer.{insert_name, names_of}
-use Rattle.formats.specs.Code.Slots.{position, function_folded, call_folded, file_names, is_among, names_from, less_count, names_at}
-use Rattle.formats.specs.Code.Slots.{newly, FilledTo, NamedFrom, Places, KeptFrom, Unused, SlotsUpTo, CalleeSlot}
+use Rattle.formats.specs.Code.Slots.{position, function_folded, call_folded, file_names, IsCall, is_among, names_from, names_at}
+use Rattle.formats.specs.Code.Slots.{is_last, FirstFrom, Places, KeptFrom, SlotsUpTo}
+use Rattle.formats.specs.declared.slots.Slots.{Slots}
 
 -- ---- sorted names
 
@@ -152,7 +155,7 @@ tally w (m ∷ ms) = w m + tally w ms
 
 -- the number of names before n
 abbrev pub before : List ℕ → List (List ℕ) → ℕ
-before n ms = tally (λ m. less_count (order_bytes m n)) ms
+before n ms = tally (λ m. from_bool (is_lt (order_bytes m n))) ms
 
 -- a name that is put in its place is added where it is new
 pub tally_insert : (w : List ℕ → ℕ) (n : List ℕ) (ms : List (List ℕ)) → Sorted ms → tally w (insert_name n ms) ≡ cond (is_among ms n) 0 (w n) + tally w ms
@@ -187,7 +190,7 @@ position_before [] n s h = refl
 position_before (m ∷ ms) n s h = go (same_bytes m n) refl h (position_before ms n s.1)
   where
     go : (b : Bool) → same_bytes m n ≡ b → b || is_among ms n ≡ true → (is_among ms n ≡ true → position ms n ≡ before n ms)
-        → cond b 0 (suc (position ms n)) ≡ less_count (order_bytes m n) + before n ms
+        → cond b 0 (suc (position ms n)) ≡ from_bool (is_lt (order_bytes m n)) + before n ms
     go true e q ih =
         let same : m ≡ n = same_sound m n e in
         let none : before n ms ≡ 0 = before_above n ms (rw same at s.0) in
@@ -224,25 +227,39 @@ position_most (m ∷ ms) n = go (same_bytes m n) (position_most ms n)
     go true h = omega arith
     go false h = omega arith
 
--- one more byte is written
-pub filled_next : (xs : List ℕ) (n : ℕ) (value : ℕ → ℕ) (v : ℕ) → FilledTo xs n value → n < length xs → v ≡ value n → FilledTo (set xs n v) (n + 1) value
-filled_next xs n value v filled l e = λ i k. go i k (dec_lt i n)
+-- one more element is written
+pub filled_next : {A : Type 0} (d : A) (xs : List A) (n : ℕ) (value : ℕ → A) (v : A) → ((i : ℕ) → i < n → get_or xs i d ≡ value i) → n < length xs → v ≡ value n
+    → (i : ℕ) → i < n + 1 → get_or (set xs n v) i d ≡ value i
+filled_next d xs n value v filled l e i k = go (dec_lt i n)
   where
-    go : (i : ℕ) → i < n + 1 → Dec (i < n) → get_or (set xs n v) i 0 ≡ value i
-    go i k (yes m) = get_or-set_other xs n i v 0 (λ q. omega arith) ∙ filled i m
-    go i k (no m) =
+    go : Dec (i < n) → get_or (set xs n v) i d ≡ value i
+    go (yes m) = get_or-set_other xs n i v d (λ q. omega arith) ∙ filled i m
+    go (no m) =
         let q : i ≡ n = omega arith in
-        rw q (get_or-set_same xs n v 0 l ∙ e)
+        rw q (get_or-set_same xs n v d l ∙ e)
 
 -- zeros, and past them
-getD-zeros : (n i : ℕ) → ◌≡◌ {A = ℕ} (get_or (replicate n 0) i 0) 0
-getD-zeros zero i = refl
-getD-zeros (suc n) zero = refl
-getD-zeros (suc n) (suc i) = getD-zeros n i
+pub zeros : (n i : ℕ) → ◌≡◌ {A = ℕ} (get_or (replicate n 0) i 0) 0
+zeros zero i = refl
+zeros (suc n) zero = refl
+zeros (suc n) (suc i) = zeros n i
 
 -- what is kept past a byte that is written
 pub kept_next : (before xs : List ℕ) (n v m : ℕ) → KeptFrom before xs m → n < m → KeptFrom before (set xs n v) m
 kept_next before xs n v m kept l j h = get_or-set_other xs n j v 0 (λ q. omega arith) ∙ kept j h
+
+-- what is counted at the last function of a name
+counted_once : (among t : Bool) → from_bool (not among && t) ≡ cond among 0 (from_bool t)
+counted_once true t = refl
+counted_once false t = refl
+
+pub at_most_one : (b : Bool) → from_bool b ≤ 1
+at_most_one true = omega arith
+at_most_one false = omega arith
+
+pub and_true : (b : Bool) → (b && true) ≡ b
+and_true true = refl
+and_true false = refl
 
 -- ---- the names of a file's functions
 
@@ -282,7 +299,8 @@ module _ (file : File) where
   listed_read f n h = rw (names_read f h) (listed_insert (function_folded file f) (names_at file (f + 1)) n)
 
   -- a sum over the names from f on: a name counts at the last function that has it
-  tally_read : (w : List ℕ → ℕ) (f : ℕ) → f < file.functions.count → tally w (names_at file f) ≡ newly file f (w (function_folded file f)) + tally w (names_at file (f + 1))
+  tally_read : (w : List ℕ → ℕ) (f : ℕ) → f < file.functions.count
+      → tally w (names_at file f) ≡ cond (is_among (names_at file (f + 1)) (function_folded file f)) 0 (w (function_folded file f)) + tally w (names_at file (f + 1))
   unfolding names_at
   tally_read w f h =
       rw (names_read f h) (tally_insert w (function_folded file f) (names_at file (f + 1)) (sorted_from (function_folded file) (file.functions.count - (f + 1)) (f + 1)))
@@ -323,16 +341,12 @@ module _ (file : File) where
 
     -- the function f has the name
     pub named_here : (f : ℕ) (spelled : List ℕ) (t : Bool) → SearchAt f → f < file.functions.count → spelled ≡ (function_name file f).spelled
-        → t ≡ same_bytes (folded spelled) name → t ≡ true → NamedFrom file from name f
+        → t ≡ same_bytes (folded spelled) name → t ≡ true → FirstFrom file from name f × (is_among (names_at file from) name ≡ true)
     named_here f spelled t s l e q h =
-        let same : same_bytes (function_folded file f) name ≡ true = cc in
-        record {
-          inside = s.0;
-          not_before = s.2;
-          first = s.3;
-          found = λ _. (same_sound _ _ same, s.1 ∙ rw (listed_read f name l, same));
-          missing = λ k. absurd (omega arith);
-        }
+        let same : same_bytes (function_folded file f) name ≡ true = cc in (
+          record { inside = l; not_before = s.2; first = s.3; same = same_sound _ _ same },
+          s.1 ∙ rw (listed_read f name l, same),
+        )
 
     -- it has another
     pub named_next : (f : ℕ) (spelled : List ℕ) (t : Bool) → SearchAt f → f < file.functions.count → spelled ≡ (function_name file f).spelled
@@ -349,94 +363,46 @@ module _ (file : File) where
             rw here other
 
     -- no function is left
-    pub named_end : (f : ℕ) → SearchAt f → file.functions.count ≤ f → NamedFrom file from name f
+    pub named_end : (f : ℕ) → SearchAt f → file.functions.count ≤ f → is_among (names_at file from) name ≡ false
     unfolding is_among
-    named_end f s l = record {
-      inside = s.0;
-      not_before = s.2;
-      first = s.3;
-      found = λ k. absurd (omega arith);
-      missing = λ _. s.1 ∙ rw (names_end f l);
-    }
-
-  -- ---- weights
-
-  -- a later function has the name of the function f
-  pub weight_later : (f r : ℕ) (spelled : List ℕ) → spelled ≡ (function_name file f).spelled → NamedFrom file (f + 1) (folded spelled) r
-      → r < file.functions.count → 0 ≡ newly file f 1
-  weight_later f r spelled e n l =
-      let known : is_among (names_at file (f + 1)) (function_folded file f) ≡ true = rw (← e) (n.found l).1 in
-      rw known
-
-  -- none has
-  pub weight_last : (f r : ℕ) (spelled : List ℕ) → spelled ≡ (function_name file f).spelled → NamedFrom file (f + 1) (folded spelled) r
-      → file.functions.count ≤ r → 1 ≡ newly file f 1
-  weight_last f r spelled e n l =
-      let known : is_among (names_at file (f + 1)) (function_folded file f) ≡ false = rw (← e) (n.missing l) in
-      rw known
-
-  -- a weight of 0 adds nothing, another adds all
-  pub newly_none : (f w n : ℕ) → w ≡ newly file f 1 → w ≡ 0 → 0 ≡ newly file f n
-  newly_none f w n e z = go (is_among (names_at file (f + 1)) (function_folded file f)) (sym z ∙ e)
-    where
-      go : (b : Bool) → ◌≡◌ {A = ℕ} 0 (cond b 0 1) → ◌≡◌ {A = ℕ} 0 (cond b 0 n)
-      go true q = refl
-      go false q = absurd (omega arith)
-
-  pub newly_all : (f w n : ℕ) → w ≡ newly file f 1 → (w ≡ 0 → ⊥) → n ≡ newly file f n
-  newly_all f w n e z = go (is_among (names_at file (f + 1)) (function_folded file f)) (λ q. z (e ∙ q))
-    where
-      go : (b : Bool) → (◌≡◌ {A = ℕ} (cond b 0 1) 0 → ⊥) → n ≡ cond b 0 n
-      go true q = absurd (q refl)
-      go false q = refl
+    named_end f s l = s.1 ∙ rw (names_end f l)
 
   -- ---- sums over the functions
 
-  module _ (w : List ℕ → ℕ) where
-    -- the functions before f are counted: the sum over the names from f on is left
+  module _ (test : List ℕ → Bool) where
+    -- the functions before f are counted: those among the names from f on are left
     abbrev pub CountAt : ℕ → ℕ → Type 0
-    CountAt found f = (f ≤ file.functions.count) × (found ≤ f) × (tally w (names_at file 0) ≡ found + tally w (names_at file f))
+    CountAt found f = (f ≤ file.functions.count) × (found ≤ f) × (tally (λ m. from_bool (test m)) (names_at file 0) ≡ found + tally (λ m. from_bool (test m)) (names_at file f))
 
     -- nothing is counted, one more function is, and all are
     pub count_start : CountAt 0 0
     count_start = (omega arith, omega arith, omega arith)
 
-    pub count_next : (found f one : ℕ) → CountAt found f → f < file.functions.count → one ≡ newly file f (w (function_folded file f)) → one ≤ 1
+    pub count_next : (found f one : ℕ) → CountAt found f → f < file.functions.count → one ≡ from_bool (is_last file f && test (function_folded file f))
         → CountAt (found + one) (f + 1)
-    count_next found f one c l e b = (omega arith, omega arith, c.2 ∙ omega (arith, tally_read w f l))
+    count_next found f one c l e =
+        let counts : one ≡ cond (is_among (names_at file (f + 1)) (function_folded file f)) 0 (from_bool (test (function_folded file f))) = e ∙ counted_once _ _ in
+        let few : one ≤ 1 = rw e (at_most_one _) in
+        (omega arith, omega arith, c.2 ∙ omega (arith, tally_read (λ m. from_bool (test m)) f l))
 
-    pub count_end : (found f : ℕ) → CountAt found f → file.functions.count ≤ f → found ≡ tally w (file_names file)
+    pub count_end : (found f : ℕ) → CountAt found f → file.functions.count ≤ f → found ≡ tally (λ m. from_bool (test m)) (file_names file)
     unfolding tally
     count_end found f c l = rw (← names_all, c.2, names_end f l) (omega arith)
 
   -- the number of names, and the place of a function's name, as they are counted
-  pub count_names : (found f : ℕ) → CountAt (λ m. 1) found f → file.functions.count ≤ f → found ≡ length (file_names file)
-  count_names found f c l = count_end (λ m. 1) found f c l ∙ sym (length_tally (file_names file))
+  pub count_names : (found f : ℕ) → CountAt (λ m. true) found f → file.functions.count ≤ f → found ≡ length (file_names file)
+  count_names found f c l = count_end (λ m. true) found f c l ∙ sym (length_tally (file_names file))
 
-  pub count_before : (g : ℕ) → g < file.functions.count → (found f : ℕ) → CountAt (λ m. less_count (order_bytes m (function_folded file g))) found f
+  pub count_before : (g : ℕ) → g < file.functions.count → (found f : ℕ) → CountAt (λ m. is_lt (order_bytes m (function_folded file g))) found f
       → file.functions.count ≤ f → found ≡ position (file_names file) (function_folded file g)
   count_before g k found f c l =
-      count_end (λ m. less_count (order_bytes m (function_folded file g))) found f c l
+      count_end (λ m. is_lt (order_bytes m (function_folded file g))) found f c l
       ∙ sym (position_before (file_names file) (function_folded file g) (names_sorted (tree_of file)) (function_listed g k))
 
   -- ---- slots
 
-  -- a call of a function
-  pub slot_found : (t f : ℕ) → file.functions.count ≤ 64 → NamedFrom file 0 (call_folded file t) f → f < file.functions.count → CalleeSlot file t f
-  slot_found t f b n l = record {
-    inside = omega arith;
-    holds = λ _ slots m s. s.functions f l ∙ ap (position (file_names file)) (n.found l).0;
-  }
-
-  -- a call of a name that no function has
-  pub slot_missing : (t f : ℕ) → NamedFrom file 0 (call_folded file t) f → file.functions.count ≤ f → CalleeSlot file t 576
-  slot_missing t f n l = record {
-    inside = omega arith;
-    holds = λ _ slots m s. s.count ∙ sym (position_missing (file_names file) (call_folded file t) (rw (← names_all) (n.missing l)));
-  }
-
   -- the name of a call lies inside the text
-  pub call_name_inside : (t start len : ℕ) → fields_allowed file ≡ true → t < file.terms.count → word_at file.terms.records (24 * t) ≡ 7
+  pub call_name_inside : (t start len : ℕ) → fields_allowed file ≡ true → t < file.terms.count → IsCall file t
       → start ≡ word_at file.terms.records (24 * t + 4) → len ≡ word_at file.terms.records (24 * t + 8) → start + len ≤ length file.text.records
   call_name_inside t start len h l kind a b =
       rw (a, b)
@@ -450,64 +416,66 @@ module _ (file : File) where
       → len ≡ word_at file.terms.records (24 * t + 8) → name ≡ take len (drop start text) → folded name ≡ call_folded file t
   call_name_read t start len text name e a b q = rw (q, e, a, b)
 
-  -- the number of names is written after the places of the functions' names
-  pub slots_start : (slots : List ℕ) (n : ℕ) → file.functions.count ≤ 64 → length slots ≡ 578 → Places file slots
-      → KeptFrom (replicate 578 0) slots file.functions.count → n ≡ length (file_names file) → SlotsUpTo file (set slots 576 n) 0
-  slots_start slots n b len p k e = record {
-    functions = λ f l. get_or-set_other slots 576 f n 0 (λ q. omega arith) ∙ p f l;
-    count = get_or-set_same slots 576 n 0 (omega arith) ∙ e;
-    marked = λ i l. absurd (omega arith);
-    calls = λ i l. absurd (omega arith);
-    others = λ j u. get_or-set_other slots 576 j n 0 u.no_count ∙ k j u.past ∙ getD-zeros 578 j;
-  }
+  -- the place of a name that a function has, and of one that none has
+  pub place_found : (places name : List ℕ) (f : ℕ) → Places file places → FirstFrom file 0 name f → get_or places f 0 ≡ position (file_names file) name
+  place_found places name f p n = p f n.inside ∙ ap (position (file_names file)) n.same
+
+  pub place_missing : (count : ℕ) (name : List ℕ) → count ≡ length (file_names file) → is_among (names_at file 0) name ≡ false → count ≡ position (file_names file) name
+  place_missing count name e n = e ∙ sym (position_missing (file_names file) name (rw (← names_all) n))
 
   -- the kind of a term record, as it is read
   pub kind_read : (t kind : ℕ) → kind ≡ word_at file.terms.records (24 * t + 0) → word_at file.terms.records (24 * t) ≡ kind
   kind_read t kind e = sym (e ∙ zero_offset file.terms.records (24 * t))
 
-  -- a slot that no call among some term records has, none of fewer has
-  unused_less : (t j : ℕ) → Unused file (t + 1) j → Unused file t j
-  unused_less t j u = record { past = u.past; no_call = λ i k call. u.no_call i (omega arith) call; no_count = u.no_count; no_mark = λ i k call. u.no_mark i (omega arith) call }
+  -- no call is written
+  pub slots_start : (slots : Slots) → Places file slots.functions → slots.names ≡ length (file_names file) → slots.has_call ≡ false
+      → KeptFrom (replicate 64 0) slots.functions file.functions.count → slots.calls ≡ replicate 512 0 → SlotsUpTo file slots 0
+  slots_start slots p e h k c = record {
+    functions = p;
+    count = e;
+    marked = λ i l. absurd (omega arith);
+    unmarked = λ none. h;
+    calls = λ i l. absurd (omega arith);
+    other_functions = λ f l. k f l ∙ zeros 64 f;
+    other_calls = λ t none. rw c (zeros 512 t);
+  }
 
   -- a term that is no call has no slot
-  pub slots_pass : (slots : List ℕ) (t kind : ℕ) → SlotsUpTo file slots t → kind ≡ word_at file.terms.records (24 * t + 0) → (kind ≡ 7 → ⊥)
+  pub slots_pass : (slots : Slots) (t kind : ℕ) → SlotsUpTo file slots t → kind ≡ word_at file.terms.records (24 * t + 0) → (kind ≡ 7 → ⊥)
       → SlotsUpTo file slots (t + 1)
   slots_pass slots t kind s e other = record {
     functions = s.functions;
     count = s.count;
     marked = λ i k call. s.marked i (before i k call (dec_lt i t)) call;
+    unmarked = λ none. s.unmarked (λ i k call. none i (omega arith) call);
     calls = λ i k call. s.calls i (before i k call (dec_lt i t)) call;
-    others = λ j u. s.others j (unused_less t j u);
+    other_functions = s.other_functions;
+    other_calls = λ i none. s.other_calls i (λ k call. none (omega arith) call);
   }
     where
-      before : (i : ℕ) → i < t + 1 → word_at file.terms.records (24 * i) ≡ 7 → Dec (i < t) → i < t
+      before : (i : ℕ) → i < t + 1 → IsCall file i → Dec (i < t) → i < t
       before i k call (yes m) = m
       before i k call (no m) =
           let q : i ≡ t = omega arith in
           absurd (other (sym (kind_read t kind e) ∙ rw q at call))
 
   -- one more call is written, and that there is one
-  pub slots_next : (slots : List ℕ) (t r : ℕ) → file.functions.count ≤ 64 → file.terms.count ≤ 512 → length slots ≡ 578 → SlotsUpTo file slots t
-      → t < file.terms.count → word_at file.terms.records (24 * t) ≡ 7 → CalleeSlot file t r
-      → SlotsUpTo file (set (set slots 577 1) (64 + t) (get_or (set slots 577 1) r 0)) (t + 1)
-  slots_next slots t r fb tb len s l call c = record {
-    functions = λ f k. get_or-set_other (set slots 577 1) (64 + t) f _ 0 (λ q. omega arith) ∙ get_or-set_other slots 577 f 1 0 (λ q. omega arith) ∙ s.functions f k;
-    count = get_or-set_other (set slots 577 1) (64 + t) 576 _ 0 (λ q. omega arith) ∙ get_or-set_other slots 577 576 1 0 (λ q. omega arith) ∙ s.count;
-    marked = λ i k kind. get_or-set_other (set slots 577 1) (64 + t) 577 _ 0 (λ q. omega arith) ∙ get_or-set_same slots 577 1 0 (omega arith);
+  pub slots_next : (slots : Slots) (t place : ℕ) → SlotsUpTo file slots t → t < length slots.calls → IsCall file t
+      → place ≡ position (file_names file) (call_folded file t) → SlotsUpTo file (record slots { calls = set slots.calls t place; has_call = true }) (t + 1)
+  slots_next slots t place s l call e = record {
+    functions = s.functions;
+    count = s.count;
+    marked = λ i k kind. refl;
+    unmarked = λ none. absurd (none t (omega arith) call);
     calls = λ i k kind. go i k kind (dec_lt i t);
-    others = λ j u.
-        get_or-set_other (set slots 577 1) (64 + t) j _ 0 (u.no_call t (omega arith) call)
-        ∙ get_or-set_other slots 577 j 1 0 (u.no_mark t (omega arith) call)
-        ∙ s.others j (unused_less t j u);
+    other_functions = s.other_functions;
+    other_calls = λ i none.
+        let other : i ≡ t → ⊥ = λ q. none (omega arith) (rw q call) in
+        get_or-set_other slots.calls t i place 0 other ∙ s.other_calls i (λ k. none (omega arith));
   }
     where
-      go : (i : ℕ) → i < t + 1 → word_at file.terms.records (24 * i) ≡ 7 → Dec (i < t)
-          → get_or (set (set slots 577 1) (64 + t) (get_or (set slots 577 1) r 0)) (64 + i) 0 ≡ position (file_names file) (call_folded file i)
-      go i k kind (yes m) =
-          get_or-set_other (set slots 577 1) (64 + t) (64 + i) _ 0 (λ q. omega arith) ∙ get_or-set_other slots 577 (64 + i) 1 0 (λ q. omega arith) ∙ s.calls i m kind
+      go : (i : ℕ) → i < t + 1 → IsCall file i → Dec (i < t) → get_or (set slots.calls t place) i 0 ≡ position (file_names file) (call_folded file i)
+      go i k kind (yes m) = get_or-set_other slots.calls t i place 0 (λ q. omega arith) ∙ s.calls i m kind
       go i k kind (no m) =
           let q : i ≡ t = omega arith in
-          rw q
-          (get_or-set_same (set slots 577 1) (64 + t) (get_or (set slots 577 1) r 0) 0 (omega (arith, length-set slots 577 1))
-          ∙ get_or-set_other slots 577 r 1 0 (λ e. omega (arith, c.inside))
-          ∙ c.holds (rw q at kind) slots t s)
+          rw q (get_or-set_same slots.calls t place 0 l ∙ e)

@@ -18,6 +18,7 @@ use Rattle.shapes.proofs.WordLaws.{filled_length, format_words_length, read_writ
 use Rattle.formats.specs.Infer.{Entry, find, all_at}
 use Rattle.formats.specs.Store.{entry_words, store_size, store_of}
 use Rattle.formats.specs.Code.Entries.{row_words, start_of, entry_names, format_in, put, EachEntry, Storable, StoreHolds}
+use Rattle.formats.specs.declared.slots.Slots.{Slots}
 use Rattle.formats.specs.Code.Slots.{position, call_folded, file_names, SlotsOf}
 use Rattle.formats.specs.Code.Rows.{format_at, Knows, stored_at}
 use Rattle.formats.proofs.EntryLaws.{names_length, names_put, names_all_at, put_encodable, all_at_encodable, format_encodable, find_some, find_none}
@@ -399,31 +400,31 @@ start_holds limit k names tail few e = record { entries = start_storable limit n
 -- ---- what the store says of calls
 
 -- whatever it holds, there are results that it says: those at the places of names
-pub results_known : (file : File) (slots store : List ℕ) (limit count : ℕ) → SlotsOf file slots
+pub results_known : (file : File) (slots : Slots) (store : List ℕ) (limit count : ℕ) → SlotsOf file slots
     → Knows file slots store limit count (λ name. stored_at store limit count (position (file_names file) name))
 results_known file slots store limit count places = record {
-  known = λ t inside call there. rw (← places.calls t inside call, lt-ltb (get_or slots (64 + t) 0) count there) refl;
-  unknown = λ t inside call past. rw (← places.calls t inside call, le-ltb (get_or slots (64 + t) 0) count past) refl;
+  known = λ t inside call there. rw (← places.calls t inside call, lt-ltb (get_or slots.calls t 0) count there) refl;
+  unknown = λ t inside call past. rw (← places.calls t inside call, le-ltb (get_or slots.calls t 0) count past) refl;
 }
 
 -- by the places of the names of calls, the store's results are those of the entries
-pub store_knows : (file : File) (slots : List ℕ) {limit : ℕ} {arguments results : List Entry} {tail store : List ℕ} (count : ℕ) → SlotsOf file slots
+pub store_knows : (file : File) (slots : Slots) {limit : ℕ} {arguments results : List Entry} {tail store : List ℕ} (count : ℕ) → SlotsOf file slots
     → StoreHolds limit (file_names file) arguments results tail store → count ≡ length (file_names file) → limit ≤ 127
     → Knows file slots store limit count (find results)
 store_knows file slots {limit} {arguments} {results} {tail} {store} count places h few small = record { known = known; unknown = unknown }
   where
     place : (t : ℕ) → t < file.terms.count → word_at file.terms.records (24 * t) ≡ 7
-        → position (entry_names results) (call_folded file t) ≡ get_or slots (64 + t) 0
+        → position (entry_names results) (call_folded file t) ≡ get_or slots.calls t 0
     place t inside kind = rw h.entries.result_names (sym (places.calls t inside kind))
 
-    known : (t : ℕ) → t < file.terms.count → word_at file.terms.records (24 * t) ≡ 7 → get_or slots (64 + t) 0 < count
-        → find results (call_folded file t) ≡ some (read_format (format_at limit store (2 * get_or slots (64 + t) 0 + 1)))
+    known : (t : ℕ) → t < file.terms.count → word_at file.terms.records (24 * t) ≡ 7 → get_or slots.calls t 0 < count
+        → find results (call_folded file t) ≡ some (read_format (format_at limit store (2 * get_or slots.calls t 0 + 1)))
     known t inside kind there =
         let at = place t inside kind in
         find_some results (call_folded file t) (rw at (omega (arith, results_length h.entries)))
-        ∙ rw (at, read_result_format h (get_or slots (64 + t) 0) (omega arith) small)
+        ∙ rw (at, read_result_format h (get_or slots.calls t 0) (omega arith) small)
 
-    unknown : (t : ℕ) → t < file.terms.count → word_at file.terms.records (24 * t) ≡ 7 → count ≤ get_or slots (64 + t) 0
+    unknown : (t : ℕ) → t < file.terms.count → word_at file.terms.records (24 * t) ≡ 7 → count ≤ get_or slots.calls t 0
         → find results (call_folded file t) ≡ none
     unknown t inside kind past =
         let at = place t inside kind in

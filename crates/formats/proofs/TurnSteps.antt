@@ -4,7 +4,8 @@ use mathlib.Core.Bool.{Bool, true, false, not}
 use mathlib.Core.List.{List}
 use mathlib.Core.Path.{◌≡◌, refl, sym, ap, ◌∙◌}
 use native.Mathlib.Omega.{arith}
-use lib.ListN.{length, get_or}
+use native.Mathlib.Nat.{add-sub_cancel_left}
+use lib.ListN.{length, take, drop, get_or}
 use Rattle.file.specs.Answer.{Answer, refused, given}
 use Rattle.file.specs.Sections.{file_of}
 use Rattle.law.specs.Tree.{Sentences, keep}
@@ -23,37 +24,44 @@ use Rattle.formats.specs.FormatOf.{Results}
 use Rattle.formats.specs.Code.Entries.{format_in}
 use Rattle.formats.specs.Code.Rows.{format_at}
 use Rattle.formats.specs.Code.Slots.{file_names, function_folded, position}
-use Rattle.formats.specs.Code.Turns.{RoundAsked, Holding, rows_joined, JoinedIs, format_number, turn_of, TurnIs}
-use Rattle.formats.specs.declared.infer.Turn.{Turn}
-use Rattle.formats.specs.declared.infer.Turn.TheVariants.{Over}
+use Rattle.formats.specs.Code.Turns.{RoundAsked, Holding, rows_joined, JoinedIs, format_number, too_wide, TurnIs}
+use Rattle.std.specs.Prelude.{Result, Ok, Err}
+use Rattle.formats.specs.declared.slots.Slots.{Slots}
+use Rattle.formats.specs.declared.infer.Side.{Side}
+use Rattle.formats.specs.declared.infer.Side.TheVariants as side
+use Rattle.formats.specs.declared.TooWide.{TooWide}
 use Rattle.formats.proofs.EntryLaws.{results_encodable_lem, patterns_encodable, format_encodable}
 use Rattle.formats.proofs.SlotLaws.{function_placed, names_few}
 use Rattle.formats.proofs.StateLaws.{part_inside, read_argument, read_result}
 
 -- what sentences join to has at most so many shapes
-pub rows_encodable : (limit : ℕ) (patterns : Bool) (t : Results) (ss : Sentences) (g : Format) → rows_joined limit patterns t never ss ≡ given g → Encodable limit g
-rows_encodable limit true t ss g h = patterns_encodable limit never ss g (omega arith) h
-rows_encodable limit false t ss g h = results_encodable_lem limit t never ss g (omega arith) h
+pub rows_encodable : (limit : ℕ) (patterns : Side) (t : Results) (ss : Sentences) (g : Format) → rows_joined limit patterns t never ss ≡ given g → Encodable limit g
+rows_encodable limit side.Pattern t ss g h = patterns_encodable limit never ss g (omega arith) h
+rows_encodable limit side.Result t ss g h = results_encodable_lem limit t never ss g (omega arith) h
 
-false_true : false ≡ true → ⊥
-false_true e = let z : ◌≡◌ {A = ℕ} 0 1 = cc in omega arith
+-- an answer that is given is not a refusal, and says what it gives
+pub made_not : {A : Type 0} (a : A) → ◌≡◌ {A = Result A TooWide} (Ok a) (Err too_wide) → ⊥
+made_not a e = let z : ◌≡◌ {A = ℕ} 0 1 = cc in omega arith
+
+pub made_is : {A : Type 0} {a b : A} → ◌≡◌ {A = Result A TooWide} (Ok a) (Ok b) → a ≡ b
+made_is e = cc
 
 -- a join that was not made
-pub turn_over : (limit : ℕ) (patterns : Bool) (t : Results) (ss : Sentences) (words : List ℕ) (ok : Bool) → ok ≡ false
-    → JoinedIs limit (rows_joined limit patterns t never ss) ok words → (k : ℕ) (before : List ℕ) → TurnIs limit (rows_joined limit patterns t never ss) k before before Over
-turn_over limit patterns t ss words ok e h k before = go (rows_joined limit patterns t never ss) h
+pub turn_over : (limit : ℕ) (patterns : Side) (t : Results) (ss : Sentences) (words : List ℕ) (made : Result (Unit {0}) TooWide) → made ≡ Err too_wide
+    → JoinedIs limit (rows_joined limit patterns t never ss) made words → (k : ℕ) (before : List ℕ) → TurnIs limit (rows_joined limit patterns t never ss) k before before (Err too_wide)
+turn_over limit patterns t ss words made e h k before = go (rows_joined limit patterns t never ss) h
   where
-    go : (joined : Answer Format) → JoinedIs limit joined ok words → TurnIs limit joined k before before Over
-    go (given g) made = absurd (false_true (sym e ∙ made.0))
-    go (refused n) made = (refl, refl)
+    go : (joined : Answer Format) → JoinedIs limit joined made words → TurnIs limit joined k before before (Err too_wide)
+    go (given g) is = absurd (made_not tt (sym is.0 ∙ e))
+    go (refused n) is = (refl, refl)
 
 -- a join that was made
-pub joined_made : (limit : ℕ) (joined : Answer Format) (words : List ℕ) (ok : Bool) → ok ≡ true → JoinedIs limit joined ok words
+pub joined_made : (limit : ℕ) (joined : Answer Format) (words : List ℕ) (made : Result (Unit {0}) TooWide) → made ≡ Ok tt → JoinedIs limit joined made words
     → (g : Format) × (joined ≡ given g) × (words ≡ format_words limit g)
-joined_made limit (given g) words ok e h = (g, refl, h.1)
-joined_made limit (refused n) words ok e h = absurd (false_true (sym h.0 ∙ e))
+joined_made limit (given g) words made e h = (g, refl, h.1)
+joined_made limit (refused n) words made e h = absurd (made_not tt (sym e ∙ h.0))
 
-module _ (limit : ℕ) (few : limit ≤ 64) (patterns : Bool) (t : Results) (ss : Sentences) (words : List ℕ) (ok : Bool) (made : ok ≡ true)
+module _ (limit : ℕ) (few : limit ≤ 64) (patterns : Side) (t : Results) (ss : Sentences) (words : List ℕ) (ok : Result (Unit {0}) TooWide) (made : ok ≡ Ok tt)
     (joined : JoinedIs limit (rows_joined limit patterns t never ss) ok words) where
   -- its words are a format's
   pub made_format : FormatIn limit words
@@ -62,21 +70,17 @@ module _ (limit : ℕ) (few : limit ≤ 64) (patterns : Bool) (t : Results) (ss 
       record { format = g; encodable = rows_encodable limit patterns t ss g is; same = same }
 
   -- and it is joined into the format number k
-  pub turn_renewed : (k : ℕ) (before after : List ℕ) (changed : Bool) (r : Turn)
+  pub turn_renewed : (k : ℕ) (before after : List ℕ) (changed : Bool)
       → after ≡ written before (k * (limit + 1)) (format_words limit (join_formats (read_format (format_at limit before k)) (read_format words)))
       → changed ≡ not (same_format (join_formats (read_format (format_at limit before k)) (read_format words)) (read_format (format_at limit before k)))
-      → r ≡ turn_of (not changed) → TurnIs limit (rows_joined limit patterns t never ss) k before after r
-  turn_renewed k before after changed r p q e =
+      → TurnIs limit (rows_joined limit patterns t never ss) k before after (Ok changed)
+  turn_renewed k before after changed p q =
       let (g, is, same) = joined_made limit (rows_joined limit patterns t never ss) words ok made joined in
       let reads : read_format words ≡ g = ap read_format same ∙ read_write limit g (rows_encodable limit patterns t ss g is) (omega arith) in
-      rw is (rw reads at p, e ∙ ap turn_of (twice (same_format (join_formats (read_format (format_at limit before k)) g) (read_format (format_at limit before k))) changed (rw reads at q)))
-    where
-      twice : (b c : Bool) → c ≡ not b → not c ≡ b
-      twice true c h = rw h
-      twice false c h = rw h
+      rw is (rw reads at p, ap (λ b. Ok b) (rw reads at q))
 
 -- the sentences of a function, by the index
-module _ {bytes index slots : List ℕ} {limit count : ℕ} (h : RoundAsked bytes index slots limit count) (f : ℕ) (inside : f < (file_of bytes).functions.count) where
+module _ {bytes index : List ℕ} {slots : Slots} {limit count : ℕ} (h : RoundAsked bytes index slots limit count) (f : ℕ) (inside : f < (file_of bytes).functions.count) where
   pub turn_few : f + 1 ≤ 64
   turn_few = omega (arith, indexed.functions_limit bytes index h.indexed)
 
@@ -102,25 +106,30 @@ module _ {bytes index slots : List ℕ} {limit count : ℕ} (h : RoundAsked byte
   turn_place = function_placed (file_of bytes) f inside
 
   -- the number of its format, by its slot
-  pub turn_number : (patterns : Bool) (place k : ℕ) → place ≡ get_or slots f 0 → k ≡ format_number patterns place
+  pub turn_number : (patterns : Side) (place k : ℕ) → place ≡ get_or slots.functions f 0 → k ≡ format_number patterns place
       → k ≡ format_number patterns (position (file_names (file_of bytes)) (function_folded (file_of bytes) f))
   turn_number patterns place k p q = q ∙ rw (p ∙ h.places.functions f inside)
 
   pub turn_place_few : position (file_names (file_of bytes)) (function_folded (file_of bytes) f) < 64
   turn_place_few = omega (arith, turn_place, names_few (file_of bytes), indexed.functions_limit bytes index h.indexed)
 
-pub number_less : (patterns : Bool) (p : ℕ) → p < 64 → format_number patterns p < 128
-number_less true p less = omega arith
-number_less false p less = omega arith
+-- the format number k of a store, as the code lends it
+pub lent_is : (limit : ℕ) (store : List ℕ) (number k width : ℕ) → number ≡ k → width ≡ limit + 1
+    → take (number * width + width - number * width) (drop (number * width) store) ≡ format_at limit store k
+lent_is limit store number k width e w = rw (e, w, add-sub_cancel_left (k * (limit + 1)) (limit + 1))
+
+pub number_less : (patterns : Side) (p : ℕ) → p < 64 → format_number patterns p < 128
+number_less side.Pattern p less = omega arith
+number_less side.Result p less = omega arith
 
 -- a name's format in the store
 module _ {limit : ℕ} {names : List (List ℕ)} {store : List ℕ} (h : Holding limit names store) where
-  pub number_within : (patterns : Bool) (p : ℕ) → p < length names → format_number patterns p * (limit + 1) + (limit + 1) ≤ length store
-  number_within true p less = part_inside h.holds (2 * p) (omega arith)
-  number_within false p less = part_inside h.holds (2 * p + 1) (omega arith)
+  pub number_within : (patterns : Side) (p : ℕ) → p < length names → format_number patterns p * (limit + 1) + (limit + 1) ≤ length store
+  number_within side.Pattern p less = part_inside h.holds (2 * p) (omega arith)
+  number_within side.Result p less = part_inside h.holds (2 * p + 1) (omega arith)
 
-  pub number_format : (patterns : Bool) (p : ℕ) → p < length names → FormatIn limit (format_at limit store (format_number patterns p))
-  number_format true p less =
+  pub number_format : (patterns : Side) (p : ℕ) → p < length names → FormatIn limit (format_at limit store (format_number patterns p))
+  number_format side.Pattern p less =
       record {
         format =
             format_in h.arguments p;
@@ -128,7 +137,7 @@ module _ {limit : ℕ} {names : List (List ℕ)} {store : List ℕ} (h : Holding
             format_encodable limit h.arguments p h.holds.entries.arguments_encodable;
         same = read_argument h.holds p less;
       }
-  number_format false p less =
+  number_format side.Result p less =
       record {
         format =
             format_in h.results p;

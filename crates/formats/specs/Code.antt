@@ -4,3 +4,4 @@ pub mod Entries
 pub mod Slots
 pub mod Rows
 pub mod Turns
+pub mod Held

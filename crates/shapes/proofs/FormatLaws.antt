@@ -7,7 +7,7 @@ use mathlib.Core.Path.{◌≡◌, refl, sym, ap, ◌∙◌}
 use native.Mathlib.Omega.{arith}
 use native.Mathlib.Decide.{dec_lt}
 use native.Mathlib.Nat.{zero-add}
-use lib.ListN.{length, take, drop, set, replicate, length-replicate}
+use lib.ListN.{length, take, drop, get_or, set, replicate, length-replicate}
 use lib.Seq.{take_all}
 use lib.Dec.{leb}
 use Rattle.shapes.specs.Format.{Shapes, Format, never, of, size, is_open}
@@ -43,10 +43,8 @@ unfolding read_format
 read_never s w words e h = rw (e, h)
 
 -- a header that does not, with as many words after it as it says and as there are
-pub read_row : (s : List ℕ) (w : ℕ) (words : List ℕ) (n : ℕ) → s ≡ w ∷ words → leb 512 w ≡ false → n ≡ min (w % 256) (length words)
-    → read_format s ≡ of (shapes_in (leb 256 w) (take n words))
-unfolding read_format
-read_row s w words n e h r = rw (e, h, r, take_within (w % 256) words)
+pub row_words : (s : List ℕ) (w : ℕ) (words : List ℕ) (n : ℕ) → s ≡ w ∷ words → n ≡ min (w % 256) (length words) → take n words ≡ take (get_or s 0 0 % 256) (drop 1 s)
+row_words s w words n e r = rw (e, r) (take_within (w % 256) words)
   where
     take_within : (k : ℕ) (words : List ℕ) → take (min k (length words)) words ≡ take k words
     take_within k words = go (dec_lt k (length words))
@@ -57,11 +55,24 @@ read_row s w words n e h r = rw (e, h, r, take_within (w % 256) words)
             rw e
         go (no l) = take_all (min k (length words)) words (omega arith) ∙ sym (take_all k words (omega arith))
 
+pub read_row : (s : List ℕ) (w : ℕ) (words : List ℕ) (n : ℕ) → s ≡ w ∷ words → leb 512 w ≡ false → n ≡ min (w % 256) (length words)
+    → read_format s ≡ of (shapes_in (leb 256 w) (take n words))
+unfolding read_format
+read_row s w words n e h r = rw (row_words s w words n e r, e, h)
+
 -- no words are the empty row
 pub read_none : (s : List ℕ) → length s ≡ 0 → read_format s ≡ of (shapes_in false s)
 unfolding read_format
 read_none [] e = refl
 read_none (w ∷ s) e = absurd (omega arith)
+
+pub none_words : (s : List ℕ) → length s ≡ 0 → s ≡ take (get_or s 0 0 % 256) (drop 1 s)
+none_words [] e = refl
+none_words (w ∷ s) e = absurd (omega arith)
+
+pub none_closed : (s : List ℕ) → length s ≡ 0 → false ≡ leb 256 (get_or s 0 0)
+none_closed [] e = refl
+none_closed (w ∷ s) e = absurd (omega arith)
 
 -- ---- disjointness
 

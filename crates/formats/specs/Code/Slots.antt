@@ -1,17 +1,12 @@
--- Where a law's names stand in the store: 578 bytes, filled once, so that no call's name is looked up again in each round.
---   f          the place of the name of function f among the law's sorted folded names
---   64 + t     the place of the name of the call at term record t; the number of names where no function has it
---   576        the number of names
---   577        1 where a term record is a call
--- Every other slot is 0.
-use Rattle.std.specs.Prelude.{ℕ, zero, suc, ◌+◌, ◌*◌, ◌-◌, ◌≤◌, ◌<◌, List, [], ◌∷◌, Bool, true, false, cond, ◌||◌, ◌≡◌, length, take, drop, get_or}
-use Rattle.names.specs.Name.{folded, same_bytes}
-use Rattle.std.specs.declared.cmp.Ordering.{Ordering}
-use Rattle.std.specs.declared.cmp.Ordering.TheVariants.{Less, Equal, Greater}
+-- Where a law's names stand in the store, so that no call's name is looked up again in each round.
+use Rattle.std.specs.Prelude.{ℕ, zero, suc, ◌+◌, ◌*◌, ◌-◌, ◌≤◌, ◌<◌, List, [], ◌∷◌, Bool, true, false, not, cond, ◌||◌, ◌&&◌, ◌≡◌, length, take, drop, get_or, Option, MatchOption}
+use Rattle.std.specs.Ordering.{is_lt}
+use Rattle.names.specs.Name.{folded, same_bytes, order_bytes}
 use Rattle.file.specs.Word.{word_at}
 use Rattle.file.specs.Sections.{File}
 use Rattle.law.specs.Reading.{function_name, tree_of}
 use Rattle.formats.specs.Infer.{insert_name, names_of}
+use Rattle.formats.specs.declared.slots.Slots.{Slots}
 
 -- where a name stands among names; their number where it is not one of them
 unfoldable pub position : List (List ℕ) → List ℕ → ℕ
@@ -30,19 +25,19 @@ module _ (file : File) where
   abbrev pub file_names : List (List ℕ)
   file_names = names_of (tree_of file)
 
-  -- a slot of no function, of no call among the first n term records, and not that of the number of names; that of whether there is a call only where there is none
-  pub record Unused (n j : ℕ) : Type 0 where
-    pub past : file.functions.count ≤ j
-    pub no_call : (t : ℕ) → t < n → word_at file.terms.records (24 * t) ≡ 7 → j ≡ 64 + t → ⊥
-    pub no_count : j ≡ 576 → ⊥
-    pub no_mark : (t : ℕ) → t < n → word_at file.terms.records (24 * t) ≡ 7 → j ≡ 577 → ⊥
+  -- a term record is a call
+  abbrev pub IsCall : ℕ → Type 0
+  IsCall t = word_at file.terms.records (24 * t) ≡ 7
 
-  pub record SlotsOf (slots : List ℕ) : Type 0 where
-    pub functions : (f : ℕ) → f < file.functions.count → get_or slots f 0 ≡ position file_names (function_folded f)
-    pub calls : (t : ℕ) → t < file.terms.count → word_at file.terms.records (24 * t) ≡ 7 → get_or slots (64 + t) 0 ≡ position file_names (call_folded t)
-    pub count : get_or slots 576 0 ≡ length file_names
-    pub marked : (t : ℕ) → t < file.terms.count → word_at file.terms.records (24 * t) ≡ 7 → get_or slots 577 0 ≡ 1
-    pub others : (j : ℕ) → Unused file.terms.count j → get_or slots j 0 ≡ 0
+  -- the slots of a law: those of no function and of no call are 0
+  pub record SlotsOf (slots : Slots) : Type 0 where
+    pub functions : (f : ℕ) → f < file.functions.count → get_or slots.functions f 0 ≡ position file_names (function_folded f)
+    pub calls : (t : ℕ) → t < file.terms.count → IsCall t → get_or slots.calls t 0 ≡ position file_names (call_folded t)
+    pub count : slots.names ≡ length file_names
+    pub marked : (t : ℕ) → t < file.terms.count → IsCall t → slots.has_call ≡ true
+    pub unmarked : ((t : ℕ) → t < file.terms.count → IsCall t → ⊥) → slots.has_call ≡ false
+    pub other_functions : (f : ℕ) → file.functions.count ≤ f → get_or slots.functions f 0 ≡ 0
+    pub other_calls : (t : ℕ) → (t < file.terms.count → IsCall t → ⊥) → get_or slots.calls t 0 ≡ 0
 
 -- ---- what the functions that fill the slots promise
 
@@ -56,54 +51,48 @@ unfoldable pub names_from : (ℕ → List ℕ) → ℕ → ℕ → List (List �
 names_from name zero f = []
 names_from name (suc left) f = insert_name (name f) (names_from name left (suc f))
 
--- the first n bytes are the values of a function
-abbrev pub FilledTo : List ℕ → ℕ → (ℕ → ℕ) → Type 0
-FilledTo xs n value = (i : ℕ) → i < n → get_or xs i 0 ≡ value i
-
 -- from n on the bytes are as they were
 abbrev pub KeptFrom : List ℕ → List ℕ → ℕ → Type 0
 KeptFrom before after n = (j : ℕ) → n ≤ j → get_or after j 0 ≡ get_or before j 0
-
--- 1 for less, else 0
-abbrev pub less_count : Ordering → ℕ
-less_count Less = 1
-less_count Equal = 0
-less_count Greater = 0
 
 module _ (file : File) where
   -- the names of the functions from f on
   unfoldable pub names_at : ℕ → List (List ℕ)
   names_at f = names_from (function_folded file) (file.functions.count - f) f
 
-  -- what a function adds to a count of distinct names: nothing where a later function has its name
-  abbrev pub newly : ℕ → ℕ → ℕ
-  newly f n = cond (is_among (names_at (f + 1)) (function_folded file f)) 0 n
+  -- has no later function the name of the function f?
+  abbrev pub is_last : ℕ → Bool
+  is_last f = not (is_among (names_at (f + 1)) (function_folded file f))
 
-  -- r is the first function from `from` on that has a name; the number of functions where none has it
-  pub record NamedFrom (from : ℕ) (name : List ℕ) (r : ℕ) : Type 0 where
-    pub inside : r ≤ file.functions.count
+  -- is the function g the last of its name, and does that come before a name?
+  abbrev pub counted : List ℕ → ℕ → Bool
+  counted name g = is_last g && is_lt (order_bytes (function_folded file g) name)
+
+  -- the first function from `from` on that has a name, or none
+  pub record FirstFrom (from : ℕ) (name : List ℕ) (r : ℕ) : Type 0 where
+    pub inside : r < file.functions.count
     pub not_before : from ≤ r
     pub first : (f : ℕ) → from ≤ f → f < r → same_bytes (function_folded file f) name ≡ false
-    pub found : r < file.functions.count → (function_folded file r ≡ name) × (is_among (names_at from) name ≡ true)
-    pub missing : file.functions.count ≤ r → is_among (names_at from) name ≡ false
+    pub same : function_folded file r ≡ name
 
-  -- 1 for each function that is the last of its name, else 0
-  abbrev pub Weights : List ℕ → Type 0
-  Weights weights = FilledTo weights file.functions.count (λ f. newly f 1)
+  abbrev pub NamedFrom : ℕ → List ℕ → Option ℕ → Type 0
+  NamedFrom from name r =
+      MatchOption r (is_among (names_at from) name ≡ false) (λ f. FirstFrom from name f × (is_among (names_at from) name ≡ true))
+
+  -- which functions are the last of their name
+  abbrev pub LastAre : List Bool → Type 0
+  LastAre last = (f : ℕ) → f < file.functions.count → get_or last f false ≡ is_last f
 
   -- the place of the name of each function
   abbrev pub Places : List ℕ → Type 0
-  Places slots = FilledTo slots file.functions.count (λ f. position (file_names file) (function_folded file f))
+  Places slots = (f : ℕ) → f < file.functions.count → get_or slots f 0 ≡ position (file_names file) (function_folded file f)
 
   -- the slots with the calls of the first n term records
-  pub record SlotsUpTo (slots : List ℕ) (n : ℕ) : Type 0 where
-    pub functions : Places slots
-    pub count : get_or slots 576 0 ≡ length (file_names file)
-    pub marked : (t : ℕ) → t < n → word_at file.terms.records (24 * t) ≡ 7 → get_or slots 577 0 ≡ 1
-    pub calls : (t : ℕ) → t < n → word_at file.terms.records (24 * t) ≡ 7 → get_or slots (64 + t) 0 ≡ position (file_names file) (call_folded file t)
-    pub others : (j : ℕ) → Unused file n j → get_or slots j 0 ≡ 0
-
-  -- the slot r has the place of the name of the call at the term record t
-  pub record CalleeSlot (t r : ℕ) : Type 0 where
-    pub inside : r < 577
-    pub holds : word_at file.terms.records (24 * t) ≡ 7 → (slots : List ℕ) (n : ℕ) → SlotsUpTo slots n → get_or slots r 0 ≡ position (file_names file) (call_folded file t)
+  pub record SlotsUpTo (slots : Slots) (n : ℕ) : Type 0 where
+    pub functions : Places slots.functions
+    pub count : slots.names ≡ length (file_names file)
+    pub marked : (t : ℕ) → t < n → IsCall file t → slots.has_call ≡ true
+    pub unmarked : ((t : ℕ) → t < n → IsCall file t → ⊥) → slots.has_call ≡ false
+    pub calls : (t : ℕ) → t < n → IsCall file t → get_or slots.calls t 0 ≡ position (file_names file) (call_folded file t)
+    pub other_functions : (f : ℕ) → file.functions.count ≤ f → get_or slots.functions f 0 ≡ 0
+    pub other_calls : (t : ℕ) → (t < n → IsCall file t → ⊥) → get_or slots.calls t 0 ≡ 0

@@ -1,5 +1,5 @@
 -- What the functions that infer formats promise, between a row of shapes and the whole call.
-use Rattle.std.specs.Prelude.{ℕ, zero, suc, ◌+◌, ◌*◌, ◌≤◌, ◌<◌, Bool, true, false, not, cond, List, [], ◌∷◌, ◌++◌, ◌≡◌, length, drop, replicate}
+use Rattle.std.specs.Prelude.{ℕ, zero, suc, ◌+◌, ◌*◌, ◌≤◌, ◌<◌, Bool, true, false, not, cond, List, [], ◌∷◌, ◌++◌, ◌≡◌, length, drop, replicate, Result, Ok, Err}
 use Rattle.names.specs.Name.{folded}
 use Rattle.file.specs.Answer.{Answer, refused, given}
 use Rattle.file.specs.Sections.{File, file_of}
@@ -18,13 +18,14 @@ use Rattle.formats.specs.Store.{store_size, store_words}
 use Rattle.formats.specs.Code.Entries.{StoreHolds}
 use Rattle.formats.specs.Code.Slots.{SlotsOf, file_names}
 use Rattle.formats.specs.Code.Rows.{format_at}
-use Rattle.formats.specs.declared.infer.Turn.{Turn}
-use Rattle.formats.specs.declared.infer.Turn.TheVariants.{Over, Changed, Same}
-use Rattle.formats.specs.declared.infer.Inference.{Inference}
-use Rattle.formats.specs.declared.infer.Inference.TheVariants.{TooWide, Ran}
+use Rattle.formats.specs.declared.slots.Slots.{Slots}
+use Rattle.formats.specs.declared.infer.Side.{Side}
+use Rattle.formats.specs.declared.infer.Side.TheVariants.{Pattern, Result as Results_of}
+use Rattle.formats.specs.declared.TooWide.{TooWide}
+use Rattle.formats.specs.declared.Inferred as code
 
 -- a law that refusals 1 to 7 let pass, its index and the places of its names; and a limit on shapes
-pub record RoundAsked (bytes index slots : List ℕ) (limit count : ℕ) : Type 0 where
+pub record RoundAsked (bytes index : List ℕ) (slots : Slots) (limit count : ℕ) : Type 0 where
   pub indexed : Indexed bytes index
   pub readable : Readable (file_of bytes)
   pub places : SlotsOf (file_of bytes) slots
@@ -49,43 +50,42 @@ arguments_in limit names store = entries_from limit store 0 names
 abbrev pub results_in : ℕ → List (List ℕ) → List ℕ → List Entry
 results_in limit names store = entries_from limit store 1 names
 
--- the words of a format that the store has words for; or false, and zeros
-pub record FormatMade (limit : ℕ) (f : Shapes) (ok : Bool) (words : List ℕ) : Type 0 where
-  pub fits : Encodable limit (of f) → (ok ≡ true) × (words ≡ format_words limit (of f))
-  pub over : limit < size f → (ok ≡ false) × (words ≡ replicate (limit + 1) 0)
+-- what is over the limit on shapes
+abbrev pub too_wide : TooWide
+too_wide = record {}
+
+-- the words of a format that the store has words for; or zeros
+pub record FormatMade (limit : ℕ) (f : Shapes) (made : Result (Unit {0}) TooWide) (words : List ℕ) : Type 0 where
+  pub fits : Encodable limit (of f) → (made ≡ Ok tt) × (words ≡ format_words limit (of f))
+  pub over : limit < size f → (made ≡ Err too_wide) × (words ≡ replicate (limit + 1) 0)
   pub kept : length words ≡ limit + 1
 
 -- the row of a sentence's pattern or result
-abbrev pub sentence_shapes : File → Bool → Results → ℕ → Shapes
-sentence_shapes file true t s = pattern_shapes (run_of file (own file) (pattern_at file s) (pattern_part file s))
-sentence_shapes file false t s = result_shapes t (run_of file (own file) (result_at file s) (result_part file s))
+abbrev pub sentence_shapes : File → Side → Results → ℕ → Shapes
+sentence_shapes file Pattern t s = pattern_shapes (run_of file (own file) (pattern_at file s) (pattern_part file s))
+sentence_shapes file Results_of t s = result_shapes t (run_of file (own file) (result_at file s) (result_part file s))
 
 -- the join of sentences' patterns or results, with what was joined before
-abbrev pub rows_joined : ℕ → Bool → Results → Format → Sentences → Answer Format
-rows_joined limit true t f ss = join_patterns limit f ss
-rows_joined limit false t f ss = join_results limit t f ss
+abbrev pub rows_joined : ℕ → Side → Results → Format → Sentences → Answer Format
+rows_joined limit Pattern t f ss = join_patterns limit f ss
+rows_joined limit Results_of t f ss = join_results limit t f ss
 
--- a join that was given, every word of it, or false where it was refused
-abbrev pub JoinedIs : ℕ → Answer Format → Bool → List ℕ → Type 0
-JoinedIs limit (given f) ok words = (ok ≡ true) × (words ≡ format_words limit f)
-JoinedIs limit (refused n) ok words = (ok ≡ false) × (length words ≡ limit + 1)
+-- a join that was given, every word of it, or that was refused
+abbrev pub JoinedIs : ℕ → Answer Format → Result (Unit {0}) TooWide → List ℕ → Type 0
+JoinedIs limit (given f) made words = (made ≡ Ok tt) × (words ≡ format_words limit f)
+JoinedIs limit (refused n) made words = (made ≡ Err too_wide) × (length words ≡ limit + 1)
 
 -- the number of a name's argument or result format in the store
-abbrev pub format_number : Bool → ℕ → ℕ
-format_number true place = 2 * place
-format_number false place = 2 * place + 1
-
--- a turn that leaves a format as it was, or changes it
-abbrev pub turn_of : Bool → Turn
-turn_of true = Same
-turn_of false = Changed
+abbrev pub format_number : Side → ℕ → ℕ
+format_number Pattern place = 2 * place
+format_number Results_of place = 2 * place + 1
 
 -- a function's turn: what was joined goes into the format number k of the store, or nothing changes where it was refused
-abbrev pub TurnIs : ℕ → Answer Format → ℕ → List ℕ → List ℕ → Turn → Type 0
+abbrev pub TurnIs : ℕ → Answer Format → ℕ → List ℕ → List ℕ → Result Bool TooWide → Type 0
 TurnIs limit (given g) k before after r =
     (after ≡ written before (k * (limit + 1)) (format_words limit (join_formats (read_format (format_at limit before k)) g)))
-    × (r ≡ turn_of (same_format (join_formats (read_format (format_at limit before k)) g) (read_format (format_at limit before k))))
-TurnIs limit (refused n) k before after r = (after ≡ before) × (r ≡ Over)
+    × (r ≡ Ok (not (same_format (join_formats (read_format (format_at limit before k)) g) (read_format (format_at limit before k)))))
+TurnIs limit (refused n) k before after r = (after ≡ before) × (r ≡ Err too_wide)
 
 -- where a refusal stops inference: the entries that the turns before it leave
 abbrev pub or_stop : Answer Format → List Entry → (Format → List Entry) → List Entry
@@ -114,26 +114,26 @@ rounds_stop limit zero law es = es
 rounds_stop limit (suc left) law es = or_last (round limit law es false) (round_stop limit law es) (λ next. rounds_stop limit left law next)
 
 -- the argument formats after all functions' turns; where a pattern is over the limit, those where it stops
-abbrev pub ArgumentsIs : ℕ → List (List ℕ) → Answer (List Entry) → List Entry → List Entry → List ℕ → List ℕ → Bool → Type 0
-ArgumentsIs limit names (given next) stop results tail after ok = StoreHolds limit names next results tail after × (ok ≡ true)
-ArgumentsIs limit names (refused n) stop results tail after ok = StoreHolds limit names stop results tail after × (ok ≡ false)
+abbrev pub ArgumentsIs : ℕ → List (List ℕ) → Answer (List Entry) → List Entry → List Entry → List ℕ → List ℕ → Result (Unit {0}) TooWide → Type 0
+ArgumentsIs limit names (given next) stop results tail after ok = StoreHolds limit names next results tail after × (ok ≡ Ok tt)
+ArgumentsIs limit names (refused n) stop results tail after ok = StoreHolds limit names stop results tail after × (ok ≡ Err too_wide)
 
 -- the result formats after a round, and whether one changed; where a result is over the limit, those where it stops
-abbrev pub RoundIs : ℕ → List (List ℕ) → Answer (List Entry × Bool) → List Entry → List Entry → List ℕ → List ℕ → Turn → Type 0
-RoundIs limit names (given next) stop arguments tail after r = StoreHolds limit names arguments next.0 tail after × (r ≡ turn_of (not next.1))
-RoundIs limit names (refused n) stop arguments tail after r = StoreHolds limit names arguments stop tail after × (r ≡ Over)
+abbrev pub RoundIs : ℕ → List (List ℕ) → Answer (List Entry × Bool) → List Entry → List Entry → List ℕ → List ℕ → Result Bool TooWide → Type 0
+RoundIs limit names (given next) stop arguments tail after r = StoreHolds limit names arguments next.0 tail after × (r ≡ Ok next.1)
+RoundIs limit names (refused n) stop arguments tail after r = StoreHolds limit names arguments stop tail after × (r ≡ Err too_wide)
 
 -- the result formats after the rounds, their number and whether the last was quiet; where a result is over the limit, those where it stops
-abbrev pub RoundsIs : ℕ → List (List ℕ) → Answer Rounds → List Entry → List Entry → List ℕ → List ℕ → Inference → Type 0
-RoundsIs limit names (given r) stop arguments tail after i = StoreHolds limit names arguments r.results tail after × (i ≡ Ran r.rounds r.settled)
-RoundsIs limit names (refused n) stop arguments tail after i = StoreHolds limit names arguments stop tail after × (i ≡ TooWide)
+abbrev pub RoundsIs : ℕ → List (List ℕ) → Answer Rounds → List Entry → List Entry → List ℕ → List ℕ → Result code.Inferred TooWide → Type 0
+RoundsIs limit names (given r) stop arguments tail after i = StoreHolds limit names arguments r.results tail after × (i ≡ Ok (record { rounds = r.rounds; settled = r.settled }))
+RoundsIs limit names (refused n) stop arguments tail after i = StoreHolds limit names arguments stop tail after × (i ≡ Err too_wide)
 
 -- the formats after the arguments and the rounds, in a store that held never
-abbrev pub StartedIs : ℕ → List (List ℕ) → Answer Inferred → List ℕ → List ℕ → Inference → Type 0
-StartedIs limit names (given i) tail after r = StoreHolds limit names i.formats.arguments i.formats.results tail after × (r ≡ Ran i.rounds i.settled)
-StartedIs limit names (refused n) tail after r = (found results : List Entry) × StoreHolds limit names found results tail after × (r ≡ TooWide)
+abbrev pub StartedIs : ℕ → List (List ℕ) → Answer Inferred → List ℕ → List ℕ → Result code.Inferred TooWide → Type 0
+StartedIs limit names (given i) tail after r = StoreHolds limit names i.formats.arguments i.formats.results tail after × (r ≡ Ok (record { rounds = i.rounds; settled = i.settled }))
+StartedIs limit names (refused n) tail after r = (found results : List Entry) × StoreHolds limit names found results tail after × (r ≡ Err too_wide)
 
 -- the same in any store that is long enough: zeros where it was refused, and words past the store are kept
-abbrev pub InferIs : ℕ → Answer Inferred → List ℕ → List ℕ → Inference → Type 0
-InferIs limit (given i) before after r = (after ≡ store_words limit i ++ drop (store_size limit) before) × (r ≡ Ran i.rounds i.settled)
-InferIs limit (refused n) before after r = (after ≡ replicate (store_size limit) 0 ++ drop (store_size limit) before) × (r ≡ TooWide)
+abbrev pub InferIs : ℕ → Answer Inferred → List ℕ → List ℕ → Result code.Inferred TooWide → Type 0
+InferIs limit (given i) before after r = (after ≡ store_words limit i ++ drop (store_size limit) before) × (r ≡ Ok (record { rounds = i.rounds; settled = i.settled }))
+InferIs limit (refused n) before after r = (after ≡ replicate (store_size limit) 0 ++ drop (store_size limit) before) × (r ≡ Err too_wide)

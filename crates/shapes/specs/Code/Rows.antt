@@ -1,5 +1,5 @@
 -- The code's rows of shapes, and a row's first shape.
-use Rattle.std.specs.Prelude.{ℕ, ◌+◌, ◌-◌, ◌≤◌, ◌<◌, Bool, not, ◌≡◌, List, length}
+use Rattle.std.specs.Prelude.{ℕ, ◌+◌, ◌-◌, ◌%◌, ◌≤◌, ◌<◌, Bool, not, ◌≡◌, List, length, take, drop, get_or, leb}
 use Rattle.shapes.specs.Leaf.{unknown, holds_brackets, join_leaves, leaves_apart}
 use Rattle.shapes.specs.Format.{Shapes, item, group, of, size, is_open}
 use Rattle.shapes.specs.Join.{join_rows}
@@ -30,6 +30,8 @@ pub record IsRowOf (format : List ℕ) (row : Row) : Type 0 where
   pub same : read_format format ≡ of (row_meant row)
   pub few : length row.words.now < 256
   pub within : length row.words.now ≤ length format - 1
+  pub words : row.words.now ≡ take (get_or format 0 0 % 256) (drop 1 format)
+  pub opens : row.is_open ≡ leb 256 (get_or format 0 0)
 
 -- a row is its first shape in front of the rest
 pub record IsFirstAndRest (whole : Row) (first : Shape) (rest : Row) : Type 0 where
