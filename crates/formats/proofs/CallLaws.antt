@@ -7,7 +7,7 @@ use mathlib.Core.Path.{◌≡◌, refl, sym, ap, ◌∙◌}
 use native.Mathlib.Omega.{arith}
 use borrow.Author.Tests.{lt-ltb, le-ltb}
 use lib.Dec.{ltb}
-use lib.ListN.{length, drop, get_or, replicate}
+use lib.ListN.{length, drop, replicate}
 use Rattle.file.specs.Answer.{Answer, refused, given, ◌>>=◌, ◌>>◌, refuse_if}
 use Rattle.law.specs.Tree.{Law, Sentences, no_sentence, sentence}
 use Rattle.shapes.specs.Format.{Format, never, of, size}

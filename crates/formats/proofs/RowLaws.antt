@@ -2,16 +2,15 @@
 -- of a part of the term records before the rest.
 use Prim.Native.Nat.{ℕ, zero, suc, ◌+◌, ◌*◌, ◌-◌, ◌%◌, ◌≤◌, ◌<◌}
 use mathlib.Core.Bool.{Bool, true, false, cond}
-use mathlib.Core.List.{List, [], ◌∷◌, ◌++◌, append-nil, append_assoc}
+use mathlib.Core.List.{List, ◌++◌, append-nil, append_assoc}
 use mathlib.Core.Logic.{◌⊎◌, inl, inr}
 use mathlib.Core.Option.{Option, none, some}
 use mathlib.Core.Path.{◌≡◌, refl, sym, ap, ◌∙◌}
 use native.Mathlib.Omega.{arith}
 use native.Mathlib.Nat.{add-zero, add_assoc}
-use native.Mathlib.Numerals.{add-one}
 use native.Mathlib.Decide.{dec_le, dec_lt}
 use lib.ListN.{length, take, drop, get_or, set, replicate, length-append, length-take, length-drop, length-set, get_or-append}
-use lib.Seq.{length-take-le, take-suc, take_all, take-take, take_at, get_or-take, get_or-drop, get_or-append-add, drop-drop}
+use lib.Seq.{length-take-le, take_all, take_at, get_or-take, get_or-drop, get_or-append-add, drop-drop}
 use lib.Dec.{leb}
 use borrow.Author.Tests.{le-leb, lt-leb, lt-ltb, le-ltb}
 use Rattle.names.specs.Name.{folded}
@@ -43,7 +42,7 @@ use Rattle.file.specs.declared.Term.TheVariants as terms
 use Rattle.shapes.specs.declared.RowEnd.{RowEnd}
 use Rattle.shapes.specs.declared.leaf.Leaf.{Leaf}
 use Rattle.shapes.specs.declared.row.Row as rows
-use Rattle.shapes.specs.Code.Leaves.{leaf_meant, symbol_leaf}
+use Rattle.shapes.specs.Code.Leaves.{leaf_meant}
 use Rattle.shapes.specs.Code.Rows.{row_meant, IsRowOf}
 use Rattle.formats.specs.declared.slots.Slots.{Slots}
 

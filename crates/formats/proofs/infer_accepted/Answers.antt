@@ -1,4 +1,3 @@
-use Rattle.std.proofs.Common.{refl, arith, ◌∙◌}
 use Rattle.std.proofs.lemmas.Result.{err_from_is_err_and}
 use Rattle.formats.proofs.CallLaws.{outcome_over, outcome_formed}
 use Rattle.formats.proofs.infer_accepted.Goals as goal

@@ -1,4 +1,3 @@
-use Rattle.std.proofs.Common.{refl}
 use Rattle.std.proofs.lemmas.Result.{err_from_is_err_and}
 use Rattle.formats.proofs.CallLaws.{call_accepted, outcome_accepted, outcome_refused}
 use Rattle.formats.proofs.infer_formats.Goals as goal

@@ -1,7 +1,6 @@
-use Rattle.std.proofs.Common.{refl, arith, ◌∙◌}
+use Rattle.std.proofs.Common.{arith}
 use Rattle.std.proofs.lemmas.Result.{err_from_is_err_and}
-use Rattle.formats.proofs.CallLaws.{placed_asked, started_over, started_arguments, started_rounds, holding}
-use Rattle.formats.proofs.TurnLaws.{lent_length}
+use Rattle.formats.proofs.CallLaws.{started_over, started_arguments, started_rounds}
 use Rattle.formats.proofs.call.infer_started.Goals as goal
 
 pub returns-in_err-infer_arguments : goal.returns-in_err-infer_arguments

@@ -1,4 +1,4 @@
-use Rattle.std.proofs.Common.{refl, arith, sym, ◌∙◌}
+use Rattle.std.proofs.Common.{arith, sym, ◌∙◌}
 use Rattle.formats.proofs.RoundSteps.{names_at_most}
 use Rattle.formats.proofs.CallLaws.{placed_asked, store_started, refused_is, given_is, infer_cleared, infer_ran}
 use Rattle.formats.proofs.call.infer_store.Goals as goal

@@ -1,5 +1,5 @@
 use Rattle.std.proofs.Common.{◌≡◌, ◌+◌, arith, ◌∙◌}
-use Rattle.formats.proofs.StateLaws.{cleared_past, start_none, start_next, started_length}
+use Rattle.formats.proofs.StateLaws.{start_none, start_next}
 use Rattle.formats.proofs.call.start_store.Goals as goal
 
 pub loop-k-init : goal.loop-k-init

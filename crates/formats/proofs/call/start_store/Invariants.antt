@@ -1,4 +1,4 @@
-use Rattle.std.proofs.Common.{◌≡◌, ◌++◌, length, drop}
+use Rattle.std.proofs.Common.{◌≡◌, ◌++◌, drop}
 use Rattle.formats.specs.Store.{store_size}
 use Rattle.formats.specs.Code.Entries.{start_of}
 use Rattle.formats.proofs.call.start_store.Given as goal

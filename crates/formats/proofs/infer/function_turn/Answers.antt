@@ -1,4 +1,4 @@
-use Rattle.std.proofs.Common.{◌≡◌, ◌+◌, ◌*◌, ◌≤◌, length, arith, refl, ap, sym, ◌∙◌}
+use Rattle.std.proofs.Common.{◌≡◌, ◌+◌, ◌*◌, ◌≤◌, length, arith, ap, sym, ◌∙◌}
 use Rattle.std.proofs.lemmas.Result.{err_from_is_err_and}
 use Rattle.file.specs.Sections.{file_of}
 use Rattle.shapes.proofs.FormatLaws.{format_in_length}
@@ -6,7 +6,7 @@ use Rattle.formats.specs.Code.Slots.{file_names, function_folded, position}
 use Rattle.formats.specs.Code.Turns.{format_number}
 use Rattle.formats.proofs.CallLaws.{placed_asked}
 use Rattle.formats.proofs.StateLaws.{lent_written}
-use Rattle.formats.proofs.TurnSteps.{lent_is, turn_over, turn_renewed, made_format, turn_few, turn_first, turn_next, turn_sentences, turn_inside, turn_place, turn_number, turn_place_few, number_less, number_within, number_format}
+use Rattle.formats.proofs.TurnSteps.{lent_is, turn_over, turn_renewed, made_format, turn_few, turn_first, turn_next, turn_sentences, turn_inside, turn_place, turn_number, number_within, number_format}
 use Rattle.formats.proofs.infer.function_turn.Goals as goal
 
 pub first_sentence-first-requires : goal.first_sentence-first-requires

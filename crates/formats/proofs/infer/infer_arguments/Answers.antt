@@ -1,7 +1,6 @@
-use Rattle.std.proofs.Common.{refl, arith, ◌∙◌}
+use Rattle.std.proofs.Common.{arith, ◌∙◌}
 use Rattle.std.proofs.lemmas.Result.{err_from_is_err_and}
-use Rattle.formats.proofs.CallLaws.{placed_asked}
-use Rattle.formats.proofs.FunctionSteps.{functions_read, arguments_start, arguments_holding, arguments_long, arguments_refused, arguments_more, arguments_all}
+use Rattle.formats.proofs.FunctionSteps.{arguments_start, arguments_refused, arguments_more, arguments_all}
 use Rattle.formats.proofs.infer.infer_arguments.Goals as goal
 
 pub loop-f-init : goal.loop-f-init

@@ -1,7 +1,6 @@
 use Rattle.std.proofs.Common.{refl, arith, ◌∙◌}
 use Rattle.std.proofs.lemmas.Result.{err_from_is_err_and}
-use Rattle.formats.proofs.CallLaws.{placed_asked}
-use Rattle.formats.proofs.FunctionSteps.{functions_read, round_start, round_holding, round_long, round_refused, round_more, round_all}
+use Rattle.formats.proofs.FunctionSteps.{round_start, round_refused, round_more, round_all}
 use Rattle.formats.proofs.infer.infer_round.Goals as goal
 
 pub loop-f-init : goal.loop-f-init

@@ -1,6 +1,6 @@
 use Rattle.std.proofs.Common.{◌≡◌, Ok, ap, arith, ◌∙◌}
 use Rattle.std.proofs.lemmas.Result.{err_from_is_err_and}
-use Rattle.formats.proofs.RoundSteps.{rounds_start, rounds_holding, rounds_more, rounds_settled, rounds_wide, rounds_out}
+use Rattle.formats.proofs.RoundSteps.{rounds_more, rounds_settled, rounds_wide, rounds_out}
 use Rattle.formats.proofs.infer.infer_rounds.Goals as goal
 
 pub returns-in_err-infer_round : goal.returns-in_err-infer_round

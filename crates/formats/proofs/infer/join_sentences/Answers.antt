@@ -1,4 +1,4 @@
-use Rattle.std.proofs.Common.{arith, refl, ◌∙◌}
+use Rattle.std.proofs.Common.{arith, refl}
 use Rattle.std.proofs.lemmas.Result.{err_from_is_err_and}
 use Rattle.law.proofs.IndexLaws.{sentences_limit}
 use Rattle.formats.proofs.SentenceLaws.{rows_start, rows_format, rows_refused, made_format, rows_more, rows_all}

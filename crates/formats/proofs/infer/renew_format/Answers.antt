@@ -1,4 +1,4 @@
-use Rattle.std.proofs.Common.{arith, sym, refl, ◌∙◌}
+use Rattle.std.proofs.Common.{arith, sym, ◌∙◌}
 use lib.Seq.{length-take-le}
 use Rattle.shapes.proofs.FormatLaws.{format_in_length}
 use Rattle.formats.proofs.TurnLaws.{started_words, started_test, kept_words, kept_test}

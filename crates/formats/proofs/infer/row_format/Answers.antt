@@ -1,4 +1,4 @@
-use Rattle.std.proofs.Common.{arith, refl, ap, ◌∙◌, replicate}
+use Rattle.std.proofs.Common.{refl, ap, ◌∙◌, replicate}
 use Rattle.formats.proofs.TurnLaws.{row_cleared, made_over, made_written}
 use Rattle.formats.proofs.infer.row_format.Goals as goal
 

@@ -1,4 +1,4 @@
-use Rattle.std.proofs.Common.{ℕ, length, arith, refl, ap, replicate, ◌∙◌}
+use Rattle.std.proofs.Common.{length, arith}
 use Rattle.std.proofs.lemmas.Result.{err_from_is_err_and}
 use Rattle.law.proofs.IndexLaws.{sentences_limit}
 use Rattle.formats.proofs.SentenceLaws.{rows_none, first_refused, first_alone, first_format, first_joined}

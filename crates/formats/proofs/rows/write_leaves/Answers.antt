@@ -1,6 +1,6 @@
 use Rattle.std.proofs.Common.{◌≡◌, arith, refl, ◌∙◌}
 use lib.ListN.{length-set}
-use Rattle.formats.proofs.RowLaws.{leaves_none, leaves_next, left_length}
+use Rattle.formats.proofs.RowLaws.{leaves_none, leaves_next}
 use Rattle.formats.proofs.rows.write_leaves.Goals as goal
 
 pub loop-n-init : goal.loop-n-init

@@ -1,5 +1,5 @@
 use Rattle.std.proofs.Common.{arith}
-use Rattle.formats.proofs.SlotLaws.{named_start, named_here, named_next, named_end}
+use Rattle.formats.proofs.SlotLaws.{named_here, named_next, named_end}
 use Rattle.formats.proofs.slots.first_named.Goals as goal
 
 pub returns-then-names_equal : goal.returns-then-names_equal

@@ -1,4 +1,3 @@
-use Rattle.std.proofs.Common.{arith, refl, ◌∙◌}
 use Rattle.law.proofs.Allowed.{accepted_readable}
 use Rattle.formats.proofs.CallLaws.{store_asked}
 use Rattle.formats.proofs.SentenceLaws.{holding_of, holding_stored, holding_knows}
