@@ -2,10 +2,8 @@
 // written after it, with `kept` in place of those that have their value still.
 ghost use Rattle.std.specs.Prelude.{◌≤◌, length};
 
-use crate::print_decimal;
 use std::io;
 use std::io::Write;
-use std::num::{wrapping_add_u32, wrapping_add_u64};
 
 // The first value that is given to bytes, and the last, after which the first comes again. No finding's text and no
 // page has such bytes.
@@ -16,25 +14,16 @@ const BYTE_LAST: u8 = 250;
 // What the answer's word holds before a call.
 pub const ANSWER: u64 = 99999;
 
-// What stands for a word or a byte that has its value still.
-pub const KEPT: u64 = 0x100000000;
-
-// A value, and how often it was met in a row.
+// A value, or none for one that was given and is kept, and how often it was met in a row.
 #[derive(Clone, Copy)]
 pub struct Run {
-    pub value: u64,
+    pub value: Option<u32>,
     pub count: u64,
 }
 
-// Gives each word a value of its own.
-pub fn fill_words(words: &mut [u32], first: u32) {
-    let mut value = first;
-    let mut i = 0;
-    while i < words.len() {
-        words[i] = value;
-        value = wrapping_add_u32(value, 1);
-        i += 1;
-    }
+// The value of the word after one with this value.
+pub fn next_word(value: u32) -> u32 {
+    value.wrapping_add(1)
 }
 
 // The value of the byte after one with this value.
@@ -46,15 +35,25 @@ pub fn next_byte(value: u8) -> u8 {
     }
 }
 
+// Gives each word or byte a value: the first one, and each later one the next.
+fn fill<T: Copy, N: Fn(T) -> T>(values: &mut [T], first: T, next: N)
+    requires { N.IsAlwaysCallable next }
+{
+    let mut value = first;
+    for place in values.iter_mut() {
+        *place = value;
+        value = next(value);
+    }
+}
+
+// Gives each word a value of its own.
+pub fn fill_words(words: &mut [u32], first: u32) {
+    fill(words, first, next_word);
+}
+
 // Gives each byte a value.
 pub fn fill_bytes(bytes: &mut [u8]) {
-    let mut value = BYTE_FIRST;
-    let mut i = 0;
-    while i < bytes.len() {
-        bytes[i] = value;
-        value = next_byte(value);
-        i += 1;
-    }
+    fill(bytes, BYTE_FIRST, next_byte);
 }
 
 // Writes a value after a space, and, where it was met more than once, `*` and how often.
@@ -62,59 +61,64 @@ pub fn print_run<W: Write>(output: &mut W, run: Run) -> io::Result<()> {
     if run.count == 0 {
         return Ok(());
     }
-    if run.value == KEPT {
-        output.write_all(b" kept")?;
-    } else {
-        output.write_all(b" ")?;
-        print_decimal(output, run.value)?;
+    match run.value {
+        Some(value) => write!(output, " {value}")?,
+        None => output.write_all(b" kept")?,
     }
     if run.count > 1 {
-        output.write_all(b"*")?;
-        print_decimal(output, run.count)?;
+        let count = run.count;
+        write!(output, "*{count}")?;
     }
     Ok(())
 }
 
-// What a word is now that was given this value before.
-fn meaning(word: u32, given: u32) -> u64 {
-    if word == given { KEPT } else { word as u64 }
-}
-
 // The values in a row with one more. A row that has ended is written.
-pub fn with_value<W: Write>(output: &mut W, run: Run, value: u64) -> io::Result<Run> {
+fn with_value<W: Write>(output: &mut W, run: Run, value: Option<u32>) -> io::Result<Run> {
     if run.value == value {
         return Ok(Run {
-            value: value,
-            count: wrapping_add_u64(run.count, 1),
+            value,
+            count: run.count.wrapping_add(1),
         });
     }
     print_run(output, run)?;
-    Ok(Run {
-        value: value,
-        count: 1,
-    })
+    Ok(Run { value, count: 1 })
 }
 
-// Writes what all words are now, in order, and ends the line.
-pub fn print_words<W: Write>(output: &mut W, words: &[u32], first: u32) -> io::Result<()> {
-    let mut run = Run { value: 0, count: 0 };
+// Writes what words or bytes are now that were given a first value and the next ones, in order, and ends the line.
+fn print_values<W: Write, T: Copy + PartialEq + Into<u32>, N: Fn(T) -> T>(
+    output: &mut W,
+    values: &[T],
+    first: T,
+    next: N,
+) -> io::Result<()>
+    requires { N.IsAlwaysCallable next }
+{
+    let mut run = Run {
+        value: None,
+        count: 0,
+    };
     let mut given = first;
-    let mut i = 0;
-    while i < words.len() {
-        run = with_value(output, run, meaning(words[i], given))?;
-        given = wrapping_add_u32(given, 1);
-        i += 1;
+    for &value in values {
+        let now = if value == given {
+            None
+        } else {
+            Some(value.into())
+        };
+        run = with_value(output, run, now)?;
+        given = next(given);
     }
     print_run(output, run)?;
     output.write_all(b"\n")
 }
 
-// The end of what was changed, with one byte more: the position after it where it was changed, else the end before it.
-fn end_with(byte: u8, given: u8, end: usize, after: usize) -> usize
-    requires { end ≤ after }
-    ensures { result ≤ after }
-{
-    if byte == given { end } else { after }
+// Writes what all words are now, in order, and ends the line.
+pub fn print_words<W: Write>(output: &mut W, words: &[u32], first: u32) -> io::Result<()> {
+    print_values(output, words, first, next_word)
+}
+
+// Writes what all bytes are now, in order, and ends the line.
+pub fn print_bytes<W: Write>(output: &mut W, bytes: &[u8]) -> io::Result<()> {
+    print_values(output, bytes, BYTE_FIRST, next_byte)
 }
 
 // The number of bytes up to the last that has another value than it was given.
@@ -123,31 +127,28 @@ pub fn changed_bytes(bytes: &[u8]) -> usize
 {
     let mut given = BYTE_FIRST;
     let mut end = 0;
-    let mut i = 0;
-    while i < bytes.len() {
-        let after = i + 1;
-        end = end_with(bytes[i], given, end, after);
+    for (i, &byte) in bytes.iter().enumerate() {
+        if byte != given {
+            end = i + 1;
+        }
         given = next_byte(given);
-        i = after;
     }
     end
 }
 
 // Writes a word and a number.
-pub fn print_said<W: Write>(output: &mut W, said: &[u8], number: u64) -> io::Result<()> {
-    output.write_all(said)?;
-    print_decimal(output, number)?;
-    output.write_all(b"\n")
+pub fn print_said<W: Write>(output: &mut W, said: &str, number: u64) -> io::Result<()> {
+    writeln!(output, "{said}{number}")
 }
 
 // Writes the number that the call returned, or its answer. After a refusal the answer's word is written only where it changed.
 pub fn print_returned<W: Write>(output: &mut W, number: u32, answer: u64) -> io::Result<()> {
     if number == 0 {
-        return print_said(output, b"  written ", answer);
+        return print_said(output, "  written ", answer);
     }
-    print_said(output, b"  refused ", number as u64)?;
+    print_said(output, "  refused ", u64::from(number))?;
     if answer != ANSWER {
-        print_said(output, b"  answer ", answer)?;
+        print_said(output, "  answer ", answer)?;
     }
     Ok(())
 }

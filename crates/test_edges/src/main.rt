@@ -5,69 +5,45 @@
 #![tactic(auto)]
 
 use file::Refusal;
+use law::check_law;
 use std::io;
-use std::io::{BufWriter, Read, Write};
-use test_cases::{LABEL, LAW, print_decimal, read_label, read_law};
+use std::io::{Read, Write};
+use test_cases::{LABEL, LAW, answer_cases, read_law};
 
 // Writes the end of a case's line.
 fn print_answer<W: Write>(output: &mut W, answer: Result<(), Refusal>) -> io::Result<()> {
     match answer {
-        Ok(()) => output.write_all(b" accepted\n"),
-        Err(refusal) => {
-            output.write_all(b" refused ")?;
-            print_decimal(output, u64::from(u32::from(refusal)))?;
-            output.write_all(b"\n")
+        Ok(()) => writeln!(output, " accepted"),
+        Err(why) => {
+            let number = u32::from(why);
+            writeln!(output, " refused {number}")
         }
     }
 }
 
-// Reads a law and answers it. A law that does not fit or is cut short is left without an answer.
+// Reads a law and answers it, and says whether there may be another case. A law that does not fit or is cut short is left without
+// an answer.
 fn answer_law<R: Read, W: Write>(
     input: &mut R,
     output: &mut W,
     space: &mut [u8],
 ) -> io::Result<bool> {
-    let found = read_law(input, space)?;
-    let bytes = found.bytes;
-    if !found.whole {
+    let Some(bytes) = read_law(input, space)? else {
         return Ok(false);
-    }
-    print_answer(output, law::check_law(&space[..bytes]))?;
+    };
+    print_answer(output, check_law(&space[..bytes]))?;
     Ok(true)
 }
 
-// Reads one case and answers it, and says whether there may be another.
-fn answer_case<R: Read, W: Write>(
-    input: &mut R,
-    output: &mut W,
-    space: &mut [u8],
-) -> io::Result<bool> {
-    let mut label = [0u8; LABEL];
-    let n = read_label(input, &mut label)?;
-    if n == 0 {
-        return Ok(false);
-    }
-    output.write_all(&label[..n])?;
-    answer_law(input, output, space)
-}
-
-// Answers every case. Nothing says that the input ends, so the loop counts up to a number that no run reaches.
-fn answer_all<R: Read, W: Write>(
-    input: &mut R,
-    output: &mut W,
-    space: &mut [u8],
-) -> io::Result<()> {
-    for _ in 0..u64::MAX {
-        if !answer_case(input, output, space)? {
-            break;
-        }
-    }
-    Ok(())
-}
-
 fn main(rt: HostRuntime) -> io::Result<()> {
-    let mut output = BufWriter::new(rt.alloc(), rt.stdout())?;
+    let mut label = [0u8; LABEL];
     let mut space = [0u8; LAW];
-    answer_all(&mut rt.stdin(), &mut output, &mut space)?;
-    output.flush()
+    answer_cases(
+        rt.alloc(),
+        rt.stdin(),
+        rt.stdout(),
+        &mut label,
+        b"",
+        |input, output, _| answer_law(input, output, &mut space),
+    )
 }

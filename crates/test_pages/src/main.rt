@@ -9,11 +9,11 @@
 
 use loader::print;
 use std::io;
-use std::io::{BufWriter, Read, Write};
+use std::io::{Read, Write};
 use test_cases::lent::{
     ANSWER, changed_bytes, fill_bytes, fill_words, print_returned, print_said, print_words,
 };
-use test_cases::{LABEL, LAW, read_at_most, read_label, read_law, read_overrides, read_word};
+use test_cases::{LABEL, LAW, Settings, answer_cases, read_at_most, read_law, read_settings};
 
 // The most that can be lent: more words than a store has, more bytes than a page of 256 findings has.
 const STORE: usize = 8400;
@@ -30,14 +30,13 @@ fn print_page<W: Write>(output: &mut W, page: &[u8]) -> io::Result<()> {
     let end = changed_bytes(page);
     output.write_all(b"    page\n")?;
     output.write_all(&page[..end])?;
-    print_said(output, b"    kept*", (page.len() - end) as u64)
+    print_said(output, "    kept*", (page.len() - end) as u64)
 }
 
 // Makes the call.
 fn call_print<W: Write>(
     output: &mut W,
-    mode: u32,
-    overrides: &[u32],
+    settings: &Settings,
     law: &[u8],
     store: &mut [u32],
     page: &mut [u8],
@@ -45,40 +44,38 @@ fn call_print<W: Write>(
     let mut answer = ANSWER;
     fill_words(store, STORE_FIRST);
     fill_bytes(page);
-    let number = print(mode, overrides, law, store, page, &mut answer);
+    let number = print(
+        settings.mode,
+        settings.overrides,
+        law,
+        store,
+        page,
+        &mut answer,
+    );
     print_returned(output, number, answer)?;
     output.write_all(b"    store")?;
     print_words(output, store, STORE_FIRST)?;
     print_page(output, page)
 }
 
-// Makes the call with parts of the space that is there, as a case asks. A law that does not fit or is cut short is left without
-// an answer.
+// Makes the call with parts of the space that is there, as a case asks, and says whether there may be another case. A law that does
+// not fit or is cut short is left without an answer.
 fn answer_law<R: Read, W: Write>(
     input: &mut R,
     output: &mut W,
-    mode: u32,
-    overrides: &[u32],
+    settings: &Settings,
     space: &mut [u8],
     store: &mut [u32],
     page: &mut [u8],
 ) -> io::Result<bool> {
     let lent_store = read_at_most(input, store.len())?;
     let lent_page = read_at_most(input, page.len())?;
-    let found = read_law(input, space)?;
-    let end = found.bytes;
-    if !found.whole {
+    let Some(end) = read_law(input, space)? else {
         return Ok(false);
-    }
-    let law = &space[..end];
-    call_print(
-        output,
-        mode,
-        overrides,
-        law,
-        &mut store[..lent_store],
-        &mut page[..lent_page],
-    )?;
+    };
+    let store = &mut store[..lent_store];
+    let page = &mut page[..lent_page];
+    call_print(output, settings, &space[..end], store, page)?;
     Ok(true)
 }
 
@@ -90,46 +87,24 @@ fn answer_case<R: Read, W: Write>(
     store: &mut [u32],
     page: &mut [u8],
 ) -> io::Result<bool> {
-    let mut label = [0u8; LABEL];
-    let n = read_label(input, &mut label)?;
-    if n == 0 {
-        return Ok(false);
-    }
-    output.write_all(&label[..n])?;
-    output.write_all(b"\n")?;
-    let mode = read_word(input)?;
     let mut overrides = [0u32; OVERRIDES];
-    let count = read_overrides(input, &mut overrides)?;
-    answer_law(input, output, mode, &overrides[..count], space, store, page)
-}
-
-// Answers every case. Nothing says that the input ends, so the loop counts up to a number that no run reaches.
-fn answer_all<R: Read, W: Write>(
-    input: &mut R,
-    output: &mut W,
-    space: &mut [u8],
-    store: &mut [u32],
-    page: &mut [u8],
-) -> io::Result<()> {
-    for _ in 0..u64::MAX {
-        if !answer_case(input, output, space, store, page)? {
-            break;
-        }
-    }
-    Ok(())
+    let settings = read_settings(input, &mut overrides)?;
+    answer_law(input, output, &settings, space, store, page)
 }
 
 fn main(rt: HostRuntime) -> io::Result<()> {
-    let mut output = BufWriter::new(rt.alloc(), rt.stdout())?;
+    let mut label = [0u8; LABEL];
     let mut space = [0u8; LAW];
     let mut store = [0u32; STORE];
     let mut page = [0u8; PAGE];
-    answer_all(
-        &mut rt.stdin(),
-        &mut output,
-        &mut space,
-        &mut store,
-        &mut page,
-    )?;
-    output.flush()
+    answer_cases(
+        rt.alloc(),
+        rt.stdin(),
+        rt.stdout(),
+        &mut label,
+        b"\n",
+        |input, output, _| {
+            answer_case(input, output, &mut space, &mut store, &mut page)
+        },
+    )
 }

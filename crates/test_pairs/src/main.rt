@@ -6,25 +6,12 @@
 // of all functions and blocks are asked about, so that a case may spread its patterns over several.
 #![tactic(auto)]
 
-use law::{AcceptedLaw, Index};
+use file::{Refusal, Sections, sections_of};
+use law::check_law;
 use sentences::{MatchError, ShadowError, matches_in, shadows_in};
 use std::io;
-use std::io::{BufWriter, Read, Write};
-use test_cases::{LABEL, LAW, print_decimal, read_label, read_law};
-
-// Writes a line: two spaces, a number, words and a number.
-fn print_line<W: Write>(
-    output: &mut W,
-    first: usize,
-    words: &[u8],
-    second: usize,
-) -> io::Result<()> {
-    output.write_all(b"  ")?;
-    print_decimal(output, first as u64)?;
-    output.write_all(words)?;
-    print_decimal(output, second as u64)?;
-    output.write_all(b"\n")
-}
+use std::io::{Read, Write};
+use test_cases::{LABEL, LAW, answer_cases, read_law};
 
 // Writes whether a sentence shadows another.
 fn print_shadowed<W: Write>(
@@ -33,13 +20,12 @@ fn print_shadowed<W: Write>(
     later: usize,
     answer: Result<bool, ShadowError>,
 ) -> io::Result<()> {
-    let words: &[u8] = match answer {
-        Ok(true) => b" shadows ",
-        Ok(false) => b" does not shadow ",
-        Err(ShadowError::NoSentence) => b" has no sentence ",
-        Err(ShadowError::Refused(_)) => b" is refused beside ",
-    };
-    print_line(output, earlier, words, later)
+    match answer {
+        Ok(true) => writeln!(output, "  {earlier} shadows {later}"),
+        Ok(false) => writeln!(output, "  {earlier} does not shadow {later}"),
+        Err(ShadowError::Refused(_)) => writeln!(output, "  {earlier} is refused beside {later}"),
+        Err(ShadowError::NoSentence) => writeln!(output, "  {earlier} has no sentence {later}"),
+    }
 }
 
 // Writes whether a sentence matches the argument of a call, and nothing where that is not literal.
@@ -49,28 +35,23 @@ fn print_recognised<W: Write>(
     term: usize,
     answer: Result<bool, MatchError>,
 ) -> io::Result<()> {
-    let words: &[u8] = match answer {
-        Ok(true) => b" matches the call at ",
-        Ok(false) => b" does not match the call at ",
-        Err(MatchError::NotLiteral) => return Ok(()),
-        Err(MatchError::NoSentence) => b" is no sentence for the call at ",
-        Err(MatchError::Refused(_)) => b" is refused beside the call at ",
-    };
-    print_line(output, sentence, words, term)
+    match answer {
+        Ok(true) => writeln!(output, "  {sentence} matches the call at {term}"),
+        Ok(false) => writeln!(output, "  {sentence} does not match the call at {term}"),
+        Err(MatchError::Refused(_)) => {
+            writeln!(output, "  {sentence} is refused beside the call at {term}")
+        }
+        Err(MatchError::NoSentence) => {
+            writeln!(output, "  {sentence} is no sentence for the call at {term}")
+        }
+        Err(MatchError::NotLiteral) => Ok(()),
+    }
 }
 
 // Asks about a sentence and each one before it.
 fn print_earlier<W: Write>(output: &mut W, law: &[u8], later: usize) -> io::Result<()> {
     for earlier in 0..later {
         print_shadowed(output, earlier, later, shadows_in(law, earlier, later))?;
-    }
-    Ok(())
-}
-
-// Asks about each two of so many sentences.
-fn print_pairs<W: Write>(output: &mut W, law: &[u8], count: usize) -> io::Result<()> {
-    for later in 0..count {
-        print_earlier(output, law, later)?;
     }
     Ok(())
 }
@@ -83,80 +64,60 @@ fn print_call<W: Write>(output: &mut W, law: &[u8], count: usize, term: usize) -
     Ok(())
 }
 
-// Asks about each of so many term records and each of so many sentences.
-fn print_calls<W: Write>(
-    output: &mut W,
-    law: &[u8],
-    count: usize,
-    records: usize,
-) -> io::Result<()> {
-    for term in 0..records {
-        print_call(output, law, count, term)?;
+// Asks about each two sentences, and about each term record and each sentence.
+fn print_pairs<W: Write>(output: &mut W, law: &[u8], sections: Sections) -> io::Result<()> {
+    for later in 0..sections.sentences {
+        print_earlier(output, law, later)?;
+    }
+    for term in 0..sections.terms {
+        print_call(output, law, sections.sentences, term)?;
     }
     Ok(())
 }
 
-// Writes the end of a case's line, and the lines after it.
-fn print_answers<W: Write>(output: &mut W, bytes: &[u8]) -> io::Result<()> {
-    let mut index: Index = [0; 972];
-    if let Err(refusal) = law::read_law(bytes, &mut index) {
-        output.write_all(b" refused ")?;
-        print_decimal(output, u64::from(u32::from(refusal)))?;
-        return output.write_all(b"\n");
-    }
-    output.write_all(b" accepted\n")?;
-    let law = AcceptedLaw::new(bytes, &index).law;
-    print_pairs(output, bytes, law.sentences())?;
-    print_calls(output, bytes, law.sentences(), law.terms())
+// The counts of a law.
+fn counts(law: &[u8]) -> Result<Sections, Refusal> {
+    check_law(law)?;
+    sections_of(law)
 }
 
-// Reads a law and answers it. A law that does not fit or is cut short is left without an answer.
+// Writes the end of a case's line, and the lines after it.
+fn print_answers<W: Write>(output: &mut W, law: &[u8]) -> io::Result<()> {
+    match counts(law) {
+        Ok(sections) => {
+            output.write_all(b" accepted\n")?;
+            print_pairs(output, law, sections)
+        }
+        Err(why) => {
+            let number = u32::from(why);
+            writeln!(output, " refused {number}")
+        }
+    }
+}
+
+// Reads a law and answers it, and says whether there may be another case. A law that does not fit or is cut short is left without
+// an answer.
 fn answer_law<R: Read, W: Write>(
     input: &mut R,
     output: &mut W,
     space: &mut [u8],
 ) -> io::Result<bool> {
-    let found = read_law(input, space)?;
-    let bytes = found.bytes;
-    if !found.whole {
+    let Some(bytes) = read_law(input, space)? else {
         return Ok(false);
-    }
+    };
     print_answers(output, &space[..bytes])?;
     Ok(true)
 }
 
-// Reads one case and answers it, and says whether there may be another.
-fn answer_case<R: Read, W: Write>(
-    input: &mut R,
-    output: &mut W,
-    space: &mut [u8],
-) -> io::Result<bool> {
-    let mut label = [0u8; LABEL];
-    let n = read_label(input, &mut label)?;
-    if n == 0 {
-        return Ok(false);
-    }
-    output.write_all(&label[..n])?;
-    answer_law(input, output, space)
-}
-
-// Answers every case. Nothing says that the input ends, so the loop counts up to a number that no run reaches.
-fn answer_all<R: Read, W: Write>(
-    input: &mut R,
-    output: &mut W,
-    space: &mut [u8],
-) -> io::Result<()> {
-    for _ in 0..u64::MAX {
-        if !answer_case(input, output, space)? {
-            break;
-        }
-    }
-    Ok(())
-}
-
 fn main(rt: HostRuntime) -> io::Result<()> {
-    let mut output = BufWriter::new(rt.alloc(), rt.stdout())?;
+    let mut label = [0u8; LABEL];
     let mut space = [0u8; LAW];
-    answer_all(&mut rt.stdin(), &mut output, &mut space)?;
-    output.flush()
+    answer_cases(
+        rt.alloc(),
+        rt.stdin(),
+        rt.stdout(),
+        &mut label,
+        b"",
+        |input, output, _| answer_law(input, output, &mut space),
+    )
 }

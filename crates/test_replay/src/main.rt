@@ -8,12 +8,11 @@
 // and subject, which the Rust has no counterpart of, are left out.
 #![tactic(auto)]
 
-ghost use Rattle.std.specs.Prelude.{◌≤◌};
-
+<<<<<<< HEAD
 use listing::{Turned, findings, text};
 use std::io;
-use std::io::{BufWriter, Read, Write};
-use test_cases::{LAW, print_decimal, read_label, read_law, read_overrides, read_word};
+use std::io::{Read, Write};
+use test_cases::{LAW, Settings, answer_cases, read_law, read_settings};
 
 // A label's most bytes, with its line feed. It may quote what the Rust lists.
 const LABEL: usize = 1024;
@@ -32,17 +31,10 @@ const TEXT: usize = 2048;
 
 const OVERRIDES: usize = 8;
 
-// The smaller of two numbers.
-fn least(one: usize, other: usize) -> usize
-    ensures { result ≤ other }
-{
-    if one < other { one } else { other }
-}
-
 // Writes `refused` and the number.
 fn print_refused<W: Write>(output: &mut W, why: Turned) -> io::Result<()> {
-    output.write_all(b"refused ")?;
-    print_decimal(output, u32::from(why) as u64)
+    let number = u32::from(why);
+    write!(output, "refused {number}")
 }
 
 // Writes the text that the text call put into a buffer, or its refusal.
@@ -52,35 +44,15 @@ fn print_told<W: Write>(
     bytes: &[u8],
 ) -> io::Result<()> {
     match answer {
+        Ok(written) => output.write_all(&bytes[..written.min(bytes.len())]),
         Err(why) => print_refused(output, why),
-        Ok(written) => {
-            let end = least(written, bytes.len());
-            output.write_all(&bytes[..end])
-        }
     }
-}
-
-// Writes a word and a space.
-fn print_word<W: Write>(output: &mut W, word: u32) -> io::Result<()> {
-    print_decimal(output, word as u64)?;
-    output.write_all(b" ")
-}
-
-// Writes words, with a space after each.
-fn print_words<W: Write>(output: &mut W, words: &[u32]) -> io::Result<()> {
-    let mut i = 0;
-    while i < words.len() {
-        print_word(output, words[i])?;
-        i += 1;
-    }
-    Ok(())
 }
 
 // Writes the line of the finding at a position.
 fn print_finding<W: Write>(
     output: &mut W,
-    mode: u32,
-    overrides: &[u32],
+    settings: &Settings,
     law: &[u8],
     store: &mut [u32],
     words: &[u32],
@@ -88,8 +60,17 @@ fn print_finding<W: Write>(
 ) -> io::Result<()> {
     let mut bytes = [0u8; TEXT];
     output.write_all(b"  ")?;
-    print_words(output, words)?;
-    let told = text(mode, overrides, law, store, position, &mut bytes);
+    for word in words.iter().take(WRITTEN) {
+        write!(output, "{word} ")?;
+    }
+    let told = text(
+        settings.mode,
+        settings.overrides,
+        law,
+        store,
+        position,
+        &mut bytes,
+    );
     print_told(output, told, &bytes)?;
     output.write_all(b"\n")
 }
@@ -97,77 +78,60 @@ fn print_finding<W: Write>(
 // Writes a line for each of so many findings.
 fn print_findings<W: Write>(
     output: &mut W,
-    mode: u32,
-    overrides: &[u32],
+    settings: &Settings,
     law: &[u8],
     store: &mut [u32],
     words: &[u32],
     count: usize,
 ) -> io::Result<()> {
-    let most = least(count, words.len() / 8);
-    let mut i = 0;
-    while i < most {
-        let at = 8 * i;
-        let end = at + WRITTEN;
-        print_finding(output, mode, overrides, law, store, &words[at..end], i)?;
-        i += 1;
+    for (i, finding) in words.chunks_exact(8).take(count).enumerate() {
+        print_finding(output, settings, law, store, finding, i)?;
     }
     Ok(())
 }
 
 // Lists the findings of a law with their texts.
-fn list<W: Write>(output: &mut W, mode: u32, overrides: &[u32], law: &[u8]) -> io::Result<()> {
+fn list<W: Write>(output: &mut W, settings: &Settings, law: &[u8]) -> io::Result<()> {
     let mut store = [0u32; STORE];
     let mut words = [0u32; WORDS];
-    match findings(mode, overrides, law, &mut store, &mut words) {
+    let answer = findings(
+        settings.mode,
+        settings.overrides,
+        law,
+        &mut store,
+        &mut words,
+    );
+    match answer {
+        Ok(listed) => print_findings(output, settings, law, &mut store, &words, listed.count),
         Err(why) => {
             output.write_all(b"  ")?;
             print_refused(output, why)?;
             output.write_all(b"\n")
         }
-        Ok(listed) => print_findings(
-            output,
-            mode,
-            overrides,
-            law,
-            &mut store,
-            &words,
-            listed.count,
-        ),
     }
 }
 
 // Reads one case and lists its law, and says whether there may be another. A law that does not fit or is cut short is left
 // without a listing.
 fn list_case<R: Read, W: Write>(input: &mut R, output: &mut W) -> io::Result<bool> {
-    let mut label = [0u8; LABEL];
-    let n = read_label(input, &mut label)?;
-    if n == 0 {
-        return Ok(false);
-    }
-    output.write_all(&label[..n])?;
-    output.write_all(b"\n")?;
-    let mode = read_word(input)?;
     let mut overrides = [0u32; OVERRIDES];
-    let count = read_overrides(input, &mut overrides)?;
+    let settings = read_settings(input, &mut overrides)?;
     let mut space = [0u8; LAW];
-    let found = read_law(input, &mut space)?;
-    let end = found.bytes;
-    if !found.whole {
+    let Some(bytes) = read_law(input, &mut space)? else {
         return Ok(false);
-    }
-    list(output, mode, &overrides[..count], &space[..end])?;
+    };
+    list(output, &settings, &space[..bytes])?;
     Ok(true)
 }
 
-// Nothing says that the input ends, so the loop counts up to a number that no run reaches.
 fn main(rt: HostRuntime) -> io::Result<()> {
-    let mut input = rt.stdin();
-    let mut output = BufWriter::new(rt.alloc(), rt.stdout())?;
-    for _ in 0..u64::MAX {
-        if !list_case(&mut input, &mut output)? {
-            break;
-        }
-    }
-    output.flush()
+    let mut label = [0u8; LABEL];
+    answer_cases(
+        rt.alloc(),
+        rt.stdin(),
+        rt.stdout(),
+        &mut label,
+        b"\n",
+        |input, output, _| list_case(input, output),
+    )
 }

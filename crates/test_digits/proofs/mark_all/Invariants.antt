@@ -1,6 +1,0 @@
--- `mark_all` ends, since each turn leaves fewer bytes.
-use Rattle.std.proofs.Common.{length, ◌-◌}
-use Rattle.test_digits.proofs.mark_all.Given as goal
-
-abbrev pub decreases-loop-i : goal.decreases-loop-i
-decreases-loop-i g l = length l.bytes - l.i
