@@ -5,7 +5,6 @@
 // number.
 #![tactic(auto)]
 
-<<<<<<< HEAD
 use input::read_full;
 use listing::{Listed, findings};
 use std::io;

@@ -3,7 +3,6 @@
 // A law that is refused gives one line in its place: `refused` and document 01's number.
 #![tactic(auto)]
 
-<<<<<<< HEAD
 use input::read_full;
 use listing::page;
 use std::io;

@@ -62,11 +62,13 @@ fn print_refused<W: Write>(output: &mut W, why: Turned) -> io::Result<()> {
 fn print_found<W: Write>(output: &mut W, answer: Result<Listed, Turned>) -> io::Result<()> {
     output.write_all(b"  findings ")?;
     match answer {
-        Ok(Listed {
-            count,
-            rounds,
-            settled,
-        }) => {
+        Ok(
+            Listed {
+                count,
+                rounds,
+                settled,
+            },
+        ) => {
             let settled = u8::from(settled);
             writeln!(output, "{count} {rounds} {settled}")
         }

@@ -8,7 +8,6 @@
 // and subject, which the Rust has no counterpart of, are left out.
 #![tactic(auto)]
 
-<<<<<<< HEAD
 use listing::{Turned, findings, text};
 use std::io;
 use std::io::{Read, Write};
