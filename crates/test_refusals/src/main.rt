@@ -30,6 +30,7 @@ const STORE_FIRST: u32 = 0xa5a50000;
 const WORDS_FIRST: u32 = 0x5a5a0000;
 
 // What can be lent to the calls.
+#[derive(Drop)]
 struct Lent<'a> {
     store: &'a mut [u32],
     words: &'a mut [u32],
