@@ -3,13 +3,13 @@ ghost use Rattle.matching.specs.Code.Bound.{values_of, Kept};
 ghost use Rattle.matching.specs.Code.Step.{KnownFront};
 
 use crate::step::first_of;
-use crate::{Bindings, First, Known};
+use crate::{Bindings, First, Known, Records};
 
 // The symbols and the variables with a value that a pattern begins with: the row begins with the same. A loop, since there may be hundreds; each step is as long
 // as what is passed over.
-pub fn known_front(text: &[u8], terms: &[u8], pattern: &[u8], row: &[u8], b: &Bindings) -> Known
-    requires { Kept text.now terms.now b.now }
-    ensures { KnownFront text.now pattern.now row.now (values_of text.now terms.now b.now) result }
+pub fn known_front(records: &Records, pattern: &[u8], row: &[u8], b: &Bindings) -> Known
+    requires { Kept records.now.text.now records.now.terms.now b.now }
+    ensures { KnownFront records.now.text.now pattern.now row.now (values_of records.now.text.now records.now.terms.now b.now) result }
 {
     let mut i = 0;
     let mut j = 0;
@@ -19,7 +19,7 @@ pub fn known_front(text: &[u8], terms: &[u8], pattern: &[u8], row: &[u8], b: &Bi
         if left.len() < 24 {
             break Known::End(i, j);
         }
-        match first_of(text, terms, left, right, b) {
+        match first_of(records, left, right, b) {
             First::Goes(m, n) => {
                 i += m;
                 j += n;

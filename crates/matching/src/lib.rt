@@ -8,6 +8,13 @@ mod step;
 pub mod terms;
 mod values;
 
+// The text of a law and its term records.
+#[derive(Clone, Copy)]
+pub struct Records<'a> {
+    pub text: &'a [u8],
+    pub terms: &'a [u8],
+}
+
 // The value of a variable: the position of the variable's first record among the term records, and the position and the size of the value.
 #[derive(Clone, Copy)]
 pub struct Binding {

@@ -14,7 +14,7 @@ ghost use Rattle.matching.specs.Code.Step.{open_term, Leaves};
 use crate::atoms::{atoms_same, is_bracket, variables_same};
 use crate::terms::may_stand;
 use crate::values::begins;
-use crate::{Bindings, First, Stop};
+use crate::{Bindings, First, Records, Stop};
 use file::{Term, term_at, word_at};
 use law::runs::end_of;
 
@@ -27,13 +27,13 @@ fn is_open(term: Term) -> bool
 
 impl Bindings {
     // The place of the variable that the pattern's first record is.
-    fn place_of(&self, text: &[u8], terms: &[u8], pattern: &[u8]) -> Option<usize>
-        requires { Kept text.now terms.now self.now × (24 ≤ length pattern.now) }
-        ensures { HasPlace text.now terms.now pattern.now self.now result }
+    fn place_of(&self, records: &Records, pattern: &[u8]) -> Option<usize>
+        requires { Kept records.now.text.now records.now.terms.now self.now × (24 ≤ length pattern.now) }
+        ensures { HasPlace records.now.text.now records.now.terms.now pattern.now self.now result }
     {
         for i in (0..self.count).rev() {
             let key = usize::from(self.places[i].key);
-            if variables_same(text, &terms[key..], pattern) {
+            if variables_same(records.text, &records.terms[key..], pattern) {
                 return Some(i);
             }
         }
@@ -74,20 +74,13 @@ fn bracket_first(row: &[u8]) -> First
 }
 
 // A variable that has a value, at a position and of a size: the row begins with it.
-fn value_first(
-    text: &[u8],
-    terms: &[u8],
-    pattern: &[u8],
-    row: &[u8],
-    start: usize,
-    size: usize,
-) -> First
-    requires { (start + size ≤ length terms.now) × (24 ≤ length pattern.now) }
-    ensures { (v : Variable) (vs : Values Atom) → atom_of text.now (term_at pattern.now 0) ≡ variable v
-        → some (row_at text.now terms.now start size) ≡ value_in vs v → Leaves text.now pattern.now row.now vs result }
+fn value_first(records: &Records, pattern: &[u8], row: &[u8], start: usize, size: usize) -> First
+    requires { (start + size ≤ length records.now.terms.now) × (24 ≤ length pattern.now) }
+    ensures { (v : Variable) (vs : Values Atom) → atom_of records.now.text.now (term_at pattern.now 0) ≡ variable v
+        → some (row_at records.now.text.now records.now.terms.now start size) ≡ value_in vs v → Leaves records.now.text.now pattern.now row.now vs result }
 {
     let end = start + size;
-    match begins(text, &terms[start..end], row) {
+    match begins(records.text, &records.terms[start..end], row) {
         Some(n) => First::Goes(end_of(pattern), n),
         None => First::Fails,
     }
@@ -110,31 +103,31 @@ fn free_first(pattern: &[u8], row: &[u8]) -> First
 }
 
 // A variable.
-fn variable_first(text: &[u8], terms: &[u8], pattern: &[u8], row: &[u8], b: &Bindings) -> First
-    requires { Kept text.now terms.now b.now × (24 ≤ length pattern.now) }
-    ensures { (v : Variable) → atom_of text.now (term_at pattern.now 0) ≡ variable v
-        → Leaves text.now pattern.now row.now (values_of text.now terms.now b.now) result }
+fn variable_first(records: &Records, pattern: &[u8], row: &[u8], b: &Bindings) -> First
+    requires { Kept records.now.text.now records.now.terms.now b.now × (24 ≤ length pattern.now) }
+    ensures { (v : Variable) → atom_of records.now.text.now (term_at pattern.now 0) ≡ variable v
+        → Leaves records.now.text.now pattern.now row.now (values_of records.now.text.now records.now.terms.now b.now) result }
 {
-    match b.place_of(text, terms, pattern) {
+    match b.place_of(records, pattern) {
         Some(i) => {
             let place = b.places[i];
             let start = usize::from(place.start);
             let size = usize::from(place.size);
-            value_first(text, terms, pattern, row, start, size)
+            value_first(records, pattern, row, start, size)
         }
         None => free_first(pattern, row),
     }
 }
 
 // What the first record of a pattern leaves to do with a row.
-pub fn first_of(text: &[u8], terms: &[u8], pattern: &[u8], row: &[u8], b: &Bindings) -> First
-    requires { Kept text.now terms.now b.now × (24 ≤ length pattern.now) }
-    ensures { Leaves text.now pattern.now row.now (values_of text.now terms.now b.now) result }
+pub fn first_of(records: &Records, pattern: &[u8], row: &[u8], b: &Bindings) -> First
+    requires { Kept records.now.text.now records.now.terms.now b.now × (24 ≤ length pattern.now) }
+    ensures { Leaves records.now.text.now pattern.now row.now (values_of records.now.text.now records.now.terms.now b.now) result }
 {
     match term_at(pattern, 0) {
-        Term::Symbol(_) => symbols_first(text, pattern, row),
+        Term::Symbol(_) => symbols_first(records.text, pattern, row),
         Term::SVariable(_, _) | Term::TVariable(_, _) | Term::EVariable(_, _) => {
-            variable_first(text, terms, pattern, row, b)
+            variable_first(records, pattern, row, b)
         }
         Term::Bracket => bracket_first(row),
         Term::Call(_, _) | Term::Block(_) => First::Fails,

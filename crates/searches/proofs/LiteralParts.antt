@@ -1,7 +1,7 @@
 -- Literal parts of the term records (matching/specs/Code/Part.antt), record by record, and literal matching of them.
 use Prim.Native.Nat.{ℕ, zero, suc, ◌+◌, ◌-◌, ◌≤◌, ◌<◌}
 use mathlib.Core.Bool.{Bool, true, false, ◌&&◌}
-use mathlib.Core.List.{List, []}
+use mathlib.Core.List.{List, [], ◌∷◌}
 use mathlib.Core.Path.{◌≡◌, refl, sym, ap, ◌∙◌}
 use native.Mathlib.Omega.{arith}
 use lib.ListN.{length, take, drop}
@@ -13,16 +13,18 @@ use Rattle.file.specs.declared.Term.TheVariants.{Symbol as Symbolic, SVariable, 
 use Rattle.law.specs.Tree.{Mark, Run, Sentences, no_sentence}
 use Rattle.law.specs.Expression.{Terms, symbol, brackets}
 use Rattle.law.specs.Runs.{end_of, term_forest}
+use Rattle.law.specs.Code.Whole.{term_parts}
 use Rattle.law.specs.Reading.{mark_at, term_run, forest_run}
-use Rattle.law.proofs.RunLaws.{end_high, terms_none, terms_node}
+use Rattle.law.proofs.RunLaws.{terms_none, terms_node}
+use Rattle.law.proofs.WholeTerms.{parts_none, parts_node, each_part}
 use Rattle.law.specs.Symbol.{Symbol}
 use Rattle.matching.specs.Pattern.{Pattern}
 use Rattle.matching.specs.Match.{none_bound}
 use Rattle.matching.specs.Literal.{is_literal, literal_terms, literal_matches}
-use Rattle.matching.specs.Code.Part.{row_of, literal_part, symbols_of, from, symbol_at}
+use Rattle.matching.specs.Code.Part.{row_of, literal_part, symbols_of, symbol_at}
 use Rattle.matching.specs.Code.Step.{found}
 use Rattle.searches.specs.Code.Asked.{some_holds, resume}
-use Rattle.matching.proofs.CutLaws.{from_all, from_length, from_from}
+use Rattle.matching.proofs.CutLaws.{from_length}
 use Rattle.searches.proofs.LiteralSearch.{literal_search}
 
 -- a term before the runs inside and after it: a symbol is literal, brackets are if their contents are
@@ -139,70 +141,77 @@ other_literal (suc (suc (suc (suc (suc (suc zero)))))) a b inside after h n = ab
 other_literal (suc (suc (suc (suc (suc (suc (suc zero))))))) a b inside after h n = refl
 other_literal (suc (suc (suc (suc (suc (suc (suc (suc k)))))))) a b inside after h n = refl
 
--- by its kind; e is where the contents end
-module _ (part : List ℕ) (some : 24 ≤ length part) {kind e : ℕ} (told : kind ≡ word_at part 0) (ends : e ≡ end_of part) where
-  abbrev inside_literal : Bool
-  inside_literal = literal_part (take (e - 24) (drop 24 part))
+-- ---- what `is_literal` goes over: each term, with what the part has behind it
 
-  abbrev rest_literal : Bool
-  rest_literal = literal_part (from e part)
+unfoldable pub parts_literal : List (List ℕ) → Bool
+parts_literal [] = true
+parts_literal (s ∷ ss) = literal_term (term_at s 0) (literal_part (contents 24 end_of s)) (parts_literal ss)
 
-  by_kind : literal_part part ≡ literal_term (term_from kind (word_at part 4) (word_at part 8)) inside_literal rest_literal
-  unfolding term_at
-  by_kind = rw (told, ends) (literal_node part some)
+-- the part is literal exactly when they are
+pub literal_parts : (part : List ℕ) → literal_part part ≡ parts_literal (term_parts part)
+unfolding parts_literal
+literal_parts =
+    each_part (λ part. literal_part part ≡ parts_literal (term_parts part))
+    (λ part short. rw (literal_none part short, parts_none part short))
+    (λ part long after. rw (literal_node part long, parts_node part long) (ap (literal_term (term_at part 0) (literal_part (contents 24 end_of part))) after))
 
-  -- a symbol
-  literal_symbol : kind ≤ 2 → literal_part part ≡ rest_literal
-  literal_symbol h = by_kind ∙ symbol_literal kind (word_at part 4) (word_at part 8) inside_literal rest_literal h
+-- none of them is longer
+abbrev pub NoLonger : ℕ → List (List ℕ) → Type 0
+NoLonger n [] = Unit {0}
+NoLonger n (s ∷ ss) = (length s ≤ n) × NoLonger n ss
 
-  -- a bracket
-  literal_bracket : kind ≡ 6 → literal_part part ≡ (inside_literal && rest_literal)
-  unfolding term_from
-  literal_bracket h = by_kind ∙ rw h
+no_longer : (n : ℕ) (part : List ℕ) → length part ≤ n → NoLonger n (term_parts part)
+no_longer n =
+    each_part (λ part. length part ≤ n → NoLonger n (term_parts part))
+    (λ part short h. rw (parts_none part short) tt)
+    (λ part long after h. rw (parts_node part long) (h, after (omega (arith, from_length (end_of part) part))))
 
-  -- a variable, a call or a block
-  literal_other : 2 < kind → (kind ≡ 6 → ⊥) → literal_part part ≡ false
-  literal_other h n = by_kind ∙ other_literal kind (word_at part 4) (word_at part 8) inside_literal rest_literal h n
+-- some terms are gone through, and these are left
+pub record LeftOf (part left : List ℕ) : Type 0 where
+  pub same : literal_part part ≡ parts_literal (term_parts left)
+  pub short : NoLonger (length part) (term_parts left)
 
--- ---- what `is_literal` has gone through: what is left is literal exactly when the part is
+pub left_all : (part : List ℕ) → LeftOf part part
+left_all part = record { same = literal_parts part; short = no_longer (length part) part (omega arith) }
 
-pub record SoFar (part : List ℕ) (i : ℕ) : Type 0 where
-  pub within : i ≤ length part
-  pub left : literal_part part ≡ literal_part (from i part)
+-- nothing is left
+pub literal_all : {part left : List ℕ} → LeftOf part left → term_parts left ≡ [] → true ≡ literal_part part
+unfolding parts_literal
+literal_all so_far none = sym (so_far.same ∙ ap parts_literal none)
 
-pub literal_begun : (part : List ℕ) → SoFar part 0
-literal_begun part = record { within = omega arith; left = rw (from_all part) }
+-- a term, with what is behind it; e is where its contents end
+module _ {part left : List ℕ} (so_far : LeftOf part left) (term after : List ℕ) (here : term_parts left ≡ term ∷ term_parts after) where
+  pub term_short : length term ≤ length part
+  term_short = (rw here at so_far.short).0
 
-module _ {part : List ℕ} {i : ℕ} (so_far : SoFar part i) where
-  -- nothing is left
-  pub literal_all : length (from i part) < 24 → true ≡ literal_part part
-  literal_all h = sym (so_far.left ∙ literal_none (from i part) h)
+  module _ {kind e : ℕ} (told : kind ≡ word_at term 0) (ends : e ≡ end_of term) where
+    by_kind : literal_part part
+        ≡ literal_term (term_from kind (word_at term 4) (word_at term 8)) (literal_part (take (e - 24) (drop 24 term))) (parts_literal (term_parts after))
+    unfolding parts_literal term_at
+    by_kind = rw (told, ends) (so_far.same ∙ ap parts_literal here)
 
-  module _ (some : 24 ≤ length (from i part)) {kind e : ℕ} (told : kind ≡ word_at (from i part) 0) (ends : e ≡ end_of (from i part)) where
-    go_on : literal_part (from i part) ≡ literal_part (from e (from i part)) → SoFar part (i + e)
-    go_on same = record {
-      within = omega (arith, from_length i part, so_far.within, end_high (from i part));
-      left = so_far.left ∙ same ∙ ap literal_part (from_from e i part);
-    }
+    go_on : literal_part part ≡ parts_literal (term_parts after) → LeftOf part after
+    go_on same = record { same = same; short = (rw here at so_far.short).1 }
 
     -- a symbol
-    pub after_symbol : kind ≤ 2 → SoFar part (i + e)
-    after_symbol h = go_on (literal_symbol (from i part) some told ends h)
+    pub after_symbol : kind ≤ 2 → LeftOf part after
+    after_symbol h = go_on (by_kind ∙ symbol_literal kind (word_at term 4) (word_at term 8) _ _ h)
 
     -- a variable, a call or a block
     pub literal_no : 2 < kind → (kind ≡ 6 → ⊥) → false ≡ literal_part part
-    literal_no h n = sym (so_far.left ∙ literal_other (from i part) some told ends h n)
+    literal_no h n = sym (by_kind ∙ other_literal kind (word_at term 4) (word_at term 8) _ _ h n)
 
-    module _ (bracket : kind ≡ 6) {t : Bool} (inside : t ≡ literal_part (take (e - 24) (drop 24 (from i part)))) where
-      by_inside : literal_part (from i part) ≡ (t && literal_part (from e (from i part)))
-      by_inside = rw inside (literal_bracket (from i part) some told ends bracket)
+    module _ (bracket : kind ≡ 6) {t : Bool} (inside : t ≡ literal_part (take (e - 24) (drop 24 term))) where
+      by_inside : literal_part part ≡ (t && parts_literal (term_parts after))
+      unfolding term_from
+      by_inside = rw inside (by_kind ∙ rw bracket)
 
       -- a bracket whose contents are not literal
       pub inside_no : t ≡ false → false ≡ literal_part part
-      inside_no h = sym (so_far.left ∙ by_inside ∙ rw h)
+      inside_no h = sym (by_inside ∙ rw h)
 
       -- one whose contents are
-      pub after_bracket : t ≡ true → SoFar part (i + e)
+      pub after_bracket : t ≡ true → LeftOf part after
       after_bracket h = go_on (by_inside ∙ rw h)
 
 -- ---- matching

@@ -19,8 +19,9 @@ use crate::failed::{Rest, Rests};
 use crate::repeats::{Sure, closed, stands_apart};
 use file::word_at;
 use law::runs::end_of;
+use law::whole::Terms;
 use matching::front::known_front;
-use matching::{Bindings, Known, Stop};
+use matching::{Bindings, Known, Records, Stop};
 
 // `failed` is what is remembered, where `sure.here`: of rests and then all that is around them, whose variables have the values of the fixed places of `sure`, or none.
 
@@ -68,23 +69,16 @@ impl Pending {
 }
 
 // Has no variable of the levels around a value in the places from `sure` on? The levels begin at `at`; each begins where the one before it ends.
-fn closed_around(
-    text: &[u8],
-    terms: &[u8],
-    outer: &Pending,
-    at: usize,
-    b: &Bindings,
-    sure: usize,
-) -> bool
-    requires { (sure ≤ b.now.count) × (b.now.count ≤ 32) × (length b.now.places ≡ 32) × ((i : ℕ) → i < b.now.count → (place_at b.now.places i).key + 24 ≤ length terms.now) × ((start : ℕ) × Around text.now terms.now outer.now at start) }
-    ensures { result ≡ true → Kept text.now terms.now b.now → (start : ℕ) (vs : Values Atom)
-        → Agree (coming_in (levels_of text.now terms.now outer.now at start)) (values_up_to text.now terms.now b.now.places sure) vs
-        → Agree (coming_in (levels_of text.now terms.now outer.now at start)) (values_of text.now terms.now b.now) vs }
+fn closed_around(records: &Records, outer: &Pending, at: usize, b: &Bindings, sure: usize) -> bool
+    requires { (sure ≤ b.now.count) × (b.now.count ≤ 32) × (length b.now.places ≡ 32) × ((i : ℕ) → i < b.now.count → (place_at b.now.places i).key + 24 ≤ length records.now.terms.now) × ((start : ℕ) × Around records.now.text.now records.now.terms.now outer.now at start) }
+    ensures { result ≡ true → Kept records.now.text.now records.now.terms.now b.now → (start : ℕ) (vs : Values Atom)
+        → Agree (coming_in (levels_of records.now.text.now records.now.terms.now outer.now at start)) (values_up_to records.now.text.now records.now.terms.now b.now.places sure) vs
+        → Agree (coming_in (levels_of records.now.text.now records.now.terms.now outer.now at start)) (values_of records.now.text.now records.now.terms.now b.now) vs }
 {
     let mut from = at;
     for n in (0..outer.count).rev() {
         let end = usize::from(outer.levels[n].pattern_end);
-        if !closed(text, terms, &terms[from..end], b, sure) {
+        if !closed(records, &records.terms[from..end], b, sure) {
             return false;
         }
         from = end;
@@ -95,39 +89,37 @@ fn closed_around(
 // Is what is remembered of the levels around here, and have their variables and those of the pattern the values of the fixed places, or none? The levels begin at
 // `end`.
 fn holds_here(
-    text: &[u8],
-    terms: &[u8],
+    records: &Records,
     pattern: &[u8],
     outer: &Pending,
     end: usize,
     b: &Bindings,
     sure: Sure,
 ) -> bool
-    requires { (sure.places ≤ b.now.count) × (b.now.count ≤ 32) × (length b.now.places ≡ 32) × ((i : ℕ) → i < b.now.count → (place_at b.now.places i).key + 24 ≤ length terms.now) × ((start : ℕ) × Around text.now terms.now outer.now end start) }
-    ensures { result ≡ true → (sure.here ≡ true) × (Kept text.now terms.now b.now → (start : ℕ) (vs : Values Atom)
-        → Agree (variables_in (row_of text.now pattern.now) ++ coming_in (levels_of text.now terms.now outer.now end start)) (values_up_to text.now terms.now b.now.places sure.places) vs
-        → Agree (variables_in (row_of text.now pattern.now) ++ coming_in (levels_of text.now terms.now outer.now end start)) (values_of text.now terms.now b.now) vs) }
+    requires { (sure.places ≤ b.now.count) × (b.now.count ≤ 32) × (length b.now.places ≡ 32) × ((i : ℕ) → i < b.now.count → (place_at b.now.places i).key + 24 ≤ length records.now.terms.now) × ((start : ℕ) × Around records.now.text.now records.now.terms.now outer.now end start) }
+    ensures { result ≡ true → (sure.here ≡ true) × (Kept records.now.text.now records.now.terms.now b.now → (start : ℕ) (vs : Values Atom)
+        → Agree (variables_in (row_of records.now.text.now pattern.now) ++ coming_in (levels_of records.now.text.now records.now.terms.now outer.now end start)) (values_up_to records.now.text.now records.now.terms.now b.now.places sure.places) vs
+        → Agree (variables_in (row_of records.now.text.now pattern.now) ++ coming_in (levels_of records.now.text.now records.now.terms.now outer.now end start)) (values_of records.now.text.now records.now.terms.now b.now) vs) }
 {
     let places = sure.places;
     sure.here
-        && closed_around(text, terms, outer, end, b, places)
-        && closed(text, terms, pattern, b, places)
+        && closed_around(records, outer, end, b, places)
+        && closed(records, pattern, b, places)
 }
 
 // Everything that is left at this level is matched: the next level out, or all. What is remembered is of other levels.
 #[cycle(literal)]
 fn literal_out(
-    text: &[u8],
-    terms: &[u8],
+    records: &Records,
     at: usize,
     start: usize,
     outer: &Pending,
     b: Bindings,
     failed: &mut Rests,
 ) -> bool
-    requires terms_len_bound { (length terms.now < 65536) × Around text.now terms.now outer.now at start × Kept text.now terms.now b }
-    requires capacity { Capacity (coming_in (levels_of text.now terms.now outer.now at start)) (values_of text.now terms.now b) }
-    ensures { (result ≡ resume (levels_of text.now terms.now outer.now at start) (values_of text.now terms.now b)) × (failed.new.places ≡ failed.old.places) }
+    requires terms_len_bound { (length records.now.terms.now < 65536) × Around records.now.text.now records.now.terms.now outer.now at start × Kept records.now.text.now records.now.terms.now b }
+    requires capacity { Capacity (coming_in (levels_of records.now.text.now records.now.terms.now outer.now at start)) (values_of records.now.text.now records.now.terms.now b) }
+    ensures { (result ≡ resume (levels_of records.now.text.now records.now.terms.now outer.now at start) (values_of records.now.text.now records.now.terms.now b)) × (failed.new.places ≡ failed.old.places) }
 {
     if outer.count == 0 {
         return true;
@@ -136,18 +128,17 @@ fn literal_out(
     let mut out = *outer;
     out.count = top;
     let level = outer.levels[top];
-    let pattern = &terms[at..usize::from(level.pattern_end)];
-    let row = &terms[start..usize::from(level.row_end)];
+    let pattern = &records.terms[at..usize::from(level.pattern_end)];
+    let row = &records.terms[start..usize::from(level.row_end)];
     let sure = Sure::none();
-    literal_run(text, terms, pattern, at, row, start, &out, b, sure, failed)
+    literal_run(records, pattern, at, row, start, &out, b, sure, failed)
 }
 
 // The same, unless it is remembered that all that is around has no match. A rest from 1 to 0 stands for this. It has the position of the pattern's end in place of a
 // row's, so that no rest of the row takes its place.
 #[cycle(literal)]
 fn literal_end(
-    text: &[u8],
-    terms: &[u8],
+    records: &Records,
     at: usize,
     start: usize,
     outer: &Pending,
@@ -155,21 +146,21 @@ fn literal_end(
     sure: Sure,
     failed: &mut Rests,
 ) -> bool
-    requires terms_len_bound { (length terms.now < 65536) × Around text.now terms.now outer.now at start × Kept text.now terms.now b × (at ≤ length terms.now) }
-    requires capacity { Capacity (coming_in (levels_of text.now terms.now outer.now at start)) (values_of text.now terms.now b) }
-    requires settled { Settled text.now terms.now (coming_in (levels_of text.now terms.now outer.now at start)) b sure × (sure.here ≡ true → RemembersAround text.now terms.now (levels_of text.now terms.now outer.now at start) b sure failed.old.places) }
-    ensures { (result ≡ resume (levels_of text.now terms.now outer.now at start) (values_of text.now terms.now b))
-        × Remembered text.now terms.now (levels_of text.now terms.now outer.now at start) b sure failed.old.places failed.new.places }
+    requires terms_len_bound { (length records.now.terms.now < 65536) × Around records.now.text.now records.now.terms.now outer.now at start × Kept records.now.text.now records.now.terms.now b × (at ≤ length records.now.terms.now) }
+    requires capacity { Capacity (coming_in (levels_of records.now.text.now records.now.terms.now outer.now at start)) (values_of records.now.text.now records.now.terms.now b) }
+    requires settled { Settled records.now.text.now records.now.terms.now (coming_in (levels_of records.now.text.now records.now.terms.now outer.now at start)) b sure × (sure.here ≡ true → RemembersAround records.now.text.now records.now.terms.now (levels_of records.now.text.now records.now.terms.now outer.now at start) b sure failed.old.places) }
+    ensures { (result ≡ resume (levels_of records.now.text.now records.now.terms.now outer.now at start) (values_of records.now.text.now records.now.terms.now b))
+        × Remembered records.now.text.now records.now.terms.now (levels_of records.now.text.now records.now.terms.now outer.now at start) b sure failed.old.places failed.new.places }
 {
-    let nothing = &terms[at..at];
-    if !holds_here(text, terms, nothing, outer, at, &b, sure) {
-        return literal_out(text, terms, at, start, outer, b, failed);
+    let nothing = &records.terms[at..at];
+    if !holds_here(records, nothing, outer, at, &b, sure) {
+        return literal_out(records, at, start, outer, b, failed);
     }
     let rests = Rest::new(1, 0, at, at);
     if failed.has(rests) {
         return false;
     }
-    let found = literal_out(text, terms, at, start, outer, b, failed);
+    let found = literal_out(records, at, start, outer, b, failed);
     if !found {
         failed.note(rests);
     }
@@ -179,8 +170,7 @@ fn literal_end(
 // An e. variable without a value, then the rest of the pattern: every length in turn.
 #[cycle(literal)]
 fn literal_lengths(
-    text: &[u8],
-    terms: &[u8],
+    records: &Records,
     pattern: &[u8],
     at: usize,
     row: &[u8],
@@ -190,11 +180,11 @@ fn literal_lengths(
     sure: Sure,
     failed: &mut Rests,
 ) -> bool
-    requires literal_asked { LiteralAsked text.now terms.now pattern.now at row.now start outer.now b × (24 ≤ length pattern.now) × Remembering text.now terms.now pattern.now (levels_of text.now terms.now outer.now (at + length pattern.now) (start + length row.now)) b sure failed.old.places }
-    requires free { Free (row_of text.now pattern.now) (first_variable text.now pattern.now) (values_of text.now terms.now b) }
-    ensures { (result ≡ some_holds (resume (levels_of text.now terms.now outer.now (at + length pattern.now) (start + length row.now)))
-        (each_length text.now true pattern.now row.now (values_of text.now terms.now b)))
-        × Remembered text.now terms.now (levels_of text.now terms.now outer.now (at + length pattern.now) (start + length row.now)) b sure failed.old.places failed.new.places }
+    requires literal_asked { LiteralAsked records.now.text.now records.now.terms.now pattern.now at row.now start outer.now b × (24 ≤ length pattern.now) × Remembering records.now.text.now records.now.terms.now pattern.now (levels_of records.now.text.now records.now.terms.now outer.now (at + length pattern.now) (start + length row.now)) b sure failed.old.places }
+    requires free { Free (row_of records.now.text.now pattern.now) (first_variable records.now.text.now pattern.now) (values_of records.now.text.now records.now.terms.now b) }
+    ensures { (result ≡ some_holds (resume (levels_of records.now.text.now records.now.terms.now outer.now (at + length pattern.now) (start + length row.now)))
+        (each_length records.now.text.now true pattern.now row.now (values_of records.now.text.now records.now.terms.now b)))
+        × Remembered records.now.text.now records.now.terms.now (levels_of records.now.text.now records.now.terms.now outer.now (at + length pattern.now) (start + length row.now)) b sure failed.old.places failed.new.places }
 {
     let end = end_of(pattern);
     let rest = &pattern[end..];
@@ -204,7 +194,7 @@ fn literal_lengths(
         let left = &row[n..];
         let more = b.bind(at, start, n);
         let j = start + n;
-        if literal_run(text, terms, rest, next, left, j, outer, more, sure, failed) {
+        if literal_run(records, rest, next, left, j, outer, more, sure, failed) {
             break true;
         }
         if left.len() < 24 {
@@ -218,8 +208,7 @@ fn literal_lengths(
 #[inline(never)]
 #[cycle(literal)]
 fn literal_anew(
-    text: &[u8],
-    terms: &[u8],
+    records: &Records,
     pattern: &[u8],
     at: usize,
     row: &[u8],
@@ -227,35 +216,23 @@ fn literal_anew(
     outer: &Pending,
     b: Bindings,
 ) -> bool
-    requires literal_asked { LiteralAsked text.now terms.now pattern.now at row.now start outer.now b × (24 ≤ length pattern.now) }
-    requires free { Free (row_of text.now pattern.now) (first_variable text.now pattern.now) (values_of text.now terms.now b) }
-    ensures { result ≡ some_holds (resume (levels_of text.now terms.now outer.now (at + length pattern.now) (start + length row.now)))
-        (each_length text.now true pattern.now row.now (values_of text.now terms.now b)) }
+    requires literal_asked { LiteralAsked records.now.text.now records.now.terms.now pattern.now at row.now start outer.now b × (24 ≤ length pattern.now) }
+    requires free { Free (row_of records.now.text.now pattern.now) (first_variable records.now.text.now pattern.now) (values_of records.now.text.now records.now.terms.now b) }
+    ensures { result ≡ some_holds (resume (levels_of records.now.text.now records.now.terms.now outer.now (at + length pattern.now) (start + length row.now)))
+        (each_length records.now.text.now true pattern.now row.now (values_of records.now.text.now records.now.terms.now b)) }
 {
     let mut failed = Rests {
         places: [Rest::NONE; 512],
     };
     let all = Sure::fixed(b.count);
-    literal_lengths(
-        text,
-        terms,
-        pattern,
-        at,
-        row,
-        start,
-        outer,
-        b,
-        all,
-        &mut failed,
-    )
+    literal_lengths(records, pattern, at, row, start, outer, b, all, &mut failed)
 }
 
 // The same, unless it is remembered that there is no match: where the variables of the pattern and of the levels around have the values of the fixed places, or none,
 // this does not depend on the others.
 #[cycle(literal)]
 fn literal_tries(
-    text: &[u8],
-    terms: &[u8],
+    records: &Records,
     pattern: &[u8],
     at: usize,
     row: &[u8],
@@ -265,16 +242,16 @@ fn literal_tries(
     sure: Sure,
     failed: &mut Rests,
 ) -> bool
-    requires literal_asked { LiteralAsked text.now terms.now pattern.now at row.now start outer.now b × (24 ≤ length pattern.now) × Remembering text.now terms.now pattern.now (levels_of text.now terms.now outer.now (at + length pattern.now) (start + length row.now)) b sure failed.old.places }
-    requires free { Free (row_of text.now pattern.now) (first_variable text.now pattern.now) (values_of text.now terms.now b) }
-    requires tries_all { TriesAll text.now pattern.now row.now (values_of text.now terms.now b) }
-    ensures { (result ≡ some_holds (resume (levels_of text.now terms.now outer.now (at + length pattern.now) (start + length row.now)))
-        (each_length text.now true pattern.now row.now (values_of text.now terms.now b)))
-        × Remembered text.now terms.now (levels_of text.now terms.now outer.now (at + length pattern.now) (start + length row.now)) b sure failed.old.places failed.new.places }
+    requires literal_asked { LiteralAsked records.now.text.now records.now.terms.now pattern.now at row.now start outer.now b × (24 ≤ length pattern.now) × Remembering records.now.text.now records.now.terms.now pattern.now (levels_of records.now.text.now records.now.terms.now outer.now (at + length pattern.now) (start + length row.now)) b sure failed.old.places }
+    requires free { Free (row_of records.now.text.now pattern.now) (first_variable records.now.text.now pattern.now) (values_of records.now.text.now records.now.terms.now b) }
+    requires tries_all { TriesAll records.now.text.now pattern.now row.now (values_of records.now.text.now records.now.terms.now b) }
+    ensures { (result ≡ some_holds (resume (levels_of records.now.text.now records.now.terms.now outer.now (at + length pattern.now) (start + length row.now)))
+        (each_length records.now.text.now true pattern.now row.now (values_of records.now.text.now records.now.terms.now b)))
+        × Remembered records.now.text.now records.now.terms.now (levels_of records.now.text.now records.now.terms.now outer.now (at + length pattern.now) (start + length row.now)) b sure failed.old.places failed.new.places }
 {
     let end = at + pattern.len();
-    if !holds_here(text, terms, pattern, outer, end, &b, sure) {
-        return literal_anew(text, terms, pattern, at, row, start, outer, b);
+    if !holds_here(records, pattern, outer, end, &b, sure) {
+        return literal_anew(records, pattern, at, row, start, outer, b);
     }
     let rests = Rest::new(at, end, start, start + row.len());
     if failed.has(rests) {
@@ -285,7 +262,7 @@ fn literal_tries(
         here: true,
         ..sure
     };
-    let found = literal_lengths(text, terms, pattern, at, row, start, outer, b, all, failed);
+    let found = literal_lengths(records, pattern, at, row, start, outer, b, all, failed);
     if !found {
         failed.note(rests);
     }
@@ -295,8 +272,7 @@ fn literal_tries(
 // A bracket against a bracket: the contents, and then what is around them. What is remembered is of other levels.
 #[cycle(literal)]
 fn literal_inside(
-    text: &[u8],
-    terms: &[u8],
+    records: &Records,
     pattern: &[u8],
     at: usize,
     row: &[u8],
@@ -305,9 +281,9 @@ fn literal_inside(
     b: Bindings,
     failed: &mut Rests,
 ) -> bool
-    requires { LiteralAsked text.now terms.now pattern.now at row.now start outer.now b × (24 ≤ length pattern.now) × Facing (row_of text.now pattern.now) row.now }
-    ensures { (result ≡ some_holds (resume (levels_of text.now terms.now outer.now (at + length pattern.now) (start + length row.now)))
-        (each_inside text.now true pattern.now row.now (values_of text.now terms.now b)))
+    requires { LiteralAsked records.now.text.now records.now.terms.now pattern.now at row.now start outer.now b × (24 ≤ length pattern.now) × Facing (row_of records.now.text.now pattern.now) row.now }
+    ensures { (result ≡ some_holds (resume (levels_of records.now.text.now records.now.terms.now outer.now (at + length pattern.now) (start + length row.now)))
+        (each_inside records.now.text.now true pattern.now row.now (values_of records.now.text.now records.now.terms.now b)))
         × (failed.new.places ≡ failed.old.places) }
 {
     let m = end_of(pattern);
@@ -318,17 +294,14 @@ fn literal_inside(
     let i = at + 24;
     let j = start + 24;
     let sure = Sure::none();
-    literal_run(
-        text, terms, contents, i, inside, j, &around, b, sure, failed,
-    )
+    literal_run(records, contents, i, inside, j, &around, b, sure, failed)
 }
 
 // A bracket against a bracket, with nothing around and no variable in common with the rest: one match of the contents is as good as another, so that contents and
 // rest are asked for by themselves, and nothing is gone back into.
 #[cycle(literal)]
 fn literal_apart(
-    text: &[u8],
-    terms: &[u8],
+    records: &Records,
     pattern: &[u8],
     at: usize,
     row: &[u8],
@@ -338,11 +311,11 @@ fn literal_apart(
     sure: Sure,
     failed: &mut Rests,
 ) -> bool
-    requires literal_asked { LiteralAsked text.now terms.now pattern.now at row.now start outer.now b × (24 ≤ length pattern.now) × Facing (row_of text.now pattern.now) row.now × Remembering text.now terms.now pattern.now (levels_of text.now terms.now outer.now (at + length pattern.now) (start + length row.now)) b sure failed.old.places }
-    requires count_value { (outer.now.count ≡ 0) × Disjoint (variables_in (row_of text.now (contents 24 end_of pattern.now))) (variables_in (row_of text.now (rest 24 end_of pattern.now))) }
-    ensures { (result ≡ some_holds (resume (levels_of text.now terms.now outer.now (at + length pattern.now) (start + length row.now)))
-        (each_inside text.now true pattern.now row.now (values_of text.now terms.now b)))
-        × Remembered text.now terms.now (levels_of text.now terms.now outer.now (at + length pattern.now) (start + length row.now)) b sure failed.old.places failed.new.places }
+    requires literal_asked { LiteralAsked records.now.text.now records.now.terms.now pattern.now at row.now start outer.now b × (24 ≤ length pattern.now) × Facing (row_of records.now.text.now pattern.now) row.now × Remembering records.now.text.now records.now.terms.now pattern.now (levels_of records.now.text.now records.now.terms.now outer.now (at + length pattern.now) (start + length row.now)) b sure failed.old.places }
+    requires count_value { (outer.now.count ≡ 0) × Disjoint (variables_in (row_of records.now.text.now (contents 24 end_of pattern.now))) (variables_in (row_of records.now.text.now (rest 24 end_of pattern.now))) }
+    ensures { (result ≡ some_holds (resume (levels_of records.now.text.now records.now.terms.now outer.now (at + length pattern.now) (start + length row.now)))
+        (each_inside records.now.text.now true pattern.now row.now (values_of records.now.text.now records.now.terms.now b)))
+        × Remembered records.now.text.now records.now.terms.now (levels_of records.now.text.now records.now.terms.now outer.now (at + length pattern.now) (start + length row.now)) b sure failed.old.places failed.new.places }
 {
     let m = end_of(pattern);
     let n = end_of(row);
@@ -350,21 +323,20 @@ fn literal_apart(
     let inside = &row[24..n];
     let i = at + 24;
     let j = start + 24;
-    if !literal_run(text, terms, contents, i, inside, j, outer, b, sure, failed) {
+    if !literal_run(records, contents, i, inside, j, outer, b, sure, failed) {
         return false;
     }
     let rest = &pattern[m..];
     let left = &row[n..];
     let next = at + m;
     let j = start + n;
-    literal_run(text, terms, rest, next, left, j, outer, b, sure, failed)
+    literal_run(records, rest, next, left, j, outer, b, sure, failed)
 }
 
 // A bracket against a bracket.
 #[cycle(literal)]
 fn literal_bracket(
-    text: &[u8],
-    terms: &[u8],
+    records: &Records,
     pattern: &[u8],
     at: usize,
     row: &[u8],
@@ -374,24 +346,23 @@ fn literal_bracket(
     sure: Sure,
     failed: &mut Rests,
 ) -> bool
-    requires { LiteralAsked text.now terms.now pattern.now at row.now start outer.now b × (24 ≤ length pattern.now) × Facing (row_of text.now pattern.now) row.now × Remembering text.now terms.now pattern.now (levels_of text.now terms.now outer.now (at + length pattern.now) (start + length row.now)) b sure failed.old.places }
-    ensures { (result ≡ some_holds (resume (levels_of text.now terms.now outer.now (at + length pattern.now) (start + length row.now)))
-        (each_inside text.now true pattern.now row.now (values_of text.now terms.now b)))
-        × Remembered text.now terms.now (levels_of text.now terms.now outer.now (at + length pattern.now) (start + length row.now)) b sure failed.old.places failed.new.places }
+    requires { LiteralAsked records.now.text.now records.now.terms.now pattern.now at row.now start outer.now b × (24 ≤ length pattern.now) × Facing (row_of records.now.text.now pattern.now) row.now × Remembering records.now.text.now records.now.terms.now pattern.now (levels_of records.now.text.now records.now.terms.now outer.now (at + length pattern.now) (start + length row.now)) b sure failed.old.places }
+    ensures { (result ≡ some_holds (resume (levels_of records.now.text.now records.now.terms.now outer.now (at + length pattern.now) (start + length row.now)))
+        (each_inside records.now.text.now true pattern.now row.now (values_of records.now.text.now records.now.terms.now b)))
+        × Remembered records.now.text.now records.now.terms.now (levels_of records.now.text.now records.now.terms.now outer.now (at + length pattern.now) (start + length row.now)) b sure failed.old.places failed.new.places }
 {
     let m = end_of(pattern);
     let contents = &pattern[24..m];
-    if stands_apart(text, contents, &pattern[m..], outer.count) {
-        return literal_apart(text, terms, pattern, at, row, start, outer, b, sure, failed);
+    if stands_apart(records.text, contents, &pattern[m..], outer.count) {
+        return literal_apart(records, pattern, at, row, start, outer, b, sure, failed);
     }
-    literal_inside(text, terms, pattern, at, row, start, outer, b, failed)
+    literal_inside(records, pattern, at, row, start, outer, b, failed)
 }
 
 // Is there a match of a pattern with a row, and then of all that is around them? By what the pattern's first record leaves to do.
 #[cycle(literal)]
 fn literal_first(
-    text: &[u8],
-    terms: &[u8],
+    records: &Records,
     pattern: &[u8],
     at: usize,
     row: &[u8],
@@ -402,11 +373,11 @@ fn literal_first(
     failed: &mut Rests,
     stop: Stop,
 ) -> bool
-    requires literal_asked { LiteralAsked text.now terms.now pattern.now at row.now start outer.now b × Remembering text.now terms.now pattern.now (levels_of text.now terms.now outer.now (at + length pattern.now) (start + length row.now)) b sure failed.old.places }
-    requires stopped { Stopped text.now pattern.now row.now (values_of text.now terms.now b) stop }
-    ensures { (result ≡ some_holds (resume (levels_of text.now terms.now outer.now (at + length pattern.now) (start + length row.now)))
-        (found true (row_of text.now pattern.now) (row_of text.now row.now) (values_of text.now terms.now b)))
-        × Remembered text.now terms.now (levels_of text.now terms.now outer.now (at + length pattern.now) (start + length row.now)) b sure failed.old.places failed.new.places }
+    requires literal_asked { LiteralAsked records.now.text.now records.now.terms.now pattern.now at row.now start outer.now b × Remembering records.now.text.now records.now.terms.now pattern.now (levels_of records.now.text.now records.now.terms.now outer.now (at + length pattern.now) (start + length row.now)) b sure failed.old.places }
+    requires stopped { Stopped records.now.text.now pattern.now row.now (values_of records.now.text.now records.now.terms.now b) stop }
+    ensures { (result ≡ some_holds (resume (levels_of records.now.text.now records.now.terms.now outer.now (at + length pattern.now) (start + length row.now)))
+        (found true (row_of records.now.text.now pattern.now) (row_of records.now.text.now row.now) (values_of records.now.text.now records.now.terms.now b)))
+        × Remembered records.now.text.now records.now.terms.now (levels_of records.now.text.now records.now.terms.now outer.now (at + length pattern.now) (start + length row.now)) b sure failed.old.places failed.new.places }
 {
     match stop {
         Stop::Binds(n) => {
@@ -416,13 +387,11 @@ fn literal_first(
             let next = at + end;
             let more = b.bind(at, start, n);
             let j = start + n;
-            literal_run(text, terms, rest, next, left, j, outer, more, sure, failed)
+            literal_run(records, rest, next, left, j, outer, more, sure, failed)
         }
-        Stop::Tries => {
-            literal_tries(text, terms, pattern, at, row, start, outer, b, sure, failed)
-        }
+        Stop::Tries => { literal_tries(records, pattern, at, row, start, outer, b, sure, failed) }
         Stop::Inside => {
-            literal_bracket(text, terms, pattern, at, row, start, outer, b, sure, failed)
+            literal_bracket(records, pattern, at, row, start, outer, b, sure, failed)
         }
     }
 }
@@ -430,8 +399,7 @@ fn literal_first(
 // Is there a match of a pattern with a row, and then of all that is around them?
 #[cycle(literal)]
 fn literal_run(
-    text: &[u8],
-    terms: &[u8],
+    records: &Records,
     pattern: &[u8],
     at: usize,
     row: &[u8],
@@ -441,45 +409,39 @@ fn literal_run(
     sure: Sure,
     failed: &mut Rests,
 ) -> bool
-    requires { LiteralAsked text.now terms.now pattern.now at row.now start outer.now b × Remembering text.now terms.now pattern.now (levels_of text.now terms.now outer.now (at + length pattern.now) (start + length row.now)) b sure failed.old.places }
-    ensures { (result ≡ some_holds (resume (levels_of text.now terms.now outer.now (at + length pattern.now) (start + length row.now)))
-        (found true (row_of text.now pattern.now) (row_of text.now row.now) (values_of text.now terms.now b)))
-        × Remembered text.now terms.now (levels_of text.now terms.now outer.now (at + length pattern.now) (start + length row.now)) b sure failed.old.places failed.new.places }
+    requires { LiteralAsked records.now.text.now records.now.terms.now pattern.now at row.now start outer.now b × Remembering records.now.text.now records.now.terms.now pattern.now (levels_of records.now.text.now records.now.terms.now outer.now (at + length pattern.now) (start + length row.now)) b sure failed.old.places }
+    ensures { (result ≡ some_holds (resume (levels_of records.now.text.now records.now.terms.now outer.now (at + length pattern.now) (start + length row.now)))
+        (found true (row_of records.now.text.now pattern.now) (row_of records.now.text.now row.now) (values_of records.now.text.now records.now.terms.now b)))
+        × Remembered records.now.text.now records.now.terms.now (levels_of records.now.text.now records.now.terms.now outer.now (at + length pattern.now) (start + length row.now)) b sure failed.old.places failed.new.places }
 {
-    match known_front(text, terms, pattern, row, &b) {
+    match known_front(records, pattern, row, &b) {
         Known::Fails => false,
         Known::End(_, n) => {
             let next = at + pattern.len();
             let end = start + row.len();
-            row[n..].len() < 24 && literal_end(text, terms, next, end, outer, b, sure, failed)
+            row[n..].len() < 24 && literal_end(records, next, end, outer, b, sure, failed)
         }
         Known::Stops(m, n, stop) => {
             let rest = &pattern[m..];
             let left = &row[n..];
             let i = at + m;
             let j = start + n;
-            literal_first(text, terms, rest, i, left, j, outer, b, sure, failed, stop)
+            literal_first(records, rest, i, left, j, outer, b, sure, failed, stop)
         }
     }
 }
 
-// Has a part no variable, call or block at any depth? Each step is a term long.
+// Has a part no variable, call or block at any depth?
 pub fn is_literal(part: &[u8]) -> bool
     ensures { result ≡ literal_part part.now }
 {
-    let mut i = 0;
-    loop {
-        let rest = &part[i..];
-        if rest.len() < 24 {
-            break true;
+    for term in Terms(part) {
+        let kind = word_at(term, 0);
+        if 2 < kind && (kind != 6 || !is_literal(&term[24..end_of(term)])) {
+            return false;
         }
-        let kind = word_at(rest, 0);
-        let end = end_of(rest);
-        if 2 < kind && (kind != 6 || !is_literal(&rest[24..end])) {
-            break false;
-        }
-        i += end;
     }
+    true
 }
 
 // Does a pattern match a literal part? The search from no values, with nothing around.
@@ -496,14 +458,14 @@ pub fn search_literal(
     requires pattern_bound { (distinct (variables_in (row_of text.now pattern.now)) ≤ 32) × (nesting (row_of text.now pattern.now) ≤ 33) × (literal_part row.now ≡ true) }
     ensures { result ≡ literal_matches (row_of text.now pattern.now) (symbols_of text.now row.now) }
 {
+    let records = Records { text, terms };
     let mut failed = Rests {
         places: [Rest::NONE; 512],
     };
     let outer = Pending::none();
     let sure = Sure::fixed(0);
     literal_run(
-        text,
-        terms,
+        &records,
         pattern,
         at,
         row,

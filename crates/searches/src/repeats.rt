@@ -10,8 +10,8 @@ ghost use Rattle.searches.specs.Code.Capacity.{variables_in};
 ghost use Rattle.searches.specs.Code.Repeats.{Alone, AgreeUpTo, Disjoint};
 
 use file::word_at;
-use matching::Bindings;
 use matching::atoms::variables_same;
+use matching::{Bindings, Records};
 
 // Of a search's places, how many keep their values as long as it remembers, and of how many more it is known that their variables stand neither in the pattern nor in
 // what is around it; and whether what it remembers is of what is around the pattern here.
@@ -80,15 +80,15 @@ pub fn stands_apart(text: &[u8], part: &[u8], behind: &[u8], around: usize) -> b
 }
 
 // Has no variable of a pattern a value in the places from `sure` on? Only keys are looked at.
-pub fn closed(text: &[u8], terms: &[u8], pattern: &[u8], b: &Bindings, sure: usize) -> bool
-    requires { (sure ≤ b.now.count) × (b.now.count ≤ 32) × (length b.now.places ≡ 32) × ((i : ℕ) → i < b.now.count → (place_at b.now.places i).key + 24 ≤ length terms.now) }
-    ensures { result ≡ true → Kept text.now terms.now b.now → (vs : Values Atom)
-        → AgreeUpTo text.now terms.now pattern.now b.now sure vs
-        → AgreeUpTo text.now terms.now pattern.now b.now b.now.count vs }
+pub fn closed(records: &Records, pattern: &[u8], b: &Bindings, sure: usize) -> bool
+    requires { (sure ≤ b.now.count) × (b.now.count ≤ 32) × (length b.now.places ≡ 32) × ((i : ℕ) → i < b.now.count → (place_at b.now.places i).key + 24 ≤ length records.now.terms.now) }
+    ensures { result ≡ true → Kept records.now.text.now records.now.terms.now b.now → (vs : Values Atom)
+        → AgreeUpTo records.now.text.now records.now.terms.now pattern.now b.now sure vs
+        → AgreeUpTo records.now.text.now records.now.terms.now pattern.now b.now b.now.count vs }
 {
     for i in sure..b.count {
         let key = usize::from(b.places[i].key);
-        if again(text, &terms[key..], pattern) {
+        if again(records.text, &records.terms[key..], pattern) {
             return false;
         }
     }

@@ -14,15 +14,14 @@ use crate::failed::{Rest, Rests};
 use crate::repeats::{Sure, closed};
 use law::runs::end_of;
 use matching::front::known_front;
-use matching::{Bindings, Known, Stop};
+use matching::{Bindings, Known, Records, Stop};
 
 // `failed` is what is remembered, of rests whose variables have the values of the fixed places of `sure`, or none.
 
 // An e. variable without a value, then the rest of the pattern: every length in turn.
 #[cycle(shadow)]
 fn shadow_lengths(
-    text: &[u8],
-    terms: &[u8],
+    records: &Records,
     pattern: &[u8],
     at: usize,
     row: &[u8],
@@ -31,11 +30,11 @@ fn shadow_lengths(
     sure: Sure,
     failed: &mut Rests,
 ) -> Option<Bindings>
-    requires asked { Asked text.now terms.now pattern.now at row.now start [] b × (24 ≤ length pattern.now) × Settled text.now terms.now (variables_in (row_of text.now pattern.now)) b sure × Remembers (Failed text.now terms.now (first_values text.now terms.now b sure.fixed)) failed.old.places }
-    requires free { Free (row_of text.now pattern.now) (first_variable text.now pattern.now) (values_of text.now terms.now b) }
-    ensures { (matched_values text.now terms.now result ≡ first_in (each_length text.now false pattern.now row.now (values_of text.now terms.now b)))
-        × Remembers (Failed text.now terms.now (first_values text.now terms.now b sure.fixed)) failed.new.places
-        × MatchKept text.now terms.now b sure.fixed result }
+    requires asked { Asked records.now.text.now records.now.terms.now pattern.now at row.now start [] b × (24 ≤ length pattern.now) × Settled records.now.text.now records.now.terms.now (variables_in (row_of records.now.text.now pattern.now)) b sure × Remembers (Failed records.now.text.now records.now.terms.now (first_values records.now.text.now records.now.terms.now b sure.fixed)) failed.old.places }
+    requires free { Free (row_of records.now.text.now pattern.now) (first_variable records.now.text.now pattern.now) (values_of records.now.text.now records.now.terms.now b) }
+    ensures { (matched_values records.now.text.now records.now.terms.now result ≡ first_in (each_length records.now.text.now false pattern.now row.now (values_of records.now.text.now records.now.terms.now b)))
+        × Remembers (Failed records.now.text.now records.now.terms.now (first_values records.now.text.now records.now.terms.now b sure.fixed)) failed.new.places
+        × MatchKept records.now.text.now records.now.terms.now b sure.fixed result }
 {
     let end = end_of(pattern);
     let rest = &pattern[end..];
@@ -44,7 +43,7 @@ fn shadow_lengths(
     loop {
         let left = &row[n..];
         let more = b.bind(at, start, n);
-        let found = shadow_run(text, terms, rest, next, left, start + n, more, sure, failed);
+        let found = shadow_run(records, rest, next, left, start + n, more, sure, failed);
         if found.is_some() || left.len() < 24 {
             break found;
         }
@@ -56,32 +55,30 @@ fn shadow_lengths(
 #[inline(never)]
 #[cycle(shadow)]
 fn shadow_anew(
-    text: &[u8],
-    terms: &[u8],
+    records: &Records,
     pattern: &[u8],
     at: usize,
     row: &[u8],
     start: usize,
     b: Bindings,
 ) -> Option<Bindings>
-    requires asked { Asked text.now terms.now pattern.now at row.now start [] b × (24 ≤ length pattern.now) }
-    requires free { Free (row_of text.now pattern.now) (first_variable text.now pattern.now) (values_of text.now terms.now b) }
-    ensures { (matched_values text.now terms.now result ≡ first_in (each_length text.now false pattern.now row.now (values_of text.now terms.now b)))
-        × MatchKept text.now terms.now b b.count result }
+    requires asked { Asked records.now.text.now records.now.terms.now pattern.now at row.now start [] b × (24 ≤ length pattern.now) }
+    requires free { Free (row_of records.now.text.now pattern.now) (first_variable records.now.text.now pattern.now) (values_of records.now.text.now records.now.terms.now b) }
+    ensures { (matched_values records.now.text.now records.now.terms.now result ≡ first_in (each_length records.now.text.now false pattern.now row.now (values_of records.now.text.now records.now.terms.now b)))
+        × MatchKept records.now.text.now records.now.terms.now b b.count result }
 {
     let mut failed = Rests {
         places: [Rest::NONE; 512],
     };
     let all = Sure::fixed(b.count);
-    shadow_lengths(text, terms, pattern, at, row, start, b, all, &mut failed)
+    shadow_lengths(records, pattern, at, row, start, b, all, &mut failed)
 }
 
 // The same, unless it is remembered that there is no match: where the variables of the pattern have the values of the fixed places, or none, this does not
 // depend on the others.
 #[cycle(shadow)]
 fn shadow_tries(
-    text: &[u8],
-    terms: &[u8],
+    records: &Records,
     pattern: &[u8],
     at: usize,
     row: &[u8],
@@ -90,15 +87,15 @@ fn shadow_tries(
     sure: Sure,
     failed: &mut Rests,
 ) -> Option<Bindings>
-    requires asked { Asked text.now terms.now pattern.now at row.now start [] b × (24 ≤ length pattern.now) × Settled text.now terms.now (variables_in (row_of text.now pattern.now)) b sure × Remembers (Failed text.now terms.now (first_values text.now terms.now b sure.fixed)) failed.old.places }
-    requires free { Free (row_of text.now pattern.now) (first_variable text.now pattern.now) (values_of text.now terms.now b) }
-    requires tries_all { TriesAll text.now pattern.now row.now (values_of text.now terms.now b) }
-    ensures { (matched_values text.now terms.now result ≡ first_in (each_length text.now false pattern.now row.now (values_of text.now terms.now b)))
-        × Remembers (Failed text.now terms.now (first_values text.now terms.now b sure.fixed)) failed.new.places
-        × MatchKept text.now terms.now b sure.fixed result }
+    requires asked { Asked records.now.text.now records.now.terms.now pattern.now at row.now start [] b × (24 ≤ length pattern.now) × Settled records.now.text.now records.now.terms.now (variables_in (row_of records.now.text.now pattern.now)) b sure × Remembers (Failed records.now.text.now records.now.terms.now (first_values records.now.text.now records.now.terms.now b sure.fixed)) failed.old.places }
+    requires free { Free (row_of records.now.text.now pattern.now) (first_variable records.now.text.now pattern.now) (values_of records.now.text.now records.now.terms.now b) }
+    requires tries_all { TriesAll records.now.text.now pattern.now row.now (values_of records.now.text.now records.now.terms.now b) }
+    ensures { (matched_values records.now.text.now records.now.terms.now result ≡ first_in (each_length records.now.text.now false pattern.now row.now (values_of records.now.text.now records.now.terms.now b)))
+        × Remembers (Failed records.now.text.now records.now.terms.now (first_values records.now.text.now records.now.terms.now b sure.fixed)) failed.new.places
+        × MatchKept records.now.text.now records.now.terms.now b sure.fixed result }
 {
-    if !closed(text, terms, pattern, &b, sure.places) {
-        return shadow_anew(text, terms, pattern, at, row, start, b);
+    if !closed(records, pattern, &b, sure.places) {
+        return shadow_anew(records, pattern, at, row, start, b);
     }
     let rests = Rest::new(at, at + pattern.len(), start, start + row.len());
     if failed.has(rests) {
@@ -109,7 +106,7 @@ fn shadow_tries(
         here: true,
         ..sure
     };
-    let found = shadow_lengths(text, terms, pattern, at, row, start, b, all, failed);
+    let found = shadow_lengths(records, pattern, at, row, start, b, all, failed);
     if found.is_none() {
         failed.note(rests);
     }
@@ -119,8 +116,7 @@ fn shadow_tries(
 // A bracket against a bracket: the first match of the contents, then the rest.
 #[cycle(shadow)]
 fn shadow_inside(
-    text: &[u8],
-    terms: &[u8],
+    records: &Records,
     pattern: &[u8],
     at: usize,
     row: &[u8],
@@ -129,10 +125,10 @@ fn shadow_inside(
     sure: Sure,
     failed: &mut Rests,
 ) -> Option<Bindings>
-    requires { Asked text.now terms.now pattern.now at row.now start [] b × (24 ≤ length pattern.now) × Facing (row_of text.now pattern.now) row.now × Settled text.now terms.now (variables_in (row_of text.now pattern.now)) b sure × Remembers (Failed text.now terms.now (first_values text.now terms.now b sure.fixed)) failed.old.places }
-    ensures { (matched_values text.now terms.now result ≡ first_in (each_inside text.now false pattern.now row.now (values_of text.now terms.now b)))
-        × Remembers (Failed text.now terms.now (first_values text.now terms.now b sure.fixed)) failed.new.places
-        × MatchKept text.now terms.now b sure.fixed result }
+    requires { Asked records.now.text.now records.now.terms.now pattern.now at row.now start [] b × (24 ≤ length pattern.now) × Facing (row_of records.now.text.now pattern.now) row.now × Settled records.now.text.now records.now.terms.now (variables_in (row_of records.now.text.now pattern.now)) b sure × Remembers (Failed records.now.text.now records.now.terms.now (first_values records.now.text.now records.now.terms.now b sure.fixed)) failed.old.places }
+    ensures { (matched_values records.now.text.now records.now.terms.now result ≡ first_in (each_inside records.now.text.now false pattern.now row.now (values_of records.now.text.now records.now.terms.now b)))
+        × Remembers (Failed records.now.text.now records.now.terms.now (first_values records.now.text.now records.now.terms.now b sure.fixed)) failed.new.places
+        × MatchKept records.now.text.now records.now.terms.now b sure.fixed result }
 {
     let m = end_of(pattern);
     let n = end_of(row);
@@ -140,19 +136,18 @@ fn shadow_inside(
     let inside = &row[24..n];
     let i = at + 24;
     let j = start + 24;
-    let more = shadow_run(text, terms, contents, i, inside, j, b, sure, failed)?;
+    let more = shadow_run(records, contents, i, inside, j, b, sure, failed)?;
     let kept = Sure::fixed(sure.fixed);
     let rest = &pattern[m..];
     let left = &row[n..];
     let next = at + m;
-    shadow_run(text, terms, rest, next, left, start + n, more, kept, failed)
+    shadow_run(records, rest, next, left, start + n, more, kept, failed)
 }
 
 // The first match of a pattern with a row, by what the pattern's first record leaves to do.
 #[cycle(shadow)]
 fn shadow_first(
-    text: &[u8],
-    terms: &[u8],
+    records: &Records,
     pattern: &[u8],
     at: usize,
     row: &[u8],
@@ -162,11 +157,11 @@ fn shadow_first(
     failed: &mut Rests,
     stop: Stop,
 ) -> Option<Bindings>
-    requires asked { Asked text.now terms.now pattern.now at row.now start [] b × Settled text.now terms.now (variables_in (row_of text.now pattern.now)) b sure × Remembers (Failed text.now terms.now (first_values text.now terms.now b sure.fixed)) failed.old.places }
-    requires stopped { Stopped text.now pattern.now row.now (values_of text.now terms.now b) stop }
-    ensures { (matched_values text.now terms.now result ≡ first_in (found false (row_of text.now pattern.now) (row_of text.now row.now) (values_of text.now terms.now b)))
-        × Remembers (Failed text.now terms.now (first_values text.now terms.now b sure.fixed)) failed.new.places
-        × MatchKept text.now terms.now b sure.fixed result }
+    requires asked { Asked records.now.text.now records.now.terms.now pattern.now at row.now start [] b × Settled records.now.text.now records.now.terms.now (variables_in (row_of records.now.text.now pattern.now)) b sure × Remembers (Failed records.now.text.now records.now.terms.now (first_values records.now.text.now records.now.terms.now b sure.fixed)) failed.old.places }
+    requires stopped { Stopped records.now.text.now pattern.now row.now (values_of records.now.text.now records.now.terms.now b) stop }
+    ensures { (matched_values records.now.text.now records.now.terms.now result ≡ first_in (found false (row_of records.now.text.now pattern.now) (row_of records.now.text.now row.now) (values_of records.now.text.now records.now.terms.now b)))
+        × Remembers (Failed records.now.text.now records.now.terms.now (first_values records.now.text.now records.now.terms.now b sure.fixed)) failed.new.places
+        × MatchKept records.now.text.now records.now.terms.now b sure.fixed result }
 {
     match stop {
         Stop::Binds(n) => {
@@ -175,18 +170,17 @@ fn shadow_first(
             let left = &row[n..];
             let more = b.bind(at, start, n);
             let next = at + end;
-            shadow_run(text, terms, rest, next, left, start + n, more, sure, failed)
+            shadow_run(records, rest, next, left, start + n, more, sure, failed)
         }
-        Stop::Tries => shadow_tries(text, terms, pattern, at, row, start, b, sure, failed),
-        Stop::Inside => shadow_inside(text, terms, pattern, at, row, start, b, sure, failed),
+        Stop::Tries => shadow_tries(records, pattern, at, row, start, b, sure, failed),
+        Stop::Inside => shadow_inside(records, pattern, at, row, start, b, sure, failed),
     }
 }
 
 // The first match of a pattern with a row.
 #[cycle(shadow)]
 fn shadow_run(
-    text: &[u8],
-    terms: &[u8],
+    records: &Records,
     pattern: &[u8],
     at: usize,
     row: &[u8],
@@ -195,12 +189,12 @@ fn shadow_run(
     sure: Sure,
     failed: &mut Rests,
 ) -> Option<Bindings>
-    requires { Asked text.now terms.now pattern.now at row.now start [] b × Settled text.now terms.now (variables_in (row_of text.now pattern.now)) b sure × Remembers (Failed text.now terms.now (first_values text.now terms.now b sure.fixed)) failed.old.places }
-    ensures { (matched_values text.now terms.now result ≡ first_in (found false (row_of text.now pattern.now) (row_of text.now row.now) (values_of text.now terms.now b)))
-        × Remembers (Failed text.now terms.now (first_values text.now terms.now b sure.fixed)) failed.new.places
-        × MatchKept text.now terms.now b sure.fixed result }
+    requires { Asked records.now.text.now records.now.terms.now pattern.now at row.now start [] b × Settled records.now.text.now records.now.terms.now (variables_in (row_of records.now.text.now pattern.now)) b sure × Remembers (Failed records.now.text.now records.now.terms.now (first_values records.now.text.now records.now.terms.now b sure.fixed)) failed.old.places }
+    ensures { (matched_values records.now.text.now records.now.terms.now result ≡ first_in (found false (row_of records.now.text.now pattern.now) (row_of records.now.text.now row.now) (values_of records.now.text.now records.now.terms.now b)))
+        × Remembers (Failed records.now.text.now records.now.terms.now (first_values records.now.text.now records.now.terms.now b sure.fixed)) failed.new.places
+        × MatchKept records.now.text.now records.now.terms.now b sure.fixed result }
 {
-    match known_front(text, terms, pattern, row, &b) {
+    match known_front(records, pattern, row, &b) {
         Known::End(_, n) if row[n..].len() < 24 => Some(b),
         Known::End(_, _) | Known::Fails => None,
         Known::Stops(m, n, stop) => {
@@ -208,7 +202,7 @@ fn shadow_run(
             let left = &row[n..];
             let i = at + m;
             let j = start + n;
-            shadow_first(text, terms, rest, i, left, j, b, sure, failed, stop)
+            shadow_first(records, rest, i, left, j, b, sure, failed, stop)
         }
     }
 }
@@ -227,13 +221,13 @@ pub fn search_shadow(
     requires earlier_bound { distinct (variables_in (row_of text.now earlier.now)) ≤ 32 }
     ensures { result ≡ shadows (row_of text.now earlier.now) (row_of text.now later.now) }
 {
+    let records = Records { text, terms };
     let mut failed = Rests {
         places: [Rest::NONE; 512],
     };
     let sure = Sure::fixed(0);
     shadow_run(
-        text,
-        terms,
+        &records,
         earlier,
         at,
         later,

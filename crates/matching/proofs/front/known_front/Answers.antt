@@ -5,7 +5,7 @@ use Rattle.matching.proofs.KnownLaws as laws
 use Rattle.matching.proofs.front.known_front.Goals as goal
 
 pub loop-left-init : goal.loop-left-init
-loop-left-init c = let a = c.args in laws.passed_none a.text.now a.pattern.now a.row.now (values_of a.text.now a.terms.now a.b.now)
+loop-left-init c = let a = c.args in laws.passed_none a.records.now.text.now a.pattern.now a.row.now (values_of a.records.now.text.now a.records.now.terms.now a.b.now)
 
 pub slice_bounds-left-count : goal.slice_bounds-left-count
 slice_bounds-left-count c = begin_inside c.loop-left.invariant.begins

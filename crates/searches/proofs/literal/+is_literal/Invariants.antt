@@ -1,12 +1,9 @@
-use Rattle.std.proofs.Common.{◌-◌, length}
-use Rattle.searches.proofs.LiteralParts.{SoFar}
+use Rattle.std.proofs.Common.{length}
+use Rattle.searches.proofs.LiteralParts.{LeftOf}
 use Rattle.searches.proofs.literal.+is_literal.Given as goal
 
-abbrev pub invariant-loop-rest : goal.invariant-loop-rest
-invariant-loop-rest l = SoFar l.part l.i
-
-abbrev pub decreases-loop-rest : goal.decreases-loop-rest
-decreases-loop-rest l = length l.part - l.i
+abbrev pub invariant-loop-term : goal.invariant-loop-term
+invariant-loop-term l = LeftOf l.part l.term-iterator.0.now
 
 -- the contents of a bracket are shorter
 abbrev pub decreases-is_literal : goal.decreases-is_literal

@@ -11,41 +11,41 @@ use Rattle.searches.proofs.literal.+literal.Given as goal
 
 abbrev pub invariant-literal_lengths-loop-rest : goal.invariant-literal_lengths-loop-rest
 invariant-literal_lengths-loop-rest l =
-    let around = levels_of l.text l.terms l.outer (l.at + length l.pattern) (l.start + length l.row) in
-    let vs = values_of l.text l.terms l.b in
+    let around = levels_of l.records.text.now l.records.terms.now l.outer (l.at + length l.pattern) (l.start + length l.row) in
+    let vs = values_of l.records.text.now l.records.terms.now l.b in
     Begin l.row l.n
-    × (some_holds (resume around) (each_length l.text true l.pattern l.row vs) ≡ some_holds (resume around) (left_at l.text true l.pattern l.row vs l.n))
-    × Remembered l.text l.terms around l.b l.sure l.fn.failed.places l.failed.places
+    × (some_holds (resume around) (each_length l.records.text.now true l.pattern l.row vs) ≡ some_holds (resume around) (left_at l.records.text.now true l.pattern l.row vs l.n))
+    × Remembered l.records.text.now l.records.terms.now around l.b l.sure l.fn.failed.places l.failed.places
 
 abbrev pub decreases-literal_lengths-loop-rest : goal.decreases-literal_lengths-loop-rest
 decreases-literal_lengths-loop-rest l = length l.row - l.n
 
 abbrev pub decreases-literal_anew : goal.decreases-literal_anew
-decreases-literal_anew l = 5 * (length l.terms.now - l.at) + 5 * l.outer.now.count + 1
+decreases-literal_anew l = 5 * (length l.records.now.terms.now - l.at) + 5 * l.outer.now.count + 1
 
 abbrev pub decreases-literal_apart : goal.decreases-literal_apart
-decreases-literal_apart l = 5 * (length l.terms.now - l.at) + 5 * l.outer.now.count
+decreases-literal_apart l = 5 * (length l.records.now.terms.now - l.at) + 5 * l.outer.now.count
 
 abbrev pub decreases-literal_bracket : goal.decreases-literal_bracket
-decreases-literal_bracket l = 5 * (length l.terms.now - l.at) + 5 * l.outer.now.count + 2
+decreases-literal_bracket l = 5 * (length l.records.now.terms.now - l.at) + 5 * l.outer.now.count + 2
 
 abbrev pub decreases-literal_end : goal.decreases-literal_end
-decreases-literal_end l = 5 * (length l.terms.now - l.at) + 5 * l.outer.now.count + 1
+decreases-literal_end l = 5 * (length l.records.now.terms.now - l.at) + 5 * l.outer.now.count + 1
 
 abbrev pub decreases-literal_first : goal.decreases-literal_first
-decreases-literal_first l = 5 * (length l.terms.now - l.at) + 5 * l.outer.now.count + 3
+decreases-literal_first l = 5 * (length l.records.now.terms.now - l.at) + 5 * l.outer.now.count + 3
 
 abbrev pub decreases-literal_inside : goal.decreases-literal_inside
-decreases-literal_inside l = 5 * (length l.terms.now - l.at) + 5 * l.outer.now.count
+decreases-literal_inside l = 5 * (length l.records.now.terms.now - l.at) + 5 * l.outer.now.count
 
 abbrev pub decreases-literal_lengths : goal.decreases-literal_lengths
-decreases-literal_lengths l = 5 * (length l.terms.now - l.at) + 5 * l.outer.now.count
+decreases-literal_lengths l = 5 * (length l.records.now.terms.now - l.at) + 5 * l.outer.now.count
 
 abbrev pub decreases-literal_out : goal.decreases-literal_out
-decreases-literal_out l = 5 * (length l.terms.now - l.at) + 5 * l.outer.now.count
+decreases-literal_out l = 5 * (length l.records.now.terms.now - l.at) + 5 * l.outer.now.count
 
 abbrev pub decreases-literal_run : goal.decreases-literal_run
-decreases-literal_run l = 5 * (length l.terms.now - l.at) + 5 * l.outer.now.count + 4
+decreases-literal_run l = 5 * (length l.records.now.terms.now - l.at) + 5 * l.outer.now.count + 4
 
 abbrev pub decreases-literal_tries : goal.decreases-literal_tries
-decreases-literal_tries l = 5 * (length l.terms.now - l.at) + 5 * l.outer.now.count + 2
+decreases-literal_tries l = 5 * (length l.records.now.terms.now - l.at) + 5 * l.outer.now.count + 2

@@ -17,7 +17,7 @@ shadow_anew-shadow_lengths-requires t c =
     let asked = c.requires.asked in (
       omega (arith, c.decreases),
       (
-        rw c.fixed-all.ensures (asked.0, asked.1, sure.settled_fixed _ _ _ _ (omega arith), failed.shadow_none c.args.text.now c.args.terms.now _),
+        rw c.fixed-all.ensures (asked.0, asked.1, sure.settled_fixed _ _ _ _ (omega arith), failed.shadow_none c.args.records.now.text.now c.args.records.now.terms.now _),
         c.requires.free,
       ),
     )

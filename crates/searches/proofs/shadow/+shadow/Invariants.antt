@@ -10,9 +10,9 @@ use Rattle.searches.proofs.shadow.+shadow.Given as goal
 
 abbrev pub invariant-shadow_lengths-loop-rest : goal.invariant-shadow_lengths-loop-rest
 invariant-shadow_lengths-loop-rest l =
-    let vs = values_of l.text l.terms l.b in
-    Begin l.row l.n × (first_in (each_length l.text false l.pattern l.row vs) ≡ first_in (left_at l.text false l.pattern l.row vs l.n))
-    × Remembers (Failed l.text l.terms (first_values l.text l.terms l.b l.sure.fixed)) l.failed.places
+    let vs = values_of l.records.text.now l.records.terms.now l.b in
+    Begin l.row l.n × (first_in (each_length l.records.text.now false l.pattern l.row vs) ≡ first_in (left_at l.records.text.now false l.pattern l.row vs l.n))
+    × Remembers (Failed l.records.text.now l.records.terms.now (first_values l.records.text.now l.records.terms.now l.b l.sure.fixed)) l.failed.places
 
 abbrev pub decreases-shadow_lengths-loop-rest : goal.decreases-shadow_lengths-loop-rest
 decreases-shadow_lengths-loop-rest l = length l.row - l.n
