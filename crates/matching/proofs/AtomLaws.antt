@@ -1,12 +1,12 @@
 -- The first records of two parts as atoms (specs/Code/Part.antt): whether they are the same, word by word.
-use Prim.Native.Nat.{ℕ, zero, suc, ◌+◌, ◌-◌, ◌≤◌, ◌<◌, min}
+use Prim.Native.Nat.{ℕ, zero, suc, ◌≤◌, ◌<◌, min}
 use mathlib.Core.Bool.{Bool, true, false}
 use mathlib.Core.List.{List}
 use mathlib.Core.Path.{◌≡◌, refl, sym, ap, ◌∙◌}
 use native.Mathlib.Omega.{arith}
 use native.Mathlib.Decide.{dec_lt}
-use lib.ListN.{length, take, drop, length-drop, drop_of_length-le}
-use lib.Seq.{take_all, take-nil}
+use lib.ListN.{length, take, drop}
+use lib.Seq.{take_all}
 use lib.Dec.{eqb, ltb}
 use borrow.Author.Tests.{ne_eqb, le-ltb}
 use Rattle.names.specs.Name.{folded, folded_index, same_bytes}
@@ -30,19 +30,6 @@ cut n l = go (dec_lt n (length l))
     go : Dec (n < length l) → take (min n (length l)) l ≡ take n l
     go (yes h) = let e : min n (length l) ≡ n = omega arith in rw e
     go (no h) = let e : min n (length l) ≡ length l = omega arith in rw (e, take_all (length l) l (omega arith), take_all n l (omega arith))
-
-pub spelled_part : (text : List ℕ) (start len : ℕ) {f e : ℕ} → f ≡ min start (length text) → e ≡ min (f + len) (length text)
-    → take (e - f) (drop f text) ≡ take len (drop start text)
-spelled_part text start len {f} {e} p q = go (dec_lt start (length text))
-  where
-    go : Dec (start < length text) → take (e - f) (drop f text) ≡ take len (drop start text)
-    go (yes h) =
-        let s : f ≡ start = omega arith in
-        let n : e - f ≡ min len (length (drop start text)) = omega (arith, length-drop start text) in
-        rw (n, s, cut len (drop start text))
-    go (no h) =
-        let s : f ≡ length text = omega arith in
-        rw (drop_of_length-le text {i = f} (omega arith), drop_of_length-le text {i = start} (omega arith), take-nil (e - f), take-nil len)
 
 -- the same, where the words of a record say which part
 pub words_spelled : (text : List ℕ) {r : List ℕ} {start len a b : ℕ} → r ≡ take len (drop start text) → start ≡ a → len ≡ b → r ≡ take b (drop a text)

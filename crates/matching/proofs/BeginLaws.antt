@@ -132,15 +132,7 @@ row_short text part k h = go (dec_lt (length (from k part)) 24)
 -- ---- what `same_first` answers at each return
 
 module _ (text value row : List ℕ) {p : Bool} (first : p ≡ is_bracket (term_at value 0)) where
-  -- no bracket
-  pub first_atoms : {r : Bool} → p ≡ false → r ≡ same_atom (atom_of text (term_at value 0)) (atom_of text (term_at row 0)) → r ≡ same_first text value row
-  first_atoms e h = h ∙ rw (← first, e)
-
   module _ {q : Bool} (second : q ≡ is_bracket (term_at row 0)) (e : p ≡ true) where
-    -- a bracket and no bracket
-    pub first_differ : q ≡ false → false ≡ same_first text value row
-    first_differ d = sym (heads_left text (term_at value 0) (term_at row 0) _ (sym first ∙ e) (sym second ∙ d))
-
     module _ (d : q ≡ true) {m n : ℕ} (ends : m ≡ end_of value) (row_ends_lem : n ≡ end_of row) where
       inside_left : same_first text value row ≡ nothing_left (after same_atom (row_of text (take (m - 24) (drop 24 value))) (row_of text (take (n - 24) (drop 24 row))))
       inside_left = rw (ends, row_ends_lem, ← first, e, ← second, d) (same_after same_atom (row_of text (contents 24 end_of value)) (row_of text (contents 24 end_of row)))

@@ -7,7 +7,7 @@ use mathlib.Core.Path.{◌≡◌, refl, sym, ap, ◌∙◌}
 use native.Mathlib.Omega.{arith}
 use native.Mathlib.Decide.{dec_lt}
 use native.Mathlib.Nat.{add-zero}
-use lib.ListN.{length, get_or, set, length-set, length-take, length-drop}
+use lib.ListN.{length, set, length-set}
 use lib.Seq.{get_or-set_same, get_or-set_other}
 use Rattle.file.specs.Word.{word_at}
 use Rattle.file.specs.Head.{term_at}
@@ -20,7 +20,7 @@ use Rattle.matching.specs.Code.Part.{from, atom_of}
 use Rattle.matching.specs.Code.Bound.{variable_in, place_at, variable_at, row_at, values_up_to, values_of, Kept, Bound, HasPlace}
 use Rattle.matching.specs.declared.Bindings.{Bindings}
 use Rattle.matching.specs.declared.Binding.{Binding}
-use Rattle.std.specs.Prelude.{Some, None, Option as Maybe}
+use Rattle.std.specs.Prelude.{Some, None}
 use Rattle.matching.proofs.AtomLaws.{variable_kind_lem}
 
 -- the first record of what is left from a position on is the record at that position
@@ -107,10 +107,6 @@ pub record NotFrom (text terms pattern : List ℕ) (b : Bindings) (i : ℕ) : Ty
       → value_in (values_of text terms b) v ≡ value_in (values_up_to text terms b.places i) v
 
 module _ {text terms pattern : List ℕ} {b : Bindings} where
-  -- before any place is looked at
-  pub not_from_end : NotFrom text terms pattern b b.count
-  not_from_end = record { within = omega arith; left = λ v a. refl }
-
   module _ {i : ℕ} (so_far : NotFrom text terms pattern b i) where
     -- no place is left
     pub place_free : i ≡ 0 → HasPlace text terms pattern b None

@@ -8,11 +8,11 @@ use Rattle.law.specs.Runs.{end_of}
 use Rattle.matching.specs.Pattern.{Atom}
 use Rattle.matching.specs.Match.{Values, bound}
 use Rattle.matching.specs.Code.Part.{row_of, from, Begin}
-use Rattle.matching.specs.Code.Step.{found, leaves, each_length, each_inside, Leaves, Free, Facing, first_variable}
+use Rattle.matching.specs.Code.Step.{found, leaves, Leaves, Free, first_variable}
 use Rattle.matching.specs.declared.First.{First}
 use Rattle.matching.specs.declared.First.TheVariants.{Fails, Goes, Stops}
 use Rattle.matching.specs.declared.Stop.{Stop}
-use Rattle.matching.specs.declared.Stop.TheVariants.{Binds, Tries, Inside}
+use Rattle.matching.specs.declared.Stop.TheVariants.{Binds}
 
 module _ {text pattern row : List ℕ} {vs : Values Atom} {r : First} (l : Leaves text pattern row vs r) (back : Bool) where
   pub step_fails : r ≡ Fails → found back (row_of text pattern) (row_of text row) vs ≡ []
@@ -31,18 +31,6 @@ module _ {text pattern row : List ℕ} {vs : Values Atom} {stop : Stop} (l : Lea
       → found back (row_of text pattern) (row_of text row) vs ≡ found back (row_of text (from e pattern)) (row_of text (from n row)) us
   step_binds n e us k same values = rw (same, values) (l.search back ∙ ap (λ k. leaves text back pattern row vs (Stops k)) k)
 
-  pub step_tries : stop ≡ Tries → found back (row_of text pattern) (row_of text row) vs ≡ each_length text back pattern row vs
-  step_tries e = l.search back ∙ ap (λ k. leaves text back pattern row vs (Stops k)) e
-
-  pub step_inside : stop ≡ Inside → found back (row_of text pattern) (row_of text row) vs ≡ each_inside text back pattern row vs
-  step_inside e = l.search back ∙ ap (λ k. leaves text back pattern row vs (Stops k)) e
-
   -- what is known besides
   pub binds_within : (n : ℕ) → stop ≡ Binds n → (n ≤ length row) × Free (row_of text pattern) (first_variable text pattern) vs
   binds_within n e = rw e at l.within
-
-  pub tries_free : stop ≡ Tries → Free (row_of text pattern) (first_variable text pattern) vs
-  tries_free e = rw e at l.within
-
-  pub inside_facing : stop ≡ Inside → Facing (row_of text pattern) row
-  inside_facing e = rw e at l.within

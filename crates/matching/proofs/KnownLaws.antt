@@ -13,10 +13,10 @@ use Rattle.matching.specs.Code.Step.{found, Leaves, Passed, Stopped, KnownFront}
 use Rattle.matching.specs.declared.Known.{Known}
 use Rattle.matching.specs.declared.Known.TheVariants.{End, Stops as KnownStops, Fails as KnownFails}
 use Rattle.matching.specs.declared.First.{First}
-use Rattle.matching.specs.declared.First.TheVariants.{Fails, Goes, Stops}
+use Rattle.matching.specs.declared.First.TheVariants.{Goes}
 use Rattle.matching.specs.declared.Stop.{Stop}
 use Rattle.matching.proofs.CutLaws.{from_length, from_all, from_from, begin_inside}
-use Rattle.matching.proofs.FirstLaws.{step_fails, step_goes, goes_within}
+use Rattle.matching.proofs.FirstLaws.{step_goes, goes_within}
 
 -- a term begins in what is left, so it does in the whole
 begin_later : {part : List ℕ} {i m : ℕ} → Begin part i → Begin (from i part) m → Begin part (i + m)
@@ -50,14 +50,6 @@ module _ {text pattern row : List ℕ} {vs : Values Atom} {i j : ℕ} (so_far : 
       let low : m ≤ length (from i pattern) = begin_inside begins in
       let before : i ≤ length pattern = begin_inside so_far.begins in
       (omega (arith, from_length i pattern), omega (arith, from_length i pattern), omega (arith, from_length j row, so_far.within))
-
-  -- it differs
-  pub passed_fails : r ≡ Fails → (back : Bool) → found back (row_of text pattern) (row_of text row) vs ≡ []
-  passed_fails e back = so_far.search back ∙ step_fails leaves back e
-
-  -- it is a variable without a value, or a bracket
-  pub passed_stop : 24 ≤ length (from i pattern) → (stop : Stop) → r ≡ Stops stop → KnownFront text pattern row vs (KnownStops i j stop)
-  passed_stop long stop e = record { front = (so_far, record { some = long; leaves = rw e at leaves }) }
 
 module _ {text pattern row : List ℕ} {vs : Values Atom} {r : Known} (known : KnownFront text pattern row vs r) where
   pub known_end : (m n : ℕ) → r ≡ End m n → Passed text pattern row vs m n × (length (from m pattern) < 24)

@@ -6,13 +6,13 @@ use mathlib.Core.List.{List, [], ◌∷◌, ◌++◌}
 use mathlib.Core.Logic.{◌⊎◌, inl, inr}
 use mathlib.Core.Path.{◌≡◌, refl, sym, ap, ap₂, subst, ◌∙◌}
 use native.Mathlib.Omega.{arith}
-use lib.ListN.{length, take, drop, get_or, replicate, length-take}
+use lib.ListN.{length, take, drop, replicate, length-take}
 use Rattle.law.specs.Variables.{Variable, occurs}
 use Rattle.matching.specs.Pattern.{Atom, literal, Pattern}
 use Rattle.matching.specs.Match.{Values, value_in}
 use Rattle.matching.specs.Shadow.{same_atom, symbol_like, single_term}
 use Rattle.matching.specs.Code.Part.{row_of, from, Begin, Stands}
-use Rattle.matching.specs.Code.Bound.{values_of, values_up_to, Kept, Bound}
+use Rattle.matching.specs.Code.Bound.{values_of, Kept, Bound}
 use Rattle.matching.specs.Code.Step.{found, each_length, TriesAll}
 use Rattle.searches.specs.Code.Capacity.{variables_in}
 use Rattle.searches.specs.Code.Asked.{some_holds, Asked, resume, coming_in, between, level_at, levels, LevelsIn, levels_of, Around, LiteralAsked}
@@ -30,7 +30,7 @@ use Rattle.matching.proofs.CutLaws.{from_length}
 use Rattle.searches.proofs.AgreeLaws.{Paired, matches_agree}
 use Rattle.searches.proofs.AskedLaws.{later_variables}
 use Rattle.searches.proofs.FailedLaws.{remembers_none, remembered, remembers_more, remembers_same, part_between}
-use Rattle.searches.proofs.SureLaws.{first_more, settled_fixed, settled_all, settled_low, settled_fewer, settled_more}
+use Rattle.searches.proofs.SureLaws.{first_more, settled_fixed, settled_low, settled_fewer, settled_more}
 
 -- ---- values that agree
 
@@ -177,10 +177,6 @@ module _ {text terms : List ℕ} {p : Pending} {at : ℕ} {b : Bindings} {sure f
     next : LevelsIn text terms p.levels from so.row_from (suc (n - 1))
     next = subst (LevelsIn text terms p.levels from so.row_from) some so.inside
 
-    -- the innermost
-    pub looked_level : (from ≤ end) × (end ≤ length terms)
-    looked_level = (omega (arith, next.0), omega (arith, next.1))
-
     coming_level : coming_in (levels text terms p.levels from so.row_from n)
         ≡ variables_in (between text terms from end) ++ coming_in (levels text terms p.levels end (level_at p.levels (n - 1)).row_end (n - 1))
     unfolding levels coming_in
@@ -239,11 +235,6 @@ module _ {text terms : List ℕ} where
   remembered_unchanged so e = record { here = λ h. remembers_same (so h) e; elsewhere = λ h. e }
 
   module _ {pattern : List ℕ} {qs : List (Pattern × Pattern)} {b : Bindings} {s : Sure} {rests : List Rest} (so : Remembering text terms pattern qs b s rests) where
-    -- all places are looked at
-    pub remembering_all : s.here ≡ true → Agree (variables_in (row_of text pattern) ++ coming_in qs) (values_of text terms b) (first_values text terms b s.fixed)
-        → Remembering text terms pattern qs b (record { fixed = s.fixed; places = b.count; here = true }) rests
-    remembering_all known closed = record { settled = settled_all so.settled true closed; here = λ e. so.here known }
-
     pub remembered_same : {now : List Rest} → now ≡ rests → Remembered text terms qs b s rests now
     remembered_same e = remembered_unchanged so.here e
 

@@ -111,11 +111,6 @@ module _ (p : Pattern) (coming : List Variable) (vs : Values Atom) where
   capacity_rest (variable v) c = capacity_later c
   capacity_rest other c = c
 
-  -- a variable without a value: there is a place for it, and it gets one
-  pub capacity_place : (v : Variable) → Capacity (variables_in (symbol (variable v) p) ++ coming) vs → value_in vs v ≡ none → suc (size_of vs) ≤ 32
-  unfolding variables_in
-  capacity_place v c e = place_left (v ∷ (variables_in p ++ coming)) vs c v (occurs_first v (variables_in p ++ coming)) e
-
   pub capacity_binds : (v : Variable) (y : Pattern) → Capacity (variables_in (symbol (variable v) p) ++ coming) vs → value_in vs v ≡ none
       → Capacity (variables_in p ++ coming) (bound v y vs)
   unfolding variables_in

@@ -1,16 +1,12 @@
 -- What a search remembers (specs/Code/Failed.antt) is so at the start, and stays so when a rest is noted that has no match.
-use Prim.Native.Nat.{ℕ, zero, suc, ◌+◌, ◌*◌, ◌-◌, ◌≤◌, ◌<◌}
-use mathlib.Core.Bool.{true, false}
+use Prim.Native.Nat.{ℕ, zero, suc, ◌+◌, ◌-◌, ◌≤◌, ◌<◌}
+use mathlib.Core.Bool.{false}
 use mathlib.Core.List.{List, [], ◌∷◌}
 use mathlib.Core.Logic.{◌⊎◌, inl, inr}
 use mathlib.Core.Option.{none, none-ne-some}
 use mathlib.Core.Path.{◌≡◌, refl, sym, ap, ◌∙◌}
 use native.Mathlib.Omega.{arith}
-use native.Mathlib.Decide.{dec_lt}
-use lib.ListN.{length, get_or, set, replicate, length-set, length-replicate}
-use lib.Dec.{eqb}
-use borrow.Author.Tests.{eqb-true}
-use lib.Seq.{get_or-set_same, get_or-set_other}
+use lib.ListN.{length, replicate, length-replicate}
 use Rattle.law.specs.Variables.{Variable}
 use Rattle.matching.specs.Pattern.{Atom, literal}
 use Rattle.matching.specs.Match.{Values, some_in}
@@ -27,7 +23,6 @@ use Rattle.matching.specs.declared.Bindings.{Bindings}
 use Rattle.searches.specs.declared.failed.Rest.{Rest}
 use Rattle.std.specs.Prelude.{Some, None, Option as Maybe, is_some}
 use Rattle.searches.proofs.AgreeLaws.{some_agree}
-use Rattle.searches.proofs.ShadowSteps.{matched_no}
 
 -- ---- a rest in a place
 
@@ -35,18 +30,6 @@ empty_rest : (n i : ℕ) → rest_at (replicate n (rest_of 0 0 0 0)) i ≡ rest_
 empty_rest zero i = refl
 empty_rest (suc n) zero = refl
 empty_rest (suc n) (suc i) = empty_rest n i
-
--- each rest is the new one or as it was
-pub rest_noted : (rests : List Rest) {k : ℕ} (r : Rest) → k < length rests → Noted rests r (set rests k r)
-rest_noted rests {k} r low = (length-set rests k r, λ i. go i (dec_lt i k) (dec_lt k i))
-  where
-    as_was : (i : ℕ) → (i ≡ k → ⊥) → rest_at (set rests k r) i ≡ rest_at rests i
-    as_was i other = get_or-set_other rests k i r (rest_of 0 0 0 0) other
-
-    go : (i : ℕ) → Dec (i < k) → Dec (k < i) → (rest_at (set rests k r) i ≡ r) ⊎ (rest_at (set rests k r) i ≡ rest_at rests i)
-    go i (yes h) d = inr (as_was i (λ e. omega arith))
-    go i (no h) (yes l) = inr (as_was i (λ e. omega arith))
-    go i (no h) (no l) = let here : i ≡ k = omega arith in inl (rw here (get_or-set_same rests k r (rest_of 0 0 0 0) low))
 
 -- ---- what is remembered
 

@@ -5,7 +5,7 @@ use mathlib.Core.List.{List, [], ◌∷◌, ◌++◌}
 use mathlib.Core.Path.{◌≡◌, refl, sym, ap, subst, ◌∙◌}
 use native.Mathlib.Omega.{arith}
 use native.Mathlib.Decide.{dec_lt}
-use lib.ListN.{length, take, drop, get_or, set, length-take, length-drop, length-set}
+use lib.ListN.{length, take, drop, set, length-take, length-drop, length-set}
 use lib.Seq.{get_or-set_same, get_or-set_other}
 use Rattle.file.specs.Forest.{contents, rest}
 use Rattle.file.specs.Head.{term_at}

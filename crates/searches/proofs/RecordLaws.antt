@@ -6,7 +6,7 @@ use mathlib.Core.Logic.{◌⊎◌, inl, inr}
 use mathlib.Core.Path.{◌≡◌, refl, sym, ap, ◌∙◌}
 use native.Mathlib.Omega.{arith}
 use native.Mathlib.Decide.{dec_lt}
-use lib.ListN.{length, take, drop, get_or, length-take, length-drop, length-append}
+use lib.ListN.{length, take, drop, length-take, length-drop, length-append}
 use lib.Seq.{take_all, take-append_seam, drop-append_seam}
 use Rattle.file.specs.Word.{word_at}
 use Rattle.file.specs.Forest.{contents, rest}
@@ -173,9 +173,6 @@ pub record Past (text first part : List ℕ) (i : ℕ) : Type 0 where
   pub counted : i ≡ 24 * count
   pub differ : 2 < word_at first 0 → (n : ℕ) → n < count → same_atom (atom_of text (term_at first 0)) (atom_at text part n) ≡ false
 
-pub past_none : (text first part : List ℕ) → Past text first part 0
-past_none text first part = record { within = omega arith; count = 0; counted = refl; differ = λ k n h. absurd (omega arith) }
-
 -- the record at a position
 pub record_at : (part : List ℕ) (i k : ℕ) → i ≡ 24 * k → 24 ≤ length (from i part) → term_at (from i part) 0 ≡ term_at part (24 * k)
 record_at part i k e long =
@@ -205,9 +202,6 @@ module _ {text first part : List ℕ} {i : ℕ} (so_far : Past text first part i
   -- what is compared with each record
   abbrev a : Atom
   a = atom_of text (term_at first 0)
-
-  pub past_all : length (from i part) < 24 → 2 < word_at first 0 → Alone text a part
-  past_all h k n inside = so_far.differ k n (omega (arith, from_length i part, so_far.counted, so_far.within))
 
   module _ (long : 24 ≤ length (from i part)) {t : Bool} (told : 2 < word_at first 0 → t ≡ same_atom a (atom_of text (term_at (from i part) 0))) where
     -- the record here
@@ -241,9 +235,6 @@ pub record Across (text part behind : List ℕ) (i : ℕ) : Type 0 where
   pub count : ℕ
   pub counted : i ≡ 24 * count
   pub apart : (m : ℕ) (v : Variable) → m < count → atom_at text part m ≡ variable v → Alone text (variable v) behind
-
-pub across_none : (text part behind : List ℕ) → Across text part behind 0
-across_none text part behind = record { within = omega arith; count = 0; counted = refl; apart = λ m v low. absurd (omega arith) }
 
 module _ {text part behind : List ℕ} {i : ℕ} (so_far : Across text part behind i) where
   pub across_all : length (from i part) < 24 → Disjoint (variables_in (row_of text part)) (variables_in (row_of text behind))

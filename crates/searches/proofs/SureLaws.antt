@@ -56,10 +56,6 @@ module _ {text terms : List ℕ} where
   pub fixed_same : (b : Bindings) (n : ℕ) → n ≤ b.count → Fixed text terms b n b
   fixed_same b n low = record { few = low; same = refl }
 
-  pub fixed_more : {b : Bindings} {key start size : ℕ} {c r : Bindings} {n : ℕ} → Bound b key start size c → n ≤ b.count → Fixed text terms c n r
-      → Fixed text terms b n r
-  fixed_more {n = n} more low f = record { few = f.few; same = f.same ∙ first_more text terms more n low }
-
   pub fixed_after : {b c r : Bindings} {n : ℕ} → Fixed text terms b n c → Fixed text terms c n r → Fixed text terms b n r
   fixed_after f g = record { few = g.few; same = g.same ∙ f.same }
 
@@ -100,11 +96,6 @@ module _ {text terms : List ℕ} where
   settled_fixed l b n here low = record { low = omega arith; few = low; same = λ w o. refl }
 
   module _ {l : List Variable} {b : Bindings} {s : Sure} (known : Settled text terms l b s) where
-    -- all places
-    pub settled_all : (here : Bool) → Agree l (values_of text terms b) (first_values text terms b s.fixed)
-        → Settled text terms l b (record { fixed = s.fixed; places = b.count; here = here })
-    settled_all here h = record { low = omega (arith, known.low, known.few); few = omega arith; same = h }
-
     pub settled_low : s.fixed ≤ b.count
     settled_low = omega (arith, known.low, known.few)
 

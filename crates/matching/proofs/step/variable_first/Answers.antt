@@ -1,5 +1,4 @@
 use Rattle.std.proofs.Common.{sym}
-use Rattle.matching.proofs.BoundLaws as places
 use Rattle.matching.proofs.step.variable_first.Goals as goal
 
 pub returns-in-Some : goal.returns-in-Some

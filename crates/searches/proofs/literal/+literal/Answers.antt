@@ -1,6 +1,6 @@
 use Rattle.std.proofs.Common.{arith, true, refl, ◌∙◌}
 use borrow.Author.Tests.{le-ltb}
-use Rattle.matching.specs.Code.Part.{Begin, at_start, one_on}
+use Rattle.matching.specs.Code.Part.{at_start, one_on}
 use Rattle.matching.proofs.CutLaws.{begin_inside}
 use Rattle.matching.proofs.FirstLaws as first-record
 use Rattle.matching.proofs.KnownLaws as known

@@ -1,6 +1,6 @@
 use Rattle.std.proofs.Common.{arith, false, not, refl, sym, ap, ◌∙◌}
 use Rattle.law.proofs.Forests.{inside_falls, after_falls}
-use Rattle.matching.specs.Code.Part.{Begin, at_start, one_on}
+use Rattle.matching.specs.Code.Part.{at_start, one_on}
 use Rattle.matching.proofs.CutLaws.{begin_inside, from_length}
 use Rattle.matching.proofs.FirstLaws as first-record
 use Rattle.matching.proofs.KnownLaws as known
