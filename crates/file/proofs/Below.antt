@@ -1,11 +1,22 @@
 -- Laws of `every` and `total` (specs/Below.antt), in the form that loops which count up use.
 use Prim.Native.Nat.{ℕ, zero, suc, ◌+◌, ◌*◌, ◌≤◌, ◌<◌}
-use mathlib.Core.Bool.{Bool, true, false, ◌&&◌}
-use mathlib.Core.Path.{◌≡◌, refl}
+use mathlib.Core.Bool.{Bool, true, false, ◌&&◌, and-true}
+use mathlib.Core.Path.{◌≡◌, refl, sym, ap, ◌∙◌}
 use native.Mathlib.Numerals.{add-one}
 use native.Mathlib.Omega.{arith}
 use native.Mathlib.Decide.{dec_lt}
 use native.Mathlib.Nat.{suc-mul, add-zero, add-suc}
+use denote.Param.Members.{Mut}
+use mathlib.Core.List.{List}
+use Rattle.std.specs.Fn.{Called}
+use Rattle.std.specs.Iterator.{YieldsThen}
+use Rattle.std.specs.List.{FoldsTo, list_all, range_with_len}
+use Rattle.std.specs.Option.{MatchOption}
+use Rattle.std.specs.declared.option.Option.{Option}
+use Rattle.std.specs.declared.ops.Range.{Range}
+use Rattle.std.proofs.iter.Yields.{nat_range_steps}
+use Rattle.std.proofs.lemmas.Iterator.{YieldsList-from_range}
+use Rattle.std.proofs.lemmas.Iterator.Search.{all_from_yields_List}
 use Rattle.file.specs.Below.{every, total}
 
 -- two tests that both hold
@@ -70,6 +81,39 @@ pub every_same : (n : ℕ) (p q : ℕ → Bool) → ((i : ℕ) → i < n → p i
 unfolding every
 every_same zero p q h = refl
 every_same (suc n) p q h = rw (every_same n p q (λ i l. h i (omega arith)), h n (omega arith))
+
+-- all below one more: the first, and those after it
+both_again : (a b c : Bool) → (a && b) && c ≡ a && (b && c)
+both_again true b c = refl
+both_again false b c = refl
+
+every_front : (n : ℕ) (p : ℕ → Bool) → every (suc n) p ≡ p 0 && every n (λ i. p (suc i))
+unfolding every
+every_front zero p = sym (and-true (p 0))
+every_front (suc n) p = rw (every_front n p) (both_again (p 0) (every n (λ i. p (suc i))) (p (suc n)))
+
+every_in : (from n : ℕ) (p : ℕ → Bool) → list_all p (range_with_len from n) ≡ every n (λ i. p (from + i))
+unfolding every
+every_in from zero p = refl
+every_in from (suc n) p =
+    let after : every n (λ i. p (from + 1 + i)) ≡ every n (λ i. p (from + suc i)) = every_same n _ _ (λ i l. ap p (omega arith)) in
+    rw (every_in (from + 1) n p, after, every_front n (λ i. p (from + i)), add-zero from) refl
+
+-- what `all` answers over a range of numbers, by a test that the closure computes
+module _ {F : Type 0} {g : Mut F (ℕ × Unit {0}) Bool} {f : F} {after : Range ℕ} (test : ℕ → Bool) (r : Bool) where
+  pub all_in : (from n end : ℕ) → end ≡ from + n
+      → (xs : List ℕ) × (o : Option ℕ) × (j : F) × YieldsThen nat_range_steps (record { start = from; end = end }) xs o after
+      × FoldsTo (λ p x q. Called g p (x, tt) true q) f xs j × MatchOption o (r ≡ true) (λ x. (r ≡ false) × ((h : F) × Called g j (x, tt) false h))
+      → ((x : ℕ) (b : Bool) (q : F) → Called g f (x, tt) b q → (q ≡ f) × (b ≡ test x))
+      → r ≡ every n (λ i. test (from + i))
+  all_in from n end e ran tests = all_from_yields_List test after f r ran (YieldsList-from_range from end n refl (omega arith)) tests ∙ every_in from n test
+
+  pub all_below : (n : ℕ)
+      → (xs : List ℕ) × (o : Option ℕ) × (j : F) × YieldsThen nat_range_steps (record { start = 0; end = n }) xs o after
+      × FoldsTo (λ p x q. Called g p (x, tt) true q) f xs j × MatchOption o (r ≡ true) (λ x. (r ≡ false) × ((h : F) × Called g j (x, tt) false h))
+      → ((x : ℕ) (b : Bool) (q : F) → Called g f (x, tt) b q → (q ≡ f) × (b ≡ test x))
+      → r ≡ every n test
+  all_below n ran tests = all_in 0 n n (omega arith) ran tests ∙ every_same n _ _ (λ i l. ap test (omega arith))
 
 -- nothing is added
 pub total_none : (f : ℕ → ℕ) → total 0 f ≡ 0

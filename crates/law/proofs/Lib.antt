@@ -14,7 +14,6 @@ pub mod Forests
 pub mod WholeTerms
 pub mod LevelLaws
 pub mod IndexLaws
-pub mod FitLaws
 pub mod PartLaws
 pub mod DepthSteps
 pub mod Verdict

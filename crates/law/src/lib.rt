@@ -15,7 +15,6 @@ use crate::depth::depth_allowed;
 use crate::index::place_records;
 use crate::patterns::patterns_allowed;
 pub use crate::places::{AcceptedLaw, Law};
-use crate::runs::runs_fit;
 use file::{Refusal, Sections, fields_allowed, sections_of};
 
 mod blocks;
@@ -44,7 +43,7 @@ const BLOCKS: usize = 460;
 fn check_placed(law: &Law) -> Result<(), Refusal>
     ensures { check_answer result ≡ check_of law.now.bytes.now }
 {
-    if !runs_fit(law.bytes, law.index) {
+    if !law.runs_fit() {
         return Err(Refusal::Runs);
     }
     if !blocks_allowed(law.bytes, law.index) {

@@ -4,13 +4,10 @@ ghost use Rattle.file.specs.Below.{every};
 ghost use Rattle.file.specs.Sections.{file_of};
 ghost use Rattle.law.specs.Places.{conditions_of, first_condition};
 ghost use Rattle.law.specs.Runs.{end_of, run_fits, condition_fits, sentence_fits};
-ghost use Rattle.law.specs.Code.Index.{Indexed};
+ghost use Rattle.law.specs.Code.Terms.{Owns};
 ghost use Rattle.law.specs.Code.Levels.{level_fits};
 
-use crate::Index;
-use crate::places::{
-    condition_pattern, condition_result, first_condition, pattern, result, sentences,
-};
+use crate::Law;
 use file::word_at;
 
 // Where the contents of the run's first record end. Where it has none, the next record is known without a wait for its n.
@@ -65,53 +62,38 @@ fn run_fits(part: &[u8]) -> bool
     true
 }
 
-// Whether the runs of a sentence's conditions fit.
-fn conditions_fit(law: &[u8], index: &Index, s: usize) -> bool
-    requires { Indexed law.now index.now × (s < (file_of law.now).sentences.count) }
-    ensures { result ≡ every (conditions_of (file_of law.now) s)
-        (λ i. condition_fits (file_of law.now) s (first_condition (file_of law.now) s + i)) }
-{
-    let first = first_condition(index, s);
-    let count = first_condition(index, s + 1) - first;
-    let mut i = 0;
-    while i < count {
-        if !run_fits(condition_result(law, index, s, first + i)) {
-            return false;
-        }
-        if !run_fits(condition_pattern(law, index, s, first + i)) {
-            return false;
-        }
-        i += 1;
+impl Law<'_> {
+    // Whether both runs of a condition c of a sentence s fit.
+    fn condition_fits(&self, s: usize, c: usize) -> bool
+        requires { Owns (file_of self.now.bytes.now) s c }
+        ensures { result ≡ condition_fits (file_of self.now.bytes.now) s c }
+    {
+        run_fits(self.condition_result(s, c)) && run_fits(self.condition_pattern(s, c))
     }
-    true
-}
 
-// Whether all runs of a sentence fit.
-fn sentence_fits(law: &[u8], index: &Index, s: usize) -> bool
-    requires { Indexed law.now index.now × (s < (file_of law.now).sentences.count) }
-    ensures { result ≡ sentence_fits (file_of law.now) s }
-{
-    if !run_fits(pattern(law, index, s)) {
-        return false;
+    // Whether the runs of a sentence's conditions fit.
+    fn conditions_fit(&self, s: usize) -> bool
+        requires { s < (file_of self.now.bytes.now).sentences.count }
+        ensures { result ≡ every (conditions_of (file_of self.now.bytes.now) s)
+            (λ i. condition_fits (file_of self.now.bytes.now) s (first_condition (file_of self.now.bytes.now) s + i)) }
+    {
+        let first = self.first_condition(s);
+        let end = self.first_condition(s + 1);
+        (first..end).all(|c| self.condition_fits(s, c))
     }
-    if !conditions_fit(law, index, s) {
-        return false;
-    }
-    run_fits(result(law, index, s))
-}
 
-// Whether all runs of all sentences fit.
-pub fn runs_fit(law: &[u8], index: &Index) -> bool
-    requires { Indexed law.now index.now }
-    ensures { result ≡ every (file_of law.now).sentences.count (sentence_fits (file_of law.now)) }
-{
-    let count = sentences(index);
-    let mut s = 0;
-    while s < count {
-        if !sentence_fits(law, index, s) {
-            return false;
-        }
-        s += 1;
+    // Whether all runs of a sentence fit.
+    fn sentence_fits(&self, s: usize) -> bool
+        requires { s < (file_of self.now.bytes.now).sentences.count }
+        ensures { result ≡ sentence_fits (file_of self.now.bytes.now) s }
+    {
+        run_fits(self.pattern(s)) && self.conditions_fit(s) && run_fits(self.result(s))
     }
-    true
+
+    // Whether all runs of all sentences fit.
+    pub fn runs_fit(&self) -> bool
+        ensures { result ≡ every (file_of self.now.bytes.now).sentences.count (sentence_fits (file_of self.now.bytes.now)) }
+    {
+        (0..self.sentences()).all(|s| self.sentence_fits(s))
+    }
 }

@@ -1,6 +1,5 @@
 use native.Mathlib.Omega.{arith}
 use mathlib.Core.Path.{◌∙◌}
-use Rattle.law.proofs.IndexLaws as laws
 use Rattle.law.proofs.BlockLaws as blocks
 use Rattle.law.proofs.places.Law.term_word.Goals as goal
 
