@@ -44,8 +44,7 @@ fn level_fits(part: &[u8], start: usize, end: usize) -> bool
 fn run_fits(part: &[u8]) -> bool
     ensures { result ≡ run_fits part.now }
 {
-    let mut k = 0;
-    while 24 <= part.len() - 24 * k {
+    for k in 0..part.len() / 24 {
         let i = 24 * k;
         let n = word_at(part, i + 12) as usize;
         if n != 0 {
@@ -57,7 +56,6 @@ fn run_fits(part: &[u8]) -> bool
                 return false;
             }
         }
-        k += 1;
     }
     true
 }
