@@ -13,8 +13,10 @@ use borrow.Author.Tests.{leb-true, le-leb, lt-leb}
 use Rattle.file.specs.Word.{word_at}
 use Rattle.file.specs.Forest.{Forest, end, node, contents, rest}
 use Rattle.file.proofs.Below.{both, both_first, both_second}
-use Rattle.law.specs.Runs.{end_of, fits, run_fits}
+use Rattle.law.specs.Runs.{end_of, fits, run_fits, term_forest}
 use Rattle.law.specs.Code.Levels.{own_level, level_fits}
+use Rattle.law.specs.Code.Whole.{heads, term_parts}
+use Rattle.std.specs.List.{list_all}
 use Rattle.law.proofs.Parts.{from_all, part_part, part_word}
 use Rattle.law.proofs.Tests.{three_hold}
 use Rattle.law.proofs.RunLaws.{terms_none, terms_node, fits_none, fits_node}
@@ -27,6 +29,20 @@ level_none s h = rw (terms_none s h)
 level_node : (s : List ℕ) → 24 ≤ length s → level_fits s ≡ leb (24 + 24 * word_at s 12) (length s) && level_fits (rest 24 end_of s)
 unfolding own_level
 level_node s h = rw (terms_node s h)
+
+-- a run's first record stays inside the run
+abbrev pub record_stays : List ℕ → Bool
+record_stays s = leb (24 + 24 * word_at s 12) (length s)
+
+level_of_heads : (f : Forest) → list_all record_stays (heads f) ≡ own_level f
+unfolding own_level heads
+level_of_heads end = refl
+level_of_heads (node s inside after) = rw (level_of_heads after) refl
+
+-- a level fits where each of its records stays inside it
+pub level_of_terms : (s : List ℕ) → list_all record_stays (term_parts s) ≡ level_fits s
+unfolding term_parts
+level_of_terms s = level_of_heads (term_forest s)
 
 -- where all fits, the run's own level does
 own_fits : (f : Forest) → fits f ≡ true → own_level f ≡ true

@@ -8,6 +8,7 @@ ghost use Rattle.law.specs.Code.Terms.{Owns};
 ghost use Rattle.law.specs.Code.Levels.{level_fits};
 
 use crate::Law;
+use crate::whole::Terms;
 use file::word_at;
 
 // Where the contents of the run's first record end. Where it has none, the next record is known without a wait for its n.
@@ -19,24 +20,14 @@ pub fn end_of(part: &[u8]) -> usize
     if n == 0 {
         return 24;
     }
-    let end = 24 + 24 * n;
-    if end < part.len() { end } else { part.len() }
+    (24 + 24 * n).min(part.len())
 }
 
-// Whether no n of the records of one level, the bytes from `start` to `end`, passes that end. What is inside these records is passed over.
-fn level_fits(part: &[u8], start: usize, end: usize) -> bool
-    requires { (start ≤ end) × (end ≤ length part.now) }
-    ensures { result ≡ level_fits (take (end - start) (drop start part.now)) }
+// Whether no n of the records of one level passes its end. What is inside these records is passed over.
+fn level_fits(level: &[u8]) -> bool
+    ensures { result ≡ level_fits level.now }
 {
-    let mut i = start;
-    while 24 <= end - i {
-        let size = 24 + 24 * word_at(part, i + 12) as usize;
-        if end - i < size {
-            return false;
-        }
-        i += size;
-    }
-    true
+    Terms(level).all(|left| 24 + 24 * word_at(left, 12) as usize <= left.len())
 }
 
 // Whether no record's n passes the run that the record stands in: the level inside each record fits. Every record is met, at whatever depth, so that
@@ -52,7 +43,7 @@ fn run_fits(part: &[u8]) -> bool
             if part.len() - i < size {
                 return false;
             }
-            if !level_fits(part, i + 24, i + size) {
+            if !level_fits(&part[i + 24..i + size]) {
                 return false;
             }
         }
