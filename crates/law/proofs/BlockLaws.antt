@@ -1,19 +1,16 @@
 -- Row 7 (specs/Runs.antt): a word of a term record in the file, and what the tests of a term record, a sentence and a file answer at each return.
 use Prim.Native.Nat.{ℕ, suc, ◌+◌, ◌*◌, ◌-◌, ◌≤◌, ◌<◌}
 use mathlib.Core.List.{List}
-use mathlib.Core.Bool.{Bool, true, false}
-use mathlib.Core.Path.{◌≡◌, sym, ◌∙◌}
+use mathlib.Core.Bool.{true}
+use mathlib.Core.Path.{◌≡◌, refl, sym, ◌∙◌}
 use native.Mathlib.Numerals.{add-one}
 use native.Mathlib.Omega.{arith}
 use lib.ListN.{length, get_or}
-use lib.Dec.{ltb}
-use borrow.Author.Tests.{eq-eqb, ne_eqb}
 use Rattle.file.specs.Word.{word_at}
 use Rattle.file.specs.Below.{every}
 use Rattle.file.specs.Sections.{File, file_of}
 use Rattle.file.proofs.Words.{word_part}
-use Rattle.file.proofs.Below.{every_fails}
-use Rattle.law.specs.Places.{block_size, first_sentence, block_first, pattern_at}
+use Rattle.law.specs.Places.{first_sentence, pattern_at}
 use Rattle.law.specs.Runs.{used_up, block_later, sentence_blocks, blocks_allowed}
 use Rattle.law.specs.Code.Index.{Indexed, terms_start}
 use Rattle.law.proofs.Tests.{every_all}
@@ -31,63 +28,13 @@ module _ (bytes index : List ℕ) (h : Indexed bytes index) where
   pub term_word_inside : (t at : ℕ) → t < (file_of bytes).terms.count → at + 4 ≤ 24 → get_or index 3 0 + (24 * t + at) + 4 ≤ length bytes
   term_word_inside t at l k = omega (arith, laws.whole bytes index h, h.words.records_at)
 
-  -- a record of a sentence is a term record
-  pub sentence_term : (s i first next : ℕ) → s < (file_of bytes).sentences.count → first ≡ pattern_at (file_of bytes) s
-      → next ≡ pattern_at (file_of bytes) (s + 1)
-      → i < next - first → first + i < (file_of bytes).terms.count
-  sentence_term s i first next l start end k =
-      let q : next ≡ pattern_at (file_of bytes) (suc s) = rw (add-one s) at end in
-      omega (arith, places.terms_inside (file_of bytes) h.used s l)
-
-  -- the place of a block in the index
-  pub block_place : (t r : ℕ) → t < (file_of bytes).terms.count → r ≡ get_or index (460 + t) 0 → r ≡ block_first (file_of bytes) t
-  block_place t r l e = e ∙ h.words.blocks t l
-
-  -- a test of each sentence: one that fails, and all that hold
-  pub sentences_fail : (p : ℕ → Bool) (count s : ℕ) (r : Bool) → count ≡ get_or index 5 0 → s < count → r ≡ p s → r ≡ false
-      → false ≡ every (file_of bytes).sentences.count p
-  sentences_fail p count s r n l e f = sym (every_fails _ p s (omega (arith, h.words.sentences)) (sym e ∙ f))
-
-  pub sentences_hold : (p : ℕ → Bool) (count s : ℕ) → count ≡ get_or index 5 0 → s ≤ count → count ≤ s → every s p ≡ true
-      → true ≡ every (file_of bytes).sentences.count p
-  sentences_hold p count s n l k e =
-      let q : s ≡ (file_of bytes).sentences.count = omega (arith, h.words.sentences) in
-      sym (rw q at e)
-
 module _ (file : File) where
-  -- a record that is no block has no sentences
-  pub no_block : (t kind : ℕ) → kind ≡ word_at file.terms.records (24 * t + 0) → (kind ≡ 8 → ⊥) → 0 ≡ block_size file t
-  no_block t kind e n = rw (← laws.zero_offset file.terms.records (24 * t), ← e, ne_eqb kind 8 n)
-
-  -- a block has as many as its next word says
-  pub some_block : (t kind size : ℕ) → kind ≡ word_at file.terms.records (24 * t + 0) → kind ≡ 8
-      → size ≡ word_at file.terms.records (24 * t + 4)
-      → size ≡ block_size file t
-  some_block t kind size e n q = rw (← laws.zero_offset file.terms.records (24 * t), ← e, eq-eqb kind 8 n, q)
-
-  -- a record without sentences is never refused
-  pub later_empty : (s t size : ℕ) → size ≡ block_size file t → size ≡ 0 → true ≡ block_later file s t
-  later_empty s t size e z = rw (← e, z)
-
-  -- a block's first sentence decides
-  pub later_first : (s t size first : ℕ) → size ≡ block_size file t → (size ≡ 0 → ⊥) → first ≡ block_first file t
-      → ltb s first ≡ block_later file s t
-  later_first s t size first e z f = rw (← e, ne_eqb size 0 z, f)
-
-  module _ (s first next : ℕ) (start : first ≡ pattern_at file s) (end : next ≡ pattern_at file (s + 1)) where
-    -- one record of a sentence that fails
-    pub sentence_fails : (i : ℕ) (r : Bool) → i < next - first → r ≡ block_later file s (first + i) → r ≡ false → false ≡ sentence_blocks file s
-    sentence_fails i r l e f =
-        let q : next ≡ pattern_at file (suc s) = rw (add-one s) at end in
-        rw (← q, ← start) (sym (every_fails (next - first) _ i l (sym e ∙ f)))
-
-    -- all records hold
-    pub sentence_holds : (i : ℕ) → i ≤ next - first → next - first ≤ i → every i (λ k. block_later file s (first + k)) ≡ true
-        → true ≡ sentence_blocks file s
-    sentence_holds i l k h =
-        let q : next ≡ pattern_at file (suc s) = rw (add-one s) at end in
-        let n : i ≡ next - first = omega arith in
-        rw (← q, ← start) (sym (rw n at h))
+  -- the records of a sentence, from its first to the next sentence's
+  pub sentence_all : (s first next : ℕ) → first ≡ pattern_at file s → next ≡ pattern_at file (s + 1)
+      → every (next - first) (λ k. block_later file s (first + k)) ≡ sentence_blocks file s
+  sentence_all s first next start end =
+      let q : next ≡ pattern_at file (suc s) = rw (add-one s) at end in
+      rw (← q, ← start) refl
 
   -- where the functions have all sentences, no record is refused
   blocks_hold : used_up file ≡ true → first_sentence file file.functions.count ≡ file.sentences.count → blocks_allowed file ≡ true

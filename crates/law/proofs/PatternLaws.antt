@@ -10,6 +10,7 @@ use native.Mathlib.Omega.{arith}
 use native.Mathlib.Decide.{dec_lt}
 use lib.ListN.{length, take, drop, length-append}
 use lib.Dec.{leb}
+use Rattle.std.specs.List.{list_any, range_with_len}
 use borrow.Author.Tests.{le-leb}
 use Rattle.names.specs.Name.{folded_index, same_bytes}
 use Rattle.file.specs.Word.{word_at}
@@ -166,6 +167,13 @@ module _ (text records : List ℕ) where
   one_kind i j k m a b ek em lk hk d ea eb v e =
       let is : v ≡ variable text k (word_at records (24 * i + 4)) (word_at records (24 * i + 8)) = cc (variable_is i k ek (omega arith) (omega arith)) in
       rw (ea, eb, variable_is j k (d ∙ em) (omega arith) (omega arith), is, same_kind_lem k) (sym (or-false _))
+
+  -- what `any` answers of so many records from one on
+  pub occurs_any : (v : Variable) (n t : ℕ) → list_any (λ j. occurs v (variables_at j)) (range_with_len t n) ≡ occurs v (variables_from text records n t)
+  unfolding occurs variables_from
+  occurs_any v zero t = refl
+  occurs_any v (suc n) t =
+      rw (occurs_any v n (t + 1), add-one t) (sym (occurs_append v (variables_at t) (variables_from text records n (suc t))))
 
   -- ---- the records of a pattern, one at a time
 

@@ -10,10 +10,8 @@ ghost use Rattle.law.specs.Code.Index.{Indexed};
 ghost use Rattle.law.specs.Law.{check_answer, check_of};
 ghost use Rattle.law.specs.Code.Accepted.{IndexAfter};
 
-use crate::blocks::blocks_allowed;
 use crate::depth::depth_allowed;
 use crate::index::place_records;
-use crate::patterns::patterns_allowed;
 pub use crate::places::{AcceptedLaw, Law};
 use file::{Refusal, Sections, fields_allowed, sections_of};
 
@@ -46,13 +44,13 @@ fn check_placed(law: &Law) -> Result<(), Refusal>
     if !law.runs_fit() {
         return Err(Refusal::Runs);
     }
-    if !blocks_allowed(law.bytes, law.index) {
+    if !law.blocks_allowed() {
         return Err(Refusal::Blocks);
     }
     if !depth_allowed(law.bytes, law.index) {
         return Err(Refusal::Depth);
     }
-    if !patterns_allowed(law.bytes, law.index) {
+    if !law.patterns_allowed() {
         return Err(Refusal::Patterns);
     }
     Ok(())

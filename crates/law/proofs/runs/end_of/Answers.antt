@@ -1,4 +1,4 @@
-use Rattle.std.proofs.Common.{arith, rules}
+use Rattle.std.proofs.Common.{arith}
 use Rattle.law.specs.Runs.{end_of}
 use Rattle.law.proofs.runs.end_of.Goals as goal
 

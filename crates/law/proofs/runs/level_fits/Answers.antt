@@ -1,4 +1,4 @@
-use Rattle.std.proofs.Common.{refl, rules, ◌∙◌, ◌+◌, ◌*◌, length}
+use Rattle.std.proofs.Common.{refl, rules, ◌∙◌}
 use Rattle.std.proofs.lemmas.Iterator.Search.{all_from_yields_List}
 use Rattle.law.proofs.LevelLaws.{record_stays, level_of_terms}
 use Rattle.law.proofs.WholeTerms.{YieldsList-from_terms}
