@@ -10,7 +10,6 @@ ghost use Rattle.law.specs.Code.Index.{Indexed};
 ghost use Rattle.law.specs.Law.{check_answer, check_of};
 ghost use Rattle.law.specs.Code.Accepted.{IndexAfter};
 
-use crate::depth::depth_allowed;
 use crate::index::place_records;
 pub use crate::places::{AcceptedLaw, Law};
 use file::{Refusal, Sections, fields_allowed, sections_of};
@@ -47,7 +46,7 @@ fn check_placed(law: &Law) -> Result<(), Refusal>
     if !law.blocks_allowed() {
         return Err(Refusal::Blocks);
     }
-    if !depth_allowed(law.bytes, law.index) {
+    if !law.depth_allowed() {
         return Err(Refusal::Depth);
     }
     if !law.patterns_allowed() {

@@ -28,7 +28,7 @@ depth_allowed-requires c =
     let runs = verdict.runs_all bytes sections fields c.args.law.now.indexed.used (sym c.runs_fit.ensures ∙ c.if-not-runs_fit.false) in
     let blocks = sym c.blocks_allowed.ensures ∙ c.if-not-blocks_allowed.false in
     let whole = (sections_records bytes (file_of bytes) sections).4 in
-    (c.args.law.now.indexed, record { whole = whole; fields = fields; runs = runs; blocks = blocks })
+    record { whole = whole; fields = fields; runs = runs; blocks = blocks }
 
 pub returns-then-not-depth_allowed : goal.returns-then-not-depth_allowed
 returns-then-not-depth_allowed c =
