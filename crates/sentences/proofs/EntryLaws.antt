@@ -43,9 +43,6 @@ module _ (text pattern row : List ℕ) where
   pub known_not : passes (row_of text pattern) (row_of text row) ≡ false → Matches text pattern row false
   known_not h back = ap some_in (none_found back (row_of text pattern) (row_of text row) h)
 
-  pub known_uneven : ((back : Bool) → found back (row_of text pattern) (row_of text row) none_bound ≡ []) → Matches text pattern row false
-  known_uneven none back = ap some_in (none back)
-
   pub known_once : passes (row_of text pattern) (row_of text row) ≡ true → once_each (variables_in (row_of text pattern)) ≡ true → Matches text pattern row true
   known_once h o back = some_found back (row_of text pattern) (row_of text row) o h
 

@@ -21,7 +21,7 @@ use Rattle.file.specs.declared.Term.TheVariants.{Symbol as Symbolic, SVariable, 
 use Rattle.law.specs.Expression.{nothing, symbol, brackets}
 use Rattle.law.specs.Runs.{end_of}
 use Rattle.law.proofs.RunLaws.{end_low, end_high}
-use Rattle.matching.specs.Pattern.{literal, Pattern}
+use Rattle.matching.specs.Pattern.{Atom, literal, other, Pattern}
 use Rattle.matching.specs.Shadow.{same_atom, symbol_like, single_term}
 use Rattle.matching.specs.Code.Part.{row_of, symbol_at, atom_of, term_row, is_bracket}
 use Rattle.matching.specs.Code.Step.{open_term, may_stand}
@@ -31,6 +31,18 @@ use Rattle.matching.proofs.StepLaws.{symbol_from}
 use Rattle.sentences.specs.Code.Greedy.{open_atom, next, or_else, atom_fits, bracket_fits, front_of, leftmost_of}
 use Rattle.sentences.specs.Code.Ahead.{passes, front_in, leftmost_in, ahead_of, OpenStart, fits_heads, fits_first}
 use Rattle.sentences.proofs.GreedyLaws.{next_some}
+
+-- ---- a term before the terms after it is a bracket with its contents, or an atom
+
+pub by_row : (text : List ℕ) (t : Term) (P : (Pattern → Pattern → Pattern) → Bool → Type 0) → P brackets false
+    → ((a : Atom) → P (λ inside after. symbol a after) (open_atom a)) → P (term_row text t) (open_term t)
+by_row text (Symbolic x) P b s = s (atom_of text (Symbolic x))
+by_row text (SVariable i n) P b s = s (atom_of text (SVariable i n))
+by_row text (TVariable i n) P b s = s (atom_of text (TVariable i n))
+by_row text (EVariable i n) P b s = s (atom_of text (EVariable i n))
+by_row text Bracket P b s = b
+by_row text (Call i n) P b s = s other
+by_row text (Block n) P b s = s other
 
 -- ---- first terms
 
@@ -111,13 +123,7 @@ module _ (text : List ℕ) where
   -- an e. variable
   front_stops : (t : Term) → open_term t ≡ true → (c p x : Pattern) → front_in (term_row text t c p) x ≡ some (term_row text t c p, x)
   unfolding front_of
-  front_stops (Symbolic y) o c p x = absurd (false_not_true o)
-  front_stops (SVariable a b) o c p x = absurd (false_not_true o)
-  front_stops (TVariable a b) o c p x = absurd (false_not_true o)
-  front_stops (EVariable a b) o c p x = refl
-  front_stops Bracket o c p x = absurd (false_not_true o)
-  front_stops (Call a b) o c p x = absurd (false_not_true o)
-  front_stops (Block n) o c p x = absurd (false_not_true o)
+  front_stops t o c p x = by_row text t (λ row starts. starts ≡ true → front_in (row c p) x ≡ some (row c p, x)) (λ k. absurd (false_not_true k)) (λ a k. rw k) o
 
 -- ---- terms by their kinds
 
@@ -208,9 +214,6 @@ pub record Fronted (text pattern row left right : List ℕ) : Type 0 where
   pub within : length left ≤ length pattern
   pub same : front_in (row_of text pattern) (row_of text row) ≡ front_in (row_of text left) (row_of text right)
 
-pub fronted : (text pattern row : List ℕ) → Fronted text pattern row pattern row
-fronted text pattern row = record { within = omega arith; same = refl }
-
 module _ {text pattern row left right : List ℕ} (so_far : Fronted text pattern row left right) where
   -- nothing is left of the pattern
   pub front_end : length left < 24 → some (row_of text left, row_of text right) ≡ front_in (row_of text pattern) (row_of text row)
@@ -290,13 +293,7 @@ leftmost_here p (brackets c x) z e = rw e
 
 leftmost_there : (text : List ℕ) (p : Pattern) (t : Term) (c x : Pattern) → front_in p (term_row text t c x) ≡ none → leftmost_in p (term_row text t c x) ≡ leftmost_in p x
 unfolding leftmost_of
-leftmost_there text p (Symbolic y) c x e = rw e
-leftmost_there text p (SVariable a b) c x e = rw e
-leftmost_there text p (TVariable a b) c x e = rw e
-leftmost_there text p (EVariable a b) c x e = rw e
-leftmost_there text p Bracket c x e = rw e
-leftmost_there text p (Call a b) c x e = rw e
-leftmost_there text p (Block n) c x e = rw e
+leftmost_there text p t c x = by_row text t (λ row starts. front_in p (row c x) ≡ none → leftmost_in p (row c x) ≡ leftmost_in p x) (λ e. rw e) (λ a e. rw e)
 
 pub record Sought (text pattern row right : List ℕ) : Type 0 where
   pub same : leftmost_in (row_of text pattern) (row_of text row) ≡ leftmost_in (row_of text pattern) (row_of text right)

@@ -34,30 +34,18 @@ use Rattle.sentences.specs.Code.Greedy.{EndOf, left_passes, opens}
 use Rattle.matching.specs.Order.{terms_in}
 use Rattle.sentences.specs.Code.Ahead.{passes, front_in, leftmost_in, end_passes, OpenStart, Skipped}
 use Rattle.sentences.proofs.GreedyLaws.{whole_end, end_end, end_some, front_loosely, leftmost_loosely, last_loosely, last_short}
-use Rattle.sentences.proofs.FrontLaws.{is_open_lem, not_open, front_open, leftmost_open, symbols_part}
+use Rattle.sentences.proofs.FrontLaws.{by_row, is_open_lem, not_open, front_open, leftmost_open, symbols_part}
 
 -- ---- what `has_open` has gone through
 
-module _ (text : List ℕ) where
-  opens_here : (t : Term) (c p : Pattern) → open_term t ≡ true → opens (term_row text t c p) ≡ true
+module _ (text : List ℕ) (t : Term) (c p : Pattern) where
+  opens_here : open_term t ≡ true → opens (term_row text t c p) ≡ true
   unfolding opens
-  opens_here (Symbolic y) c p o = absurd (false_not_true o)
-  opens_here (SVariable a b) c p o = absurd (false_not_true o)
-  opens_here (TVariable a b) c p o = absurd (false_not_true o)
-  opens_here (EVariable a b) c p o = refl
-  opens_here Bracket c p o = absurd (false_not_true o)
-  opens_here (Call a b) c p o = absurd (false_not_true o)
-  opens_here (Block n) c p o = absurd (false_not_true o)
+  opens_here = by_row text t (λ row starts. starts ≡ true → opens (row c p) ≡ true) (λ o. absurd (false_not_true o)) (λ a o. rw o)
 
-  opens_later : (t : Term) (c p : Pattern) → open_term t ≡ false → opens (term_row text t c p) ≡ opens p
+  opens_later : open_term t ≡ false → opens (term_row text t c p) ≡ opens p
   unfolding opens
-  opens_later (Symbolic y) c p o = refl
-  opens_later (SVariable a b) c p o = refl
-  opens_later (TVariable a b) c p o = refl
-  opens_later (EVariable a b) c p o = absurd (false_not_true (sym o))
-  opens_later Bracket c p o = refl
-  opens_later (Call a b) c p o = refl
-  opens_later (Block n) c p o = refl
+  opens_later = by_row text t (λ row starts. starts ≡ false → opens (row c p) ≡ opens p) (λ o. refl) (λ a o. rw o)
 
 -- it is asked of each term in turn
 pub opens_any : (text part : List ℕ) → list_any (λ s. eqb (word_at s 0) 5) (term_parts part) ≡ opens (row_of text part)
@@ -74,24 +62,12 @@ opens_any text =
 
 -- ---- the first term of a part, and the rest
 
-module _ (text : List ℕ) where
-  term_terms : (x : Term) (c p : Pattern) → terms_in (term_row text x c p) ≡ suc (terms_in p)
-  term_terms (Symbolic x) c p = refl
-  term_terms (SVariable a b) c p = refl
-  term_terms (TVariable a b) c p = refl
-  term_terms (EVariable a b) c p = refl
-  term_terms Bracket c p = refl
-  term_terms (Call a b) c p = refl
-  term_terms (Block n) c p = refl
+module _ (text : List ℕ) (t : Term) (c p : Pattern) where
+  term_terms : terms_in (term_row text t c p) ≡ suc (terms_in p)
+  term_terms = by_row text t (λ row starts. terms_in (row c p) ≡ suc (terms_in p)) refl (λ a. refl)
 
-  term_end : (x : Term) (c p : Pattern) → EndOf p (term_row text x c p)
-  term_end (Symbolic x) c p = inr (whole_end p)
-  term_end (SVariable a b) c p = inr (whole_end p)
-  term_end (TVariable a b) c p = inr (whole_end p)
-  term_end (EVariable a b) c p = inr (whole_end p)
-  term_end Bracket c p = inr (whole_end p)
-  term_end (Call a b) c p = inr (whole_end p)
-  term_end (Block n) c p = inr (whole_end p)
+  term_end : EndOf p (term_row text t c p)
+  term_end = by_row text t (λ row starts. EndOf p (row c p)) (inr (whole_end p)) (λ a. inr (whole_end p))
 
 module _ (part : List ℕ) (some_left : 24 ≤ length part) {later : List ℕ} (behind : later ≡ rest 24 end_of part) (text : List ℕ) where
   pub next_terms : terms_in (row_of text part) ≡ suc (terms_in (row_of text later))
@@ -176,13 +152,7 @@ open_first text (Block n) c p x o = absurd (false_not_true o)
 -- a pattern that is empty
 nothing_passes : (text : List ℕ) (t : Term) (c x : Pattern) → passes nothing (term_row text t c x) ≡ false
 unfolding loosely
-nothing_passes text (Symbolic y) c x = refl
-nothing_passes text (SVariable a b) c x = refl
-nothing_passes text (TVariable a b) c x = refl
-nothing_passes text (EVariable a b) c x = refl
-nothing_passes text Bracket c x = refl
-nothing_passes text (Call a b) c x = refl
-nothing_passes text (Block n) c x = refl
+nothing_passes text t c x = by_row text t (λ row starts. passes nothing (row c x) ≡ false) refl (λ a. refl)
 
 empty_passes : (text part : List ℕ) → passes nothing (row_of text part) ≡ ltb (length part) 24
 unfolding loosely
