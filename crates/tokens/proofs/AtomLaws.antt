@@ -1,164 +1,147 @@
--- Laws for identifiers, numbers and variables: the loops that look for their end, and the tokens that are found.
-use Prim.Native.Nat.{ℕ, suc, ◌+◌, ◌-◌, ◌≤◌, ◌<◌}
-use mathlib.Core.List.{List, [], ◌∷◌, ◌++◌}
-use mathlib.Core.Bool.{Bool, true, false}
-use mathlib.Core.Option.{Option, none, some}
+-- Laws for identifiers, numbers and variables: the loop that looks for their end, and the tokens that are found.
+use Prim.Native.Nat.{ℕ, suc, ◌+◌, ◌≤◌, ◌<◌}
+use mathlib.Core.List.{List, [], ◌∷◌}
+use mathlib.Core.Bool.{Bool, true, false, cond}
+use mathlib.Core.Option.{none, some, Option as Choice}
 use mathlib.Core.Path.{◌≡◌, refl, sym, ap, ◌∙◌}
 use native.Mathlib.Omega.{arith}
 use native.Mathlib.Numerals.{add-one}
-use native.Mathlib.Nat.{add_assoc}
-use lib.ListN.{length, take, drop, get_or, drop_of_length-le}
-use lib.Seq.{drop-cons, drop-drop, take-append_seam}
-use borrow.Author.Tests.{eq-eqb, ne_eqb}
+use lib.ListN.{length, drop, get_or, drop_of_length-le}
+use lib.Seq.{drop-cons, drop-drop}
+use lib.Dec.{eqb, ltb}
+use borrow.Author.Tests.{eq-eqb, ne_eqb, ltb-true, ltb-false}
+use Rattle.std.specs.Bool.{then_some}
+use Rattle.std.proofs.Common.{Option, Some, None}
 use Rattle.names.specs.Name.{digit_byte, letter_byte, name_byte, every_byte}
 use Rattle.file.proofs.Below.{both}
-use Rattle.law.specs.Tree.{Kind, symbol_kind, term_kind, expression_kind}
-use Rattle.tokens.specs.Token.{identifier, number, kind_number, atom, token}
+use Rattle.law.specs.Tree as tree
+use Rattle.law.specs.Tree.{symbol_kind, term_kind, expression_kind}
+use Rattle.tokens.specs.Token.{identifier, number, variable, atom, token, token_bytes}
 use Rattle.tokens.specs.Lex.{leading, variable_kind, index_after, identifier_or_variable, next}
-use Rattle.tokens.specs.Code.TokenKind.{kind_numbered}
-use Rattle.tokens.specs.Code.Found.{kind_code, atom_in}
-use Rattle.tokens.proofs.Begins.{begins_found, leading_begins}
-use Rattle.tokens.proofs.NextPiece.{number_next, identifier_next, index_begins, variable_next}
-use Rattle.tokens.specs.declared.atoms.Lexeme.TheVariants.{Identifier, Number, Variable}
+use Rattle.tokens.specs.Code.TokenKind.{kind_of, variable_of}
+use Rattle.tokens.specs.Code.Found.{index_end, index_ends, found_at, IdentifierAt}
+use Rattle.tokens.proofs.NextPiece.{number_next, identifier_next, variable_next}
+use Rattle.tokens.specs.declared.kinds.Kind.{Kind}
+use Rattle.tokens.specs.declared.kinds.Kind.TheVariants.{Identifier, Number, SymbolVariable, TermVariable, ExpressionVariable}
+use Rattle.tokens.specs.declared.pieces.Found.TheVariants.{Token as Tokened}
 
--- the run from `at` on is decided by the bytes from i on
-pub record LeadingTo (p : ℕ → Bool) (s : List ℕ) (at i : ℕ) : Type 0 where
-  pub inside : i ≤ length s
-  pub left : at + length (leading p (drop at s)) ≡ i + length (leading p (drop i s))
+-- the run that a byte begins, by the byte
+pub leading_here : (p : ℕ → Bool) (s : List ℕ) (i : ℕ) → i < length s
+    → length (leading p (drop i s)) ≡ cond (p (get_or s i 0)) (suc (length (leading p (drop (i + 1) s)))) 0
+unfolding leading
+leading_here p s i l = rw (drop-cons s i 0 l, add-one) (go (p (get_or s i 0)))
+  where
+    go : (b : Bool) → length (cond b (get_or s i 0 ∷ leading p (drop (suc i) s)) []) ≡ cond b (suc (length (leading p (drop (suc i) s)))) 0
+    go true = refl
+    go false = refl
 
-pub leading_start : (p : ℕ → Bool) (s : List ℕ) (at : ℕ) → at ≤ length s → LeadingTo p s at at
-leading_start p s at h = record { inside = h; left = refl }
-
-module _ {p : ℕ → Bool} {s : List ℕ} {at i : ℕ} (h : LeadingTo p s at i) where
-  pub leading_next : {t : Bool} → i < length s → t ≡ p (get_or s i 0) → t ≡ true → LeadingTo p s at (i + 1)
-  unfolding leading
-  leading_next l e q =
-      let more : length (leading p (drop i s)) ≡ suc (length (leading p (drop (i + 1) s))) = rw (drop-cons s i 0 l, ← e, q, add-one) in
-      record { inside = omega arith; left = h.left ∙ rw more (omega arith) }
-
-  pub leading_stops : {t : Bool} → i < length s → t ≡ p (get_or s i 0) → t ≡ false → (i ≡ at + length (leading p (drop at s))) × (i ≤ length s)
-  unfolding leading
-  leading_stops l e q =
-      let none : length (leading p (drop i s)) ≡ 0 = rw (drop-cons s i 0 l, ← e, q) in
-      (omega (arith, h.left), h.inside)
-
-  pub leading_ends : length s ≤ i → (i ≡ at + length (leading p (drop at s))) × (i ≤ length s)
-  unfolding leading
-  leading_ends l =
-      let none : length (leading p (drop i s)) ≡ 0 = rw (drop_of_length-le s {i = i} l) in
-      (omega (arith, h.left), h.inside)
+pub leading_past : (p : ℕ → Bool) (s : List ℕ) (i : ℕ) → length s ≤ i → length (leading p (drop i s)) ≡ 0
+unfolding leading
+leading_past p s i l = rw (drop_of_length-le s {i = i} l)
 
 -- ---- an index after a point
 
 -- the text ends, no point stands here, or one does
-pub index_past : (s : List ℕ) (at : ℕ) → length s ≤ at → (0 ≡ length (index_after (drop at s))) × ((◌≡◌ {A = ℕ} 0 0 → ⊥) → at + 1 + 0 ≤ length s)
+pub index_past : (s : List ℕ) (at : ℕ) → length s ≤ at → None ≡ index_ends at (drop at s)
 unfolding index_after
-index_past s at h = (rw (drop_of_length-le s {i = at} h), λ d. absurd (d refl))
+index_past s at h = rw (drop_of_length-le s {i = at} h)
 
-pub index_no_point : (s : List ℕ) (at : ℕ) → at < length s → (get_or s at 0 ≡ 46 → ⊥) → (0 ≡ length (index_after (drop at s))) × ((◌≡◌ {A = ℕ} 0 0 → ⊥) → at + 1 + 0 ≤ length s)
+pub index_other : (s : List ℕ) (at : ℕ) → at < length s → (get_or s at 0 ≡ 46 → ⊥) → None ≡ index_ends at (drop at s)
 unfolding index_after
-index_no_point s at h d = (rw (drop-cons s at 0 h, ne_eqb (get_or s at 0) 46 d), λ z. absurd (z refl))
+index_other s at h d = rw (drop-cons s at 0 h, ne_eqb (get_or s at 0) 46 d)
 
-pub index_point : (s : List ℕ) (at : ℕ) {e : ℕ} → at < length s → get_or s at 0 ≡ 46 → e ≡ at + 1 + length (leading name_byte (drop (at + 1) s)) → e ≤ length s
-    → (e - (at + 1) ≡ length (index_after (drop at s))) × ((e - (at + 1) ≡ 0 → ⊥) → at + 1 + (e - (at + 1)) ≤ length s)
-unfolding index_after
-index_point s at h d p q =
-    let found : length (index_after (drop at s)) ≡ length (leading name_byte (drop (at + 1) s)) = rw (drop-cons s at 0 h, eq-eqb (get_or s at 0) 46 d, add-one) in
-    (rw found (omega arith), λ z. omega arith)
+module _ (s : List ℕ) (at e : ℕ) (h : at < length s) (d : get_or s at 0 ≡ 46) (q : e ≡ at + 1 + length (leading name_byte (drop (at + 1) s))) where
+  run : index_after (drop at s) ≡ leading name_byte (drop (at + 1) s)
+  unfolding index_after
+  run = rw (drop-cons s at 0 h, eq-eqb (get_or s at 0) 46 d, add-one)
+
+  -- an index has one byte or more
+  pub index_test : then_some (ltb (at + 1) e) e ≡ index_ends at (drop at s)
+  index_test = go (leading name_byte (drop (at + 1) s)) run q (ltb (at + 1) e) refl
+    where
+      go : (i : List ℕ) → index_after (drop at s) ≡ i → e ≡ at + 1 + length i → (b : Bool) → ltb (at + 1) e ≡ b → then_some b e ≡ index_ends at (drop at s)
+      go [] f m true t = absurd (omega (arith, ltb-true (at + 1) e t))
+      go [] f m false t = rw f
+      go (x ∷ i) f m true t = rw (f, m)
+      go (x ∷ i) f m false t = absurd (omega (arith, ltb-false (at + 1) e t))
 
 -- ---- tokens
 
-leading_take : (p : ℕ → Bool) (s : List ℕ) → leading p s ≡ take (length (leading p s)) s
-leading_take p s = sym (ap (take (length (leading p s))) (sym (begins_found (leading p s) s (leading_begins p s))) ∙ take-append_seam (leading p s) (drop (length (leading p s)) s))
-
--- a byte and the run after it
-leading_part : (p : ℕ → Bool) (s : List ℕ) (at e : ℕ) → at < length s → e ≡ at + 1 + length (leading p (drop (at + 1) s))
-    → get_or s at 0 ∷ leading p (drop (suc at) s) ≡ take (e - at) (drop at s)
-leading_part p s at e h q =
-    let n : ℕ = length (leading p (drop (suc at) s)) in
-    let size : e - at ≡ suc n = rw (← add-one at) (omega arith) in
-    rw (size, drop-cons s at 0 h) (ap (◌∷◌ (get_or s at 0)) (leading_take p (drop (suc at) s)))
-
 -- a number
-pub number_found : (s : List ℕ) (at : ℕ) {e : ℕ} → at < length s → digit_byte (get_or s at 0) ≡ true → e ≡ at + 1 + length (leading digit_byte (drop (at + 1) s))
-    → next (drop at s) ≡ some (token (atom (atom_in s at (Number e))))
+pub number_found : (s : List ℕ) (at e : ℕ) → at < length s → digit_byte (get_or s at 0) ≡ true → e ≡ at + 1 + length (leading digit_byte (drop (at + 1) s))
+    → Some (Tokened Number e) ≡ found_at at (next (drop at s))
 unfolding every_byte
-number_found s at {e = e} h d q =
+number_found s at e h d q =
     let first : next (drop at s) ≡ some (token (atom (number (get_or s at 0 ∷ leading digit_byte (drop (suc at) s))))) =
     rw (drop-cons s at 0 h) (number_next (get_or s at 0) [] (drop (suc at) s) (both (digit_byte (get_or s at 0)) true d refl)) in
-    first ∙ ap (λ z. some (token (atom (number z)))) (leading_part digit_byte s at e h q)
-
-no_kind : (o : Option Kind) → kind_code o ≡ 0 → o ≡ none
-no_kind none h = refl
-no_kind (some symbol_kind) h = let z : ⊥ = omega arith in absurd z
-no_kind (some term_kind) h = let z : ⊥ = omega arith in absurd z
-no_kind (some expression_kind) h = let z : ⊥ = omega arith in absurd z
-
-no_index : (s : List ℕ) → length s ≡ 0 → s ≡ []
-no_index [] h = refl
-no_index (c ∷ s) h = let z : ⊥ = omega arith in absurd z
+    let size : e ≡ at + suc (length (leading digit_byte (drop (suc at) s))) = let m = rw (add-one at) at q in omega arith in
+    rw (first, size)
 
 -- an identifier
 identifier_found : (s : List ℕ) (at e : ℕ) → at < length s → letter_byte (get_or s at 0) ≡ true
     → identifier_or_variable (variable_kind (get_or s at 0)) (index_after (drop (suc at) s)) (get_or s at 0) (drop (suc at) s) ≡ identifier (get_or s at 0 ∷ leading name_byte (drop (suc at) s))
     → e ≡ at + 1 + length (leading name_byte (drop (at + 1) s))
-    → next (drop at s) ≡ some (token (atom (atom_in s at (Identifier e))))
+    → Some (Tokened Identifier e) ≡ found_at at (next (drop at s))
 unfolding every_byte
 identifier_found s at e h d w q =
     let first : next (drop at s) ≡ some (token (atom (identifier (get_or s at 0 ∷ leading name_byte (drop (suc at) s))))) =
     rw (drop-cons s at 0 h) (identifier_next (get_or s at 0) [] (drop (suc at) s) (both (letter_byte (get_or s at 0)) true d refl) w) in
-    first ∙ ap (λ z. some (token (atom (identifier z)))) (leading_part name_byte s at e h q)
+    let size : e ≡ at + suc (length (leading name_byte (drop (suc at) s))) = let m = rw (add-one at) at q in omega arith in
+    rw (first, size)
 
--- where the letter begins no variable
-pub identifier_plain : (s : List ℕ) (at : ℕ) {e k : ℕ} → at < length s → letter_byte (get_or s at 0) ≡ true → k ≡ kind_code (variable_kind (get_or s at 0)) → k ≡ 0
-    → e ≡ at + 1 + length (leading name_byte (drop (at + 1) s))
-    → next (drop at s) ≡ some (token (atom (atom_in s at (Identifier e))))
-identifier_plain s at {e = e} h d p z q = identifier_found s at e h d (rw (no_kind (variable_kind (get_or s at 0)) (sym p ∙ z))) q
-
--- where no index follows
-pub identifier_short : (s : List ℕ) (at : ℕ) {e n : ℕ} → at < length s → letter_byte (get_or s at 0) ≡ true → n ≡ length (index_after (drop (at + 1) s)) → n ≡ 0
-    → e ≡ at + 1 + length (leading name_byte (drop (at + 1) s))
-    → next (drop at s) ≡ some (token (atom (atom_in s at (Identifier e))))
-identifier_short s at {e = e} h d p z q =
-    let none : index_after (drop (suc at) s) ≡ [] = no_index (index_after (drop (suc at) s)) (rw (add-one at) at (sym p ∙ z)) in
-    identifier_found s at e h d (rw none (either (variable_kind (get_or s at 0)))) q
+-- the kind of variable that a letter begins, as the code has it
+kinds_same : (c : ℕ) (k : Kind) → variable_of c ≡ Some k → (t : tree.Kind) × (variable_kind c ≡ some t) × ((w : List ℕ) → kind_of (atom (variable t w)) ≡ k)
+kinds_same c k = go (eqb c 115) (eqb c 116) (eqb c 101)
   where
-    either : (o : Option Kind) → identifier_or_variable o [] (get_or s at 0) (drop (suc at) s) ≡ identifier (get_or s at 0 ∷ leading name_byte (drop (suc at) s))
+    go : (x y z : Bool) → cond x (Some SymbolVariable) (cond y (Some TermVariable) (cond z (Some ExpressionVariable) None)) ≡ Some k
+        → (t : tree.Kind) × (cond x (some symbol_kind) (cond y (some term_kind) (cond z (some expression_kind) none)) ≡ some t) × ((w : List ℕ) → kind_of (atom (variable t w)) ≡ k)
+    go true y z e = (symbol_kind, refl, λ w. cc)
+    go false true z e = (term_kind, refl, λ w. cc)
+    go false false true e = (expression_kind, refl, λ w. cc)
+    go false false false e = absurd (cc)
+
+no_kind : (c : ℕ) → variable_of c ≡ None → variable_kind c ≡ none
+no_kind c = go (eqb c 115) (eqb c 116) (eqb c 101)
+  where
+    go : (x y z : Bool) → ◌≡◌ {A = Option Kind} (cond x (Some SymbolVariable) (cond y (Some TermVariable) (cond z (Some ExpressionVariable) None))) None
+        → ◌≡◌ {A = Choice tree.Kind} (cond x (some symbol_kind) (cond y (some term_kind) (cond z (some expression_kind) none))) none
+    go true y z e = absurd (cc)
+    go false true z e = absurd (cc)
+    go false false true e = absurd (cc)
+    go false false false e = refl
+
+no_index : (at : ℕ) (i : List ℕ) → index_end at i ≡ None → i ≡ []
+no_index at [] e = refl
+no_index at (x ∷ i) e = absurd (cc)
+
+-- where the letter begins no variable, or no index follows
+after_one : (s : List ℕ) (at : ℕ) → drop 1 (drop at s) ≡ drop (at + 1) s
+after_one s at = drop-drop 1 at s
+
+pub identifier_plain : (s : List ℕ) (at : ℕ) → at < length s → letter_byte (get_or s at 0) ≡ true → variable_of (get_or s at 0) ≡ None → IdentifierAt at (drop at s)
+identifier_plain s at h d p = λ e q. identifier_found s at e h d (rw (no_kind (get_or s at 0) p)) (q ∙ ap (λ r. at + 1 + length (leading name_byte r)) (after_one s at))
+
+pub identifier_short : (s : List ℕ) (at : ℕ) → at < length s → letter_byte (get_or s at 0) ≡ true → index_ends (at + 1) (drop (at + 1) s) ≡ None → IdentifierAt at (drop at s)
+identifier_short s at h d p =
+    let empty : index_after (drop (suc at) s) ≡ [] = rw (add-one at) at (no_index (at + 1) (index_after (drop (at + 1) s)) p) in
+    λ e q. identifier_found s at e h d (rw empty (either (variable_kind (get_or s at 0)))) (q ∙ ap (λ r. at + 1 + length (leading name_byte r)) (after_one s at))
+  where
+    either : (o : Choice tree.Kind) → identifier_or_variable o [] (get_or s at 0) (drop (suc at) s) ≡ identifier (get_or s at 0 ∷ leading name_byte (drop (suc at) s))
     either none = refl
     either (some k) = refl
 
-kind_back : (k : Kind) → kind_numbered (kind_number k) ≡ k
-kind_back symbol_kind = refl
-kind_back term_kind = refl
-kind_back expression_kind = refl
-
-index_part : (r : List ℕ) (x : ℕ) (i : List ℕ) → index_after r ≡ x ∷ i → take (length (x ∷ i)) (drop 1 r) ≡ x ∷ i
-index_part r x i h =
-    let whole : 46 ∷ x ∷ i ++ drop (length (46 ∷ x ∷ i)) r ≡ r = begins_found (46 ∷ x ∷ i) r (index_begins r x i h).0 in
-    rw (← whole) (take-append_seam (x ∷ i) (drop (length (46 ∷ x ∷ i)) r))
-
 -- a variable
-pub variable_found : (s : List ℕ) (at : ℕ) {k n : ℕ} → at < length s → letter_byte (get_or s at 0) ≡ true → k ≡ kind_code (variable_kind (get_or s at 0)) → (k ≡ 0 → ⊥)
-    → n ≡ length (index_after (drop (at + 1) s)) → (n ≡ 0 → ⊥)
-    → next (drop at s) ≡ some (token (atom (atom_in s at (Variable k (at + 1 + 1 + n)))))
-variable_found s at {k = k} {n = n} h d p kz q nz = rw (drop-cons s at 0 h) (go (variable_kind (get_or s at 0)) (index_after (drop (suc at) s)) refl refl (rw (add-one at) at q))
+pub variable_found : (s : List ℕ) (at e : ℕ) (k : Kind) → at < length s → letter_byte (get_or s at 0) ≡ true → variable_of (get_or s at 0) ≡ Some k
+    → index_ends (at + 1) (drop (at + 1) s) ≡ Some e → Some (Tokened k e) ≡ found_at at (next (drop at s))
+variable_found s at e k h d p q = rw (drop-cons s at 0 h) (go (index_after (drop (suc at) s)) refl (rw (add-one at) at q))
   where
-    go : (o : Option Kind) (i : List ℕ) → variable_kind (get_or s at 0) ≡ o → index_after (drop (suc at) s) ≡ i → n ≡ length (index_after (drop (suc at) s))
-        → next (get_or s at 0 ∷ drop (suc at) s) ≡ some (token (atom (atom_in s at (Variable k (at + 1 + 1 + n)))))
-    go none i e f m = absurd (kz (p ∙ ap kind_code e))
-    go (some t) [] e f m = absurd (nz (m ∙ ap length f))
-    go (some t) (x ∷ i) e f m =
-        let same : kind_numbered k ≡ t = rw (p, e) (kind_back t) in
-        let size : at + 1 + 1 + n - (at + 2) ≡ length (x ∷ i) = rw (m, f) (omega arith) in
-        let past : drop (at + 2) s ≡ drop 1 (drop (suc at) s) = rw (drop-drop 1 (suc at) s, ← add-one at, add_assoc at 1 1) in
-        rw (same, size, past, index_part (drop (suc at) s) x i f) (variable_next (get_or s at 0) t x i (drop (suc at) s) d e f)
+    same : (t : tree.Kind) × (variable_kind (get_or s at 0) ≡ some t) × ((w : List ℕ) → kind_of (atom (variable t w)) ≡ k)
+    same = kinds_same (get_or s at 0) k p
 
--- a kind of variable by its number
-pub kind_numbered_lem : (s : List ℕ) (at : ℕ) {k : ℕ} → k ≡ kind_code (variable_kind (get_or s at 0)) → (k ≡ 0 → ⊥) → kind_number (kind_numbered k) ≡ k
-kind_numbered_lem s at {k = k} p d = go (variable_kind (get_or s at 0)) p
-  where
-    go : (o : Option Kind) → k ≡ kind_code o → kind_number (kind_numbered k) ≡ k
-    go none e = absurd (d e)
-    go (some symbol_kind) e = rw e
-    go (some term_kind) e = rw e
-    go (some expression_kind) e = rw e
+    go : (i : List ℕ) → index_after (drop (suc at) s) ≡ i → index_ends (suc at) (drop (suc at) s) ≡ Some e
+        → Some (Tokened k e) ≡ found_at at (next (get_or s at 0 ∷ drop (suc at) s))
+    go [] f m = let z : ◌≡◌ {A = Option ℕ} None (Some e) = ap (index_end (suc at)) (sym f) ∙ m in absurd (cc)
+    go (x ∷ i) f m =
+        let size : suc at + 1 + length (x ∷ i) ≡ e = let z : ◌≡◌ {A = Option ℕ} (Some (suc at + 1 + length (x ∷ i))) (Some e) = ap (index_end (suc at)) (sym f) ∙ m in cc in
+        let end : e ≡ at + length (token_bytes (atom (variable same.0 (x ∷ i)))) = omega arith in
+        rw (variable_next (get_or s at 0) same.0 x i (drop (suc at) s) d same.1 f, same.2 (x ∷ i), end)

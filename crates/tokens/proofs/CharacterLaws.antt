@@ -1,74 +1,114 @@
--- Laws for the character at a byte: the bytes that stand there, the guess by the first of them, and its check.
-use Prim.Native.Nat.{ℕ, ◌+◌, ◌*◌, ◌-◌, ◌≤◌, ◌<◌}
-use mathlib.Core.List.{List, [], ◌∷◌}
-use mathlib.Core.Bool.{Bool, true, false, and-true}
-use mathlib.Core.Path.{◌≡◌, sym, ◌∙◌}
-use native.Mathlib.Nat.{add-zero}
-use lib.ListN.{length, drop, get_or, drop_of_length-le}
-use lib.Seq.{drop-cons, get_or-drop}
-use lib.Dec.{eqb}
-use borrow.Author.Tests.{lt-ltb, le-ltb}
+-- Laws for the character at a byte: what the library finds in as many bytes as the first of them tells.
+use Rattle.std.proofs.Common.{ℕ, ◌-◌, ◌≤◌, ◌<◌, List, [], ◌∷◌, ◌++◌, Bool, true, false, ◌&&◌, ◌≡◌, refl, sym, ap, ◌∙◌, Result, Ok, Err, Option, Some, None, MatchResult, length, take, drop, get_or, arith, append_assoc, append-nil, length-append}
+use mathlib.Core.Logic.{◌⊎◌, inl, inr}
+use Rattle.std.specs.Result.{result_ok}
+use Rattle.std.specs.List.{slice_get, slice_range}
+use Rattle.std.specs.Str.{IsUtf8, chars}
+use Rattle.std.proofs.Math.Utf8.{scalar, scalars, encode, encodes}
+use Rattle.std.proofs.lemmas.Str.{chars-encodes}
+use Rattle.std.proofs.lemmas.List.{take_all}
+use Rattle.std.proofs.lemmas.Bool.Decides.{nat_tests}
+use lib.Seq.{take-append_seam}
+use lib.ListN.{take-append-drop, length-drop}
 use Rattle.file.specs.Fields.{scalar_allowed}
-use Rattle.file.proofs.Below.{first_fails_lem, second_fails_lem}
+use Rattle.file.proofs.Below.{both, both_first, both_second}
 use Rattle.tokens.specs.Token.{utf8}
 use Rattle.tokens.specs.Lex.{begins, character_in}
-use Rattle.tokens.specs.Code.Found.{CharacterAt}
-use Rattle.tokens.proofs.Utf8.{utf8_some}
-use Rattle.tokens.proofs.Begins.{begins_next}
-use Rattle.tokens.specs.declared.characters.Character.TheVariants.{Broken, Whole}
+use Rattle.tokens.specs.Code.Found.{width_of, CharacterAt}
+use Rattle.tokens.proofs.Utf8.{scalar_bound, utf8_some, character_found, width_found}
+use Rattle.tokens.proofs.Begins.{begins_all, begins_found}
 
--- ---- bytes that stand at a place
+-- ---- the library's words
 
-pub byte_past : (s : List ℕ) (at a : ℕ) → length s ≤ at → false ≡ begins (a ∷ []) (drop at s)
-unfolding begins
-byte_past s at a h = rw (drop_of_length-le s {i = at} h)
+same_bytes : (c : ℕ) → encode c ≡ utf8 c
+unfolding encode utf8
+same_bytes c = refl
 
-pub byte_same : (s : List ℕ) (at a : ℕ) {b : ℕ} → at < length s → b ≡ get_or s at 0 → eqb a b ≡ begins (a ∷ []) (drop at s)
-unfolding begins
-byte_same s at a h e = rw (drop-cons s at 0 h, e, and-true (eqb a (get_or s at 0)))
+scalar_to : (c : ℕ) → scalar c ≡ true → scalar_allowed c ≡ true
+scalar_to c h = grind (arith, nat_tests)
 
--- the first of some bytes, and then the others
-module _ (s : List ℕ) (at a : ℕ) (r : List ℕ) {x : Bool} (e : x ≡ begins (a ∷ []) (drop at s)) where
-  pub first_same : {y : Bool} → x ≡ true → y ≡ begins r (drop (at + 1) s) → y ≡ begins (a ∷ r) (drop at s)
-  first_same h f = f ∙ sym (begins_next s at a r ∙ rw (← e, h))
+scalar_from : (c : ℕ) → scalar_allowed c ≡ true → scalar c ≡ true
+scalar_from c h = grind (arith, nat_tests)
 
-  pub first_differs : x ≡ false → x ≡ begins (a ∷ r) (drop at s)
-  first_differs h = h ∙ sym (begins_next s at a r ∙ rw (← e, h))
+-- what an error says, and what a success does
+pub failed : {A E : Type 0} (P : A → Type 0) (Q : E → Type 0) (r : Result A E) → MatchResult r P Q → ◌≡◌ {A = Option A} None (result_ok r) → (e : E) × Q e
+failed P Q (Ok a) m h = absurd (cc)
+failed P Q (Err e) m h = (e, m)
 
--- ---- the guess, by its first byte
+pub succeeded : {A E : Type 0} (P : A → Type 0) (Q : E → Type 0) (r : Result A E) (a : A) → MatchResult r P Q → Some a ≡ result_ok r → P a
+succeeded P Q (Ok b) a m h = let e : a ≡ b = cc in rw e m
+succeeded P Q (Err e) a m h = absurd (cc)
 
-module _ (s : List ℕ) (at : ℕ) {b : ℕ} (e : b ≡ get_or s at 0) where
-  first : get_or (drop at s) 0 0 ≡ b
-  first = get_or-drop at s 0 0 ∙ (rw (add-zero at) (sym e))
+-- the bytes from one on
+pub rest_of : (s : List ℕ) (at : ℕ) (r : List ℕ) → r ≡ slice_range s at (length s) → r ≡ drop at s
+rest_of s at r e = e ∙ take_all _ (drop at s) (omega (arith, length-drop at s))
 
-  pub guess_one : b < 128 → b ≡ character_in (drop at s)
-  unfolding character_in
-  guess_one l = rw (first, lt-ltb b 128 l)
+pub front_of : (s : List ℕ) (w : ℕ) (r : List ℕ) → r ≡ slice_range s 0 w → r ≡ take w s
+front_of s w r e = let n : w - 0 ≡ w = omega arith in e ∙ ap (λ k. take k s) n
 
-  module _ {x c : ℕ} (p : x ≡ get_or s (at + 1) 0) (q : c ≡ x - 128) where
-    pub guess_two : 128 ≤ b → b < 224 → (b - 192) * 64 + c ≡ character_in (drop at s)
-    unfolding character_in
-    guess_two l h = rw (first, le-ltb b 128 l, lt-ltb b 224 h, get_or-drop at s 1 0, ← p, ← q)
+pub past_end : (s : List ℕ) (at : ℕ) → (length s < at) ⊎ (length s < length s) → length (drop at s) ≤ 0
+past_end s at (inl l) = omega (arith, length-drop at s)
+past_end s at (inr l) = omega arith
 
-    module _ {y d : ℕ} (u : y ≡ get_or s (at + 2) 0) (v : d ≡ y - 128) where
-      pub guess_three : 128 ≤ b → 224 ≤ b → b < 240 → (b - 224) * 4096 + c * 64 + d ≡ character_in (drop at s)
-      unfolding character_in
-      guess_three l k h = rw (first, le-ltb b 128 l, le-ltb b 224 k, lt-ltb b 240 h, get_or-drop at s 1 0, get_or-drop at s 2 0, ← p, ← q, ← u, ← v)
+pub too_few : (w n : ℕ) → (w < 0) ⊎ (n < w) → n < w
+too_few w n (inl l) = omega arith
+too_few w n (inr l) = l
 
-      pub guess_four : {z f : ℕ} → z ≡ get_or s (at + 3) 0 → f ≡ z - 128 → 128 ≤ b → 224 ≤ b → 240 ≤ b
-          → (b - 240) * 262144 + c * 4096 + d * 64 + f ≡ character_in (drop at s)
-      unfolding character_in
-      guess_four m n l k h =
-          rw (first, le-ltb b 128 l, le-ltb b 224 k, le-ltb b 240 h, get_or-drop at s 1 0, get_or-drop at s 2 0, get_or-drop at s 3 0, ← p, ← q, ← u, ← v, ← m, ← n)
+-- ---- where no character stands
 
--- ---- the check of the guess
+none_stands : (b : Bool) → (b ≡ true → ⊥) → b ≡ false
+none_stands true h = absurd (h refl)
+none_stands false h = refl
 
-module _ (s : List ℕ) {c : ℕ} (g : c ≡ character_in s) where
-  pub no_scalar : {x : Bool} → x ≡ scalar_allowed c → x ≡ false → CharacterAt s Broken
-  no_scalar e h = first_fails_lem (scalar_allowed (character_in s)) (begins (utf8 (character_in s)) s) (rw g at (sym e ∙ h))
+-- a character that stands has as many bytes as the first tells
+module _ (s : List ℕ) (c : ℕ) (h : scalar_allowed c && begins (utf8 c) s ≡ true) where
+  allowed : scalar_allowed c ≡ true
+  allowed = both_first (scalar_allowed c) (begins (utf8 c) s) h
 
-  pub not_standing : {y : Bool} → y ≡ begins (utf8 c) s → y ≡ false → CharacterAt s Broken
-  not_standing e h = second_fails_lem (scalar_allowed (character_in s)) (begins (utf8 (character_in s)) s) (rw g at (sym e ∙ h))
+  whole : utf8 c ++ drop (length (utf8 c)) s ≡ s
+  whole = begins_found (utf8 c) s (both_second (scalar_allowed c) (begins (utf8 c) s) h)
 
-  pub whole_character : {x y : Bool} {w : ℕ} → x ≡ scalar_allowed c → x ≡ true → y ≡ begins (utf8 c) s → y ≡ true → w ≡ length (utf8 c) → CharacterAt s (Whole c w)
-  whole_character e h f k z = (g, sym e ∙ h, sym f ∙ k, z, rw z (utf8_some c))
+  width : width_of (get_or s 0 0) ≡ length (utf8 c)
+  width = ap (λ x. width_of (get_or x 0 0)) (sym whole) ∙ width_found c (drop (length (utf8 c)) s) (scalar_bound c allowed)
+
+  room : (length (utf8 c) ≤ length s) × (1 ≤ length (utf8 c))
+  room = (omega (arith, ap length whole, length-append (utf8 c) (drop (length (utf8 c)) s)), utf8_some c)
+
+  spelled : IsUtf8 (take (width_of (get_or s 0 0)) s)
+  spelled = (
+    c ∷ [],
+    (
+      both (scalar c) true (scalar_from c allowed) refl,
+      append-nil (encode c) ∙ same_bytes c
+          ∙ sym (ap (λ n. take n s) width ∙ ap (take (length (utf8 c))) (sym whole) ∙ take-append_seam (utf8 c) (drop (length (utf8 c)) s)),
+    ),
+  )
+
+pub nothing_left : (s : List ℕ) → length s ≤ 0 → CharacterAt s None
+nothing_left s e = none_stands _ (λ h. let r = room s (character_in s) h in omega arith)
+
+pub no_room : (s : List ℕ) → length s < width_of (get_or s 0 0) → CharacterAt s None
+no_room s l = none_stands _ (λ h. let r = room s (character_in s) h in let w = width s (character_in s) h in omega arith)
+
+pub not_utf8 : (s : List ℕ) → (IsUtf8 (take (width_of (get_or s 0 0)) s) → ⊥) → CharacterAt s None
+not_utf8 s n = none_stands _ (λ h. n (spelled s (character_in s) h))
+
+-- ---- where one does
+
+pub whole_character : (s t : List ℕ) (w c : ℕ) → w ≡ width_of (get_or s 0 0) → t ≡ take w s → IsUtf8 t → Some c ≡ slice_get (chars t) 0
+    → CharacterAt s (Some (c, w))
+whole_character s t w c q e u first = go u.0 u.1.0 u.1.1 (ap chars (sym u.1.1) ∙ chars-encodes u.0 u.1.0)
+  where
+    go : (cs : List ℕ) → scalars cs ≡ true → encodes cs ≡ t → chars t ≡ cs → CharacterAt s (Some (c, w))
+    go [] sc en k = let z : ◌≡◌ {A = Option ℕ} (Some c) None = first ∙ ap (λ x. slice_get x 0) k in absurd (cc)
+    go (d ∷ ds) sc en k =
+        let found : ◌≡◌ {A = Option ℕ} (Some c) (Some d) = first ∙ ap (λ x. slice_get x 0) k in
+        let same : c ≡ d = cc in
+        let more : List ℕ = encodes ds ++ drop w s in
+        let there : s ≡ utf8 d ++ more =
+        sym (take-append-drop w s) ∙ ap (λ x. x ++ drop w s) (sym e ∙ sym en ∙ ap (λ x. x ++ encodes ds) (same_bytes d)) ∙ append_assoc (utf8 d) (encodes ds) (drop w s) in
+        let ok : scalar_allowed d ≡ true = scalar_to d (both_first (scalar d) (scalars ds) sc) in
+        let size : w ≡ length (utf8 d) = q ∙ ap (λ x. width_of (get_or x 0 0)) there ∙ width_found d more (scalar_bound d ok) in
+        let is : character_in s ≡ d = ap character_in there ∙ character_found d more (scalar_bound d ok) in
+        let stands : begins (utf8 d) s ≡ true = ap (begins (utf8 d)) there ∙ begins_all (utf8 d) more in
+        rw same (sym is, ok, stands, size, rw size (utf8_some d))

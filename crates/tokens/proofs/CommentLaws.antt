@@ -21,9 +21,8 @@ use Rattle.tokens.proofs.Utf8.{utf8_one, first_byte}
 use Rattle.tokens.proofs.Begins.{begins_found}
 use Rattle.tokens.proofs.NextPiece.{comment_next}
 use Rattle.tokens.proofs.Passed.{bytes_one, Passed, passed_start, passed_next, passed_bad, passed_over, passed_all}
-use Rattle.tokens.specs.declared.characters.Character.{Character}
-use Rattle.tokens.specs.declared.characters.Character.TheVariants.{Broken, Whole}
-use Rattle.tokens.specs.declared.pieces.Found.TheVariants.{Nothing, Between}
+use Rattle.std.proofs.Common.{Some, None}
+use Rattle.tokens.specs.declared.pieces.Found.TheVariants.{Between}
 
 eqb_turn : (a b : ℕ) → eqb a b ≡ eqb b a
 eqb_turn a b = go (eqb a b) refl
@@ -110,7 +109,7 @@ star_here : (s : List ℕ) (at : ℕ) → begins (42 ∷ []) (drop at s) ≡ tru
 star_here s at h = sym (begins_found (42 ∷ []) (drop at s) h) ∙ ap (◌∷◌ 42) (drop-drop 1 at s)
 
 -- no star after the slash
-pub comment_none : (s : List ℕ) (at : ℕ) {t : Bool} → at < length s → get_or s at 0 ≡ 47 → t ≡ begins (42 ∷ []) (drop (at + 1) s) → t ≡ false → Nothing ≡ found_at at (next (drop at s))
+pub comment_none : (s : List ℕ) (at : ℕ) {t : Bool} → at < length s → get_or s at 0 ≡ 47 → t ≡ begins (42 ∷ []) (drop (at + 1) s) → t ≡ false → None ≡ found_at at (next (drop at s))
 comment_none s at l e q f = rw (comment_here s at l e, slash_fails (drop (at + 1) s) (sym q ∙ f))
 
 -- the loop over the characters of a comment whose slash stands at byte `at`
@@ -139,26 +138,26 @@ module _ {s : List ℕ} {at i : ℕ} (h : Commenting s at i) where
   opened : drop at s ≡ 47 ∷ 42 ∷ drop (at + 2) s
   opened = comment_here s at h.inside h.slash ∙ ap (◌∷◌ 47) (star_here s (at + 1) h.star ∙ ap (λ z. 42 ∷ drop z s) (add_assoc at 1 1))
 
-  not_found : next (47 ∷ 42 ∷ drop (at + 2) s) ≡ none → Nothing ≡ found_at at (next (drop at s))
+  not_found : next (47 ∷ 42 ∷ drop (at + 2) s) ≡ none → None ≡ found_at at (next (drop at s))
   not_found f = rw (opened, f)
 
   -- the text ends before `*/`
-  pub comment_over : length s ≤ i → Nothing ≡ found_at at (next (drop at s))
+  pub comment_over : length s ≤ i → None ≡ found_at at (next (drop at s))
   comment_over k = not_found (comment_fails (drop (at + 2) s) (passed_over h.passed 42 (47 ∷ []) k))
 
   goes : (u : Bool) → u ≡ begins (42 ∷ 47 ∷ []) (drop i s) → u ≡ false → at_close (drop i s) ≡ false
   goes u v n = sym (close_same (drop i s)) ∙ sym v ∙ n
 
   -- no character stands here
-  pub comment_broken : {u : Bool} {r : Character} → i < length s → u ≡ begins (42 ∷ 47 ∷ []) (drop i s) → u ≡ false → CharacterAt (drop i s) r → r ≡ Broken
-      → Nothing ≡ found_at at (next (drop at s))
-  comment_broken {u = u} k v n f e = not_found (comment_fails (drop (at + 2) s) (passed_bad h.passed (42 ∷ 47 ∷ []) k (goes u v n) (rw e at f)))
+  pub comment_broken : {u : Bool} → i < length s → u ≡ begins (42 ∷ 47 ∷ []) (drop i s) → u ≡ false → CharacterAt (drop i s) None
+      → None ≡ found_at at (next (drop at s))
+  comment_broken {u = u} k v n f = not_found (comment_fails (drop (at + 2) s) (passed_bad h.passed (42 ∷ 47 ∷ []) k (goes u v n) f))
 
   -- a character more
-  pub comment_more : {u : Bool} {r : Character} {c w : ℕ} → i < length s → u ≡ begins (42 ∷ 47 ∷ []) (drop i s) → u ≡ false → CharacterAt (drop i s) r → r ≡ Whole c w
+  pub comment_more : {u : Bool} {c w : ℕ} → i < length s → u ≡ begins (42 ∷ 47 ∷ []) (drop i s) → u ≡ false → CharacterAt (drop i s) (Some (c, w))
       → Commenting s at (i + w)
-  comment_more {u = u} {c = c} {w = w} k v n f e =
-      let q = rw e at f in
+  comment_more {u = u} {c = c} {w = w} k v n f =
+      let q = f in
       record {
         small = h.small;
         inside = h.inside;
@@ -168,14 +167,14 @@ module _ {s : List ℕ} {at i : ℕ} (h : Commenting s at i) where
       }
 
   -- which ends in the text, past its start
-  pub comment_within : {u : Bool} {r : Character} {c w : ℕ} → i < length s → u ≡ begins (42 ∷ 47 ∷ []) (drop i s) → u ≡ false → CharacterAt (drop i s) r → r ≡ Whole c w
+  pub comment_within : {u : Bool} {c w : ℕ} → i < length s → u ≡ begins (42 ∷ 47 ∷ []) (drop i s) → u ≡ false → CharacterAt (drop i s) (Some (c, w))
       → (i + w ≤ length s) × (1 ≤ w) × (length s ≤ 4096)
-  comment_within k v n f e =
-      let q = rw e at f in
-      ((comment_more k v n f e).passed.inside, q.4, h.small)
+  comment_within k v n f =
+      let q = f in
+      ((comment_more k v n f).passed.inside, q.4, h.small)
 
   -- `*/`
-  pub comment_found : {u : Bool} → u ≡ begins (42 ∷ 47 ∷ []) (drop i s) → u ≡ true → Between (i + 2) ≡ found_at at (next (drop at s))
+  pub comment_found : {u : Bool} → u ≡ begins (42 ∷ 47 ∷ []) (drop i s) → u ≡ true → Some (Between (i + 2)) ≡ found_at at (next (drop at s))
   comment_found v n =
       let cs : List ℕ = h.passed.found in
       let after : List ℕ = drop 2 (drop i s) in

@@ -1,75 +1,81 @@
--- Laws for the loop over the pieces of a text, which puts their tokens into arrays.
+-- Laws for the loop over the pieces of a text, which puts their tokens into an array.
 use Prim.Native.Nat.{ℕ, zero, suc, ◌+◌, ◌≤◌, ◌<◌}
 use mathlib.Core.List.{List, [], ◌∷◌, ◌++◌, append_assoc, append-nil}
-use mathlib.Core.Option.{Option, none, some, some-injective, none-ne-some}
+use mathlib.Core.Option.{none, some, some-injective, none-ne-some, Option as Choice}
 use mathlib.Core.Path.{◌≡◌, refl, sym, ap, ◌∙◌}
 use native.Mathlib.Omega.{arith}
 use native.Mathlib.Numerals.{add-one}
 use native.Mathlib.Nat.{add-zero, add_assoc}
 use lib.ListN.{length, drop, get_or, set, drop_of_length-le, length-append, length-drop, length-set}
 use lib.Seq.{drop-cons, drop-drop, take-suc-set}
-use Rattle.tokens.specs.Token.{Token, token_bytes, Piece, blank, comment, token, piece_bytes, pieces_bytes, Placed, placed}
+use Rattle.std.proofs.Common.{Some, None, map}
+use Rattle.std.proofs.lemmas.List.{map-set, length-map}
+use Rattle.law.specs.Tree.{symbol_kind, term_kind, expression_kind}
+use Rattle.tokens.specs.Token.{left_brace, right_brace, left_bracket, right_bracket, left_angle, right_angle, comma, colon, equals, semicolon, dollar_entry, dollar_extern}
+use Rattle.tokens.specs.Token.{Token, sign, atom, identifier, number, variable, quoted, token_bytes, Piece, blank, comment, token, piece_bytes, pieces_bytes, Placed, placed}
 use Rattle.tokens.specs.Lex.{guess, next, piece_before, lex_from, lex}
-use Rattle.tokens.specs.Code.TokenKind.{token_kind}
+use Rattle.tokens.specs.Code.TokenKind.{token_kind, kind_code, kind_of}
 use Rattle.tokens.specs.Code.Found.{found_at}
-use Rattle.tokens.specs.Code.Arrays.{kinds_of, starts_of, ends_of, Long, Holds, Lexes}
+use Rattle.tokens.specs.Code.Arrays.{kinds_of, starts_of, ends_of, kinds_in, starts_in, ends_in, Holds, Lexes}
 use Rattle.tokens.proofs.NextPiece.{next_sound, next_whole}
 use Rattle.tokens.proofs.Lexing.{piece_some, lex_end}
-use Rattle.tokens.specs.declared.pieces.Found.{Found}
-use Rattle.tokens.specs.declared.pieces.Found.TheVariants.{Nothing, Between, Token as Tokened}
+use Rattle.tokens.specs.declared.Lexeme.{Lexeme}
+use Rattle.tokens.specs.declared.kinds.Kind.{Kind}
+use Rattle.tokens.specs.declared.pieces.Found.TheVariants.{Between, Token as Tokened}
 
 -- ---- what an answer says of the next piece
 
-code : Found → ℕ
-code Nothing = 0
-code (Between e) = 1
-code (Tokened k e) = 2
-
-kind_in : Found → ℕ
-kind_in Nothing = 0
-kind_in (Between e) = 0
-kind_in (Tokened k e) = k
-
-end_in : Found → ℕ
-end_in Nothing = 0
-end_in (Between e) = e
-end_in (Tokened k e) = e
-
-differ : {A : Type 0} (m n : ℕ) → m ≡ n → (m ≡ n → ⊥) → A
-differ m n e d = absurd (d e)
-
-nothing_none : (at : ℕ) (o : Option Piece) → Nothing ≡ found_at at o → o ≡ none
-unfolding code
+nothing_none : (at : ℕ) (o : Choice Piece) → None ≡ found_at at o → o ≡ none
 nothing_none at none h = refl
-nothing_none at (some (blank b)) h = differ 0 1 (ap code h) (λ e. omega arith)
-nothing_none at (some (comment cs)) h = differ 0 1 (ap code h) (λ e. omega arith)
-nothing_none at (some (token t)) h = differ 0 2 (ap code h) (λ e. omega arith)
+nothing_none at (some (blank b)) h = absurd (cc)
+nothing_none at (some (comment cs)) h = absurd (cc)
+nothing_none at (some (token t)) h = absurd (cc)
 
-record Skipped (at e : ℕ) (o : Option Piece) : Type 0 where
+record Skipped (at e : ℕ) (o : Choice Piece) : Type 0 where
   pub piece : Piece
   pub is : o ≡ some piece
   pub ends : e ≡ at + length (piece_bytes piece)
   pub silent : (a : ℕ) → placed a (piece ∷ []) ≡ []
 
-between_some : (at e : ℕ) (o : Option Piece) → Between e ≡ found_at at o → Skipped at e o
-unfolding code end_in placed
-between_some at e none h = differ 1 0 (ap code h) (λ e. omega arith)
-between_some at e (some (blank b)) h = record { piece = blank b; is = refl; ends = ap end_in h; silent = λ a. refl }
-between_some at e (some (comment cs)) h = record { piece = comment cs; is = refl; ends = ap end_in h; silent = λ a. refl }
-between_some at e (some (token t)) h = differ 1 2 (ap code h) (λ e. omega arith)
+between_some : (at e : ℕ) (o : Choice Piece) → Some (Between e) ≡ found_at at o → Skipped at e o
+unfolding placed
+between_some at e none h = absurd (cc)
+between_some at e (some (blank b)) h = record { piece = blank b; is = refl; ends = cc; silent = λ a. refl }
+between_some at e (some (comment cs)) h = record { piece = comment cs; is = refl; ends = cc; silent = λ a. refl }
+between_some at e (some (token t)) h = absurd (cc)
 
-record TokenHere (at k e : ℕ) (o : Option Piece) : Type 0 where
+record TokenHere (at : ℕ) (k : Kind) (e : ℕ) (o : Choice Piece) : Type 0 where
   pub what : Token
   pub is : o ≡ some (token what)
-  pub kind : k ≡ token_kind what
+  pub kind : k ≡ kind_of what
   pub ends : e ≡ at + length (token_bytes what)
 
-token_some : (at k e : ℕ) (o : Option Piece) → Tokened k e ≡ found_at at o → TokenHere at k e o
-unfolding code end_in kind_in
-token_some at k e none h = differ 2 0 (ap code h) (λ e. omega arith)
-token_some at k e (some (blank b)) h = differ 2 1 (ap code h) (λ e. omega arith)
-token_some at k e (some (comment cs)) h = differ 2 1 (ap code h) (λ e. omega arith)
-token_some at k e (some (token t)) h = record { what = t; is = refl; kind = ap kind_in h; ends = ap end_in h }
+token_some : (at : ℕ) (k : Kind) (e : ℕ) (o : Choice Piece) → Some (Tokened k e) ≡ found_at at o → TokenHere at k e o
+token_some at k e none h = absurd (cc)
+token_some at k e (some (blank b)) h = absurd (cc)
+token_some at k e (some (comment cs)) h = absurd (cc)
+token_some at k e (some (token t)) h = record { what = t; is = refl; kind = cc; ends = cc }
+
+-- the number of a token's kind
+code_same : (t : Token) → kind_code (kind_of t) ≡ token_kind t
+code_same (sign left_brace) = refl
+code_same (sign right_brace) = refl
+code_same (sign left_bracket) = refl
+code_same (sign right_bracket) = refl
+code_same (sign left_angle) = refl
+code_same (sign right_angle) = refl
+code_same (sign comma) = refl
+code_same (sign colon) = refl
+code_same (sign equals) = refl
+code_same (sign semicolon) = refl
+code_same (sign dollar_entry) = refl
+code_same (sign dollar_extern) = refl
+code_same (atom (identifier w)) = refl
+code_same (atom (number w)) = refl
+code_same (atom (variable symbol_kind w)) = refl
+code_same (atom (variable term_kind w)) = refl
+code_same (atom (variable expression_kind w)) = refl
+code_same (atom (quoted w)) = refl
 
 -- ---- one piece more
 
@@ -78,8 +84,8 @@ unfolding lex_from next guess
 lex_more k [] p h = absurd (none-ne-some p h)
 lex_more k (c ∷ s) p h = go (next (c ∷ s)) h
   where
-    go : (o : Option Piece) → o ≡ some p
-        → elim o as (λ _. Option (List Piece)) [ none ↦ none | some q ↦ piece_before q (lex_from k (drop (length (piece_bytes q)) (c ∷ s))) ]
+    go : (o : Choice Piece) → o ≡ some p
+        → elim o as (λ _. Choice (List Piece)) [ none ↦ none | some q ↦ piece_before q (lex_from k (drop (length (piece_bytes q)) (c ∷ s))) ]
         ≡ piece_before p (lex_from k (drop (length (piece_bytes p)) (c ∷ s)))
     go none e = absurd (none-ne-some p e)
     go (some q) e = rw (some-injective q p e)
@@ -88,21 +94,21 @@ lex_none : (k c : ℕ) (s : List ℕ) → next (c ∷ s) ≡ none → lex_from (
 unfolding lex_from
 lex_none k c s h = go (next (c ∷ s)) h
   where
-    go : (o : Option Piece) → o ≡ none
-        → ◌≡◌ {A = Option (List Piece)} (elim o as (λ _. Option (List Piece)) [ none ↦ none | some q ↦ piece_before q (lex_from k (drop (length (piece_bytes q)) (c ∷ s))) ]) none
+    go : (o : Choice Piece) → o ≡ none
+        → ◌≡◌ {A = Choice (List Piece)} (elim o as (λ _. Choice (List Piece)) [ none ↦ none | some q ↦ piece_before q (lex_from k (drop (length (piece_bytes q)) (c ∷ s))) ]) none
     go none e = refl
     go (some q) e = absurd (none-ne-some q (sym e))
 
 -- pieces before others
-abbrev all_before : List Piece → Option (List Piece) → Option (List Piece)
+abbrev all_before : List Piece → Choice (List Piece) → Choice (List Piece)
 all_before ps none = none
 all_before ps (some qs) = some (ps ++ qs)
 
-before_all : (ps : List Piece) (p : Piece) (o : Option (List Piece)) → all_before ps (piece_before p o) ≡ all_before (ps ++ (p ∷ [])) o
+before_all : (ps : List Piece) (p : Piece) (o : Choice (List Piece)) → all_before ps (piece_before p o) ≡ all_before (ps ++ (p ∷ [])) o
 before_all ps p none = refl
 before_all ps p (some qs) = ap some (sym (append_assoc ps (p ∷ []) qs))
 
-none_before : (o : Option (List Piece)) → all_before [] o ≡ o
+none_before : (o : Choice (List Piece)) → all_before [] o ≡ o
 none_before none = refl
 none_before (some qs) = refl
 
@@ -147,21 +153,21 @@ single a t = refl
 -- ---- the loop
 
 -- the pieces up to byte `at` are found, with n tokens, and the bytes from there on decide
-pub record Lexing (s : List ℕ) (at n : ℕ) (kinds starts ends : List ℕ) : Type 0 where
+pub record Lexing (s : List ℕ) (at n : ℕ) (tokens : List Lexeme) : Type 0 where
   pub pieces : List Piece
   pub fuel : ℕ
   pub short : length s ≤ 4096
   pub inside : at ≤ length s
   pub few : n ≤ at
-  pub long : Long kinds starts ends
+  pub long : length tokens ≡ 4096
   pub enough : length s ≤ at + fuel
   pub place : at ≡ length (pieces_bytes pieces)
   pub left : lex s ≡ all_before pieces (lex_from fuel (drop at s))
-  pub holds : Holds n kinds starts ends (placed 0 pieces)
+  pub holds : Holds n (kinds_in tokens) (starts_in tokens) (ends_in tokens) (placed 0 pieces)
 
-pub lexing_start : (s kinds starts ends : List ℕ) → length s ≤ 4096 → Long kinds starts ends → Lexing s 0 0 kinds starts ends
+pub lexing_start : (s : List ℕ) (tokens : List Lexeme) → length s ≤ 4096 → length tokens ≡ 4096 → Lexing s 0 0 tokens
 unfolding pieces_bytes lex placed
-lexing_start s kinds starts ends k long =
+lexing_start s tokens k long =
     record {
       pieces = [];
       fuel = length s;
@@ -175,9 +181,9 @@ lexing_start s kinds starts ends k long =
       holds = record { count = refl; kinded = refl; started = refl; ended = refl };
     }
 
-module _ {s : List ℕ} {at n : ℕ} {kinds starts ends : List ℕ} (h : Lexing s at n kinds starts ends) where
+module _ {s : List ℕ} {at n : ℕ} {tokens : List Lexeme} (h : Lexing s at n tokens) where
   -- all bytes are read
-  pub lexing_end : length s ≤ at → Lexes s n kinds starts ends
+  pub lexing_end : length s ≤ at → Lexes s n tokens
   lexing_end l =
       record {
         pieces = h.pieces;
@@ -187,13 +193,13 @@ module _ {s : List ℕ} {at n : ℕ} {kinds starts ends : List ℕ} (h : Lexing 
       }
 
   -- no piece stands here
-  pub lexing_nothing : {r : Found} → at < length s → r ≡ found_at at (next (drop at s)) → r ≡ Nothing → lex s ≡ none
-  lexing_nothing l e is = h.left ∙ go h.fuel refl
+  pub lexing_nothing : at < length s → None ≡ found_at at (next (drop at s)) → lex s ≡ none
+  lexing_nothing l e = h.left ∙ go h.fuel refl
     where
       go : (k : ℕ) → h.fuel ≡ k → all_before h.pieces (lex_from h.fuel (drop at s)) ≡ none
       go zero z = let x : ⊥ = omega (arith, h.enough) in absurd x
       go (suc k) z =
-          let none_next : next (get_or s at 0 ∷ drop (suc at) s) ≡ none = rw (drop-cons s at 0 l) at (nothing_none at (next (drop at s)) (sym is ∙ e)) in
+          let none_next : next (get_or s at 0 ∷ drop (suc at) s) ≡ none = rw (drop-cons s at 0 l) at (nothing_none at (next (drop at s)) e) in
           rw (z, drop-cons s at 0 l, lex_none k (get_or s at 0) (drop (suc at) s) none_next)
 
   -- a piece ends in the text, past its start
@@ -204,14 +210,14 @@ module _ {s : List ℕ} {at n : ℕ} {kinds starts ends : List ℕ} (h : Lexing 
       (omega (arith, length-append (piece_bytes p) (drop (length (piece_bytes p)) (drop at s)), length-drop at s), omega arith)
 
   -- one piece more
-  more : (p : Piece) (e m : ℕ) (ks ss es : List ℕ) → at < length s → next (drop at s) ≡ some p → e ≡ at + length (piece_bytes p) → m ≤ n + 1
-      → Long ks ss es → Holds m ks ss es (placed 0 (h.pieces ++ (p ∷ []))) → Lexing s e m ks ss es
-  more p e m ks ss es l q z o long hold = go h.fuel refl
+  more : (p : Piece) (e m : ℕ) (xs : List Lexeme) → at < length s → next (drop at s) ≡ some p → e ≡ at + length (piece_bytes p) → m ≤ n + 1
+      → length xs ≡ 4096 → Holds m (kinds_in xs) (starts_in xs) (ends_in xs) (placed 0 (h.pieces ++ (p ∷ []))) → Lexing s e m xs
+  more p e m xs l q z o long hold = go h.fuel refl
     where
       size : (e ≤ length s) × (at + 1 ≤ e)
       size = within p e l q z
 
-      go : (k : ℕ) → h.fuel ≡ k → Lexing s e m ks ss es
+      go : (k : ℕ) → h.fuel ≡ k → Lexing s e m xs
       go zero y = let x : ⊥ = omega (arith, h.enough) in absurd x
       go (suc k) y =
           record {
@@ -230,18 +236,18 @@ module _ {s : List ℕ} {at n : ℕ} {kinds starts ends : List ℕ} (h : Lexing 
           }
 
   -- a blank or a comment
-  module _ {r : Found} {e : ℕ} (l : at < length s) (q : r ≡ found_at at (next (drop at s))) (is : r ≡ Between e) where
+  module _ {e : ℕ} (l : at < length s) (q : Some (Between e) ≡ found_at at (next (drop at s))) where
     skipped : Skipped at e (next (drop at s))
-    skipped = between_some at e (next (drop at s)) (sym is ∙ q)
+    skipped = between_some at e (next (drop at s)) q
 
-    pub lexing_between : Lexing s e n kinds starts ends
+    pub lexing_between : Lexing s e n tokens
     lexing_between = go skipped
       where
-        go : Skipped at e (next (drop at s)) → Lexing s e n kinds starts ends
+        go : Skipped at e (next (drop at s)) → Lexing s e n tokens
         go x =
             let same : placed 0 (h.pieces ++ (x.piece ∷ [])) ≡ placed 0 h.pieces =
             placed_more 0 h.pieces x.piece ∙ ap (λ z. placed 0 h.pieces ++ z) (x.silent (0 + length (pieces_bytes h.pieces))) ∙ append-nil (placed 0 h.pieces) in
-            more x.piece e n kinds starts ends l x.is x.ends (omega arith) h.long (rw same h.holds)
+            more x.piece e n tokens l x.is x.ends (omega arith) h.long (rw same h.holds)
 
     pub between_within : (e ≤ length s) × (at + 1 ≤ e)
     between_within = let x : Skipped at e (next (drop at s)) = skipped in within x.piece e l x.is x.ends
@@ -250,9 +256,9 @@ module _ {s : List ℕ} {at n : ℕ} {kinds starts ends : List ℕ} (h : Lexing 
   pub lexing_room : at < length s → (n < 4096) × (at < 4096)
   lexing_room l = (omega (arith, h.few, h.short), omega (arith, h.short))
 
-  module _ {r : Found} {k e : ℕ} (l : at < length s) (q : r ≡ found_at at (next (drop at s))) (is : r ≡ Tokened k e) where
+  module _ {k : Kind} {e : ℕ} (l : at < length s) (q : Some (Tokened k e) ≡ found_at at (next (drop at s))) where
     token_here : TokenHere at k e (next (drop at s))
-    token_here = token_some at k e (next (drop at s)) (sym is ∙ q)
+    token_here = token_some at k e (next (drop at s)) q
 
     pub token_within : (e ≤ length s) × (at + 1 ≤ e) × (length s ≤ 4096)
     token_within =
@@ -260,16 +266,22 @@ module _ {s : List ℕ} {at n : ℕ} {kinds starts ends : List ℕ} (h : Lexing 
         let size : (e ≤ length s) × (at + 1 ≤ e) = within (token x.what) e l x.is x.ends in
         (size.0, size.1, h.short)
 
-    pub lexing_token : {st en : ℕ} → st ≡ at → en ≡ e → Lexing s e (n + 1) (set kinds n k) (set starts n st) (set ends n en)
-    lexing_token {st = st} {en = en} st-at en-e = go token_here
+    -- the token in its place
+    abbrev pub put : List Lexeme
+    put = set tokens n (record { kind = k; start = at; end = e })
+
+    pub lexing_token : Lexing s e (n + 1) put
+    lexing_token = go token_here
       where
         room : n < 4096
         room = (lexing_room l).0
 
-        go : TokenHere at k e (next (drop at s)) → Lexing s e (n + 1) (set kinds n k) (set starts n st) (set ends n en)
+        within_all : {A : Type 0} (f : Lexeme → A) → n < length (map f tokens)
+        within_all f = omega (arith, room, h.long, length-map tokens f)
+
+        go : TokenHere at k e (next (drop at s)) → Lexing s e (n + 1) put
         go x =
-            more (token x.what) e (n + 1) (set kinds n k) (set starts n st) (set ends n en) l x.is x.ends (omega arith)
-            (length-set kinds n k ∙ h.long.0, length-set starts n st ∙ h.long.1, length-set ends n en ∙ h.long.2) (rw same held)
+            more (token x.what) e (n + 1) put l x.is x.ends (omega arith) (length-set tokens n (record { kind = k; start = at; end = e }) ∙ h.long) (rw same held)
           where
             p : Placed
             p = record { start = at; what = x.what }
@@ -285,11 +297,14 @@ module _ {s : List ℕ} {at n : ℕ} {kinds starts ends : List ℕ} (h : Lexing 
             ts : List Placed
             ts = placed 0 h.pieces
 
-            held : Holds (n + 1) (set kinds n k) (set starts n st) (set ends n en) (ts ++ (p ∷ []))
+            code : kind_code k ≡ token_kind x.what
+            code = ap kind_code x.kind ∙ code_same x.what
+
+            held : Holds (n + 1) (kinds_in put) (starts_in put) (ends_in put) (ts ++ (p ∷ []))
             held =
                 record {
                   count = omega (arith, h.holds.count, length-append ts (p ∷ []));
-                  kinded = rw (add-one n, take-suc-set kinds n k (omega (arith, room, h.long.0)), h.holds.kinded, x.kind) (sym (kinds_more ts p));
-                  started = rw (add-one n, take-suc-set starts n st (omega (arith, room, h.long.1)), h.holds.started, st-at) (sym (starts_more ts p));
-                  ended = rw (add-one n, take-suc-set ends n en (omega (arith, room, h.long.2)), h.holds.ended, en-e, x.ends) (sym (ends_more ts p));
+                  kinded = rw (add-one n, map-set, take-suc-set (kinds_in tokens) n (kind_code k) (within_all (λ x. kind_code x.kind)), h.holds.kinded, code) (sym (kinds_more ts p));
+                  started = rw (add-one n, map-set, take-suc-set (starts_in tokens) n at (within_all (λ x. x.start)), h.holds.started) (sym (starts_more ts p));
+                  ended = rw (add-one n, map-set, take-suc-set (ends_in tokens) n e (within_all (λ x. x.end)), h.holds.ended, x.ends) (sym (ends_more ts p));
                 }

@@ -20,9 +20,9 @@ use Rattle.tokens.proofs.Utf8.{first_byte, utf8_some}
 use Rattle.tokens.proofs.Begins.{begins_found}
 use Rattle.tokens.proofs.NextPiece.{quoted_next}
 use Rattle.tokens.proofs.Passed.{bytes_one, Passed, passed_start, passed_next, passed_bad, passed_over, passed_all}
-use Rattle.tokens.specs.declared.characters.Character.{Character}
-use Rattle.tokens.specs.declared.characters.Character.TheVariants.{Broken, Whole}
-use Rattle.tokens.specs.declared.pieces.Found.TheVariants.{Nothing, Token as Tokened}
+use Rattle.std.proofs.Common.{Some, None}
+use Rattle.tokens.specs.declared.kinds.Kind.TheVariants.{Quoted}
+use Rattle.tokens.specs.declared.pieces.Found.TheVariants.{Token as Tokened}
 
 -- where the characters before the next quote are not allowed or do not stand, there is no quoted run
 quote_fails : (r : List ℕ) → every_byte quotable (characters_to at_quote (length r) r) && begins (characters_bytes (characters_to at_quote (length r) r) ++ (39 ∷ [])) r ≡ false
@@ -70,17 +70,17 @@ module _ {s : List ℕ} {at i : ℕ} (h : Quoting s at i) where
   quote_here : drop at s ≡ 39 ∷ drop (at + 1) s
   quote_here = drop-cons s at 0 h.inside ∙ rw (h.quote, add-one at)
 
-  none_found : next (39 ∷ drop (at + 1) s) ≡ none → Nothing ≡ found_at at (next (drop at s))
+  none_found : next (39 ∷ drop (at + 1) s) ≡ none → None ≡ found_at at (next (drop at s))
   none_found f = rw (quote_here, f)
 
   -- the text ends before a quote
-  pub quoting_over : length s ≤ i → Nothing ≡ found_at at (next (drop at s))
+  pub quoting_over : length s ≤ i → None ≡ found_at at (next (drop at s))
   quoting_over k = none_found (quote_fails (drop (at + 1) s) (passed_over h.passed 39 [] k))
 
   -- no character stands here
-  pub quoting_broken : {r : Character} → i < length s → (get_or s i 0 ≡ 39 → ⊥) → CharacterAt (drop i s) r → r ≡ Broken → Nothing ≡ found_at at (next (drop at s))
-  quoting_broken k n f e =
-      none_found (quote_fails (drop (at + 1) s) (passed_bad h.passed (39 ∷ []) k (quote_goes s i k n) (go (scalar_allowed c) (rw e at f))))
+  pub quoting_broken : i < length s → (get_or s i 0 ≡ 39 → ⊥) → CharacterAt (drop i s) None → None ≡ found_at at (next (drop at s))
+  quoting_broken k n f =
+      none_found (quote_fails (drop (at + 1) s) (passed_bad h.passed (39 ∷ []) k (quote_goes s i k n) (go (scalar_allowed c) f)))
     where
       c : ℕ
       c = character_in (drop i s)
@@ -90,16 +90,16 @@ module _ {s : List ℕ} {at i : ℕ} (h : Quoting s at i) where
       go true f = second_fails_lem (true && not (eqb c 39) && not (eqb c 92)) (begins (utf8 c) (drop i s)) f
 
   -- a backslash
-  pub quoting_backslash : {r : Character} {c w : ℕ} → i < length s → (get_or s i 0 ≡ 39 → ⊥) → CharacterAt (drop i s) r → r ≡ Whole c w → c ≡ 92
-      → Nothing ≡ found_at at (next (drop at s))
-  quoting_backslash k n f e z =
-      let q = rw e at f in
+  pub quoting_backslash : {c w : ℕ} → i < length s → (get_or s i 0 ≡ 39 → ⊥) → CharacterAt (drop i s) (Some (c, w)) → c ≡ 92
+      → None ≡ found_at at (next (drop at s))
+  quoting_backslash k n f z =
+      let q = f in
       none_found (quote_fails (drop (at + 1) s) (passed_bad h.passed (39 ∷ []) k (quote_goes s i k n) (rw (← q.0, z) refl)))
 
   -- a character more
-  pub quoting_next : {r : Character} {c w : ℕ} → i < length s → (get_or s i 0 ≡ 39 → ⊥) → CharacterAt (drop i s) r → r ≡ Whole c w → (c ≡ 92 → ⊥) → Quoting s at (i + w)
-  quoting_next {c = c} {w = w} k n f e z =
-      let q = rw e at f in
+  pub quoting_next : {c w : ℕ} → i < length s → (get_or s i 0 ≡ 39 → ⊥) → CharacterAt (drop i s) (Some (c, w)) → (c ≡ 92 → ⊥) → Quoting s at (i + w)
+  quoting_next {c = c} {w = w} k n f z =
+      let q = f in
       record {
         small = h.small;
         inside = h.inside;
@@ -112,14 +112,14 @@ module _ {s : List ℕ} {at i : ℕ} (h : Quoting s at i) where
       }
 
   -- which ends in the text, past its start
-  pub quoting_within : {r : Character} {c w : ℕ} → i < length s → (get_or s i 0 ≡ 39 → ⊥) → CharacterAt (drop i s) r → r ≡ Whole c w → (c ≡ 92 → ⊥)
+  pub quoting_within : {c w : ℕ} → i < length s → (get_or s i 0 ≡ 39 → ⊥) → CharacterAt (drop i s) (Some (c, w)) → (c ≡ 92 → ⊥)
       → (i + w ≤ length s) × (1 ≤ w) × (length s ≤ 4096)
-  quoting_within k n f e z =
-      let q = rw e at f in
-      ((quoting_next k n f e z).passed.inside, q.4, h.small)
+  quoting_within k n f z =
+      let q = f in
+      ((quoting_next k n f z).passed.inside, q.4, h.small)
 
   -- a quote after no character
-  pub quoting_empty : i < length s → get_or s i 0 ≡ 39 → i ≡ at + 1 → Nothing ≡ found_at at (next (drop at s))
+  pub quoting_empty : i < length s → get_or s i 0 ≡ 39 → i ≡ at + 1 → None ≡ found_at at (next (drop at s))
   quoting_empty k n z = none_found (quote_empty (drop (at + 1) s) (passed_all h.passed (quote_stops s i k n) ∙ go h.passed.found h.passed.place))
     where
       go : (cs : List ℕ) → i ≡ at + 1 + length (characters_bytes cs) → cs ≡ []
@@ -127,12 +127,12 @@ module _ {s : List ℕ} {at i : ℕ} (h : Quoting s at i) where
       go (c ∷ cs) p = let y : ⊥ = omega (arith, z, ap length (bytes_one c cs), length-append (utf8 c) (characters_bytes cs), utf8_some c) in absurd y
 
   -- a quote after some
-  pub quoting_found : i < length s → get_or s i 0 ≡ 39 → (i ≡ at + 1 → ⊥) → Tokened 6 (i + 1) ≡ found_at at (next (drop at s))
+  pub quoting_found : i < length s → get_or s i 0 ≡ 39 → (i ≡ at + 1 → ⊥) → Some (Tokened Quoted (i + 1)) ≡ found_at at (next (drop at s))
   unfolding characters_bytes
   quoting_found k n z = go h.passed.found h.passed.every h.passed.place h.passed.bytes
     where
       go : (cs : List ℕ) → every_byte quotable cs ≡ true → i ≡ at + 1 + length (characters_bytes cs) → characters_bytes cs ++ drop i s ≡ drop (at + 1) s
-          → Tokened 6 (i + 1) ≡ found_at at (next (drop at s))
+          → Some (Tokened Quoted (i + 1)) ≡ found_at at (next (drop at s))
       go [] v p b = absurd (z (omega arith))
       go (c ∷ cs) v p b =
           let whole : drop at s ≡ atom_bytes (quoted (c ∷ cs)) ++ drop (suc i) s =

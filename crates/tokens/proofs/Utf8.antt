@@ -13,6 +13,7 @@ use Rattle.file.specs.Fields.{scalar_allowed}
 use Rattle.file.proofs.Below.{both_first, both_second}
 use Rattle.tokens.specs.Token.{utf8, characters_bytes, quotable, apart, unclosed}
 use Rattle.tokens.specs.Lex.{character_in, characters_to, at_quote, at_close}
+use Rattle.tokens.specs.Code.Found.{width_of}
 
 -- the bytes of a character by their number
 pub utf8_one : (c : ℕ) → c < 128 → utf8 c ≡ c ∷ []
@@ -87,6 +88,18 @@ first_byte c b d r h = go (sized c)
     go (two l k) = rw (utf8_two c l k, ne_eqb (192 + c / 64) b (λ e. omega arith), ne_eqb c b (λ e. omega arith))
     go (three l k) = rw (utf8_three c l k, ne_eqb (224 + c / 4096) b (λ e. omega arith), ne_eqb c b (λ e. omega arith))
     go (four l) = rw (utf8_four c l, ne_eqb (240 + c / 262144) b (λ e. omega arith), ne_eqb c b (λ e. omega arith))
+
+-- the first byte tells how many there are
+pub width_found : (c : ℕ) (r : List ℕ) → c ≤ 0x10FFFF → width_of (get_or (utf8 c ++ r) 0 0) ≡ length (utf8 c)
+width_found c r h = go (sized c)
+  where
+    go : Size c → width_of (get_or (utf8 c ++ r) 0 0) ≡ length (utf8 c)
+    go (one l) = rw (utf8_one c l, lt-ltb c 128 l)
+    go (two l k) = rw (utf8_two c l k, le-ltb (192 + c / 64) 128 (omega arith), lt-ltb (192 + c / 64) 224 (omega arith))
+    go (three l k) =
+        rw (utf8_three c l k, le-ltb (224 + c / 4096) 128 (omega arith), le-ltb (224 + c / 4096) 224 (omega arith), lt-ltb (224 + c / 4096) 240 (omega arith))
+    go (four l) =
+        rw (utf8_four c l, le-ltb (240 + c / 262144) 128 (omega arith), le-ltb (240 + c / 262144) 224 (omega arith), le-ltb (240 + c / 262144) 240 (omega arith))
 
 -- a scalar value is at most 0x10FFFF
 pub scalar_bound : (c : ℕ) → scalar_allowed c ≡ true → c ≤ 0x10FFFF

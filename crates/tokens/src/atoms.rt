@@ -1,99 +1,66 @@
 // Identifiers, variables and numbers of a text, each to its end.
-ghost use Rattle.std.specs.Prelude.{◌+◌, ◌<◌, ◌≤◌, true, ◌≡◌, length, drop, get_or};
-ghost use Rattle.std.proofs.Math.Option.{some};
+ghost use Rattle.std.specs.Prelude.{ℕ, Bool, ◌+◌, ◌<◌, ◌≤◌, true, ◌≡◌, Some, MatchOption, length, drop, get_or};
 ghost use Rattle.names.specs.Name.{digit_byte, letter_byte};
-ghost use Rattle.tokens.specs.Token.{atom, token};
-ghost use Rattle.tokens.specs.Lex.{leading, variable_kind, index_after, next};
-ghost use Rattle.tokens.specs.Code.Found.{goes_on, kind_code, atom_in, EndsIn};
+ghost use Rattle.tokens.specs.Lex.{leading, next};
+ghost use Rattle.tokens.specs.Code.Found.{index_ends, found_at, IdentifierAt};
 
+use crate::kinds::Kind;
+use crate::pieces::Found;
 use names::{digit_byte, name_byte};
 
-// A token that begins with a letter or a digit, by the byte where it ends; a variable with the number of its kind in a file.
-#[derive(Clone, Copy)]
-pub enum Lexeme {
-    Identifier(usize),
-    Number(usize),
-    Variable(u8, usize),
-}
-
-// The kind of variable that a letter begins, as a file numbers it; 0 for none.
-fn variable_kind(c: u8) -> u8
-    ensures { result ≡ kind_code (variable_kind c) }
+// Where the bytes from one on that pass a test end.
+fn leading_end<F: Fn(u8) -> bool>(text: &[u8], at: usize, passes: F) -> usize
+    requires inside { at ≤ length text.now }
+    requires callable { F.IsAlwaysCallable passes }
+    ensures within { result ≤ length text.now }
+    ensures end { (test : ℕ → Bool) → ((c : ℕ) (b : Bool) → c < 256 → F.post passes c b → b ≡ test c) → result ≡ at + length (leading test (drop at text.now)) }
 {
-    if c == b's' {
-        return 3;
-    }
-    if c == b't' {
-        return 4;
-    }
-    if c == b'e' {
-        return 5;
-    }
-    0
-}
-
-// Does a byte go on with a number? Else: with a name?
-fn goes_on(digits: bool, c: u8) -> bool
-    ensures { result ≡ goes_on digits c }
-{
-    if digits {
-        return digit_byte(c);
-    }
-    name_byte(c)
-}
-
-// Where the digits from a byte on end. Else: where the letters, digits, `-` and `_` do.
-fn leading_end(digits: bool, text: &[u8], at: usize) -> usize
-    requires { at ≤ length text.now }
-    ensures { (result ≡ at + length (leading (goes_on digits) (drop at text.now))) × (result ≤ length text.now) }
-{
-    let mut i = at;
-    while i < text.len() {
-        if !goes_on(digits, text[i]) {
+    for i in at..text.len() {
+        if !passes(text[i]) {
             return i;
         }
-        i += 1;
     }
-    i
+    text.len()
 }
 
-// The length of the index after a point at a byte; 0 where there is no point or no index.
-fn index_length(text: &[u8], at: usize) -> usize
+// Where the index after a point at a byte ends, if both stand there.
+fn index_end(text: &[u8], at: usize) -> Option<usize>
     requires { at ≤ length text.now }
-    ensures { (result ≡ length (index_after (drop at text.now))) × ((result ≡ 0 → ⊥) → at + 1 + result ≤ length text.now) }
+    ensures { result ≡ index_ends at (drop at text.now) }
 {
-    if at >= text.len() {
-        return 0;
-    }
-    if text[at] != b'.' {
-        return 0;
+    if at == text.len() || text[at] != b'.' {
+        return None;
     }
     let first = at + 1;
-    leading_end(false, text, first) - first
+    let end = leading_end(text, first, name_byte);
+    (first < end).then_some(end)
+}
+
+// The variable that begins with the letter at a byte, if one does; else the name that does is the longest token that fits.
+fn variable_at(text: &[u8], at: usize) -> Option<Found>
+    requires { (at < length text.now) × (letter_byte (get_or text.now at 0) ≡ true) }
+    ensures { MatchOption result (IdentifierAt at (drop at text.now)) (λ found. Some found ≡ found_at at (next (drop at text.now))) }
+{
+    let kind = Kind::of_letter(text[at])?;
+    let end = index_end(text, at + 1)?;
+    Some(Found::Token(kind, end))
 }
 
 // The token that begins with the letter at a byte: the longest that fits.
-pub fn identifier_or_variable(text: &[u8], at: usize) -> Lexeme
+pub fn identifier_or_variable(text: &[u8], at: usize) -> Found
     requires { (at < length text.now) × (letter_byte (get_or text.now at 0) ≡ true) }
-    ensures { (next (drop at text.now) ≡ some (token (atom (atom_in text.now at result)))) × EndsIn (length text.now) at result }
+    ensures { Some result ≡ found_at at (next (drop at text.now)) }
 {
-    let kind = variable_kind(text[at]);
-    let after = at + 1;
-    if kind == 0 {
-        return Lexeme::Identifier(leading_end(false, text, after));
+    match variable_at(text, at) {
+        Some(variable) => variable,
+        None => Found::Token(Kind::Identifier, leading_end(text, at + 1, name_byte)),
     }
-    let n = index_length(text, after);
-    if n == 0 {
-        return Lexeme::Identifier(leading_end(false, text, after));
-    }
-    Lexeme::Variable(kind, after + 1 + n)
 }
 
 // The number that begins with the digit at a byte.
-pub fn number_at(text: &[u8], at: usize) -> Lexeme
+pub fn number_at(text: &[u8], at: usize) -> Found
     requires { (at < length text.now) × (digit_byte (get_or text.now at 0) ≡ true) }
-    ensures { (next (drop at text.now) ≡ some (token (atom (atom_in text.now at result)))) × EndsIn (length text.now) at result }
+    ensures { Some result ≡ found_at at (next (drop at text.now)) }
 {
-    let after = at + 1;
-    Lexeme::Number(leading_end(true, text, after))
+    Found::Token(Kind::Number, leading_end(text, at + 1, digit_byte))
 }

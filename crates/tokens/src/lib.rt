@@ -2,56 +2,47 @@
 #![tactic(auto)]
 
 ghost use Rattle.std.specs.Prelude.{◌≤◌, ◌≡◌, length};
-ghost use Rattle.tokens.specs.Code.Arrays.{Long, LexedAs};
+ghost use Rattle.tokens.specs.Code.Arrays.{LexedAs};
 
+use crate::kinds::Kind;
 use crate::pieces::{Found, next_piece};
 
 mod atoms;
 pub mod characters;
+pub mod kinds;
 mod pieces;
 
-// The number of a text's tokens, or that it is not made of pieces.
-#[derive(Clone, Copy)]
-pub enum Tokens {
-    Refused,
-    Count(usize),
+// A token of a text: its kind, and the bytes where it starts and ends.
+#[derive(Clone, Copy, PartialEq, Eq, Debug)]
+pub struct Lexeme {
+    pub kind: Kind,
+    pub start: u16,
+    pub end: u16,
 }
 
-// A place in a text as a short number.
-fn short(n: usize) -> u16
-    requires { n ≤ 4096 }
-    ensures { result ≡ n }
-{
-    n as u16
-}
-
-// The tokens of a text: their kinds, and the bytes where they start and end.
-pub fn lex_text(
-    text: &[u8],
-    kinds: &mut [u8; 4096],
-    starts: &mut [u16; 4096],
-    ends: &mut [u16; 4096],
-) -> Tokens
-    requires { (length text.now ≤ 4096) × Long kinds.old starts.old ends.old }
-    ensures { Long kinds.new starts.new ends.new
-        × LexedAs text.now result kinds.new starts.new ends.new }
+// The number of a text's tokens, which stand in the first places of the array; none where the text is not made of pieces.
+pub fn lex_text(text: &[u8], tokens: &mut [Lexeme; 4096]) -> Option<usize>
+    requires { (length text.now ≤ 4096) × (length tokens.old ≡ 4096) }
+    ensures { (length tokens.new ≡ 4096) × LexedAs text.now result tokens.new }
 {
     let mut at = 0;
     let mut n = 0;
+    // The sizes of pieces differ, so no `for` goes over the bytes.
     while at < text.len() {
-        match next_piece(text, at) {
-            Found::Nothing => return Tokens::Refused,
-            Found::Between(e) => {
-                at = e;
+        match next_piece(text, at)? {
+            Found::Between(end) => {
+                at = end;
             }
-            Found::Token(k, e) => {
-                kinds[n] = k;
-                starts[n] = short(at);
-                ends[n] = short(e);
+            Found::Token(kind, end) => {
+                tokens[n] = Lexeme {
+                    kind,
+                    start: at as u16,
+                    end: end as u16,
+                };
                 n += 1;
-                at = e;
+                at = end;
             }
         }
     }
-    Tokens::Count(n)
+    Some(n)
 }

@@ -1,153 +1,107 @@
 // The pieces of a text: blanks, comments and tokens, each to its end.
 ghost use Rattle.std.specs.Prelude.{◌<◌, ◌≤◌, ◌≡◌, length, drop, get_or};
 ghost use Rattle.tokens.specs.Lex.{begins, next};
-ghost use Rattle.tokens.specs.Code.Found.{found_at, one_of, lexeme_found};
+ghost use Rattle.tokens.specs.Code.Found.{found_at, is_blank};
 
-use crate::atoms::{Lexeme, identifier_or_variable, number_at};
-use crate::characters::{Character, character_at};
+use crate::atoms::{identifier_or_variable, number_at};
+use crate::characters::character_at;
+use crate::kinds::Kind;
 use names::{digit_byte, letter_byte};
 
-// A piece by the byte where it ends: a blank or a comment, or a token with its kind (specs/Code/TokenKind.antt).
-#[derive(Clone, Copy)]
-pub enum Found {
-    Nothing,
-    Between(usize),
-    Token(u8, usize),
-}
+const BACKSLASH: char = '\\';
 
-// Is this byte one of those?
-fn one_of(bytes: &[u8], c: u8) -> bool
-    ensures { result ≡ one_of bytes.now c }
-{
-    let mut i = 0;
-    while i < bytes.len() {
-        if c == bytes[i] {
-            return true;
-        }
-        i += 1;
-    }
-    false
+// A piece by the byte where it ends: a blank or a comment, or a token with its kind.
+#[derive(Clone, Copy, PartialEq, Eq, Debug)]
+pub enum Found {
+    Between(usize),
+    Token(Kind, usize),
 }
 
 // Do these bytes stand here?
 fn stands_at(text: &[u8], at: usize, bytes: &[u8]) -> bool
-    requires { (length text.now ≤ 4096) × (at ≤ length text.now) }
+    requires { at ≤ length text.now }
     ensures { result ≡ begins bytes.now (drop at text.now) }
 {
-    let mut i = 0;
-    while i < bytes.len() {
-        if text.len() - at <= i {
-            return false;
-        }
-        if bytes[i] != text[at + i] {
-            return false;
-        }
-        i += 1;
-    }
-    true
+    text[at..].starts_with(bytes)
 }
 
 // The quoted run at a quote.
-fn quoted_at(text: &[u8], at: usize) -> Found
+fn quoted_at(text: &[u8], at: usize) -> Option<Found>
     requires { (length text.now ≤ 4096) × (at < length text.now) × (get_or text.now at 0 ≡ 39) }
     ensures { result ≡ found_at at (next (drop at text.now)) }
 {
     let first = at + 1;
     let mut i = first;
+    // The sizes of characters differ, so no `for` goes over the bytes.
     while i < text.len() {
         if text[i] == b'\'' {
             if i == first {
-                return Found::Nothing;
+                return None;
             }
-            return Found::Token(6, i + 1);
+            return Some(Found::Token(Kind::Quoted, i + 1));
         }
-        match character_at(text, i) {
-            Character::Broken => return Found::Nothing,
-            Character::Whole(c, w) => {
-                if c == 92 {
-                    return Found::Nothing;
-                }
-                i += w;
-            }
+        let (c, width) = character_at(text, i)?;
+        if c == BACKSLASH {
+            return None;
         }
+        i += width;
     }
-    Found::Nothing
+    None
 }
 
 // The comment at a slash.
-fn comment_at(text: &[u8], at: usize) -> Found
+fn comment_at(text: &[u8], at: usize) -> Option<Found>
     requires { (length text.now ≤ 4096) × (at < length text.now) × (get_or text.now at 0 ≡ 47) }
     ensures { result ≡ found_at at (next (drop at text.now)) }
 {
     if !stands_at(text, at + 1, b"*") {
-        return Found::Nothing;
+        return None;
     }
     let mut i = at + 2;
+    // The sizes of characters differ, so no `for` goes over the bytes.
     while i < text.len() {
         if stands_at(text, i, b"*/") {
-            return Found::Between(i + 2);
+            return Some(Found::Between(i + 2));
         }
-        match character_at(text, i) {
-            Character::Broken => return Found::Nothing,
-            Character::Whole(c, w) => {
-                i += w;
-            }
-        }
+        let (_, width) = character_at(text, i)?;
+        i += width;
     }
-    Found::Nothing
+    None
 }
 
 // `$ENTRY` or `$EXTERN`, at a dollar sign.
-fn dollar_at(text: &[u8], at: usize) -> Found
-    requires { (length text.now ≤ 4096) × (at < length text.now) × (get_or text.now at 0 ≡ 36) }
+fn dollar_at(text: &[u8], at: usize) -> Option<Found>
+    requires { (at < length text.now) × (get_or text.now at 0 ≡ 36) }
     ensures { result ≡ found_at at (next (drop at text.now)) }
 {
     if stands_at(text, at, b"$ENTRY") {
-        return Found::Token(b'E', at + 6);
+        Some(Found::Token(Kind::Entry, at + 6))
+    } else if stands_at(text, at, b"$EXTERN") {
+        Some(Found::Token(Kind::Extern, at + 7))
+    } else {
+        None
     }
-    if stands_at(text, at, b"$EXTERN") {
-        return Found::Token(b'X', at + 7);
-    }
-    Found::Nothing
 }
 
-// An identifier, a number or a variable by its kind and end.
-fn lexeme_found(x: Lexeme) -> Found
-    ensures { result ≡ lexeme_found x }
+// A space, a line feed, a tab or a carriage return?
+fn is_blank(c: u8) -> bool
+    ensures { result ≡ is_blank c }
 {
-    match x {
-        Lexeme::Identifier(e) => Found::Token(1, e),
-        Lexeme::Number(e) => Found::Token(2, e),
-        Lexeme::Variable(k, e) => Found::Token(k, e),
-    }
+    matches!(c, b' ' | b'\n' | b'\t' | b'\r')
 }
 
 // The piece at a byte.
-pub fn next_piece(text: &[u8], at: usize) -> Found
+pub fn next_piece(text: &[u8], at: usize) -> Option<Found>
     requires { (length text.now ≤ 4096) × (at < length text.now) }
     ensures { result ≡ found_at at (next (drop at text.now)) }
 {
-    let c = text[at];
-    if digit_byte(c) {
-        return lexeme_found(number_at(text, at));
+    match text[at] {
+        c if digit_byte(c) => Some(number_at(text, at)),
+        c if letter_byte(c) => Some(identifier_or_variable(text, at)),
+        c if is_blank(c) => Some(Found::Between(at + 1)),
+        b'\'' => quoted_at(text, at),
+        b'/' => comment_at(text, at),
+        b'$' => dollar_at(text, at),
+        c => Some(Found::Token(Kind::of_sign(c)?, at + 1)),
     }
-    if letter_byte(c) {
-        return lexeme_found(identifier_or_variable(text, at));
-    }
-    if one_of(b" \n\t\r", c) {
-        return Found::Between(at + 1);
-    }
-    if c == b'\'' {
-        return quoted_at(text, at);
-    }
-    if c == b'/' {
-        return comment_at(text, at);
-    }
-    if c == b'$' {
-        return dollar_at(text, at);
-    }
-    if one_of(b"{}()<>,:=;", c) {
-        return Found::Token(c, at + 1);
-    }
-    Found::Nothing
 }

@@ -1,73 +1,49 @@
--- What the code finds at a byte: a character, an atom, a piece.
-use Rattle.std.specs.Prelude.{ℕ, ◌+◌, ◌-◌, ◌≤◌, List, [], ◌∷◌, Bool, true, false, cond, ◌&&◌, ◌≡◌, length, take, drop, eqb}
-use Rattle.std.proofs.Math.Option.{Option, none, some}
-use Rattle.names.specs.Name.{digit_byte, name_byte}
+-- What the code finds at a byte: a character, an index, a piece.
+use Rattle.std.specs.Prelude.{ℕ, ◌+◌, ◌≤◌, List, [], ◌∷◌, Bool, false, cond, ◌&&◌, ◌||◌, true, ◌≡◌, Option, Some, None, length, drop, eqb, ltb}
+use Rattle.std.proofs.Math.Option.{none, some, Option as Choice}
+use Rattle.names.specs.Name.{name_byte}
 use Rattle.file.specs.Fields.{scalar_allowed}
-use Rattle.law.specs.Tree.{Kind}
-use Rattle.tokens.specs.Token.{utf8, Atom, identifier, number, variable, kind_number, token_bytes, Piece, blank, comment, token, piece_bytes}
-use Rattle.tokens.specs.Lex.{begins, character_in}
-use Rattle.tokens.specs.Code.TokenKind.{kind_numbered, token_kind}
-use Rattle.tokens.specs.declared.characters.Character.{Character}
-use Rattle.tokens.specs.declared.characters.Character.TheVariants.{Broken, Whole}
-use Rattle.tokens.specs.declared.atoms.Lexeme.{Lexeme}
-use Rattle.tokens.specs.declared.atoms.Lexeme.TheVariants.{Identifier, Number, Variable}
+use Rattle.tokens.specs.Token.{utf8, token_bytes, Piece, blank, comment, token, piece_bytes}
+use Rattle.tokens.specs.Lex.{leading, begins, character_in, index_after, next}
+use Rattle.tokens.specs.Code.TokenKind.{kind_of}
+use Rattle.tokens.specs.declared.kinds.Kind.TheVariants.{Identifier}
 use Rattle.tokens.specs.declared.pieces.Found.{Found}
-use Rattle.tokens.specs.declared.pieces.Found.TheVariants.{Nothing, Between, Token as Tokened}
+use Rattle.tokens.specs.declared.pieces.Found.TheVariants.{Between, Token as Tokened}
 
 -- ---- characters
 
+-- the number of bytes of a character, by the first of them
+abbrev pub width_of : ℕ → ℕ
+width_of b = cond (ltb b 128) 1 (cond (ltb b 224) 2 (cond (ltb b 240) 3 4))
+
 -- the character where some bytes begin, with the number of its bytes
-abbrev pub CharacterAt : List ℕ → Character → Type 0
-CharacterAt s Broken = scalar_allowed (character_in s) && begins (utf8 (character_in s)) s ≡ false
-CharacterAt s (Whole c w) = (c ≡ character_in s) × (scalar_allowed c ≡ true) × (begins (utf8 c) s ≡ true) × (w ≡ length (utf8 c)) × (1 ≤ w)
+abbrev pub CharacterAt : List ℕ → Option (ℕ × ℕ) → Type 0
+CharacterAt s None = scalar_allowed (character_in s) && begins (utf8 (character_in s)) s ≡ false
+CharacterAt s (Some p) = (p.0 ≡ character_in s) × (scalar_allowed p.0 ≡ true) × (begins (utf8 p.0) s ≡ true) × (p.1 ≡ length (utf8 p.0)) × (1 ≤ p.1)
 
--- ---- identifiers, numbers and variables
+-- ---- variables
 
--- the bytes that go on with a number, or with a name
-abbrev pub goes_on : Bool → ℕ → Bool
-goes_on true = digit_byte
-goes_on false = name_byte
+-- where the index after a point ends that begins at a byte
+abbrev pub index_end : ℕ → List ℕ → Option ℕ
+index_end at [] = None
+index_end at (c ∷ i) = Some (at + 1 + length (c ∷ i))
 
--- a kind of variable, 0 for none
-abbrev pub kind_code : Option Kind → ℕ
-kind_code none = 0
-kind_code (some k) = kind_number k
-
--- the token that starts at a byte, by what the code found
-abbrev pub atom_in : List ℕ → ℕ → Lexeme → Atom
-atom_in text at (Identifier end) = identifier (take (end - at) (drop at text))
-atom_in text at (Number end) = number (take (end - at) (drop at text))
-atom_in text at (Variable k end) = variable (kind_numbered k) (take (end - (at + 2)) (drop (at + 2) text))
-
--- it ends in a text of so many bytes, and its kind is a variable's
-abbrev pub EndsIn : ℕ → ℕ → Lexeme → Type 0
-EndsIn size at (Identifier end) = (at + 1 ≤ end) × (end ≤ size)
-EndsIn size at (Number end) = (at + 1 ≤ end) × (end ≤ size)
-EndsIn size at (Variable k end) = (kind_number (kind_numbered k) ≡ k) × (at + 2 ≤ end) × (end ≤ size)
-
--- it as a piece
-abbrev pub lexeme_found : Lexeme → Found
-lexeme_found (Identifier e) = Tokened 1 e
-lexeme_found (Number e) = Tokened 2 e
-lexeme_found (Variable k e) = Tokened k e
+abbrev pub index_ends : ℕ → List ℕ → Option ℕ
+index_ends at s = index_end at (index_after s)
 
 -- ---- pieces
 
+-- a byte that is a blank
+abbrev pub is_blank : ℕ → Bool
+is_blank c = eqb c 32 || eqb c 10 || eqb c 9 || eqb c 13
+
 -- a piece that begins at a byte: where it ends, and a token's kind
-abbrev pub found_at : ℕ → Option Piece → Found
-found_at at none = Nothing
-found_at at (some (blank b)) = Between (at + length (piece_bytes (blank b)))
-found_at at (some (comment cs)) = Between (at + length (piece_bytes (comment cs)))
-found_at at (some (token t)) = Tokened (token_kind t) (at + length (token_bytes t))
+abbrev pub found_at : ℕ → Choice Piece → Option Found
+found_at at none = None
+found_at at (some (blank b)) = Some (Between (at + length (piece_bytes (blank b))))
+found_at at (some (comment cs)) = Some (Between (at + length (piece_bytes (comment cs))))
+found_at at (some (token t)) = Some (Tokened (kind_of t) (at + length (token_bytes t)))
 
--- one of some numbers
-abbrev pub one_of : List ℕ → ℕ → Bool
-one_of [] c = false
-one_of (n ∷ ns) c = cond (eqb c n) true (one_of ns c)
-
--- the bytes of blanks, and of signs of one byte
-abbrev pub blanks : List ℕ
-blanks = 32 ∷ 10 ∷ 9 ∷ 13 ∷ []
-
-abbrev pub signs : List ℕ
-signs = 123 ∷ 125 ∷ 40 ∷ 41 ∷ 60 ∷ 62 ∷ 44 ∷ 58 ∷ 61 ∷ 59 ∷ []
+-- the name that begins at a byte is the token there
+abbrev pub IdentifierAt : ℕ → List ℕ → Type 0
+IdentifierAt at s = (end : ℕ) → end ≡ at + 1 + length (leading name_byte (drop 1 s)) → Some (Tokened Identifier end) ≡ found_at at (next s)
