@@ -8,23 +8,26 @@ use native.Mathlib.Omega.{arith}
 use native.Mathlib.Numerals.{add-one}
 use lib.ListN.{length, drop, get_or, drop_of_length-le}
 use lib.Seq.{drop-cons}
-use borrow.Author.Tests.{ne_eqb}
+use Rattle.std.proofs.Common.{Option, Some, None}
+use Rattle.std.proofs.lemmas.List.{get_or-map, length-map}
 use Rattle.law.specs.Tree.{symbol_kind, term_kind, expression_kind}
 use Rattle.tokens.specs.Token.{left_brace, right_brace, left_bracket, right_bracket, left_angle, right_angle, comma, colon, equals, semicolon}
 use Rattle.tokens.specs.Token.{dollar_entry, dollar_extern, identifier, number, variable, quoted, Token, sign, atom, Piece, Placed, placed}
 use Rattle.tokens.specs.Lex.{lex}
-use Rattle.tokens.specs.Code.TokenKind.{token_kind}
-use Rattle.tokens.specs.Code.Arrays.{kinds_of}
+use Rattle.tokens.specs.Code.TokenKind.{token_kind, kind_code}
+use Rattle.tokens.specs.Code.Arrays.{kinds_of, kinds_in}
+use Rattle.tokens.specs.declared.Lexeme.{Lexeme}
 use Rattle.grammar.specs.Parse.{phrase}
-use Rattle.grammar.specs.Accept.{Opened, open_of, other_move, move, perform, may_end, accepts}
+use Rattle.grammar.specs.Accept.{Opened, open_of, move, perform, may_end, accepts}
 use Rattle.grammar.specs.Read.{phrase_of}
-use Rattle.grammar.specs.Code.Machine.{stack_of, stepped, StepDone, mode_ends, brace_move, separator_move, kind_move, accepts_kinds}
+use Rattle.grammar.specs.Code.Machine.{stack_of, open_in, stepped, StepDone, mode_ends, kind_move, accepts_kinds}
 use Rattle.grammar.specs.declared.table.Mode.{Mode}
 use Rattle.grammar.specs.declared.table.Mode.TheVariants.{AtText, AfterEntry, AfterName, AtExtern, InExtern, InPattern}
 use Rattle.grammar.specs.declared.table.Mode.TheVariants.{InCondition, InResult, AfterSemicolon, ConditionCall, ResultCall}
 use Rattle.grammar.specs.declared.table.Move.{Move}
-use Rattle.grammar.specs.declared.Step.{Step}
-use Rattle.grammar.specs.declared.Step.TheVariants.{Refused, On}
+use Rattle.grammar.specs.declared.stack.Pair.{Pair}
+use Rattle.grammar.specs.declared.stack.Pair.TheVariants.{Bracket}
+use Rattle.grammar.specs.declared.stack.Stack.{Stack}
 
 kind_move_lem : (t : Token) (m : Mode) → kind_move (token_kind t) m ≡ move t m
 kind_move_lem (sign left_brace) m = refl
@@ -45,17 +48,6 @@ kind_move_lem (atom (variable symbol_kind w)) m = refl
 kind_move_lem (atom (variable term_kind w)) m = refl
 kind_move_lem (atom (variable expression_kind w)) m = refl
 kind_move_lem (atom (quoted w)) m = refl
-
--- a kind that is not told apart
-module _ (k : ℕ) (m : Mode) where
-  pub no_brace : (k ≡ 123 → ⊥) → (k ≡ 125 → ⊥) → (k ≡ 69 → ⊥) → (k ≡ 88 → ⊥) → other_move m ≡ brace_move k m
-  no_brace a b c d = rw (ne_eqb k 123 a, ne_eqb k 125 b, ne_eqb k 69 c, ne_eqb k 88 d)
-
-  pub no_separator : (k ≡ 44 → ⊥) → (k ≡ 58 → ⊥) → (k ≡ 61 → ⊥) → (k ≡ 59 → ⊥) → brace_move k m ≡ separator_move k m
-  no_separator a b c d = rw (ne_eqb k 44 a, ne_eqb k 58 b, ne_eqb k 61 c, ne_eqb k 59 d)
-
-  pub no_bracket : (k ≡ 1 → ⊥) → (k ≡ 40 → ⊥) → (k ≡ 41 → ⊥) → (k ≡ 60 → ⊥) → (k ≡ 62 → ⊥) → separator_move k m ≡ kind_move k m
-  no_bracket a b c d e = rw (ne_eqb k 1 a, ne_eqb k 40 b, ne_eqb k 41 c, ne_eqb k 60 d, ne_eqb k 62 e)
 
 -- the machine over kinds is the machine over tokens
 pub kinds_accepted : (ts : List Placed) (m : Mode) (st : List Opened) → accepts_kinds m st (kinds_of ts) ≡ accepts m st ts
@@ -86,52 +78,59 @@ no_end_open AfterSemicolon o st = refl
 no_end_open ConditionCall o st = refl
 no_end_open ResultCall o st = refl
 
-never : (n : Mode) (d : ℕ) (stack : List ℕ) → (d ≡ 0 → ⊥) → may_end n (stack_of d stack) ≡ false
+never : (n : Mode) (d : ℕ) (stack : List Pair) → (d ≡ 0 → ⊥) → may_end n (stack_of d stack) ≡ false
 unfolding stack_of
 never n zero stack o = absurd (o refl)
-never n (suc d) stack o = no_end_open n (open_of (get_or stack d 0)) (stack_of d stack)
+never n (suc d) stack o = no_end_open n (open_of (get_or stack d Bracket)) (stack_of d stack)
 
 -- ---- the loop: what is left decides
 
 -- the kinds from i on decide, in this mode and with this stack
-pub record Left (ks : List ℕ) (i : ℕ) (m : Mode) (depth : ℕ) (stack : List ℕ) : Type 0 where
+pub record Left (ks : List ℕ) (i : ℕ) (m : Mode) (stack : Stack) : Type 0 where
   pub inside : i ≤ length ks
-  pub low : depth ≤ i
-  pub long : length stack ≡ 4096
-  pub left : accepts_kinds AtText [] ks ≡ accepts_kinds m (stack_of depth stack) (drop i ks)
+  pub low : stack.depth ≤ i
+  pub left : accepts_kinds AtText [] ks ≡ accepts_kinds m (open_in stack) (drop i ks)
 
 -- nothing is read yet
-pub left_start : (ks stack : List ℕ) → length stack ≡ 4096 → Left ks 0 AtText 0 stack
+pub left_start : (ks : List ℕ) (stack : Stack) → stack.depth ≡ 0 → Left ks 0 AtText stack
 unfolding stack_of
-left_start ks stack h = record { inside = omega arith; low = omega arith; long = h; left = refl }
+left_start ks stack h = record { inside = omega arith; low = omega arith; left = rw h }
 
-module _ {ks : List ℕ} {i : ℕ} {m : Mode} {depth : ℕ} {stack : List ℕ} (h : Left ks i m depth stack) where
-  one : i < length ks → (r : Step) (after : List ℕ) → StepDone (kind_move (get_or ks i 0) m) (stack_of depth stack) r after depth
-      → accepts_kinds AtText [] ks ≡ stepped r after (λ n rest. accepts_kinds n rest (drop (suc i) ks))
+module _ {ks : List ℕ} {i : ℕ} {m : Mode} {stack : Stack} (h : Left ks i m stack) where
+  one : i < length ks → (r : Option Mode) (after : Stack) → StepDone (kind_move (get_or ks i 0) m) stack r after
+      → accepts_kinds AtText [] ks ≡ stepped r (open_in after) (λ n rest. accepts_kinds n rest (drop (suc i) ks))
   one l r after d = h.left ∙ rw (drop-cons ks i 0 l) (d.same (λ n rest. accepts_kinds n rest (drop (suc i) ks)))
 
   -- a token that is refused
-  pub left_refused : {k : Move} {r : Step} {after : List ℕ} → i < length ks → k ≡ kind_move (get_or ks i 0) m → StepDone k (stack_of depth stack) r after depth → r ≡ Refused
-      → false ≡ accepts_kinds AtText [] ks
-  left_refused {after = after} l e d is = sym (one l Refused after (rw (e, is) at d))
+  pub left_refused : {k : Move} {after : Stack} → i < length ks → k ≡ kind_move (get_or ks i 0) m → StepDone k stack None after → false ≡ accepts_kinds AtText [] ks
+  left_refused {after = after} l e d = sym (one l None after (rw e at d))
 
   -- a token more
-  pub left_next : {k : Move} {r : Step} {n : Mode} {e : ℕ} {after : List ℕ} → i < length ks → length after ≡ 4096 → k ≡ kind_move (get_or ks i 0) m
-      → StepDone k (stack_of depth stack) r after depth → r ≡ On n e → Left ks (i + 1) n e after
-  left_next {n = n} {e = e} {after = after} l long q d is =
-      let step : StepDone (kind_move (get_or ks i 0) m) (stack_of depth stack) (On n e) after depth = rw (q, is) at d in
+  pub left_next : {k : Move} {n : Mode} {after : Stack} → i < length ks → k ≡ kind_move (get_or ks i 0) m → StepDone k stack (Some n) after → Left ks (i + 1) n after
+  left_next {n = n} {after = after} l q d =
+      let step : StepDone (kind_move (get_or ks i 0) m) stack (Some n) after = rw q at d in
       record {
         inside = omega arith;
         low = omega (arith, step.bound, h.low);
-        long = long;
-        left = rw (add-one i) (one l (On n e) after step);
+        left = rw (add-one i) (one l (Some n) after step);
       }
 
   -- the tokens end where something is open
-  pub left_open : length ks ≤ i → (depth ≡ 0 → ⊥) → false ≡ accepts_kinds AtText [] ks
-  left_open l o = sym (h.left ∙ rw (drop_of_length-le ks {i = i} l) (never m depth stack o))
+  pub left_open : length ks ≤ i → (stack.depth ≡ 0 → ⊥) → false ≡ accepts_kinds AtText [] ks
+  left_open l o = sym (h.left ∙ rw (drop_of_length-le ks {i = i} l) (never m stack.depth stack.places o))
 
   -- the tokens end where nothing is open
-  pub left_end : {t : Bool} → length ks ≤ i → depth ≡ 0 → t ≡ mode_ends m → t ≡ accepts_kinds AtText [] ks
+  pub left_end : {t : Bool} → length ks ≤ i → stack.depth ≡ 0 → t ≡ mode_ends m → t ≡ accepts_kinds AtText [] ks
   unfolding stack_of
   left_end l o e = e ∙ sym (h.left ∙ rw (drop_of_length-le ks {i = i} l, o))
+
+-- the kind of the token at a place
+kind_there : (tokens : List Lexeme) (i : ℕ) (d : Lexeme) → i < length tokens → get_or (kinds_in tokens) i 0 ≡ kind_code (get_or tokens i d).kind
+kind_there tokens i d l = get_or-map (λ x. kind_code x.kind) tokens i d 0 l
+
+pub kinds_length : (tokens : List Lexeme) → length (kinds_in tokens) ≡ length tokens
+kinds_length tokens = length-map tokens (λ x. kind_code x.kind)
+
+pub move_there : (tokens : List Lexeme) (i : ℕ) (d : Lexeme) (m : Mode) (k : Move) → i < length tokens → k ≡ kind_move (kind_code (get_or tokens i d).kind) m
+    → (i < length (kinds_in tokens)) × (k ≡ kind_move (get_or (kinds_in tokens) i 0) m)
+move_there tokens i d m k l e = (omega (arith, kinds_length tokens), e ∙ ap (λ n. kind_move n m) (sym (kind_there tokens i d l)))

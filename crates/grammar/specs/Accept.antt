@@ -12,8 +12,10 @@
 --   AfterSemicolon  after a sentence's semicolon: a sentence may begin, or the function end
 --   ConditionCall   after `<` in a condition's result, before a name
 --   ResultCall      after `<` in a sentence's result, before a name
-use Rattle.std.specs.Prelude.{ℕ, zero, suc, List, [], ◌∷◌, Bool, true, false}
+use Rattle.std.specs.Prelude.{List, [], ◌∷◌, Bool, true, false}
 use Rattle.tokens.specs.Token.{Sign, left_brace, right_brace, left_bracket, right_bracket, left_angle, right_angle, comma, colon, equals, semicolon, dollar_entry, dollar_extern, Atom, identifier, number, variable, quoted, Token, sign, atom, Placed}
+use Rattle.grammar.specs.declared.stack.Pair.{Pair}
+use Rattle.grammar.specs.declared.stack.Pair.TheVariants.{Bracket, Call}
 use Rattle.grammar.specs.declared.table.Mode.{Mode}
 use Rattle.grammar.specs.declared.table.Mode.TheVariants.{AtText, AfterEntry, AfterName, AtExtern, InExtern, InPattern, InCondition, InResult, AfterSemicolon, ConditionCall, ResultCall}
 use Rattle.grammar.specs.declared.table.Move.{Move}
@@ -25,21 +27,21 @@ use Rattle.grammar.specs.declared.table.Move.TheVariants.{Refuse, Stay, Leave, O
 pub data Opened : Type 0 where
   bracket_open call_open : Opened
 
--- a bracket or a call, as moves number it
-abbrev pub open_of : ℕ → Opened
-open_of zero = bracket_open
-open_of (suc n) = call_open
+-- a bracket or a call, as moves have it
+abbrev pub open_of : Pair → Opened
+open_of Bracket = bracket_open
+open_of Call = call_open
 
-abbrev pub open_number : Opened → ℕ
-open_number bracket_open = 0
-open_number call_open = 1
+abbrev pub pair_of : Opened → Pair
+pair_of bracket_open = Bracket
+pair_of call_open = Call
 
 -- a move that opens, and one that closes
 abbrev pub opening : Opened → Mode → Move
-opening o m = Open (open_number o) m
+opening o m = Open (pair_of o) m
 
 abbrev pub closing : Opened → Mode → Move
-closing o m = Close (open_number o) m
+closing o m = Close (pair_of o) m
 
 -- a move for each mode
 abbrev pub by_mode : (a b c d e f g h i j k : Move) → Mode → Move

@@ -1,11 +1,15 @@
 // The machine's table: for each kind of token what it does in each mode (specs/Accept.antt).
 ghost use Rattle.std.specs.Prelude.{◌≡◌};
 ghost use Rattle.tokens.specs.Token.{comma, left_bracket, right_bracket, left_angle, right_angle, left_brace, right_brace, colon, equals, semicolon, dollar_entry, dollar_extern};
-ghost use Rattle.grammar.specs.Accept.{by_mode, at_names, in_lists, in_terms, sign_move, identifier_move, other_move};
-ghost use Rattle.grammar.specs.Code.Machine.{brace_move, separator_move, kind_move, mode_ends};
+ghost use Rattle.tokens.specs.Code.TokenKind.{kind_code};
+ghost use Rattle.grammar.specs.Accept.{sign_move, identifier_move, other_move};
+ghost use Rattle.grammar.specs.Code.Machine.{kind_move, mode_ends};
+
+use crate::stack::Pair;
+use tokens::kinds::Kind;
 
 // Where the machine stands in a text.
-#[derive(Clone, Copy)]
+#[derive(Clone, Copy, PartialEq, Eq, Debug)]
 pub enum Mode {
     AtText,
     AfterEntry,
@@ -20,368 +24,195 @@ pub enum Mode {
     ResultCall,
 }
 
-// What a token does: it is refused; on to a mode; on to a mode where nothing is open; it opens or closes a bracket (0) or a call (1).
-#[derive(Clone, Copy)]
+// What a token does: it is refused; on to a mode; on to a mode where nothing is open; it opens or closes a bracket or a call.
+#[derive(Clone, Copy, PartialEq, Eq, Debug)]
 pub enum Move {
     Refuse,
     Stay(Mode),
     Leave(Mode),
-    Open(u8, Mode),
-    Close(u8, Mode),
+    Open(Pair, Mode),
+    Close(Pair, Mode),
 }
 
-// The move in this mode, of one for each.
-fn by_mode(
-    text: Move,
-    entry: Move,
-    name: Move,
-    extern_list: Move,
-    extern_name: Move,
-    pattern: Move,
-    condition: Move,
-    res: Move,
-    semicolon: Move,
-    condition_call: Move,
-    result_call: Move,
-    mode: Mode,
-) -> Move
-    ensures { result ≡ by_mode text entry name extern_list extern_name pattern condition res semicolon condition_call result_call mode }
-{
-    match mode {
-        Mode::AtText => text,
-        Mode::AfterEntry => entry,
-        Mode::AfterName => name,
-        Mode::AtExtern => extern_list,
-        Mode::InExtern => extern_name,
-        Mode::InPattern => pattern,
-        Mode::InCondition => condition,
-        Mode::InResult => res,
-        Mode::AfterSemicolon => semicolon,
-        Mode::ConditionCall => condition_call,
-        Mode::ResultCall => result_call,
+impl Mode {
+    // The move of a comma.
+    fn comma_move(self) -> Move
+        ensures { result ≡ sign_move comma self }
+    {
+        match self {
+            Mode::InExtern => Move::Leave(Mode::AtExtern),
+            Mode::InPattern | Mode::AfterSemicolon => Move::Leave(Mode::InCondition),
+            _ => Move::Refuse,
+        }
+    }
+
+    // The move of `(`.
+    fn left_bracket_move(self) -> Move
+        ensures { result ≡ sign_move left_bracket self }
+    {
+        match self {
+            Mode::InPattern | Mode::AfterSemicolon => Move::Open(Pair::Bracket, Mode::InPattern),
+            Mode::InCondition | Mode::InResult => Move::Open(Pair::Bracket, self),
+            _ => Move::Refuse,
+        }
+    }
+
+    // The move of `)`.
+    fn right_bracket_move(self) -> Move
+        ensures { result ≡ sign_move right_bracket self }
+    {
+        match self {
+            Mode::InPattern | Mode::InCondition | Mode::InResult => Move::Close(
+                Pair::Bracket,
+                self,
+            ),
+            _ => Move::Refuse,
+        }
+    }
+
+    // The move of `<`.
+    fn left_angle_move(self) -> Move
+        ensures { result ≡ sign_move left_angle self }
+    {
+        match self {
+            Mode::InCondition => Move::Open(Pair::Call, Mode::ConditionCall),
+            Mode::InResult => Move::Open(Pair::Call, Mode::ResultCall),
+            _ => Move::Refuse,
+        }
+    }
+
+    // The move of `>`.
+    fn right_angle_move(self) -> Move
+        ensures { result ≡ sign_move right_angle self }
+    {
+        match self {
+            Mode::InCondition | Mode::InResult => Move::Close(Pair::Call, self),
+            _ => Move::Refuse,
+        }
+    }
+
+    // The move of `{`.
+    fn left_brace_move(self) -> Move
+        ensures { result ≡ sign_move left_brace self }
+    {
+        match self {
+            Mode::AfterName => Move::Leave(Mode::InPattern),
+            _ => Move::Refuse,
+        }
+    }
+
+    // The move of `}`.
+    fn right_brace_move(self) -> Move
+        ensures { result ≡ sign_move right_brace self }
+    {
+        match self {
+            Mode::InResult | Mode::AfterSemicolon => Move::Leave(Mode::AtText),
+            _ => Move::Refuse,
+        }
+    }
+
+    // The move of a colon.
+    fn colon_move(self) -> Move
+        ensures { result ≡ sign_move colon self }
+    {
+        match self {
+            Mode::InCondition => Move::Leave(Mode::InPattern),
+            _ => Move::Refuse,
+        }
+    }
+
+    // The move of `=`.
+    fn equals_move(self) -> Move
+        ensures { result ≡ sign_move equals self }
+    {
+        match self {
+            Mode::InPattern | Mode::AfterSemicolon => Move::Leave(Mode::InResult),
+            _ => Move::Refuse,
+        }
+    }
+
+    // The move of a semicolon.
+    fn semicolon_move(self) -> Move
+        ensures { result ≡ sign_move semicolon self }
+    {
+        match self {
+            Mode::InExtern => Move::Leave(Mode::AtText),
+            Mode::InResult => Move::Leave(Mode::AfterSemicolon),
+            _ => Move::Refuse,
+        }
+    }
+
+    // The move of `$ENTRY`.
+    fn entry_move(self) -> Move
+        ensures { result ≡ sign_move dollar_entry self }
+    {
+        match self {
+            Mode::AtText => Move::Leave(Mode::AfterEntry),
+            _ => Move::Refuse,
+        }
+    }
+
+    // The move of `$EXTERN`.
+    fn extern_move(self) -> Move
+        ensures { result ≡ sign_move dollar_extern self }
+    {
+        match self {
+            Mode::AtText => Move::Leave(Mode::AtExtern),
+            _ => Move::Refuse,
+        }
+    }
+
+    // The move of an identifier.
+    fn identifier_move(self) -> Move
+        ensures { result ≡ identifier_move self }
+    {
+        match self {
+            Mode::AtText | Mode::AfterEntry => Move::Leave(Mode::AfterName),
+            Mode::AtExtern => Move::Leave(Mode::InExtern),
+            Mode::InPattern | Mode::AfterSemicolon => Move::Stay(Mode::InPattern),
+            Mode::InCondition | Mode::ConditionCall => Move::Stay(Mode::InCondition),
+            Mode::InResult | Mode::ResultCall => Move::Stay(Mode::InResult),
+            Mode::AfterName | Mode::InExtern => Move::Refuse,
+        }
+    }
+
+    // The move of a number, a variable or a quoted run.
+    fn other_move(self) -> Move
+        ensures { result ≡ other_move self }
+    {
+        match self {
+            Mode::InPattern | Mode::AfterSemicolon => Move::Stay(Mode::InPattern),
+            Mode::InCondition | Mode::InResult => Move::Stay(self),
+            _ => Move::Refuse,
+        }
     }
 }
 
-// The move at a text, after `$ENTRY`, after a function's name and before one of a list; none elsewhere.
-fn at_names(text: Move, entry: Move, name: Move, extern_list: Move, mode: Mode) -> Move
-    ensures { result ≡ at_names text entry name extern_list mode }
+// The move of a token of this kind.
+pub fn move_of(kind: Kind, mode: Mode) -> Move
+    ensures { result ≡ kind_move (kind_code kind) mode }
 {
-    by_mode(
-        text,
-        entry,
-        name,
-        extern_list,
-        Move::Refuse,
-        Move::Refuse,
-        Move::Refuse,
-        Move::Refuse,
-        Move::Refuse,
-        Move::Refuse,
-        Move::Refuse,
-        mode,
-    )
-}
-
-// The move after a name of a list, in a pattern, in a condition's result, in a sentence's result and after a semicolon; none elsewhere.
-fn in_lists(
-    extern_name: Move,
-    pattern: Move,
-    condition: Move,
-    res: Move,
-    semicolon: Move,
-    mode: Mode,
-) -> Move
-    ensures { result ≡ in_lists extern_name pattern condition res semicolon mode }
-{
-    by_mode(
-        Move::Refuse,
-        Move::Refuse,
-        Move::Refuse,
-        Move::Refuse,
-        extern_name,
-        pattern,
-        condition,
-        res,
-        semicolon,
-        Move::Refuse,
-        Move::Refuse,
-        mode,
-    )
-}
-
-// The same without lists of names.
-fn in_terms(pattern: Move, condition: Move, res: Move, semicolon: Move, mode: Mode) -> Move
-    ensures { result ≡ in_terms pattern condition res semicolon mode }
-{
-    in_lists(Move::Refuse, pattern, condition, res, semicolon, mode)
-}
-
-// The move of a comma.
-fn comma_move(mode: Mode) -> Move
-    ensures { result ≡ sign_move comma mode }
-{
-    in_lists(
-        Move::Leave(Mode::AtExtern),
-        Move::Leave(Mode::InCondition),
-        Move::Refuse,
-        Move::Refuse,
-        Move::Leave(Mode::InCondition),
-        mode,
-    )
-}
-
-// The move of `(`.
-fn left_bracket_move(mode: Mode) -> Move
-    ensures { result ≡ sign_move left_bracket mode }
-{
-    in_terms(
-        Move::Open(0, Mode::InPattern),
-        Move::Open(0, Mode::InCondition),
-        Move::Open(0, Mode::InResult),
-        Move::Open(0, Mode::InPattern),
-        mode,
-    )
-}
-
-// The move of `)`.
-fn right_bracket_move(mode: Mode) -> Move
-    ensures { result ≡ sign_move right_bracket mode }
-{
-    in_terms(
-        Move::Close(0, Mode::InPattern),
-        Move::Close(0, Mode::InCondition),
-        Move::Close(0, Mode::InResult),
-        Move::Refuse,
-        mode,
-    )
-}
-
-// The move of `<`.
-fn left_angle_move(mode: Mode) -> Move
-    ensures { result ≡ sign_move left_angle mode }
-{
-    in_terms(
-        Move::Refuse,
-        Move::Open(1, Mode::ConditionCall),
-        Move::Open(1, Mode::ResultCall),
-        Move::Refuse,
-        mode,
-    )
-}
-
-// The move of `>`.
-fn right_angle_move(mode: Mode) -> Move
-    ensures { result ≡ sign_move right_angle mode }
-{
-    in_terms(
-        Move::Refuse,
-        Move::Close(1, Mode::InCondition),
-        Move::Close(1, Mode::InResult),
-        Move::Refuse,
-        mode,
-    )
-}
-
-// The move of `{`.
-fn left_brace_move(mode: Mode) -> Move
-    ensures { result ≡ sign_move left_brace mode }
-{
-    at_names(
-        Move::Refuse,
-        Move::Refuse,
-        Move::Leave(Mode::InPattern),
-        Move::Refuse,
-        mode,
-    )
-}
-
-// The move of `}`.
-fn right_brace_move(mode: Mode) -> Move
-    ensures { result ≡ sign_move right_brace mode }
-{
-    in_terms(
-        Move::Refuse,
-        Move::Refuse,
-        Move::Leave(Mode::AtText),
-        Move::Leave(Mode::AtText),
-        mode,
-    )
-}
-
-// The move of a colon.
-fn colon_move(mode: Mode) -> Move
-    ensures { result ≡ sign_move colon mode }
-{
-    in_terms(
-        Move::Refuse,
-        Move::Leave(Mode::InPattern),
-        Move::Refuse,
-        Move::Refuse,
-        mode,
-    )
-}
-
-// The move of `=`.
-fn equals_move(mode: Mode) -> Move
-    ensures { result ≡ sign_move equals mode }
-{
-    in_terms(
-        Move::Leave(Mode::InResult),
-        Move::Refuse,
-        Move::Refuse,
-        Move::Leave(Mode::InResult),
-        mode,
-    )
-}
-
-// The move of a semicolon.
-fn semicolon_move(mode: Mode) -> Move
-    ensures { result ≡ sign_move semicolon mode }
-{
-    in_lists(
-        Move::Leave(Mode::AtText),
-        Move::Refuse,
-        Move::Refuse,
-        Move::Leave(Mode::AfterSemicolon),
-        Move::Refuse,
-        mode,
-    )
-}
-
-// The move of `$ENTRY`.
-fn entry_move(mode: Mode) -> Move
-    ensures { result ≡ sign_move dollar_entry mode }
-{
-    at_names(
-        Move::Leave(Mode::AfterEntry),
-        Move::Refuse,
-        Move::Refuse,
-        Move::Refuse,
-        mode,
-    )
-}
-
-// The move of `$EXTERN`.
-fn extern_move(mode: Mode) -> Move
-    ensures { result ≡ sign_move dollar_extern mode }
-{
-    at_names(
-        Move::Leave(Mode::AtExtern),
-        Move::Refuse,
-        Move::Refuse,
-        Move::Refuse,
-        mode,
-    )
-}
-
-// The move of an identifier.
-fn identifier_move(mode: Mode) -> Move
-    ensures { result ≡ identifier_move mode }
-{
-    by_mode(
-        Move::Leave(Mode::AfterName),
-        Move::Leave(Mode::AfterName),
-        Move::Refuse,
-        Move::Leave(Mode::InExtern),
-        Move::Refuse,
-        Move::Stay(Mode::InPattern),
-        Move::Stay(Mode::InCondition),
-        Move::Stay(Mode::InResult),
-        Move::Stay(Mode::InPattern),
-        Move::Stay(Mode::InCondition),
-        Move::Stay(Mode::InResult),
-        mode,
-    )
-}
-
-// The move of a number, a variable or a quoted run.
-fn other_move(mode: Mode) -> Move
-    ensures { result ≡ other_move mode }
-{
-    in_terms(
-        Move::Stay(Mode::InPattern),
-        Move::Stay(Mode::InCondition),
-        Move::Stay(Mode::InResult),
-        Move::Stay(Mode::InPattern),
-        mode,
-    )
-}
-
-// The move of a brace, of `$ENTRY` or of `$EXTERN`, by their kind; else that of another atom.
-fn brace_move(kind: u8, mode: Mode) -> Move
-    ensures { result ≡ brace_move kind mode }
-{
-    if kind == b'{' {
-        return left_brace_move(mode);
+    match kind {
+        Kind::Identifier => mode.identifier_move(),
+        Kind::LeftBracket => mode.left_bracket_move(),
+        Kind::RightBracket => mode.right_bracket_move(),
+        Kind::LeftAngle => mode.left_angle_move(),
+        Kind::RightAngle => mode.right_angle_move(),
+        Kind::Comma => mode.comma_move(),
+        Kind::Colon => mode.colon_move(),
+        Kind::Equals => mode.equals_move(),
+        Kind::Semicolon => mode.semicolon_move(),
+        Kind::LeftBrace => mode.left_brace_move(),
+        Kind::RightBrace => mode.right_brace_move(),
+        Kind::Entry => mode.entry_move(),
+        Kind::Extern => mode.extern_move(),
+        _ => mode.other_move(),
     }
-    if kind == b'}' {
-        return right_brace_move(mode);
-    }
-    if kind == b'E' {
-        return entry_move(mode);
-    }
-    if kind == b'X' {
-        return extern_move(mode);
-    }
-    other_move(mode)
-}
-
-// The move of `,`, `:`, `=` or `;`, by their kind; else as above.
-fn separator_move(kind: u8, mode: Mode) -> Move
-    ensures { result ≡ separator_move kind mode }
-{
-    if kind == b',' {
-        return comma_move(mode);
-    }
-    if kind == b':' {
-        return colon_move(mode);
-    }
-    if kind == b'=' {
-        return equals_move(mode);
-    }
-    if kind == b';' {
-        return semicolon_move(mode);
-    }
-    brace_move(kind, mode)
-}
-
-// The move of a token of this kind (tokens/specs/Code/TokenKind.antt).
-pub fn move_of(kind: u8, mode: Mode) -> Move
-    ensures { result ≡ kind_move kind mode }
-{
-    if kind == 1 {
-        return identifier_move(mode);
-    }
-    if kind == b'(' {
-        return left_bracket_move(mode);
-    }
-    if kind == b')' {
-        return right_bracket_move(mode);
-    }
-    if kind == b'<' {
-        return left_angle_move(mode);
-    }
-    if kind == b'>' {
-        return right_angle_move(mode);
-    }
-    separator_move(kind, mode)
 }
 
 // May a text end here?
 pub fn may_end(mode: Mode) -> bool
     ensures { result ≡ mode_ends mode }
 {
-    match mode {
-        Mode::AtText => true,
-        Mode::AfterEntry => false,
-        Mode::AfterName => false,
-        Mode::AtExtern => false,
-        Mode::InExtern => false,
-        Mode::InPattern => false,
-        Mode::InCondition => false,
-        Mode::InResult => false,
-        Mode::AfterSemicolon => false,
-        Mode::ConditionCall => false,
-        Mode::ResultCall => false,
-    }
+    matches!(mode, Mode::AtText)
 }

@@ -1,33 +1,32 @@
 -- The machine of specs/Accept.antt as the code runs it: over kinds of tokens, with the stack in an array.
-use Rattle.std.specs.Prelude.{ℕ, zero, suc, ◌+◌, ◌≤◌, List, [], ◌∷◌, Bool, false, cond, ◌≡◌, get_or, eqb}
+use Rattle.std.specs.Prelude.{ℕ, zero, suc, ◌+◌, ◌≤◌, List, [], ◌∷◌, Bool, false, cond, ◌≡◌, Option, Some, None, get_or, eqb}
 use Rattle.tokens.specs.Token.{left_brace, right_brace, left_bracket, right_bracket, left_angle, right_angle, comma, colon, equals, semicolon, dollar_entry, dollar_extern}
 use Rattle.grammar.specs.Accept.{Opened, open_of, sign_move, identifier_move, other_move, perform, may_end}
+use Rattle.grammar.specs.declared.stack.Pair.{Pair}
+use Rattle.grammar.specs.declared.stack.Pair.TheVariants.{Bracket}
+use Rattle.grammar.specs.declared.stack.Stack.{Stack}
 use Rattle.grammar.specs.declared.table.Mode.{Mode}
 use Rattle.grammar.specs.declared.table.Move.{Move}
-use Rattle.grammar.specs.declared.Step.{Step}
-use Rattle.grammar.specs.declared.Step.TheVariants.{Refused, On}
 
 -- ---- the stack
 
 -- what is open, by an array of which so many places are used
-unfoldable pub stack_of : ℕ → List ℕ → List Opened
+unfoldable pub stack_of : ℕ → List Pair → List Opened
 stack_of zero s = []
-stack_of (suc d) s = open_of (get_or s d 0) ∷ stack_of d s
+stack_of (suc d) s = open_of (get_or s d Bracket) ∷ stack_of d s
+
+abbrev pub open_in : Stack → List Opened
+open_in s = stack_of s.depth s.places
 
 -- a step, and then it goes on
-abbrev pub stepped : Step → List ℕ → (Mode → List Opened → Bool) → Bool
-stepped Refused stack then = false
-stepped (On m d) stack then = then m (stack_of d stack)
-
--- the number of places that are used after a step
-abbrev pub depth_of : Step → ℕ
-depth_of Refused = 0
-depth_of (On m d) = d
+abbrev pub stepped : Option Mode → List Opened → (Mode → List Opened → Bool) → Bool
+stepped None stack then = false
+stepped (Some m) stack then = then m stack
 
 -- a step does what a move does, whatever comes after, and opens at most one place more
-pub record StepDone (m : Move) (opened : List Opened) (r : Step) (stack : List ℕ) (depth : ℕ) : Type 0 where
-  pub same : (then : Mode → List Opened → Bool) → perform m opened then ≡ stepped r stack then
-  pub bound : depth_of r ≤ depth + 1
+pub record StepDone (m : Move) (old : Stack) (r : Option Mode) (new : Stack) : Type 0 where
+  pub same : (then : Mode → List Opened → Bool) → perform m (open_in old) then ≡ stepped r (open_in new) then
+  pub bound : new.depth ≤ old.depth + 1
 
 -- ---- kinds of tokens, by their numbers
 
