@@ -13,9 +13,13 @@ use Rattle.file.specs.Fields.{scalar_allowed}
 use Rattle.file.proofs.Below.{both, both_first, both_second}
 use Rattle.law.specs.Tree.{symbol_kind, term_kind, expression_kind}
 use Rattle.tokens.specs.Token.{characters_bytes, quotable, identifier, number, variable, quoted, Token, sign, atom, token_bytes, Placed}
-use Rattle.tokens.specs.Code.TokenKind.{sign_kind, token_kind}
+use Rattle.std.proofs.Common.{Some, None}
+use Rattle.tokens.specs.Code.TokenKind.{sign_kind, token_kind, kind_code}
+use Rattle.tokens.specs.declared.kinds.Kind.{Kind}
+use Rattle.tokens.specs.declared.kinds.Kind.TheVariants.{Identifier, Number, SymbolVariable, TermVariable, ExpressionVariable, Quoted, LeftBrace, RightBrace, LeftBracket, RightBracket, LeftAngle, RightAngle, Comma, Colon, Equals, Semicolon, Entry, Extern}
 use Rattle.encoding.specs.Encode.{Record, character_records}
 use Rattle.encoding.specs.Code.FlatTerms.{inside, own_records, own, kind_at, end_at}
+use Rattle.writing.specs.Code.Found.{record_kind}
 use Rattle.writing.specs.Code.Held.{Stands, Spans}
 use Rattle.writing.proofs.WeightLaws.{sign_over, only_quoted}
 
@@ -58,6 +62,48 @@ module _ {k start end : ℕ} (p : Placed) (e : k ≡ kind_at p) (s : start ≡ p
 
     pub atom_variable : {n : ℕ} → 3 ≤ k → n ≡ size - 2 → own inside p ≡ (word ∷ (start + 2) ∷ n ∷ 0 ∷ start ∷ end ∷ []) ∷ []
     atom_variable j g = here_row ∙ rw (le-ltb 6 k l, le-ltb k 3 j, g, q, r)
+
+-- ---- by the code's kind
+
+pub kind_word : (g : Kind) (k : ℕ) → record_kind g ≡ Some k → (k ≡ kind_code g) × (kind_code g ≤ 5)
+kind_word Identifier k h = (cc, omega arith)
+kind_word Number k h = (cc, omega arith)
+kind_word SymbolVariable k h = (cc, omega arith)
+kind_word TermVariable k h = (cc, omega arith)
+kind_word ExpressionVariable k h = (cc, omega arith)
+kind_word Quoted k h = absurd (cc)
+kind_word LeftBrace k h = absurd (cc)
+kind_word RightBrace k h = absurd (cc)
+kind_word LeftBracket k h = absurd (cc)
+kind_word RightBracket k h = absurd (cc)
+kind_word LeftAngle k h = absurd (cc)
+kind_word RightAngle k h = absurd (cc)
+kind_word Comma k h = absurd (cc)
+kind_word Colon k h = absurd (cc)
+kind_word Equals k h = absurd (cc)
+kind_word Semicolon k h = absurd (cc)
+kind_word Entry k h = absurd (cc)
+kind_word Extern k h = absurd (cc)
+
+pub kind_sign : (g : Kind) → record_kind g ≡ None → (kind_code g ≡ 6 → ⊥) → 6 < kind_code g
+kind_sign Identifier h d = absurd (cc)
+kind_sign Number h d = absurd (cc)
+kind_sign SymbolVariable h d = absurd (cc)
+kind_sign TermVariable h d = absurd (cc)
+kind_sign ExpressionVariable h d = absurd (cc)
+kind_sign Quoted h d = absurd (d refl)
+kind_sign LeftBrace h d = omega arith
+kind_sign RightBrace h d = omega arith
+kind_sign LeftBracket h d = omega arith
+kind_sign RightBracket h d = omega arith
+kind_sign LeftAngle h d = omega arith
+kind_sign RightAngle h d = omega arith
+kind_sign Comma h d = omega arith
+kind_sign Colon h d = omega arith
+kind_sign Equals h d = omega arith
+kind_sign Semicolon h d = omega arith
+kind_sign Entry h d = omega arith
+kind_sign Extern h d = omega arith
 
 -- ---- a quoted run
 

@@ -1,7 +1,7 @@
 -- Laws for the number of characters in some bytes: as many as bytes that begin one.
 use Prim.Native.Nat.{ℕ, zero, suc, ◌+◌, ◌-◌, ◌/◌, ◌%◌, ◌≤◌, ◌<◌}
 use mathlib.Core.List.{List, [], ◌∷◌, ◌++◌}
-use mathlib.Core.Bool.{Bool, true, false}
+use mathlib.Core.Bool.{Bool, true, false, not, true≢false, false≢true}
 use mathlib.Core.Path.{◌≡◌, refl, ◌∙◌}
 use native.Mathlib.Omega.{arith}
 use native.Mathlib.Numerals.{add-one}
@@ -9,43 +9,62 @@ use lib.ListN.{length, take, drop, get_or, drop_of_length-le}
 use lib.Seq.{drop-cons}
 use lib.Dec.{ltb}
 use borrow.Author.Tests.{ltb-true, ltb-false, le-leb, lt-leb}
+use Rattle.std.proofs.Common.{min}
+use Rattle.names.specs.Name.{between}
 use Rattle.tokens.specs.Token.{utf8, characters_bytes}
 use Rattle.tokens.proofs.Utf8.{utf8_one, utf8_two, utf8_three, utf8_four}
 use Rattle.writing.specs.Code.Found.{start_here, count_starts}
 
 -- ---- the loop
 
+plain_true : (b : Bool) → not b ≡ true → b ≡ false
+plain_true true h = absurd (false≢true h)
+plain_true false h = refl
+
+plain_false : (b : Bool) → not b ≡ false → b ≡ true
+plain_false true h = refl
+plain_false false h = absurd (true≢false h)
+
 -- n begin before place i
 pub record Starts (s : List ℕ) (from to i n : ℕ) : Type 0 where
-  pub low : i ≤ 65536
-  pub few : n ≤ i
+  pub few : n + from ≤ i
+  pub small : n ≤ 4096
   pub left : count_starts (take (to - from) (drop from s)) ≡ n + count_starts (take (to - i) (drop i s))
 
-pub starts_begin : (s : List ℕ) (from to : ℕ) → from ≤ 65536 → Starts s from to from 0
-starts_begin s from to h = record { low = h; few = omega arith; left = omega arith }
+pub starts_begin : (s : List ℕ) (from to : ℕ) → Starts s from to from 0
+starts_begin s from to = record { few = omega arith; small = omega arith; left = omega arith }
 
 take_none : (n : ℕ) → ◌≡◌ {A = List ℕ} (take n []) []
 take_none zero = refl
 take_none (suc n) = refl
 
 module _ {s : List ℕ} {from to i n : ℕ} (h : Starts s from to i n) where
-  pub starts_next : {t : ℕ} → to ≤ 65536 → i < to → i < length s → t ≡ start_here (get_or s i 0) → t ≤ 1 → Starts s from to (i + 1) (n + t)
+  next : (t : ℕ) → i < to → i < length s → start_here (get_or s i 0) ≡ t → count_starts (take (to - i) (drop i s)) ≡ t + count_starts (take (to - (i + 1)) (drop (i + 1) s))
   unfolding count_starts
-  starts_next {t = t} b k l e g =
-      let size : to - i ≡ suc (to - (i + 1)) = omega arith in
-      let next : count_starts (take (to - i) (drop i s)) ≡ t + count_starts (take (to - (i + 1)) (drop (i + 1) s)) = rw (size, drop-cons s i 0 l, ← e, add-one i) in
-      record { low = omega arith; few = omega (arith, h.few); left = omega (arith, h.left) }
+  next t k l e = let size : to - i ≡ suc (to - (i + 1)) = omega arith in rw (size, drop-cons s i 0 l, e, add-one i)
 
-  bounded : count_starts (take (to - i) (drop i s)) ≡ 0 → (n ≡ count_starts (take (to - from) (drop from s))) × (n ≤ 65536)
-  bounded none = (omega (arith, h.left), omega (arith, h.few, h.low))
+  pub starts_one : i < to → i < length s → length s ≤ 4096 → not (between 128 191 (get_or s i 0)) ≡ true → Starts s from to (i + 1) (n + 1)
+  starts_one k l m e =
+      let more = next 1 k l (rw (plain_true (between 128 191 (get_or s i 0)) e)) in
+      record { few = omega (arith, h.few); small = omega (arith, h.few); left = omega (arith, h.left, more) }
 
-  pub starts_past : length s ≤ i → (n ≡ count_starts (take (to - from) (drop from s))) × (n ≤ 65536)
+  pub starts_none : i < to → i < length s → not (between 128 191 (get_or s i 0)) ≡ false → Starts s from to (i + 1) n
+  starts_none k l e =
+      let more = next 0 k l (rw (plain_false (between 128 191 (get_or s i 0)) e)) in
+      record { few = omega (arith, h.few); small = h.small; left = omega (arith, h.left, more) }
+
+  pub starts_end : min to (length s) ≤ i → (n ≡ count_starts (take (to - from) (drop from s))) × (n ≤ 4096)
   unfolding count_starts
-  starts_past l = bounded (rw (drop_of_length-le s {i = i} l, take_none (to - i)))
-
-  pub starts_end : to ≤ i → (n ≡ count_starts (take (to - from) (drop from s))) × (n ≤ 65536)
-  unfolding count_starts
-  starts_end l = let none : to - i ≡ 0 = omega arith in bounded (rw none)
+  starts_end l = go (ltb i to) refl
+    where
+      go : (b : Bool) → ltb i to ≡ b → (n ≡ count_starts (take (to - from) (drop from s))) × (n ≤ 4096)
+      go true t =
+          let none : count_starts (take (to - i) (drop i s)) ≡ 0 = rw (drop_of_length-le s {i = i} (omega (arith, l, ltb-true i to t)), take_none (to - i)) in
+          (omega (arith, h.left, none), h.small)
+      go false t =
+          let size : to - i ≡ 0 = omega (arith, ltb-false i to t) in
+          let none : count_starts (take (to - i) (drop i s)) ≡ 0 = rw size in
+          (omega (arith, h.left, none), h.small)
 
 -- ---- characters are counted
 

@@ -11,11 +11,13 @@ use lib.Seq.{drop-cons, drop-drop, get_or-drop, get_or-set_same, get_or-set_othe
 use lib.Dec.{eqb, ltb}
 use borrow.Author.Tests.{eqb-true, eqb-false, lt-ltb, le-ltb, ltb-true, ltb-false}
 use Rattle.tokens.specs.Token.{Placed}
-use Rattle.tokens.specs.Code.Arrays.{kinds_of, ends_of}
+use Rattle.tokens.specs.Code.Arrays.{kinds_of, ends_of, kinds_in, ends_in}
+use Rattle.tokens.specs.declared.Lexeme.{Lexeme}
 use Rattle.encoding.specs.Code.FlatTerms.{Where, inside, state_after, opens, closes, kind_at, end_at, weight, add, closed, scan}
-use Rattle.writing.specs.Code.Held.{Held, Stands, Stand}
+use Rattle.writing.specs.Code.Held.{Held, HeldIn, Stands, Stand}
 use Rattle.writing.specs.Code.Found.{run_state}
-use Rattle.writing.specs.Code.Closers.{unless_last, before, closer_of, From, ClosedFrom, total, called_at, sum_of, SummedFrom, held_before, Nested}
+use Rattle.writing.specs.Code.Closers.{unless_last, before, closer_of, From, ClosedFrom, total, called_at, sum_of, SummedFrom, held_before, closers_in, sums_in, Nested}
+use Rattle.writing.specs.declared.brackets.Ahead.{Ahead}
 use Rattle.writing.proofs.HeldLaws.{kinds_drop, ends_drop, kinds_length, tokens_length, token_at}
 use Rattle.writing.proofs.PartLaws.{stands_at}
 use Rattle.writing.proofs.ScanLaws.{state_closing, weight_closing}
@@ -214,42 +216,42 @@ scan_ends w d (p ∷ ps) = go (closes (kind_at p)) (opens (kind_at p)) d (λ w d
     go false true d ih = ih (state_after (kind_at p)) (suc d)
     go false false d ih = ih (state_after (kind_at p)) d
 
-pub nested : {kinds starts ends closers sums : List ℕ} {ts : List Placed} → Held kinds starts ends ts → ClosedFrom 0 kinds closers → SummedFrom 0 kinds sums ts
-    → Nested kinds starts ends closers sums ts
+pub nested : {tokens : List Lexeme} {ahead : List Ahead} {ts : List Placed} → HeldIn tokens ts → ClosedFrom 0 (kinds_in tokens) (closers_in ahead)
+    → SummedFrom 0 (kinds_in tokens) (sums_in ahead) ts → Nested tokens ahead ts
 nested h c s = record { held = h; closed = c; summed = s }
 
-module _ {kinds starts ends closers sums : List ℕ} {ts : List Placed} (n : Nested kinds starts ends closers sums ts) {end from close : ℕ} (s : length kinds ≡ end) (l : from ≤ end)
-    (c : close ≡ held_before end closers end from) where
+module _ {tokens : List Lexeme} {ahead : List Ahead} {ts : List Placed} (n : Nested tokens ahead ts) {end from close : ℕ} (s : length (kinds_in tokens) ≡ end) (l : from ≤ end)
+    (c : close ≡ held_before end (closers_in ahead) end from) where
   abbrev contents : List Placed
   contents = drop from ts
 
   abbrev inner : ℕ
   inner = before 0 (kinds_of contents)
 
-  held_at : (list : List ℕ) (other : ℕ) (f : ℕ → ℕ) → From 0 (length kinds) list f → other ≡ f (length kinds) → (j : ℕ) → j ≤ length kinds → held_before end list other j ≡ f j
+  held_at : (list : List ℕ) (other : ℕ) (f : ℕ → ℕ) → From 0 (length (kinds_in tokens)) list f → other ≡ f (length (kinds_in tokens)) → (j : ℕ) → j ≤ length (kinds_in tokens) → held_before end list other j ≡ f j
   held_at list other f h e j m = ap (λ z. held_before z list other j) (sym s) ∙ held_from list f j h (omega arith) m e
 
   close_is : close ≡ from + inner
   close_is =
-      c ∙ held_at closers end (closer_of kinds) n.closed (sym s ∙ past kinds) from (omega (arith, l, s))
+      c ∙ held_at (closers_in ahead) end (closer_of (kinds_in tokens)) n.closed (sym s ∙ past (kinds_in tokens)) from (omega (arith, l, s))
       ∙ ap (λ z. from + before 0 z) (ap (drop from) n.held.kinded ∙ kinds_drop from ts)
 
-  close_small : close ≤ length kinds
+  close_small : close ≤ length (kinds_in tokens)
   close_small = omega (arith, close_is, before_all 0 (kinds_of contents), kinds_length contents, length-drop from ts, tokens_length n.held, l, s)
 
-  sum_here : {v : ℕ} (j : ℕ) → j ≤ length kinds → v ≡ held_before end sums 0 j → v ≡ sum_of kinds ts j
-  sum_here j m e = e ∙ held_at sums 0 (sum_of kinds ts) n.summed (sum_end kinds n.held) j m
+  sum_here : {v : ℕ} (j : ℕ) → j ≤ length (kinds_in tokens) → v ≡ held_before end (sums_in ahead) 0 j → v ≡ sum_of (kinds_in tokens) ts j
+  sum_here j m e = e ∙ held_at (sums_in ahead) 0 (sum_of (kinds_in tokens) ts) n.summed (sum_end (kinds_in tokens) n.held) j m
 
-  pub inner_records : {all later r : ℕ} → all ≡ held_before end sums 0 from → later ≡ held_before end sums 0 close → r ≡ all - later
-      → r ≡ (scan (run_state (called_at kinds from)) 0 contents).records
+  pub inner_records : {all later r : ℕ} → all ≡ held_before end (sums_in ahead) 0 from → later ≡ held_before end (sums_in ahead) 0 close → r ≡ all - later
+      → r ≡ (scan (run_state (called_at (kinds_in tokens) from)) 0 contents).records
   inner_records a b r =
       let first = sum_here from (omega (arith, l, s)) a in
       let last = sum_here close close_small b in
       let moved : drop inner contents ≡ drop close ts = drop-drop inner from ts ∙ ap (λ z. drop z ts) (sym close_is) in
-      let both = scan_records (run_state (called_at kinds close)) (run_state (called_at kinds from)) 0 contents in
-      omega (arith, first, last, r, both, ap (total (run_state (called_at kinds close))) moved)
+      let both = scan_records (run_state (called_at (kinds_in tokens) close)) (run_state (called_at (kinds_in tokens) from)) 0 contents in
+      omega (arith, first, last, r, both, ap (total (run_state (called_at (kinds_in tokens) close))) moved)
 
-  pub inner_ends : {r : ℕ} → r ≡ get_or ends close 0 → r ≡ (scan inside 0 contents).end
+  pub inner_ends : {r : ℕ} → r ≡ get_or (ends_in tokens) close 0 → r ≡ (scan inside 0 contents).end
   inner_ends e =
-      e ∙ ap (λ z. get_or ends z 0) close_is ∙ sym (get_or-drop from ends inner 0) ∙ ap (λ z. get_or z inner 0) (ap (drop from) n.held.ended ∙ ends_drop from ts)
+      e ∙ ap (λ z. get_or (ends_in tokens) z 0) close_is ∙ sym (get_or-drop from (ends_in tokens) inner 0) ∙ ap (λ z. get_or z inner 0) (ap (drop from) n.held.ended ∙ ends_drop from ts)
       ∙ sym (scan_ends inside 0 contents)

@@ -11,7 +11,10 @@ use lib.Seq.{get_or-drop, drop-drop}
 use lib.Dec.{eqb}
 use Rattle.tokens.specs.Token.{token_bytes, Placed}
 use Rattle.tokens.specs.Lex.{leading}
-use Rattle.tokens.specs.Code.Arrays.{kinds_of, starts_of, ends_of}
+use Rattle.std.proofs.lemmas.List.{get_or-map, length-map}
+use Rattle.tokens.specs.Code.TokenKind.{kind_code}
+use Rattle.tokens.specs.Code.Arrays.{kinds_of, starts_of, ends_of, kinds_in, starts_in, ends_in}
+use Rattle.tokens.specs.declared.Lexeme.{Lexeme}
 use Rattle.encoding.specs.Code.FlatTerms.{kind_at, end_at, first_start, first_length}
 use Rattle.encoding.specs.Code.FlatFile.{first_is, after_kind, count_to, end_of_kind}
 use Rattle.writing.specs.Code.Found.{not_kind, place_of, count_kinds}
@@ -129,3 +132,17 @@ module _ {ks ss es : List ℕ} {ts : List Placed} (h : Held ks ss es ts) where
   first_here k i e =
       let moved : get_or (kinds_of (drop i ts)) 0 0 ≡ get_or ks i 0 = rw (h.kinded, ← kinds_drop i ts, get_or-drop i (kinds_of ts) 0 0, add-zero i) in
       rw (← moved) (first_same k (drop i ts) e)
+
+-- ---- the code's tokens
+
+pub kinds_size : (tokens : List Lexeme) → length (kinds_in tokens) ≡ length tokens
+kinds_size tokens = length-map tokens (λ x. kind_code x.kind)
+
+pub kind_there : (tokens : List Lexeme) (i : ℕ) (d : Lexeme) → i < length tokens → kind_code (get_or tokens i d).kind ≡ get_or (kinds_in tokens) i 0
+kind_there tokens i d l = sym (get_or-map (λ x. kind_code x.kind) tokens i d 0 l)
+
+pub start_there : (tokens : List Lexeme) (i : ℕ) (d : Lexeme) → i < length tokens → (get_or tokens i d).start ≡ get_or (starts_in tokens) i 0
+start_there tokens i d l = sym (get_or-map (λ x. x.start) tokens i d 0 l)
+
+pub end_there : (tokens : List Lexeme) (i : ℕ) (d : Lexeme) → i < length tokens → (get_or tokens i d).end ≡ get_or (ends_in tokens) i 0
+end_there tokens i d l = sym (get_or-map (λ x. x.end) tokens i d 0 l)

@@ -8,7 +8,10 @@ use lib.ListN.{length, take, length-append}
 use lib.Seq.{drop_at, take-append_seam}
 use Rattle.tokens.specs.Token.{token_bytes, Piece, blank, comment, token, piece_bytes, pieces_bytes, Lexed, placed}
 use Rattle.tokens.specs.Lex.{lex}
-use Rattle.tokens.specs.Code.Arrays.{Lexes}
+use Rattle.std.proofs.lemmas.List.{take-map}
+use Rattle.tokens.specs.Code.TokenKind.{kind_code}
+use Rattle.tokens.specs.Code.Arrays.{kinds_in, Lexes}
+use Rattle.tokens.specs.declared.Lexeme.{Lexeme}
 use Rattle.tokens.proofs.Lexing.{found_lexed}
 use Rattle.grammar.specs.Grammar.{Text, spell_text}
 use Rattle.grammar.specs.Parse.{phrase}
@@ -22,7 +25,7 @@ use Rattle.grammar.proofs.KindLaws.{kinds_accepted}
 use Rattle.encoding.specs.Encode.{encode}
 use Rattle.encoding.specs.Code.FlatFile.{flat_file}
 use Rattle.encoding.proofs.FlatFile.{encoded_flat}
-use Rattle.writing.specs.Code.Held.{Held, Stand}
+use Rattle.writing.specs.Code.Held.{HeldIn, Stand}
 
 -- no pieces: outside the grammar
 pub unlexed : (bytes : List ℕ) → lex bytes ≡ none → phrase_of bytes ≡ none
@@ -48,23 +51,28 @@ placed_stand b (token t ∷ ps) front at h e l = (
       (length-append front (token_bytes t) ∙ rw l),
 )
 
-module _ {bytes : List ℕ} {n : ℕ} {ks ss es : List ℕ} (h : Lexes bytes n ks ss es) where
-  pub tokens_held : Held (take n ks) (take n ss) (take n es) (placed 0 h.pieces)
-  tokens_held = record { kinded = h.holds.kinded; started = h.holds.started; ended = h.holds.ended }
+module _ {bytes : List ℕ} {n : ℕ} {tokens : List Lexeme} (h : Lexes bytes n tokens) where
+  pub tokens_held : HeldIn (take n tokens) (placed 0 h.pieces)
+  tokens_held =
+      record {
+        kinded = sym (take-map (λ x. kind_code x.kind) n tokens) ∙ h.holds.kinded;
+        started = sym (take-map (λ x. x.start) n tokens) ∙ h.holds.started;
+        ended = sym (take-map (λ x. x.end) n tokens) ∙ h.holds.ended;
+      }
 
   pub tokens_stand : Stand bytes (placed 0 h.pieces)
   tokens_stand = let split = found_lexed bytes h.pieces h.found in placed_stand bytes h.pieces [] 0 split.lexed split.whole refl
 
-  taken : (t : Bool) → t ≡ accepts_kinds at_text [] (take n ks) → accepts at_text [] (placed 0 h.pieces) ≡ t
-  taken t e = sym (kinds_accepted (placed 0 h.pieces) at_text []) ∙ sym (e ∙ ap (accepts_kinds at_text []) h.holds.kinded)
+  taken : (t : Bool) → t ≡ accepts_kinds at_text [] (kinds_in (take n tokens)) → accepts at_text [] (placed 0 h.pieces) ≡ t
+  taken t e = sym (kinds_accepted (placed 0 h.pieces) at_text []) ∙ sym (e ∙ ap (accepts_kinds at_text []) tokens_held.kinded)
 
   -- tokens that the machine refuses: outside the grammar
-  pub refused_outside : (t : Bool) → t ≡ accepts_kinds at_text [] (take n ks) → t ≡ false → phrase_of bytes ≡ none
+  pub refused_outside : (t : Bool) → t ≡ accepts_kinds at_text [] (kinds_in (take n tokens)) → t ≡ false → phrase_of bytes ≡ none
   unfolding phrase_of
   refused_outside t e f = rw (h.found, taken t e, f)
 
   -- tokens that it takes: a phrase, and its file from the tokens
-  pub taken_phrase : (t : Bool) → t ≡ accepts_kinds at_text [] (take n ks) → t ≡ true
+  pub taken_phrase : (t : Bool) → t ≡ accepts_kinds at_text [] (kinds_in (take n tokens)) → t ≡ true
       → (x : Text) × (phrase_of bytes ≡ some x) × (encode bytes x ≡ flat_file bytes (placed 0 h.pieces))
   unfolding phrase_of
   taken_phrase t e f =

@@ -15,3 +15,4 @@ pub mod TermLaws
 pub mod LexedLaws
 pub mod WholeLaws
 pub mod CloserLaws
+pub mod KindLaws

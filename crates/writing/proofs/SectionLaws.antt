@@ -1,26 +1,30 @@
 -- Laws of records put one after another, and of a section, whose count is put last and stands first.
-use Prim.Native.Nat.{ℕ, ◌+◌, ◌-◌, ◌*◌, ◌/◌}
-use mathlib.Core.List.{List, [], ◌∷◌, ◌++◌, append-nil, flat_map}
-use mathlib.Core.Path.{◌≡◌, refl}
+use Prim.Native.Nat.{ℕ, zero, suc, ◌+◌, ◌<◌}
+use mathlib.Core.List.{List, [], ◌∷◌, ◌++◌, append-nil, append_assoc, flat_map}
+use mathlib.Core.Path.{◌≡◌, refl, sym, ap, ◌∙◌}
 use native.Mathlib.Omega.{arith}
-use lib.ListN.{length}
+use native.Mathlib.Numerals.{add-one}
+use lib.ListN.{length, take, get_or}
 use Rattle.buffers.specs.Code.Put.{Put}
 use Rattle.buffers.proofs.PutLaws.{put_none, put_before}
 use Rattle.encoding.specs.Encode.{Record, word_bytes, record_bytes, records_bytes, section_bytes}
 
 -- ---- records
 
-pub four_bytes : (a b c d : ℕ) → word_bytes a ++ word_bytes b ++ word_bytes c ++ word_bytes d ≡ record_bytes (a ∷ b ∷ c ∷ d ∷ [])
+-- a word more
+more_from : (ws : List ℕ) (i : ℕ) → i < length ws → record_bytes (take (suc i) ws) ≡ record_bytes (take i ws) ++ word_bytes (get_or ws i 0)
 unfolding flat_map
-four_bytes a b c d = refl
+more_from [] i h = absurd (omega arith)
+more_from (w ∷ ws) zero h = append-nil (word_bytes w)
+more_from (w ∷ ws) (suc i) h =
+    ap (λ z. word_bytes w ++ z) (more_from ws i (omega arith)) ∙ sym (append_assoc (word_bytes w) (record_bytes (take i ws)) (word_bytes (get_or ws i 0)))
 
-pub five_bytes : (a b c d e : ℕ) → record_bytes (a ∷ b ∷ c ∷ d ∷ []) ++ word_bytes e ≡ record_bytes (a ∷ b ∷ c ∷ d ∷ e ∷ [])
-unfolding flat_map
-five_bytes a b c d e = refl
+pub record_more : (ws : List ℕ) (i : ℕ) → i < length ws → record_bytes (take (i + 1) ws) ≡ record_bytes (take i ws) ++ word_bytes (get_or ws i 0)
+record_more ws i h = rw (add-one i) (more_from ws i h)
 
-pub six_bytes : (a b c d e f : ℕ) → record_bytes (a ∷ b ∷ c ∷ d ∷ e ∷ []) ++ word_bytes f ≡ record_bytes (a ∷ b ∷ c ∷ d ∷ e ∷ f ∷ [])
+pub record_none : record_bytes [] ≡ []
 unfolding flat_map
-six_bytes a b c d e f = refl
+record_none = refl
 
 pub bytes_none : records_bytes [] ≡ []
 unfolding flat_map
@@ -42,14 +46,5 @@ put_record r e p = rw (e, bytes_one r) p
 -- the number of records from where they end, and then the section
 module _ (rs : List Record) {old middle last : List ℕ} {at end count after : ℕ} (p : Put old (at + 4) (records_bytes rs) end middle)
     (q : Put middle at (word_bytes count) after last) where
-  counted : count ≡ length rs → Put old at (section_bytes rs) end last
-  counted e = put_before {front = word_bytes (length rs)} {back = records_bytes rs} refl p (rw e at q)
-
-  pub section_20 : length (records_bytes rs) ≡ 20 * length rs → count ≡ (end - (at + 4)) / 20 → Put old at (section_bytes rs) end last
-  section_20 s c = counted (omega (arith, p.end))
-
-  pub section_16 : length (records_bytes rs) ≡ 16 * length rs → count ≡ (end - (at + 4)) / 16 → Put old at (section_bytes rs) end last
-  section_16 s c = counted (omega (arith, p.end))
-
-  pub section_24 : length (records_bytes rs) ≡ 24 * length rs → count ≡ (end - (at + 4)) / 24 → Put old at (section_bytes rs) end last
-  section_24 s c = counted (omega (arith, p.end))
+  pub section_put : count ≡ length rs → Put old at (section_bytes rs) end last
+  section_put e = put_before {front = word_bytes (length rs)} {back = records_bytes rs} refl p (rw e at q)

@@ -12,8 +12,7 @@ use Rattle.file.specs.Fields.{scalar_allowed}
 use Rattle.tokens.specs.Token.{utf8, characters_bytes}
 use Rattle.tokens.specs.Lex.{character_in}
 use Rattle.tokens.specs.Code.Found.{CharacterAt}
-use Rattle.tokens.specs.declared.characters.Character.{Character}
-use Rattle.tokens.specs.declared.characters.Character.TheVariants.{Broken, Whole}
+use Rattle.std.proofs.Common.{Some, None}
 use Rattle.tokens.proofs.Utf8.{utf8_one, utf8_two, utf8_three, utf8_four, character_found, scalar_bound, utf8_some}
 use Rattle.tokens.proofs.Begins.{begins_all, every_first, every_back}
 use Rattle.encoding.specs.Encode.{Record, record_bytes, records_bytes, character_records}
@@ -33,10 +32,8 @@ utf8_few c = go (ltb c 128) (ltb c 2048) (ltb c 65536) refl refl refl
     go false false false p q w = rw (utf8_four c (ltb-false c 65536 w)) (omega arith)
 
 -- one was found
-pub whole_width : (s : List ℕ) {r : Character} {c w : ℕ} → CharacterAt s r → r ≡ Whole c w → (1 ≤ w) × (w ≤ 4)
-whole_width s {c = c} h e =
-    let found = rw e at h in
-    (found.4, rw found.3 (utf8_few c))
+pub whole_width : (s : List ℕ) {c w : ℕ} → CharacterAt s (Some (c, w)) → (1 ≤ w) × (w ≤ 4)
+whole_width s {c = c} h = (h.4, rw h.3 (utf8_few c))
 
 -- ---- the first of some characters
 
@@ -54,7 +51,7 @@ module _ (text : List ℕ) (i to c : ℕ) (cs : List ℕ) (h : Spans text i to (
   found_here : character_in (drop i text) ≡ c
   found_here = ap character_in bytes_here ∙ character_found c (characters_bytes cs ++ h.after) (scalar_bound c scalar)
 
-  never_broken : CharacterAt (drop i text) Broken → ⊥
+  never_broken : CharacterAt (drop i text) None → ⊥
   never_broken b =
       true≢false (sym (rw (found_here, scalar, bytes_here) (begins_all (utf8 c) (characters_bytes cs ++ h.after))) ∙ b)
 
@@ -90,23 +87,23 @@ module _ {text : List ℕ} {i to : ℕ} {all : List Record} {old : List ℕ} {at
   pub spelling_end : to ≤ i → Put old at (records_bytes all) next now
   spelling_end l = passing_end h.passing (some_left h.rest h.spans l)
 
-  pub spelling_broken : {r : Character} {A : Type 0} → i < to → CharacterAt (drop i text) r → r ≡ Broken → A
+  pub spelling_broken : {A : Type 0} → i < to → CharacterAt (drop i text) None → A
   unfolding characters_bytes
-  spelling_broken {r = r} {A = A} l f e = go h.rest h.spans
+  spelling_broken {A = A} l f = go h.rest h.spans
     where
       go : (rest : List ℕ) → Spans text i to rest → A
       go [] s = let z : ⊥ = omega (arith, s.size) in absurd z
-      go (c ∷ cs) s = absurd (never_broken text i to c cs s (rw e at f))
+      go (c ∷ cs) s = absurd (never_broken text i to c cs s f)
 
-  pub spelling_next : {r : Character} {c w after : ℕ} {last : List ℕ} → i < to → CharacterAt (drop i text) r → r ≡ Whole c w
+  pub spelling_next : {c w after : ℕ} {last : List ℕ} → i < to → CharacterAt (drop i text) (Some (c, w))
       → Put now next (record_bytes (0 ∷ c ∷ 0 ∷ 0 ∷ i ∷ (i + w) ∷ [])) after last → Spelling text (i + w) to all old at after last
   unfolding characters_bytes character_records
-  spelling_next {c = c} {w = w} {after = after} {last = last} l f e put = go h.rest h.spans h.passing
+  spelling_next {c = c} {w = w} {after = after} {last = last} l f put = go h.rest h.spans h.passing
     where
       go : (rest : List ℕ) → Spans text i to rest → Passing all (character_records i rest) old at next now → Spelling text (i + w) to all old at after last
       go [] s p = let z : ⊥ = omega (arith, s.size) in absurd z
       go (d ∷ cs) s p =
-          let found = rw e at f in
+          let found = f in
           let same : c ≡ d = found.0 ∙ found_here text i to d cs s in
           let wide : w ≡ length (utf8 d) = found.3 ∙ ap (λ z. length (utf8 z)) same in
           record {

@@ -2,49 +2,23 @@
 use Prim.Native.Nat.{ℕ, suc, ◌+◌, ◌-◌, ◌*◌, ◌<◌}
 use mathlib.Core.List.{List, [], ◌∷◌, ◌++◌, flat_map}
 use mathlib.Core.Bool.{Bool, true, false, cond}
-use mathlib.Core.Path.{◌≡◌, refl, sym, ap, ◌∙◌}
+use mathlib.Core.Path.{◌≡◌, refl, ap, ◌∙◌}
 use native.Mathlib.Numerals.{add-one}
 use lib.ListN.{length, drop, get_or}
 use lib.Dec.{eqb}
 use borrow.Author.Tests.{eq-eqb, ne_eqb}
 use Rattle.tokens.specs.Token.{utf8, identifier, number, variable, quoted, Token, sign, atom, Placed}
 use Rattle.encoding.specs.Encode.{records_bytes, character_records}
-use Rattle.encoding.specs.Code.FlatTerms.{Where, outside, inside, calling, stays, state_after, where_after, own_records, own, kind_at, end_at, scan, terms_at, flat_terms}
+use Rattle.encoding.specs.Code.FlatTerms.{Where, outside, inside, calling, where_after, own_records, own, kind_at, end_at, scan, terms_at, flat_terms}
 use Rattle.encoding.proofs.Lists.{All, all_append}
 use Rattle.encoding.proofs.RecordLaws.{Sized, records_length}
 use Rattle.buffers.specs.Code.Put.{Put}
 use Rattle.writing.specs.Code.Held.{Held, Stands, Stand, at_first}
-use Rattle.writing.specs.Code.Found.{run_state, where_of, bracket_at, call_at}
+use Rattle.writing.specs.Code.Found.{run_state, bracket_at, call_at}
 use Rattle.writing.specs.Code.Closers.{called_at}
 use Rattle.writing.proofs.HeldLaws.{token_at, start_here_lem, length_here}
 use Rattle.writing.proofs.PartLaws.{stands_at}
 use Rattle.writing.proofs.ScanLaws.{scan_end}
-
--- ---- the state
-
-module _ (n k : ℕ) where
-  pub where_braced : k ≡ 123 → inside ≡ where_after (where_of n) k
-  where_braced h = rw h
-
-  pub where_closed : k ≡ 125 → outside ≡ where_after (where_of n) k
-  where_closed h = rw h
-
-  module _ (d : k ≡ 123 → ⊥) (e : k ≡ 125 → ⊥) where
-    pub where_outside_lem : n ≡ 0 → outside ≡ where_after (where_of n) k
-    where_outside_lem h = rw (ne_eqb k 123 d, ne_eqb k 125 e, h)
-
-    stays_within : (n ≡ 0 → ⊥) → state_after k ≡ stays (where_of n) k
-    stays_within f = rw (ne_eqb n 0 f) (go (eqb n 1))
-      where
-        go : (b : Bool) → state_after k ≡ stays (cond b inside calling) k
-        go true = refl
-        go false = refl
-
-    pub where_calling : (n ≡ 0 → ⊥) → k ≡ 60 → calling ≡ where_after (where_of n) k
-    where_calling f h = rw (ne_eqb k 123 d, ne_eqb k 125 e) (sym (rw (eq-eqb k 60 h)) ∙ stays_within f)
-
-    pub where_inside_lem : (n ≡ 0 → ⊥) → (k ≡ 60 → ⊥) → inside ≡ where_after (where_of n) k
-    where_inside_lem f h = rw (ne_eqb k 123 d, ne_eqb k 125 e) (sym (rw (ne_eqb k 60 h)) ∙ stays_within f)
 
 -- ---- brackets and calls
 
@@ -93,24 +67,27 @@ module _ {ks ss es : List ℕ} {ts : List Placed} (h : Held ks ss es ts) {i : �
       term_own f = let at = token_at h i l in rw (at.rest, ← at.kind, ← e, ne_eqb k 40 d, ne_eqb k 60 f)
 
 -- outside braces, and the name of a call
-own_none : (n at : ℕ) (t : Token) → (n ≡ 1 → ⊥) → own_records (where_of n) at t ≡ []
-own_none n at (sign g) f = refl
-own_none n at (atom a) f = rw (ne_eqb n 1 f) (go (eqb n 0))
-  where
-    go : (b : Bool) → own_records (cond b outside calling) at (atom a) ≡ []
-    go true = refl
-    go false = refl
+own_outside : (at : ℕ) (t : Token) → own_records outside at t ≡ []
+own_outside at (sign g) = refl
+own_outside at (atom a) = refl
 
-module _ {ks ss es : List ℕ} {ts : List Placed} (h : Held ks ss es ts) {i : ℕ} (l : i < length ks) {k : ℕ} (e : k ≡ get_or ks i 0) (n : ℕ) (d : k ≡ 40 → ⊥) (f : k ≡ 60 → ⊥) where
-  pub term_none : (n ≡ 1 → ⊥) → at_first (terms_at (where_of n)) (drop i ts) ≡ []
-  term_none g = let at = (token_at h i l).here in term_own h l e (where_of n) d f ∙ own_none n at.start at.what g
+own_calling : (at : ℕ) (t : Token) → own_records calling at t ≡ []
+own_calling at (sign g) = refl
+own_calling at (atom a) = refl
 
-  pub term_atom : (text : List ℕ) {start end at next : ℕ} {old last : List ℕ} → n ≡ 1 → Stand text ts → start ≡ get_or ss i 0 → end ≡ get_or es i 0
+module _ {ks ss es : List ℕ} {ts : List Placed} (h : Held ks ss es ts) {i : ℕ} (l : i < length ks) {k : ℕ} (e : k ≡ get_or ks i 0) (d : k ≡ 40 → ⊥) (f : k ≡ 60 → ⊥) where
+  pub outside_none : at_first (terms_at outside) (drop i ts) ≡ []
+  outside_none = let at = (token_at h i l).here in term_own h l e outside d f ∙ own_outside at.start at.what
+
+  pub calling_none : at_first (terms_at calling) (drop i ts) ≡ []
+  calling_none = let at = (token_at h i l).here in term_own h l e calling d f ∙ own_calling at.start at.what
+
+  pub term_atom : (text : List ℕ) {start end at next : ℕ} {old last : List ℕ} → Stand text ts → start ≡ get_or ss i 0 → end ≡ get_or es i 0
       → ((p : Placed) → k ≡ kind_at p → start ≡ p.start → end ≡ end_at p → Stands text p → Put old at (records_bytes (own inside p)) next last)
-      → Put old at (records_bytes (at_first (terms_at (where_of n)) (drop i ts))) next last
-  term_atom text g st s t put =
+      → Put old at (records_bytes (at_first (terms_at inside) (drop i ts))) next last
+  term_atom text st s t put =
       let token = token_at h i l in
-      rw (term_own h l e (where_of n) d f, g) (put token.here (e ∙ token.kind) (s ∙ token.start) (t ∙ token.end) (stands_at text st token))
+      rw (term_own h l e inside d f) (put token.here (e ∙ token.kind) (s ∙ token.start) (t ∙ token.end) (stands_at text st token))
 
 -- ---- the loop
 

@@ -3,3 +3,4 @@
 pub mod Held
 pub mod Found
 pub mod Closers
+pub mod Place

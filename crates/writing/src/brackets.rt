@@ -1,142 +1,107 @@
-// What stands between `(` and `)`, or between `<` and `>`. Two arrays are filled from the last token to the first: where the closing sign after each place
-// stands, and how many records begin from each place on. So no token is looked at twice, however deep a text nests.
+// What stands between `(` and `)`, or between `<` and `>`. An array is filled from the last token to the first: where the closing sign after each place stands, and
+// how many records begin from each place on. So no token is looked at twice, however deep a text nests.
 ghost use Rattle.std.specs.Prelude.{ℕ, ◌+◌, ◌<◌, ◌≤◌, ◌≡◌, List, length, drop, get_or};
 ghost use Rattle.tokens.specs.Token.{Placed};
-ghost use Rattle.encoding.specs.Code.FlatTerms.{inside as where_inside, opens, closes, scan};
-ghost use Rattle.writing.specs.Code.Held.{Held, Stand};
+ghost use Rattle.tokens.specs.Code.TokenKind.{kind_code};
+ghost use Rattle.tokens.specs.Code.Arrays.{kinds_in};
+ghost use Rattle.encoding.specs.Code.FlatTerms.{inside as where_inside, scan};
+ghost use Rattle.writing.specs.Code.Held.{HeldIn, Stand};
 ghost use Rattle.writing.specs.Code.Found.{run_state};
-ghost use Rattle.writing.specs.Code.Closers.{closer_of, ClosedFrom, SummedFrom, called_at, held_before, Nested};
+ghost use Rattle.writing.specs.Code.Closers.{closers_in, sums_in, closer_of, ClosedFrom, SummedFrom, called_at, held_before, Nested};
 
-use crate::arrays::{less, short_at};
-use crate::parts::{index, token_weight};
+use crate::kinds::{closes_term, opens_term};
+use crate::source::Source;
+use tokens::kinds::Kind;
 
-// `)` or `>`.
-fn closes_term(k: u8) -> bool
-    ensures { result ≡ closes k }
-{
-    if k == b')' {
-        return true;
+// What a token has ahead: the place of the closing sign, which is past the last token where there is none, and the number of records from it on.
+#[derive(Clone, Copy, PartialEq, Eq, Debug)]
+pub struct Ahead {
+    pub closer: u16,
+    pub records: u32,
+}
+
+impl<'a> Source<'a> {
+    // Where the closing sign after a place stands; past the last token where there is none.
+    fn closer_at(&self, ahead: &[Ahead], i: usize) -> usize
+        requires { length self.now.tokens.now ≤ length ahead.now }
+        ensures { (result < 65536) × (result ≡ held_before (length self.now.tokens.now) (closers_in ahead.now) (length self.now.tokens.now) i) }
+    {
+        if i >= self.tokens.len() {
+            return self.tokens.len();
+        }
+        usize::from(ahead[i].closer)
     }
-    k == b'>'
-}
 
-// `(` or `<`.
-fn opens_term(k: u8) -> bool
-    ensures { result ≡ opens k }
-{
-    if k == b'(' {
-        return true;
+    // The same from the places after it.
+    fn closer_before(&self, ahead: &[Ahead], i: usize) -> usize
+        requires { (length self.now.tokens.now ≤ length ahead.now) × (i < length self.now.tokens.now) }
+        ensures { (result < 65536)
+            × (ClosedFrom (i + 1) (kinds_in self.now.tokens.now) (closers_in ahead.now) → result ≡ closer_of (kinds_in self.now.tokens.now) i) }
+    {
+        let kind = self.tokens[i].kind;
+        if closes_term(kind) {
+            return i;
+        }
+        let inner = self.closer_at(ahead, i + 1);
+        if opens_term(kind) {
+            return self.closer_at(ahead, inner + 1);
+        }
+        inner
     }
-    k == b'<'
-}
 
-// A place as a short number.
-fn short(n: usize) -> u16
-    requires { n < 65536 }
-    ensures { result ≡ n }
-{
-    n as u16
-}
-
-// Where the closing sign after a place stands; the end of the tokens where there is none.
-fn closer_at(closers: &[u16], end: usize, i: usize) -> usize
-    requires { end ≤ 4096 }
-    ensures { (result < 65536) × (result ≡ held_before end closers.now end i) }
-{
-    if i >= end {
-        return end;
+    // Does a token stand behind `<`?
+    fn called_at(&self, i: usize) -> bool
+        requires { i ≤ length self.now.tokens.now }
+        ensures { result ≡ called_at (kinds_in self.now.tokens.now) i }
+    {
+        i > 0 && self.is_at(Kind::LeftAngle, i - 1)
     }
-    index(short_at(closers, i))
-}
 
-// The same for a token of a kind, from the places after it.
-fn closer_before(k: u8, closers: &[u16], end: usize, i: usize) -> usize
-    requires { (end ≤ 4096) × (i < end) }
-    ensures { (result < 65536)
-        × ((kinds : List ℕ) → length kinds ≡ end → k ≡ get_or kinds i 0 → ClosedFrom (i + 1) kinds closers.now → result ≡ closer_of kinds i) }
-{
-    if closes_term(k) {
-        return i;
+    // Fills the array, from the last token to the first.
+    pub fn look_ahead(&self, ahead: &mut [Ahead])
+        requires { length self.now.tokens.now ≤ length ahead.old }
+        ensures closed { ClosedFrom 0 (kinds_in self.now.tokens.now) (closers_in ahead.new) }
+        ensures summed { (ts : List Placed) → HeldIn self.now.tokens.now ts → Stand self.now.text.now ts
+            → SummedFrom 0 (kinds_in self.now.tokens.now) (sums_in ahead.new) ts }
+    {
+        let mut records = 0;
+        for passed in 0..self.tokens.len() {
+            let i = self.tokens.len() - 1 - passed;
+            let called = self.called_at(i);
+            records += self.weight(self.tokens[i], called);
+            let closer = self.closer_before(ahead, i) as u16;
+            ahead[i] = Ahead { closer, records };
+        }
     }
-    let inner = closer_at(closers, end, i + 1);
-    if opens_term(k) {
-        return closer_at(closers, end, inner + 1);
+
+    // The number of records from a place on; 0 past the last token.
+    fn records_at(&self, ahead: &[Ahead], i: usize) -> u32
+        requires { length self.now.tokens.now ≤ length ahead.now }
+        ensures { result ≡ held_before (length self.now.tokens.now) (sums_in ahead.now) 0 i }
+    {
+        if i >= self.tokens.len() {
+            return 0;
+        }
+        ahead[i].records
     }
-    inner
-}
 
-// Fills the array of closing signs.
-pub fn find_closers(kinds: &[u8], closers: &mut [u16])
-    requires { (length kinds.now ≤ length closers.old) × (length kinds.now ≤ 4096) }
-    ensures { ClosedFrom 0 kinds.now closers.new }
-{
-    let mut i = kinds.len();
-    while i > 0 {
-        i -= 1;
-        let place = closer_before(kinds[i], closers, kinds.len(), i);
-        closers[i] = short(place);
+    // The number of records from a place on, up to the closing sign.
+    pub fn inner_records(&self, ahead: &[Ahead], from: usize) -> u32
+        requires { (length self.now.tokens.now ≤ length ahead.now) × (from ≤ length self.now.tokens.now) }
+        ensures { (ts : List Placed) → Nested self.now.tokens.now ahead.now ts
+            → result ≡ (scan (run_state (called_at (kinds_in self.now.tokens.now) from)) 0 (drop from ts)).records }
+    {
+        let closer = self.closer_at(ahead, from);
+        self.records_at(ahead, from)
+            .saturating_sub(self.records_at(ahead, closer))
     }
-}
 
-// Does a token stand behind `<`?
-fn called_at(kinds: &[u8], i: usize) -> bool
-    requires { i ≤ length kinds.now }
-    ensures { result ≡ called_at kinds.now i }
-{
-    if i == 0 {
-        return false;
+    // Where the closing sign ends.
+    pub fn inner_end(&self, ahead: &[Ahead], from: usize) -> u32
+        requires { (length self.now.tokens.now ≤ length ahead.now) × (from ≤ length self.now.tokens.now) }
+        ensures { (ts : List Placed) → Nested self.now.tokens.now ahead.now ts
+            → result ≡ (scan where_inside 0 (drop from ts)).end }
+    {
+        self.end_at(self.closer_at(ahead, from))
     }
-    kinds[i - 1] == b'<'
-}
-
-// Fills the array of numbers of records.
-pub fn sum_records(text: &[u8], kinds: &[u8], starts: &[u16], ends: &[u16], sums: &mut [u32])
-    requires { (length kinds.now ≤ length sums.old) × (length kinds.now ≤ 4096) }
-    ensures { (ts : List Placed) → Held kinds.now starts.now ends.now ts → Stand text.now ts
-        → SummedFrom 0 kinds.now sums.new ts }
-{
-    let mut sum: u32 = 0;
-    let mut i = kinds.len();
-    while i > 0 {
-        i -= 1;
-        let called = called_at(kinds, i);
-        sum += token_weight(
-            text,
-            kinds[i],
-            short_at(starts, i),
-            short_at(ends, i),
-            called,
-        );
-        sums[i] = sum;
-    }
-}
-
-// The number of records from a place on; 0 from the end of the tokens on.
-fn sum_at(sums: &[u32], end: usize, i: usize) -> u32
-    requires { end ≤ length sums.now }
-    ensures { result ≡ held_before end sums.now 0 i }
-{
-    if i >= end {
-        return 0;
-    }
-    sums[i]
-}
-
-// The number of records from a place on, up to the closing sign.
-pub fn inner_records(closers: &[u16], sums: &[u32], end: usize, from: usize) -> u32
-    requires { (end ≤ length sums.now) × (end ≤ 4096) × (from ≤ end) }
-    ensures { (kinds starts ends : List ℕ) (ts : List Placed) → length kinds ≡ end → Nested kinds starts ends closers.now sums.now ts
-        → result ≡ (scan (run_state (called_at kinds from)) 0 (drop from ts)).records }
-{
-    let close = closer_at(closers, end, from);
-    less(sum_at(sums, end, from), sum_at(sums, end, close))
-}
-
-// Where the closing sign ends.
-pub fn inner_end(closers: &[u16], ends: &[u16], end: usize, from: usize) -> u32
-    requires { (end ≤ 4096) × (from ≤ end) }
-    ensures { (kinds starts sums : List ℕ) (ts : List Placed) → length kinds ≡ end → Nested kinds starts ends.now closers.now sums ts
-        → result ≡ (scan where_inside 0 (drop from ts)).end }
-{
-    short_at(ends, closer_at(closers, end, from))
 }

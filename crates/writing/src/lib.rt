@@ -4,15 +4,17 @@
 // where its records end, and a file that is too large from where it ends.
 #![tactic(auto)]
 
-mod arrays;
 mod atoms;
 mod brackets;
 mod conditions;
 mod functions;
+mod kinds;
 mod parts;
 mod records;
 mod sentences;
+mod source;
 mod terms;
 mod whole;
 
-pub use crate::whole::put_file;
+pub use crate::brackets::Ahead;
+pub use crate::source::Source;

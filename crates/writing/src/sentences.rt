@@ -1,104 +1,64 @@
 // The section of sentences.
-ghost use Rattle.std.specs.Prelude.{◌+◌, ◌<◌, ◌≤◌, List, ◌≡◌, false as no, length, drop};
+ghost use Rattle.std.specs.Prelude.{◌+◌, ◌<◌, ◌≤◌, List, ◌≡◌, false as no, length, drop, get_or};
 ghost use Rattle.buffers.specs.Code.Put.{Put, largest};
 ghost use Rattle.tokens.specs.Token.{Placed};
+ghost use Rattle.tokens.specs.Code.Arrays.{kinds_in};
 ghost use Rattle.encoding.specs.Encode.{records_bytes, section_bytes};
 ghost use Rattle.encoding.specs.Code.FlatFile.{flat_sentences};
-ghost use Rattle.writing.specs.Code.Held.{Held, Stand, at_first};
+ghost use Rattle.writing.specs.Code.Held.{HeldIn, Stand, at_first};
 ghost use Rattle.writing.specs.Code.Found.{sentence_begins, sentences_at};
 
-use crate::arrays::{count_kinds, kind_at, place_of, short_at, within_after};
-use crate::parts::{part_end, part_records};
-use crate::records::{put_five, put_word, word};
+use crate::kinds::within_after;
+use crate::records::{put_count, put_record};
+use crate::source::Source;
+use tokens::kinds::Kind;
 
-// Does a sentence begin after a token of the one kind, before one of the other?
-fn begins_sentence(inside: bool, k: u8, after: u8) -> bool
-    ensures { result ≡ sentence_begins inside k after }
-{
-    if after == b'}' {
-        return false;
+impl<'a> Source<'a> {
+    // Does a sentence begin after the token at a place?
+    fn begins_sentence(&self, inside: bool, i: usize) -> bool
+        requires { i < length self.now.tokens.now }
+        ensures { result ≡ sentence_begins inside (get_or (kinds_in self.now.tokens.now) i 0) (get_or (kinds_in self.now.tokens.now) (i + 1) 0) }
+    {
+        let opened = self.is_at(Kind::LeftBrace, i);
+        let parted = self.is_at(Kind::Semicolon, i);
+        let closed = self.is_at(Kind::RightBrace, i + 1);
+        (opened | (inside & parted)) & !closed
     }
-    if k == b'{' {
-        return true;
-    }
-    if !inside {
-        return false;
-    }
-    k == b';'
-}
 
-// The record of the sentence that begins after a token, if one does.
-fn put_sentence(
-    text: &[u8],
-    kinds: &[u8],
-    starts: &[u16],
-    ends: &[u16],
-    inside: bool,
-    i: usize,
-    out: &mut [u8],
-    at: usize,
-) -> usize
-    requires { (at + 20 ≤ largest) × (i < length kinds.now) × (length kinds.now ≤ 4096) }
-    ensures { (at ≤ result) × (result ≤ at + 20)
-        × ((ts : List Placed) → Held kinds.now starts.now ends.now ts → Stand text.now ts
-        → Put out.old at (records_bytes (at_first (sentences_at inside) (drop i ts))) result out.new) }
-{
-    let first = i + 1;
-    if !begins_sentence(inside, kind_at(kinds, i), kind_at(kinds, first)) {
-        return at;
+    // The record of the sentence that begins after a token, if one does.
+    fn put_sentence(&self, inside: bool, i: usize, out: &mut [u8], at: usize) -> usize
+        requires { (at + 20 ≤ largest) × (i < length self.now.tokens.now) }
+        ensures { (at ≤ result) × (result ≤ at + 20)
+            × ((ts : List Placed) → HeldIn self.now.tokens.now ts → Stand self.now.text.now ts
+            → Put out.old at (records_bytes (at_first (sentences_at inside) (drop i ts))) result out.new) }
+    {
+        if !self.begins_sentence(inside, i) {
+            return at;
+        }
+        let first = i + 1;
+        let pattern = self.part_records(first);
+        let conditions = self.count(Kind::Colon, Kind::Equals, first);
+        let equals = self.place_of(Kind::Equals, first);
+        let after = equals + 1;
+        let result = self.part_records(after);
+        let start = self.start_at(first);
+        let end = self.part_end(self.end_at(equals), after);
+        put_record(&[pattern, conditions, result, start, end], out, at)
     }
-    let pattern = part_records(text, kinds, starts, ends, first);
-    let conditions = count_kinds(b':', b'=', first, kinds);
-    let equals = place_of(b'=', first, kinds);
-    let after = equals + 1;
-    let result = part_records(text, kinds, starts, ends, after);
-    let start = short_at(starts, first);
-    let end = part_end(short_at(ends, equals), after, kinds, ends);
-    put_five(pattern, conditions, result, start, end, out, at)
-}
 
-// The sentence records of a text.
-fn put_sentences(
-    text: &[u8],
-    kinds: &[u8],
-    starts: &[u16],
-    ends: &[u16],
-    out: &mut [u8],
-    at: usize,
-) -> usize
-    requires { (at ≤ 1000000000000) × (length kinds.now ≤ 4096) }
-    ensures { (at ≤ result) × (result ≤ at + 81920)
-        × ((ts : List Placed) → Held kinds.now starts.now ends.now ts → Stand text.now ts
-        → Put out.old at (records_bytes (flat_sentences no ts)) result out.new) }
-{
-    let mut next = at;
-    let mut inside = false;
-    let mut i = 0;
-    while i < kinds.len() {
-        next = put_sentence(text, kinds, starts, ends, inside, i, out, next);
-        inside = within_after(inside, kinds[i]);
-        i += 1;
+    // The section of sentences: the records, and their number before them.
+    pub fn sentence_section(&self, out: &mut [u8], at: usize) -> usize
+        requires { at ≤ 900000000000 }
+        ensures { (result ≤ at + 81924)
+            × ((ts : List Placed) → HeldIn self.now.tokens.now ts → Stand self.now.text.now ts
+            → Put out.old at (section_bytes (flat_sentences no ts)) result out.new) }
+    {
+        let mut next = at + 4;
+        let mut inside = false;
+        for i in 0..self.tokens.len() {
+            next = self.put_sentence(inside, i, out, next);
+            inside = within_after(inside, self.tokens[i].kind);
+        }
+        put_count(20, out, at, next)
     }
-    next
-}
-
-// The section of sentences: the records, then their number before them.
-pub fn sentence_section(
-    text: &[u8],
-    kinds: &[u8],
-    starts: &[u16],
-    ends: &[u16],
-    out: &mut [u8],
-    at: usize,
-) -> usize
-    requires { (at ≤ 900000000000) × (length kinds.now ≤ 4096) }
-    ensures { (result ≤ at + 81924)
-        × ((ts : List Placed) → Held kinds.now starts.now ends.now ts → Stand text.now ts
-        → Put out.old at (section_bytes (flat_sentences no ts)) result out.new) }
-{
-    let first = at + 4;
-    let end = put_sentences(text, kinds, starts, ends, out, first);
-    let count = word((end - first) / 20);
-    put_word(count, out, at);
-    end
 }

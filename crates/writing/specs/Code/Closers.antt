@@ -1,9 +1,12 @@
--- What the arrays beside the tokens say: where the closing sign after each place stands, and how many records begin from each place on.
-use Rattle.std.specs.Prelude.{ℕ, zero, suc, ◌+◌, ◌≤◌, ◌<◌, List, [], ◌∷◌, Bool, false, cond, ◌≡◌, length, drop, get_or, eqb, ltb}
+-- What the array beside the tokens says: where the closing sign after each place stands, and how many records begin from each place on.
+use Rattle.std.specs.Prelude.{ℕ, zero, suc, ◌+◌, ◌≤◌, ◌<◌, List, [], ◌∷◌, Bool, false, cond, ◌≡◌, map, length, drop, get_or, eqb, ltb}
 use Rattle.tokens.specs.Token.{Placed}
+use Rattle.tokens.specs.Code.Arrays.{kinds_in}
+use Rattle.tokens.specs.declared.Lexeme.{Lexeme}
 use Rattle.encoding.specs.Code.FlatTerms.{Where, state_after, kind_at, opens, closes, weight}
-use Rattle.writing.specs.Code.Held.{Held}
+use Rattle.writing.specs.Code.Held.{HeldIn}
 use Rattle.writing.specs.Code.Found.{run_state}
+use Rattle.writing.specs.declared.brackets.Ahead.{Ahead}
 
 -- at a closing sign, with so many more open before it
 abbrev pub unless_last : ℕ → (ℕ → ℕ) → ℕ
@@ -47,12 +50,15 @@ SummedFrom i kinds sums ts = From i (length kinds) sums (sum_of kinds ts)
 abbrev pub held_before : (end : ℕ) → List ℕ → (other i : ℕ) → ℕ
 held_before end list other i = cond (ltb i end) (get_or list i 0) other
 
--- the arrays are long enough
-abbrev pub Beside : (kinds closers sums : List ℕ) → Type 0
-Beside kinds closers sums = (length kinds ≤ 4096) × (length kinds ≤ length closers) × (length kinds ≤ length sums)
+-- the two numbers of each place
+abbrev pub closers_in : List Ahead → List ℕ
+closers_in = map (λ x. x.closer)
 
--- tokens in their arrays, with both beside them
-pub record Nested (kinds starts ends closers sums : List ℕ) (ts : List Placed) : Type 0 where
-  pub held : Held kinds starts ends ts
-  pub closed : ClosedFrom 0 kinds closers
-  pub summed : SummedFrom 0 kinds sums ts
+abbrev pub sums_in : List Ahead → List ℕ
+sums_in = map (λ x. x.records)
+
+-- tokens in their array, with both numbers beside them
+pub record Nested (tokens : List Lexeme) (ahead : List Ahead) (ts : List Placed) : Type 0 where
+  pub held : HeldIn tokens ts
+  pub closed : ClosedFrom 0 (kinds_in tokens) (closers_in ahead)
+  pub summed : SummedFrom 0 (kinds_in tokens) (sums_in ahead) ts

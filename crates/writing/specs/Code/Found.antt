@@ -1,10 +1,12 @@
 -- What is found among kinds of tokens from a place on, and among bytes.
-use Rattle.std.specs.Prelude.{ℕ, suc, ◌+◌, ◌-◌, List, [], ◌∷◌, Bool, cond, not, ◌&&◌, ◌||◌, length, drop, eqb}
+use Rattle.std.specs.Prelude.{ℕ, suc, ◌+◌, ◌-◌, List, [], ◌∷◌, Bool, cond, not, ◌&&◌, ◌||◌, Option as Maybe, Some, None, length, drop, eqb}
 use Rattle.names.specs.Name.{between}
 use Rattle.tokens.specs.Lex.{leading}
 use Rattle.tokens.specs.Token.{Placed}
+use Rattle.tokens.specs.declared.kinds.Kind.{Kind}
+use Rattle.tokens.specs.declared.kinds.Kind.TheVariants.{Identifier, Number, SymbolVariable, TermVariable, ExpressionVariable, Quoted, LeftBrace, RightBrace, LeftBracket, RightBracket, LeftAngle, RightAngle, Comma, Colon, Equals, Semicolon, Entry, Extern}
 use Rattle.encoding.specs.Encode.{Record}
-use Rattle.encoding.specs.Code.FlatTerms.{Where, outside, inside, calling, kind_at, first_start, first_length, opens, closes, scan, holder}
+use Rattle.encoding.specs.Code.FlatTerms.{Where, inside, calling, kind_at, first_start, first_length, opens, closes, scan, holder}
 use Rattle.encoding.specs.Code.FlatFile.{sentences_after, conditions_after}
 
 -- the place of the first of a kind; the end where there is none
@@ -46,9 +48,26 @@ conditions_at b p ps = conditions_after b (kind_at p) ps
 abbrev pub depth_after : ℕ → ℕ → ℕ
 depth_after k d = cond (closes k) (d - 1) (cond (opens k) (suc d) d)
 
--- the code's number of a state
-abbrev pub where_of : ℕ → Where
-where_of n = cond (eqb n 1) inside (cond (eqb n 0) outside calling)
+-- the number in a term record of a token that has one record of its own
+abbrev pub record_kind : Kind → Maybe ℕ
+record_kind Identifier = Some 1
+record_kind Number = Some 2
+record_kind SymbolVariable = Some 3
+record_kind TermVariable = Some 4
+record_kind ExpressionVariable = Some 5
+record_kind Quoted = None
+record_kind LeftBrace = None
+record_kind RightBrace = None
+record_kind LeftBracket = None
+record_kind RightBracket = None
+record_kind LeftAngle = None
+record_kind RightAngle = None
+record_kind Comma = None
+record_kind Colon = None
+record_kind Equals = None
+record_kind Semicolon = None
+record_kind Entry = None
+record_kind Extern = None
 
 -- the record that a token opens
 abbrev pub bracket_at : Placed → List Placed → List Record

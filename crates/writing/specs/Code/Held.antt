@@ -3,7 +3,8 @@ use Rattle.std.specs.Prelude.{ℕ, ◌+◌, List, [], ◌∷◌, ◌++◌, true,
 use Rattle.names.specs.Name.{every_byte}
 use Rattle.file.specs.Fields.{scalar_allowed}
 use Rattle.tokens.specs.Token.{characters_bytes, token_allowed, token_bytes, Placed}
-use Rattle.tokens.specs.Code.Arrays.{kinds_of, starts_of, ends_of}
+use Rattle.tokens.specs.Code.Arrays.{kinds_of, starts_of, ends_of, kinds_in, starts_in, ends_in}
+use Rattle.tokens.specs.declared.Lexeme.{Lexeme}
 use Rattle.encoding.specs.Encode.{Record}
 
 -- the arrays hold these tokens, and nothing more
@@ -11,6 +12,10 @@ pub record Held (kinds starts ends : List ℕ) (ts : List Placed) : Type 0 where
   pub kinded : kinds ≡ kinds_of ts
   pub started : starts ≡ starts_of ts
   pub ended : ends ≡ ends_of ts
+
+-- the code's tokens are these
+abbrev pub HeldIn : List Lexeme → List Placed → Type 0
+HeldIn tokens ts = Held (kinds_in tokens) (starts_in tokens) (ends_in tokens) ts
 
 -- a token that may be one, and whose bytes stand in the text at its place
 pub record Stands (text : List ℕ) (p : Placed) : Type 0 where

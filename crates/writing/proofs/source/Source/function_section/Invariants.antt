@@ -1,0 +1,10 @@
+use Rattle.std.proofs.Common.{◌+◌, length, drop}
+use Rattle.encoding.specs.Code.FlatFile.{flat_functions}
+use Rattle.writing.specs.Code.Held.{HeldIn}
+use Rattle.writing.proofs.PassingLaws.{Rounds}
+use Rattle.writing.proofs.source.Source.function_section.Given as goal
+
+-- the records of the tokens so far are put
+abbrev pub invariant-loop-i : goal.invariant-loop-i
+invariant-loop-i l =
+    Rounds (λ ts. HeldIn l.self.tokens.now ts) (flat_functions) (λ ts. flat_functions (drop l.i ts)) (length l.self.tokens.now) 20 l.initial.out (l.at + 4) l.i l.next l.out
