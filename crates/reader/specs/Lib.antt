@@ -1,3 +1,2 @@
 pub mod Outcome
 pub mod Examples
-pub mod Code

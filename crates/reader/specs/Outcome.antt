@@ -1,7 +1,7 @@
 -- What the call that reads a text answers, and every byte of the lent buffer after it. Document 02, R-1: "It refuses with 4 a text over 4,096 bytes, with 16 one
 -- outside the grammar, then with 1, 4, 5, 8 or 9 in document 01's order, then with 17 an output buffer too short."
 -- docs/SPECIFICATION.md, 19.8, 19.9.
-use Rattle.std.specs.Prelude.{ℕ, List, length, ltb}
+use Rattle.std.specs.Prelude.{ℕ, List, Result, Ok, Err, length, ltb}
 use Rattle.std.proofs.Math.Option.{Option, none, some}
 use Rattle.file.specs.Answer.{Answer, refused, given, refuse_if, ◌>>=◌, ◌>>◌}
 use Rattle.file.specs.Sections.{number_of}
@@ -12,8 +12,6 @@ use Rattle.grammar.specs.Read.{phrase_of}
 use Rattle.encoding.specs.Encode.{encode}
 use Rattle.reader.specs.declared.Unread.{Unread}
 use Rattle.reader.specs.declared.Unread.TheVariants.{TextOver, Outside, Law, Short}
-use Rattle.reader.specs.declared.Reading.{Reading}
-use Rattle.reader.specs.declared.Reading.TheVariants.{Refused, Written}
 
 -- a file that is a law
 abbrev pub law_file : List ℕ → Answer (List ℕ)
@@ -49,9 +47,9 @@ unread_number Outside = 16
 unread_number (Law why) = number_of why
 unread_number Short = 17
 
-abbrev pub read_answer : Reading → Answer ℕ
-read_answer (Refused why) = refused (unread_number why)
-read_answer (Written n) = given n
+abbrev pub read_answer : Result ℕ Unread → Answer ℕ
+read_answer (Err why) = refused (unread_number why)
+read_answer (Ok n) = given n
 
-abbrev pub read_after : Reading → List ℕ → ReadOutcome
+abbrev pub read_after : Result ℕ Unread → List ℕ → ReadOutcome
 read_after r law = record { answer = read_answer r; law = law }

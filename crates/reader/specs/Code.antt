@@ -1,3 +1,0 @@
--- What functions inside the library promise each other: the arrays that reading needs. No contract of a call that users make, and no theorem that
--- docs/ARCHITECTURE.md names, says anything by these; tests/believed.py holds that up.
-pub mod Lent
