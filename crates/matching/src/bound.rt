@@ -1,5 +1,5 @@
 // Values of variables: none, and one more.
-ghost use Rattle.std.specs.Prelude.{◌≡◌, List, ℕ, ◌<◌, length};
+ghost use Rattle.std.specs.Prelude.{◌≡◌, List, ℕ, ◌<◌};
 ghost use Rattle.matching.specs.Match.{none_bound};
 ghost use Rattle.matching.specs.Code.Bound.{values_of, Kept, Bound};
 
@@ -22,8 +22,7 @@ impl Bindings {
 
     // One variable more has a value.
     pub fn bind(&self, key: usize, start: usize, size: usize) -> Bindings
-        requires key_bound { (key < 65536) × (start < 65536) × (size < 65536) × (self.now.count < 32) }
-        requires places_len { length self.now.places ≡ 32 }
+        requires { (key < 65536) × (start < 65536) × (size < 65536) × (self.now.count < 32) }
         ensures { Bound self.now key start size result }
     {
         let mut next = *self;

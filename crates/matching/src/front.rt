@@ -5,8 +5,8 @@ ghost use Rattle.matching.specs.Code.Step.{KnownFront};
 use crate::step::first_of;
 use crate::{Bindings, First, Known, Records};
 
-// The symbols and the variables with a value that a pattern begins with: the row begins with the same. A loop, since there may be hundreds; each step is as long
-// as what is passed over.
+// The symbols and the variables with a value that a pattern begins with: the row begins with the same. A loop, since there may be hundreds. By
+// positions in both, since a step is as long as what is passed over and both positions are answered.
 pub fn known_front(records: &Records, pattern: &[u8], row: &[u8], b: &Bindings) -> Known
     requires { Kept records.now.text.now records.now.terms.now b.now }
     ensures { KnownFront records.now.text.now pattern.now row.now (values_of records.now.text.now records.now.terms.now b.now) result }

@@ -41,7 +41,8 @@ impl Bindings {
     }
 }
 
-// Symbols, as many as the pattern begins with: the row begins with the same. Each step is a term long.
+// Symbols, as many as the pattern begins with: the row begins with the same. By positions in both, since a step is as long as a term and both positions are
+// answered.
 fn symbols_first(text: &[u8], pattern: &[u8], row: &[u8]) -> First
     requires { 24 ≤ length pattern.now }
     ensures { (x : Symbol) (vs : Values Atom) → term_at pattern.now 0 ≡ Symbolic x → Leaves text.now pattern.now row.now vs result }

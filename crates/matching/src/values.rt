@@ -27,7 +27,8 @@ fn same_first(text: &[u8], value: &[u8], row: &[u8]) -> bool
     }
 }
 
-// The position in a row after the terms of a value, if the row begins with them. Each step is a term long.
+// The position in a row after the terms of a value, if the row begins with them. By positions in both, since a step is as long as a term and the row's position is
+// answered.
 #[cycle(begins_same_first)]
 pub fn begins(text: &[u8], value: &[u8], row: &[u8]) -> Option<usize>
     ensures { BeginsIn row.now result

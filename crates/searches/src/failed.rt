@@ -1,5 +1,5 @@
 // Rests of a pattern and of a row that have no match: what a search remembers of them, so that it does not try them again.
-ghost use Rattle.std.specs.Prelude.{◌≡◌, true, ◌<◌, length};
+ghost use Rattle.std.specs.Prelude.{◌≡◌, true, ◌<◌};
 ghost use Rattle.searches.specs.Code.Failed.{rest_of, Within, Noted};
 
 // A rest of a pattern and one of a row: the positions among the term records where they begin and end.
@@ -49,7 +49,6 @@ pub struct Rests {
 impl Rests {
     // Is it remembered that these rests have no match?
     pub fn has(&self, rest: Rest) -> bool
-        requires { length self.now.places ≡ 512 }
         ensures { result ≡ true → Within self.now.places rest }
     {
         self.places[rest.place()] == rest
@@ -57,7 +56,6 @@ impl Rests {
 
     // Remembers that these rests have no match.
     pub fn note(&mut self, rest: Rest)
-        requires { length self.old.places ≡ 512 }
         ensures { Noted self.old.places rest self.new.places }
     {
         self.places[rest.place()] = rest;

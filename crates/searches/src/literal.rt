@@ -8,7 +8,7 @@ ghost use Rattle.matching.specs.Literal.{literal_matches};
 ghost use Rattle.matching.specs.Code.Part.{row_of, literal_part, symbols_of, Stands};
 ghost use Rattle.matching.specs.Pattern.{Atom};
 ghost use Rattle.matching.specs.Match.{Values};
-ghost use Rattle.matching.specs.Code.Bound.{place_at, values_up_to, values_of, Kept};
+ghost use Rattle.matching.specs.Code.Bound.{values_up_to, values_of, Keyed, Kept};
 ghost use Rattle.matching.specs.Code.Step.{found, each_length, each_inside, Free, Facing, TriesAll, Stopped, first_variable};
 ghost use Rattle.searches.specs.Code.Capacity.{variables_in, Capacity};
 ghost use Rattle.searches.specs.Code.Asked.{some_holds, nesting, resume, coming_in, levels_of, Around, LiteralAsked};
@@ -22,6 +22,9 @@ use law::runs::end_of;
 use law::whole::Terms;
 use matching::front::known_front;
 use matching::{Bindings, Known, Records, Stop};
+
+// Nothing more than the text and the records goes as one: a pattern, a row and where they begin would lie as a struct in each frame, of which there may be hundreds in
+// the 1 MiB of stack that `include/bilzarko.h` asks for.
 
 // `failed` is what is remembered, where `sure.here`: of rests and then all that is around them, whose variables have the values of the fixed places of `sure`, or none.
 
@@ -55,7 +58,7 @@ impl Pending {
 
     // One level more.
     fn push(&self, pattern_end: usize, row_end: usize) -> Pending
-        requires { (pattern_end < 65536) × (row_end < 65536) × (self.now.count < 33) × (length self.now.levels ≡ 33) }
+        requires { (pattern_end < 65536) × (row_end < 65536) × (self.now.count < 33) }
         ensures { (result.count ≡ suc self.now.count) × (result.levels ≡ set self.now.levels self.now.count (record { pattern_end = pattern_end; row_end = row_end })) }
     {
         let mut more = *self;
@@ -70,7 +73,7 @@ impl Pending {
 
 // Has no variable of the levels around a value in the places from `sure` on? The levels begin at `at`; each begins where the one before it ends.
 fn closed_around(records: &Records, outer: &Pending, at: usize, b: &Bindings, sure: usize) -> bool
-    requires { (sure ≤ b.now.count) × (b.now.count ≤ 32) × (length b.now.places ≡ 32) × ((i : ℕ) → i < b.now.count → (place_at b.now.places i).key + 24 ≤ length records.now.terms.now) × ((start : ℕ) × Around records.now.text.now records.now.terms.now outer.now at start) }
+    requires { (sure ≤ b.now.count) × Keyed records.now.terms.now b.now × ((start : ℕ) × Around records.now.text.now records.now.terms.now outer.now at start) }
     ensures { result ≡ true → Kept records.now.text.now records.now.terms.now b.now → (start : ℕ) (vs : Values Atom)
         → Agree (coming_in (levels_of records.now.text.now records.now.terms.now outer.now at start)) (values_up_to records.now.text.now records.now.terms.now b.now.places sure) vs
         → Agree (coming_in (levels_of records.now.text.now records.now.terms.now outer.now at start)) (values_of records.now.text.now records.now.terms.now b.now) vs }
@@ -96,7 +99,7 @@ fn holds_here(
     b: &Bindings,
     sure: Sure,
 ) -> bool
-    requires { (sure.places ≤ b.now.count) × (b.now.count ≤ 32) × (length b.now.places ≡ 32) × ((i : ℕ) → i < b.now.count → (place_at b.now.places i).key + 24 ≤ length records.now.terms.now) × ((start : ℕ) × Around records.now.text.now records.now.terms.now outer.now end start) }
+    requires { (sure.places ≤ b.now.count) × Keyed records.now.terms.now b.now × ((start : ℕ) × Around records.now.text.now records.now.terms.now outer.now end start) }
     ensures { result ≡ true → (sure.here ≡ true) × (Kept records.now.text.now records.now.terms.now b.now → (start : ℕ) (vs : Values Atom)
         → Agree (variables_in (row_of records.now.text.now pattern.now) ++ coming_in (levels_of records.now.text.now records.now.terms.now outer.now end start)) (values_up_to records.now.text.now records.now.terms.now b.now.places sure.places) vs
         → Agree (variables_in (row_of records.now.text.now pattern.now) ++ coming_in (levels_of records.now.text.now records.now.terms.now outer.now end start)) (values_of records.now.text.now records.now.terms.now b.now) vs) }
@@ -167,7 +170,8 @@ fn literal_end(
     found
 }
 
-// An e. variable without a value, then the rest of the pattern: every length in turn.
+// An e. variable without a value, then the rest of the pattern: every length in turn. By positions, since each length is a term longer and is asked for by its
+// bytes; the last is the whole row.
 #[cycle(literal)]
 fn literal_lengths(
     records: &Records,

@@ -16,9 +16,13 @@ use law::runs::end_of;
 use matching::front::known_front;
 use matching::{Bindings, Known, Records, Stop};
 
+// Nothing more than the text and the records goes as one, as in src/literal.rt. The two searches stay apart: literal matching goes on around brackets and answers yes or
+// no, shadowing takes the first match of a bracket and answers its values, and what they remember is true of different things.
+
 // `failed` is what is remembered, of rests whose variables have the values of the fixed places of `sure`, or none.
 
-// An e. variable without a value, then the rest of the pattern: every length in turn.
+// An e. variable without a value, then the rest of the pattern: every length in turn. By positions, since each length is a term longer and is asked for by its
+// bytes; the last is the whole row.
 #[cycle(shadow)]
 fn shadow_lengths(
     records: &Records,

@@ -21,6 +21,10 @@ variable_in other = record { kind = symbol_kind; index = [] }
 abbrev pub place_at : List Binding → ℕ → Binding
 place_at places i = get_or places i (record { key = 0; start = 0; size = 0 })
 
+-- the keys of the places that have a value stand among the term records
+abbrev pub Keyed : List ℕ → Bindings → Type 0
+Keyed terms b = (b.count ≤ 32) × ((i : ℕ) → i < b.count → (place_at b.places i).key + 24 ≤ length terms)
+
 module _ (text terms : List ℕ) where
   -- the variable whose record stands at a position, and the row of so many bytes from a position on
   abbrev pub variable_at : ℕ → Variable

@@ -82,8 +82,8 @@ literal_end-returns-then-not-found t c =
           (remembers_same (settled.1 known) out.1) _ _ (rw c.new-rests.ensures at c.note.ensures)),
     )
 
-pub literal_first-bind-more-requires-clause-key_bound : goal.literal_first-bind-more-requires-clause-key_bound
-literal_first-bind-more-requires-clause-key_bound t c =
+pub literal_first-bind-more-requires : goal.literal_first-bind-more-requires
+literal_first-bind-more-requires t c =
     let asked = c.requires.literal_asked.0.asked in
     let stopped = c.requires.stopped in
     let binds = first-record.binds_within stopped.leaves true _ c.in-Binds.is in (
@@ -126,7 +126,6 @@ literal_inside-push-around-requires t c =
       omega (arith, asked.pattern_stands.inside, asked.small),
       omega (arith, asked.row_stands.inside, asked.small),
       level.level_ready start.0 start.1 start.2 _ _ c.end_of-m.ensures.0 c.end_of-n.ensures.0,
-      start.0.around.long,
     )
 
 pub literal_inside-literal_run-requires : goal.literal_inside-literal_run-requires
@@ -159,8 +158,8 @@ literal_lengths-slice_bounds-left-count t c = begin_inside c.loop-rest.invariant
 pub literal_lengths-slice_bounds-left-start : goal.literal_lengths-slice_bounds-left-start
 literal_lengths-slice_bounds-left-start t c = begin_inside c.loop-rest.invariant.0
 
-pub literal_lengths-bind-more-requires-clause-key_bound : goal.literal_lengths-bind-more-requires-clause-key_bound
-literal_lengths-bind-more-requires-clause-key_bound t c =
+pub literal_lengths-bind-more-requires : goal.literal_lengths-bind-more-requires
+literal_lengths-bind-more-requires t c =
     let start = c.requires.literal_asked in
     let asked = start.0.asked in (
       omega (arith, asked.pattern_stands.inside, asked.small, start.1),

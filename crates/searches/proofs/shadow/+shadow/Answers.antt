@@ -22,8 +22,8 @@ shadow_anew-shadow_lengths-requires t c =
       ),
     )
 
-pub shadow_first-bind-more-requires-clause-key_bound : goal.shadow_first-bind-more-requires-clause-key_bound
-shadow_first-bind-more-requires-clause-key_bound t c =
+pub shadow_first-bind-more-requires : goal.shadow_first-bind-more-requires
+shadow_first-bind-more-requires t c =
     let asked = c.requires.asked.0 in
     let binds = first-record.binds_within c.requires.stopped.leaves false _ c.in-Binds.is in (
       omega (arith, asked.pattern_stands.inside, asked.small, c.requires.stopped.some),
@@ -106,8 +106,8 @@ shadow_lengths-slice_bounds-left-count t c = begin_inside c.loop-rest.invariant.
 pub shadow_lengths-slice_bounds-left-start : goal.shadow_lengths-slice_bounds-left-start
 shadow_lengths-slice_bounds-left-start t c = begin_inside c.loop-rest.invariant.0
 
-pub shadow_lengths-bind-more-requires-clause-key_bound : goal.shadow_lengths-bind-more-requires-clause-key_bound
-shadow_lengths-bind-more-requires-clause-key_bound t c =
+pub shadow_lengths-bind-more-requires : goal.shadow_lengths-bind-more-requires
+shadow_lengths-bind-more-requires t c =
     let asked = c.requires.asked.0 in (
       omega (arith, asked.pattern_stands.inside, asked.small, c.requires.asked.1),
       omega (arith, asked.row_stands.inside, asked.small),
