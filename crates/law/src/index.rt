@@ -6,7 +6,7 @@ ghost use Rattle.file.specs.Code.Counts.{counts_of, Limits, file_length};
 ghost use Rattle.law.specs.Runs.{used_up};
 ghost use Rattle.law.specs.Code.Filling.{Table, word_sum, pair_sum, block_sum, as_word, TablesOf, header, Placed};
 
-use crate::Index;
+use crate::{BLOCKS, CONDITION_TERMS, FIRST_CONDITIONS, FIRST_SENTENCES, Index, SENTENCE_TERMS};
 use file::{Sections, word_at};
 
 // An array's length is known only where it is made, so the functions below ask for it and say it again.
@@ -26,11 +26,9 @@ fn fill_sums(
 {
     let mut sum: usize = 0;
     index[from] = 0;
-    let mut i = 0;
-    while i < count {
+    for i in 0..count {
         sum += word_at(records, size * i + at) as usize;
-        i += 1;
-        index[from + i] = (sum % 65536) as u16;
+        index[from + (i + 1)] = (sum % 65536) as u16;
     }
     sum
 }
@@ -50,12 +48,10 @@ fn fill_pair_sums(
 {
     let mut sum: usize = 0;
     index[from] = 0;
-    let mut i = 0;
-    while i < count {
+    for i in 0..count {
         let at = size * i;
         sum += word_at(records, at) as usize + word_at(records, at + second) as usize;
-        i += 1;
-        index[from + i] = (sum % 65536) as u16;
+        index[from + (i + 1)] = (sum % 65536) as u16;
     }
     sum
 }
@@ -79,11 +75,9 @@ fn fill_blocks(index: &mut Index, from: usize, terms: &[u8], count: usize, first
         × Table index.old index.new from count (λ t. as_word (first + block_sum terms.now t)) }
 {
     let mut sum: usize = 0;
-    let mut t = 0;
-    while t < count {
+    for t in 0..count {
         index[from + t] = ((first + sum) % 65536) as u16;
         sum = add_block(terms, t, sum);
-        t += 1;
     }
     sum
 }
@@ -112,11 +106,25 @@ fn fill_tables(index: &mut Index, law: &[u8], sections: Sections) -> bool
     let sentence_records = &law[sentences_at..sentences_at + 20 * sentences];
     let condition_records = &law[conditions_at..conditions_at + 16 * conditions];
     let term_records = &law[terms_at..terms_at + 24 * terms];
-    let function_sentences = fill_sums(index, 8, function_records, functions, 20, 8);
-    let sentence_conditions = fill_sums(index, 73, sentence_records, sentences, 20, 4);
-    let condition_terms = fill_pair_sums(index, 202, condition_records, conditions, 16, 4);
-    let sentence_terms = fill_pair_sums(index, 331, sentence_records, sentences, 20, 8);
-    let block_sentences = fill_blocks(index, 460, term_records, terms, function_sentences);
+    let function_sentences = fill_sums(index, FIRST_SENTENCES, function_records, functions, 20, 8);
+    let sentence_conditions = fill_sums(
+        index,
+        FIRST_CONDITIONS,
+        sentence_records,
+        sentences,
+        20,
+        4,
+    );
+    let condition_terms = fill_pair_sums(
+        index,
+        CONDITION_TERMS,
+        condition_records,
+        conditions,
+        16,
+        4,
+    );
+    let sentence_terms = fill_pair_sums(index, SENTENCE_TERMS, sentence_records, sentences, 20, 8);
+    let block_sentences = fill_blocks(index, BLOCKS, term_records, terms, function_sentences);
     used_exactly(
         function_sentences + block_sentences,
         sentence_conditions,
