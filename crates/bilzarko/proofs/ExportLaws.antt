@@ -17,8 +17,6 @@ use Rattle.listing.specs.declared.Listed.{Listed}
 use Rattle.listing.specs.Outcome.{turned_number, BytesOutcome}
 use Rattle.listing.specs.Promise.{bytes_after, FindingsPromise}
 use Rattle.reader.specs.declared.Unread.{Unread}
-use Rattle.reader.specs.declared.Reading.{Reading}
-use Rattle.reader.specs.declared.Reading.TheVariants as reading
 use Rattle.reader.specs.Outcome.{unread_number, ReadOutcome, read_after}
 use Rattle.bilzarko.specs.Exported.{FindingsExported, BytesExit, bytes_exit, ReadExit, read_exit, tested_number, DigitExit, digit_exit}
 
@@ -84,14 +82,14 @@ module _ {filled after : List ℕ} (answer : ℕ) {o : BytesOutcome} {r : Result
       → ◌≡◌ {A = BytesExit} (record { number = 0; store = filled; bytes = after; answer = number }) (bytes_exit answer o)
   bytes_written number is = rw (← outcome, is) refl
 
-module _ {after : List ℕ} (answer : ℕ) {o : ReadOutcome} {r : Reading} (outcome : read_after r after ≡ o) where
+module _ {after : List ℕ} (answer : ℕ) {o : ReadOutcome} {r : Result ℕ Unread} (outcome : read_after r after ≡ o) where
   -- the text is not read: the answer keeps its word
-  pub read_refused : (why : Unread) {number : ℕ} → r ≡ reading.Refused why → number ≡ unread_number why
+  pub read_refused : (why : Unread) {number : ℕ} → r ≡ Err why → number ≡ unread_number why
       → ◌≡◌ {A = ReadExit} (record { number = number; law = after; answer = answer }) (read_exit answer o)
   read_refused why is number_is = rw (← outcome, is, number_is) refl
 
   -- its law file is written
-  pub read_written : (bytes : ℕ) → r ≡ reading.Written bytes → ◌≡◌ {A = ReadExit} (record { number = 0; law = after; answer = bytes }) (read_exit answer o)
+  pub read_written : (bytes : ℕ) → r ≡ Ok bytes → ◌≡◌ {A = ReadExit} (record { number = 0; law = after; answer = bytes }) (read_exit answer o)
   read_written bytes is = rw (← outcome, is) refl
 
 -- a digit is taken

@@ -11,7 +11,6 @@ ghost use Rattle.reader.specs.Outcome.{read_outcome};
 ghost use Rattle.bilzarko.specs.Exported.{FindingsExported, BytesExit, bytes_exit, ReadExit, read_exit, tested_number, DigitExit, digit_exit};
 
 use numbers::{Tested, digit_step};
-use reader::{Reading, unread_number};
 
 // Lists the findings of a law, eight words each, and its formats in the store. `answer` is the number of findings, the rounds, and 1 for settled or 0.
 pub fn bilzarko_findings(
@@ -84,8 +83,8 @@ pub fn bilzarko_read(text: &[u8], law: &mut [u8], answer: &mut u64) -> u32
         (read_exit answer.old (read_outcome text.now law.old)) }
 {
     match reader::read(text, law) {
-        Reading::Refused(why) => unread_number(why),
-        Reading::Written(bytes) => {
+        Err(why) => u32::from(why),
+        Ok(bytes) => {
             *answer = bytes as u64;
             0
         }

@@ -7,11 +7,11 @@ use native.Mathlib.Decide.{dec_lt}
 use lib.ListN.{length}
 use Rattle.file.specs.Answer.{Answer, refused, given}
 use Rattle.buffers.proofs.FittedLaws as fitted
-use Rattle.reader.specs.declared.Reading.{Reading}
-use Rattle.reader.specs.declared.Reading.TheVariants.{Written}
+use Rattle.std.specs.Prelude.{Result, Ok}
+use Rattle.reader.specs.declared.Unread.{Unread}
 use Rattle.reader.specs.Outcome.{text_file, read_by, read_outcome, read_answer, read_after}
 
-pub written_fits : (text law after : List ℕ) (r : Reading) (bytes : ℕ) → r ≡ Written bytes → read_after r after ≡ read_outcome text law → bytes ≤ length law
+pub written_fits : (text law after : List ℕ) (r : Result ℕ Unread) (bytes : ℕ) → r ≡ Ok bytes → read_after r after ≡ read_outcome text law → bytes ≤ length law
 unfolding read_by read_outcome
 written_fits text law after r bytes is outcome = go (text_file text) (sym (ap read_answer is) ∙ ap (λ o. o.answer) outcome)
   where

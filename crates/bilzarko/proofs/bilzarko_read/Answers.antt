@@ -2,8 +2,8 @@
 use Rattle.bilzarko.proofs.ExportLaws.{read_refused, read_written}
 use Rattle.bilzarko.proofs.bilzarko_read.Goals as goal
 
-pub returns-in-Refused : goal.returns-in-Refused
-returns-in-Refused c = read_refused c.args.answer.now c.read.ensures c.in-Refused.why c.in-Refused.is c.unread_number.ensures
+pub returns-in-Err : goal.returns-in-Err
+returns-in-Err c = read_refused c.args.answer.now c.read.ensures c.in-Err.why c.in-Err.is c.from.ensures
 
-pub returns-in-Written : goal.returns-in-Written
-returns-in-Written c = read_written c.args.answer.now c.read.ensures c.in-Written.bytes c.in-Written.is
+pub returns-in-Ok : goal.returns-in-Ok
+returns-in-Ok c = read_written c.args.answer.now c.read.ensures c.in-Ok.bytes c.in-Ok.is

@@ -4,8 +4,8 @@ use Rattle.read_law.proofs.FitLaws.{written_fits}
 use Rattle.read_law.proofs.write_law.Goals as goal
 
 pub slice_bounds-write_all-end : goal.slice_bounds-write_all-end
-slice_bounds-write_all-end g c = omega (arith, written_fits _ _ _ _ _ c.in-Written.is c.read.ensures)
+slice_bounds-write_all-end g c = omega (arith, written_fits _ _ _ _ _ c.in-Ok.is c.read.ensures)
 
-pub slice_bounds-write_all-end-in-Written : goal.slice_bounds-write_all-end-in-Written
-slice_bounds-write_all-end-in-Written g c =
-    simp length-take (omega (arith, written_fits _ _ _ _ _ c.in-Written.is c.read.ensures))
+pub slice_bounds-write_all-end-in-Ok : goal.slice_bounds-write_all-end-in-Ok
+slice_bounds-write_all-end-in-Ok g c =
+    simp length-take (omega (arith, written_fits _ _ _ _ _ c.in-Ok.is c.read.ensures))
