@@ -11,15 +11,14 @@ fn is_symbol(term: Term) -> bool
     matches!(term, Term::Symbol(_) | Term::SVariable(_, _))
 }
 
-// May a t. variable stand for this term?
+// May a t. variable stand for this term? An e. variable is never a single term.
 fn is_single(term: Term) -> bool
     ensures { result ≡ single_one term }
 {
-    match term {
-        Term::Symbol(_) | Term::SVariable(_, _) | Term::TVariable(_, _) | Term::Bracket => true,
-        Term::EVariable(_, _) => false, // never a single term
-        Term::Call(_, _) | Term::Block(_) => false,
-    }
+    matches!(
+        term,
+        Term::Symbol(_) | Term::SVariable(_, _) | Term::TVariable(_, _) | Term::Bracket
+    )
 }
 
 // May an s. or t. variable stand for this term?
