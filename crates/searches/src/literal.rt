@@ -138,7 +138,7 @@ fn literal_out(
 }
 
 // The same, unless it is remembered that all that is around has no match. A rest from 1 to 0 stands for this. It has the position of the pattern's end in place of a
-// row's, so that no rest of the row takes its place.
+// row's, so that no rest of the row takes its place. An enum of both would make each place longer, as an Option would (`Rest::NONE`).
 #[cycle(literal)]
 fn literal_end(
     records: &Records,
