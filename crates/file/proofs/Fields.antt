@@ -2,10 +2,12 @@
 use Prim.Native.Nat.{ℕ, zero, suc, ◌+◌, ◌*◌, ◌-◌, ◌≤◌, ◌<◌}
 use mathlib.Core.List.{List}
 use mathlib.Core.Bool.{Bool, true, false, ◌&&◌, and-true, true≢false}
-use mathlib.Core.Path.{◌≡◌, sym}
+use mathlib.Core.Logic.{◌⊎◌, inl, inr}
+use mathlib.Core.Path.{◌≡◌, refl, sym, ◌∙◌}
 use native.Mathlib.Numerals.{add_eight, add-one}
 use native.Mathlib.Omega.{arith}
 use native.Mathlib.Decide.{dec_lt}
+use native.Mathlib.Nat.{add-zero}
 use lib.ListN.{length, take, drop, length-drop}
 use lib.Seq.{length-take-le}
 use lib.Dec.{leb}
@@ -15,6 +17,7 @@ use Rattle.names.proofs.Laws.{every_part}
 use Rattle.file.specs.Word.{word_at}
 use Rattle.file.specs.Sections.{File}
 use Rattle.file.specs.Fields.{spelled, unused, scalar_allowed, term_allowed, term_fields_at, function_fields_at, functions_allowed, terms_allowed, fields_allowed}
+use Rattle.file.proofs.Words.{word_part}
 use Rattle.file.proofs.Below.{both_first, both_second, every_at}
 
 -- a part that passes the end of the text is not spelled
@@ -55,6 +58,22 @@ unfolding term_allowed
 kind_over text kind a b n h =
     let e : kind ≡ kind - 9 + 8 + 1 = omega arith in
     rw (e, add-one (kind - 9 + 8), add_eight (kind - 9))
+
+-- an identifier or a variable: a name, and no more
+pub kind_named : (text : List ℕ) (kind a b n : ℕ) → 1 ≤ kind → kind ≤ 5 → (kind ≡ 2 → ⊥) → term_allowed text kind a b n ≡ (spelled name_allowed text a b && unused n)
+unfolding term_allowed
+kind_named text zero a b n l h m = absurd (omega arith)
+kind_named text (suc zero) a b n l h m = refl
+kind_named text (suc (suc zero)) a b n l h m = absurd (m refl)
+kind_named text (suc (suc (suc zero))) a b n l h m = refl
+kind_named text (suc (suc (suc (suc zero)))) a b n l h m = refl
+kind_named text (suc (suc (suc (suc (suc zero))))) a b n l h m = refl
+kind_named text (suc (suc (suc (suc (suc (suc k)))))) a b n l h m = absurd (omega arith)
+
+-- of two tests of which not both hold the second does not, where the first does
+pub second_fails_where : {t : Bool} {b : ℕ} → ((t ≡ true) × (b ≡ 0 → ⊥)) ⊎ (t ≡ false) → t ≡ true → b ≡ 0 → ⊥
+second_fails_where (inl h) q = h.1
+second_fails_where (inr h) q = absurd (true≢false (sym q ∙ h))
 
 -- a character below the surrogates is allowed
 pub plain_allowed : (text : List ℕ) (kind a b n : ℕ) → (kind ≡ 0) × (a < 55296) × (b ≡ 0) × (n ≡ 0) → term_allowed text kind a b n ≡ true
@@ -120,15 +139,24 @@ pub term_at_allowed : (text terms : List ℕ) (count t : ℕ) → terms_allowed 
     → term_fields_at text terms (24 * t) ≡ true
 term_at_allowed text terms count t h l = every_at count (λ t. term_fields_at text terms (24 * t)) t h l
 
--- the test of a function record, from the words that were read of it
-pub function_tested : (text functions : List ℕ) (at a b : ℕ) (r : Bool) → a ≡ word_at functions at → b ≡ word_at functions (at + 4)
-    → r ≡ spelled name_allowed text a b → function_fields_at text functions at ≡ r
-function_tested text functions at a b r p q h = rw (h, p, q)
+-- the test of the i-th function record, from its bytes alone
+pub function_fields_part : (text functions fields : List ℕ) (i : ℕ) → fields ≡ take 20 (drop (20 * i) functions)
+    → function_fields_at text fields 0 ≡ function_fields_at text functions (20 * i)
+function_fields_part text functions fields i e =
+    rw (e, word_part functions (20 * i) 20 0 (omega arith), word_part functions (20 * i) 20 4 (omega arith), add-zero (20 * i))
 
 -- the same of a term record
-pub term_tested : (text terms : List ℕ) (at kind a b n : ℕ) (r : Bool) → kind ≡ word_at terms at → a ≡ word_at terms (at + 4)
-    → b ≡ word_at terms (at + 8) → n ≡ word_at terms (at + 12) → r ≡ term_allowed text kind a b n → term_fields_at text terms at ≡ r
-term_tested text terms at kind a b n r p q s u h = rw (h, p, q, s, u)
+pub term_fields_part : (text terms fields : List ℕ) (i : ℕ) → fields ≡ take 24 (drop (24 * i) terms)
+    → term_fields_at text fields 0 ≡ term_fields_at text terms (24 * i)
+term_fields_part text terms fields i e =
+    rw (
+      e,
+      word_part terms (24 * i) 24 0 (omega arith),
+      word_part terms (24 * i) 24 4 (omega arith),
+      word_part terms (24 * i) 24 8 (omega arith),
+      word_part terms (24 * i) 24 12 (omega arith),
+      add-zero (24 * i),
+    )
 
 -- refusal 5 of the function records
 pub fields_functions : (file : File) → fields_allowed file ≡ true

@@ -6,3 +6,4 @@ pub mod SectionLaws
 pub mod CodeLaws
 pub mod Fields
 pub mod Parts
+pub mod Records

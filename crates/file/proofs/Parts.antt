@@ -1,8 +1,8 @@
 -- The parts of a file's bytes where the records of its sections stand, as code cuts them out: that they hold the records, and what refusal 5 says of them.
 use Prim.Native.Nat.{ℕ, ◌+◌, ◌*◌, ◌-◌, ◌≤◌}
 use mathlib.Core.List.{List}
-use mathlib.Core.Bool.{◌&&◌}
-use mathlib.Core.Path.{◌≡◌}
+use mathlib.Core.Bool.{Bool, ◌&&◌}
+use mathlib.Core.Path.{◌≡◌, ◌∙◌}
 use native.Mathlib.Omega.{arith}
 use lib.ListN.{length, take, drop, length-take, length-drop}
 use Rattle.file.specs.Answer.{given}
@@ -66,3 +66,21 @@ fields_parts bytes s h =
       part_slice (20 + (file_of bytes).text.count + 20 * (file_of bytes).functions.count + 20 * (file_of bytes).sentences.count
           + 16 * (file_of bytes).conditions.count) (24 * (file_of bytes).terms.count) bytes,
     ))
+
+-- the test of the function records, as the code asks it of the part where they stand: `at` is where it begins
+pub functions_tested : (bytes text : List ℕ) (s : Sections) (at : ℕ) (r : Bool) → length bytes ≡ file_length s → text ≡ text_part bytes s → at ≡ 8 + s.text
+    → ((count : ℕ) → length (cut_out at (20 * s.functions) bytes) ≡ 20 * count → r ≡ functions_allowed text (cut_out at (20 * s.functions) bytes) count)
+    → r ≡ functions_allowed (text_part bytes s) (functions_part bytes s) s.functions
+functions_tested bytes text s at r l e q h =
+    let long : length (cut_out at (20 * s.functions) bytes) ≡ 20 * s.functions = simp (length-take, length-drop) (omega arith) in
+    h s.functions long ∙ rw (e, q)
+
+-- the same of the term records, which stand last
+pub terms_tested : (bytes text : List ℕ) (s : Sections) (at : ℕ) (r : Bool) → length bytes ≡ file_length s → text ≡ text_part bytes s
+    → at ≡ 20 + s.text + 20 * s.functions + 20 * s.sentences + 16 * s.conditions
+    → ((count : ℕ) → length (take (length bytes - at) (drop at bytes)) ≡ 24 * count → r ≡ terms_allowed text (take (length bytes - at) (drop at bytes)) count)
+    → r ≡ terms_allowed (text_part bytes s) (terms_part bytes s) s.terms
+terms_tested bytes text s at r l e q h =
+    let long : length (take (length bytes - at) (drop at bytes)) ≡ 24 * s.terms = simp (length-take, length-drop) (omega arith) in
+    let all : length bytes - at ≡ at + 24 * s.terms - at = omega arith in
+    h s.terms long ∙ rw (e, all, q)

@@ -1,14 +1,14 @@
 // A law file: its sections, the words of its records, and the fields that refusal 5 looks at.
 #![tactic(auto)]
 
-ghost use Rattle.std.specs.Prelude.{◌≡◌, true, ◌&&◌, ◌+◌, ◌*◌, ◌≤◌, ◌<◌, length, drop, leb};
+ghost use Rattle.std.specs.Prelude.{ℕ, ◌≡◌, true, ◌&&◌, ◌+◌, ◌*◌, ◌≤◌, ◌<◌, length, drop, leb};
 ghost use Rattle.file.specs.Word.{word_at};
 ghost use Rattle.file.specs.Answer.{given, map_answer};
 ghost use Rattle.file.specs.Sections.{section, number_of, answer_of, sections_of, file_of};
 ghost use Rattle.file.specs.Code.Counts.{counts_of, counted_of};
 ghost use Rattle.file.specs.Code.Text.{Named};
 ghost use Rattle.file.specs.Head.{term_from, term_at};
-ghost use Rattle.file.specs.Fields.{spelled, unused, scalar_allowed, term_allowed, functions_allowed, terms_allowed, fields_allowed};
+ghost use Rattle.file.specs.Fields.{spelled, scalar_allowed, term_allowed, function_fields_at, term_fields_at, functions_allowed, terms_allowed, fields_allowed};
 ghost use Rattle.names.specs.Name.{name_allowed, number_allowed};
 
 use names::{is_name, is_number, length_allowed, name_bytes, name_in};
@@ -35,6 +35,37 @@ pub struct Sections {
     pub sentences: usize,
     pub conditions: usize,
     pub terms: usize,
+}
+
+// Where the records of sections 2 to 5 begin in a law.
+impl Sections {
+    pub fn functions_at(self) -> usize
+        requires { self.text ≤ 4096 }
+        ensures { result ≡ 8 + self.text }
+    {
+        8 + self.text
+    }
+
+    pub fn sentences_at(self) -> usize
+        requires { (self.text ≤ 4096) × (self.functions ≤ 64) }
+        ensures { result ≡ 12 + self.text + 20 * self.functions }
+    {
+        self.functions_at() + 20 * self.functions + 4
+    }
+
+    pub fn conditions_at(self) -> usize
+        requires { (self.text ≤ 4096) × (self.functions ≤ 64) × (self.sentences ≤ 128) }
+        ensures { result ≡ 16 + self.text + 20 * self.functions + 20 * self.sentences }
+    {
+        self.sentences_at() + 20 * self.sentences + 4
+    }
+
+    pub fn terms_at(self) -> usize
+        requires { (self.text ≤ 4096) × (self.functions ≤ 64) × (self.sentences ≤ 128) × (self.conditions ≤ 128) }
+        ensures { result ≡ 20 + self.text + 20 * self.functions + 20 * self.sentences + 16 * self.conditions }
+    {
+        self.conditions_at() + 16 * self.conditions + 4
+    }
 }
 
 // A section's count, and the position after its records.
@@ -95,7 +126,7 @@ pub fn word_at(s: &[u8], at: usize) -> u32
     requires { at + 4 ≤ length s.now }
     ensures { result ≡ word_at s.now at }
 {
-    wide(s[at]) + wide(s[at + 1]) * 256 + wide(s[at + 2]) * 65536 + wide(s[at + 3]) * 16777216
+    u32::from_le_bytes([s[at], s[at + 1], s[at + 2], s[at + 3]])
 }
 
 // The term that a kind and the words a and b say.
@@ -167,88 +198,57 @@ pub fn sections_of(law: &[u8]) -> Result<Sections, Refusal>
     })
 }
 
-// Does a part of the text end inside it? The sum is taken as a `usize`, since that of two words may pass 2^32.
-fn inside(text: &[u8], start: u32, len: u32) -> bool
-    ensures { result ≡ leb (start + len) (length text.now) }
-{
-    start as usize + len as usize <= text.len()
+// The text of a law, and whether it is known that all its bytes are those of names.
+#[derive(Clone, Copy)]
+struct Text<'a> {
+    bytes: &'a [u8],
+    named: bool,
+    ghost named_means: { Named named bytes.now },
 }
 
-// Is it known that all bytes of the text are those of names? A text that is long for so many records is not read for it, since most
-// of it may be in no record.
-fn is_named(text: &[u8], records: usize) -> bool
-    ensures { Named result text.now }
-{
-    if records < text.len() / 8 {
-        return false;
+impl<'a> Text<'a> {
+    // The text of a law of so many term records. A text that is long for so many records is not read, since most of it may be in no record.
+    fn new(bytes: &'a [u8], records: usize) -> Self
+        ensures { result.bytes.now ≡ bytes.now }
+    {
+        let named = bytes.len() / 8 <= records && name_bytes(bytes);
+        Text { bytes, named }
     }
-    name_bytes(text)
-}
 
-// Does a name stand there, inside the text? Where all bytes of the text are those of names (`named`) its length decides, so that
-// a spelling that many records share is not read for each of them.
-fn spelled_name(text: &[u8], named: bool, start: u32, len: u32) -> bool
-    requires { Named named text.now }
-    ensures { result ≡ spelled name_allowed text.now start len }
-{
-    if !inside(text, start, len) {
-        return false;
+    // Does a part of the text end inside it? The sum is taken as a `usize`, since that of two words may pass 2^32.
+    fn holds(&self, start: u32, len: u32) -> bool
+        ensures { result ≡ leb (start + len) (length self.now.bytes.now) }
+    {
+        start as usize + len as usize <= self.bytes.len()
     }
-    if named {
-        return length_allowed(len as usize);
-    }
-    is_name(name_in(text, start as usize, len as usize))
-}
 
-// Does a number stand there, inside the text?
-fn spelled_number(text: &[u8], start: u32, len: u32) -> bool
-    ensures { result ≡ spelled number_allowed text.now start len }
-{
-    if !inside(text, start, len) {
-        return false;
+    // Does a name stand there, inside the text? Where all bytes of the text are those of names its length decides, so that a spelling that
+    // many records share is not read for each of them.
+    fn has_name(&self, start: u32, len: u32) -> bool
+        ensures { result ≡ spelled name_allowed self.now.bytes.now start len }
+    {
+        if !self.holds(start, len) {
+            return false;
+        }
+        if self.named {
+            return length_allowed(len as usize);
+        }
+        is_name(name_in(self.bytes, start as usize, len as usize))
     }
-    is_number(name_in(text, start as usize, len as usize))
+
+    // Does a number stand there, inside the text?
+    fn has_number(&self, start: u32, len: u32) -> bool
+        ensures { result ≡ spelled number_allowed self.now.bytes.now start len }
+    {
+        self.holds(start, len) && is_number(name_in(self.bytes, start as usize, len as usize))
+    }
 }
 
 // A Unicode scalar value.
 pub fn scalar_allowed(a: u32) -> bool
     ensures { result ≡ scalar_allowed a }
 {
-    if 0x10FFFF < a {
-        return false;
-    }
-    if a < 0xD800 {
-        return true;
-    }
-    if a <= 0xDFFF {
-        return false;
-    }
-    true
-}
-
-// The fields of a character: a scalar value, and no more.
-fn character_fields(a: u32, b: u32, n: u32) -> bool
-    ensures { result ≡ scalar_allowed a && unused b && unused n }
-{
-    if !scalar_allowed(a) {
-        return false;
-    }
-    b == 0 && n == 0
-}
-
-// The fields of an identifier or a variable: a name or index, and no more.
-fn name_fields(text: &[u8], named: bool, a: u32, b: u32, n: u32) -> bool
-    requires { Named named text.now }
-    ensures { result ≡ spelled name_allowed text.now a b && unused n }
-{
-    spelled_name(text, named, a, b) && n == 0
-}
-
-// The fields of a number, and no more.
-fn number_fields(text: &[u8], a: u32, b: u32, n: u32) -> bool
-    ensures { result ≡ spelled number_allowed text.now a b && unused n }
-{
-    spelled_number(text, a, b) && n == 0
+    a <= 0x10FFFF && !matches!(a, 0xD800..=0xDFFF)
 }
 
 // Is it a character below the surrogates, and no more? The three words that are then 0 are added as `usize`, since one test is
@@ -261,66 +261,65 @@ fn is_plain(kind: u32, a: u32, b: u32, n: u32) -> bool
 
 // Are these the fields of a term record that a law may have? A plain character is asked first, since most terms of a long law are
 // characters, and a jump by the kind takes longer.
-fn term_allowed(text: &[u8], named: bool, kind: u32, a: u32, b: u32, n: u32) -> bool
-    requires { Named named text.now }
-    ensures { result ≡ term_allowed text.now kind a b n }
+fn term_allowed(text: &Text, kind: u32, a: u32, b: u32, n: u32) -> bool
+    ensures { result ≡ term_allowed text.now.bytes.now kind a b n }
 {
     if is_plain(kind, a, b, n) {
         return true;
     }
     match kind {
-        0 => character_fields(a, b, n),
-        1 => name_fields(text, named, a, b, n),
-        2 => number_fields(text, a, b, n),
-        3 => name_fields(text, named, a, b, n),
-        4 => name_fields(text, named, a, b, n),
-        5 => name_fields(text, named, a, b, n),
+        0 => scalar_allowed(a) && b == 0 && n == 0,
+        1 | 3 | 4 | 5 => text.has_name(a, b) && n == 0,
+        2 => text.has_number(a, b) && n == 0,
         6 => a == 0 && b == 0,
-        7 => spelled_name(text, named, a, b),
+        7 => text.has_name(a, b),
         8 => b == 0,
         _ => false,
     }
 }
 
-// Does each function record say a name?
-fn functions_allowed(text: &[u8], named: bool, functions: &[u8], count: usize) -> bool
-    requires count_in_bounds { 20 * count ≤ length functions.now }
-    requires named { Named named text.now }
-    ensures { result ≡ functions_allowed text.now functions.now count }
+// Does a function record say a name?
+fn function_allowed(text: &Text, fields: &[u8]) -> bool
+    requires { length fields.now ≡ 20 }
+    ensures { result ≡ function_fields_at text.now.bytes.now fields.now 0 }
 {
-    let mut i = 0;
-    while i < count {
-        let at = 20 * i;
-        if !spelled_name(
-            text,
-            named,
-            word_at(functions, at),
-            word_at(functions, at + 4),
-        ) {
+    text.has_name(word_at(fields, 0), word_at(fields, 4))
+}
+
+// Does each function record say a name?
+fn functions_allowed(text: &Text, functions: &[u8]) -> bool
+    ensures { (count : ℕ) → length functions.now ≡ 20 * count → result ≡ functions_allowed text.now.bytes.now functions.now count }
+{
+    for fields in functions.chunks_exact(20) {
+        if !function_allowed(text, fields) {
             return false;
         }
-        i += 1;
     }
     true
 }
 
-// Does each term record have fields that a law may have?
-fn terms_allowed(text: &[u8], named: bool, terms: &[u8], count: usize) -> bool
-    requires count_in_bounds { 24 * count ≤ length terms.now }
-    requires named { Named named text.now }
-    ensures { result ≡ terms_allowed text.now terms.now count }
+// Does a term record have fields that a law may have?
+fn record_allowed(text: &Text, fields: &[u8]) -> bool
+    requires { length fields.now ≡ 24 }
+    ensures { result ≡ term_fields_at text.now.bytes.now fields.now 0 }
 {
-    let mut i = 0;
-    while i < count {
-        let at = 24 * i;
-        let kind = word_at(terms, at);
-        let a = word_at(terms, at + 4);
-        let b = word_at(terms, at + 8);
-        let n = word_at(terms, at + 12);
-        if !term_allowed(text, named, kind, a, b, n) {
+    term_allowed(
+        text,
+        word_at(fields, 0),
+        word_at(fields, 4),
+        word_at(fields, 8),
+        word_at(fields, 12),
+    )
+}
+
+// Does each term record have fields that a law may have?
+fn terms_allowed(text: &Text, terms: &[u8]) -> bool
+    ensures { (count : ℕ) → length terms.now ≡ 24 * count → result ≡ terms_allowed text.now.bytes.now terms.now count }
+{
+    for fields in terms.chunks_exact(24) {
+        if !record_allowed(text, fields) {
             return false;
         }
-        i += 1;
     }
     true
 }
@@ -330,21 +329,8 @@ pub fn fields_allowed(law: &[u8], sections: Sections) -> bool
     requires { (sections_of law.now ≡ given (file_of law.now)) × (counts_of (file_of law.now) ≡ sections) }
     ensures { result ≡ fields_allowed (file_of law.now) }
 {
-    let functions = sections.functions;
-    let terms = sections.terms;
-    let text_end = 4 + sections.text;
-    let functions_at = 8 + sections.text;
-    let functions_end = functions_at + 20 * functions;
-    let terms_at = 20
-        + sections.text
-        + 20 * functions
-        + 20 * sections.sentences
-        + 16 * sections.conditions;
-    let terms_end = terms_at + 24 * terms;
-    let text = &law[4..text_end];
-    let named = is_named(text, terms);
-    if !functions_allowed(text, named, &law[functions_at..functions_end], functions) {
-        return false;
-    }
-    terms_allowed(text, named, &law[terms_at..terms_end], terms)
+    let text = Text::new(&law[4..4 + sections.text], sections.terms);
+    let functions_at = sections.functions_at();
+    let functions = &law[functions_at..functions_at + 20 * sections.functions];
+    functions_allowed(&text, functions) && terms_allowed(&text, &law[sections.terms_at()..])
 }

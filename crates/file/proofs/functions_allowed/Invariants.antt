@@ -1,0 +1,9 @@
+-- The records before the i-th are allowed, and the others are left.
+use Rattle.std.proofs.Common.{ℕ, ◌*◌}
+use Rattle.file.specs.Fields.{function_fields_at}
+use Rattle.file.proofs.Records.{PassedTo}
+use Rattle.file.proofs.functions_allowed.Given as goal
+
+abbrev pub invariant-loop-fields : goal.invariant-loop-fields
+invariant-loop-fields l =
+    (i : ℕ) × PassedTo 20 (λ k. function_fields_at l.text.bytes.now l.functions (20 * k)) l.functions l.fields-iterator.rest.now l.fields-iterator.size i
