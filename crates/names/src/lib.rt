@@ -58,7 +58,7 @@ pub fn indices_equal(a: &[u8], b: &[u8]) -> bool
     a.len() == b.len()
         && a.iter()
             .zip(b)
-            .all(|(&x, &y)| upper_byte(x) == upper_byte(y))
+            .all(|(&x, &y)| x == y || upper_byte(x) == upper_byte(y))
 }
 
 // The order of two names: by the bytes of the folded names, and a name comes after each of its beginnings.

@@ -1,5 +1,5 @@
 -- Where this turn's bytes stand in the two names (`zip_turn`), or how many turns there were (`zip_end`), and one law for each way through the loop.
-use Rattle.std.proofs.Common.{◌≡◌, ◌∙◌, sym, ap, length-append, nat_cmp}
+use Rattle.std.proofs.Common.{◌∙◌, sym, ap, length-append}
 use Rattle.std.proofs.lemmas.Slice.Zip.{zip_turn, zip_end}
 use Rattle.std.specs.Ordering.{is_ne}
 use Rattle.names.specs.Name.{fold_byte}
