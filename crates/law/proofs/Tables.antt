@@ -5,7 +5,7 @@ use mathlib.Core.Bool.{Bool, true, false, ◌&&◌}
 use mathlib.Core.Path.{◌≡◌, refl, sym, ap, ◌∙◌}
 use native.Mathlib.Omega.{arith}
 use native.Mathlib.Decide.{dec_lt}
-use native.Mathlib.Nat.{add-zero, mul-le-mul_left, mul-suc, mod-eq_of_lt}
+use native.Mathlib.Nat.{add-zero, mod-eq_of_lt}
 use lib.ListN.{length, get_or, set, take, drop, take-append-drop}
 use lib.Seq.{get_or-set_same, get_or-set_other, get_or-append-add, get_or-drop, sets, sets-eq}
 use lib.Dec.{eqb}
@@ -38,19 +38,9 @@ use Rattle.law.specs.Runs.{used_up}
 use Rattle.law.specs.Code.Index.{functions_start, sentences_start, conditions_start, terms_start, IndexOf, Indexed}
 use Rattle.law.specs.Code.Filling.{Table, word_sum, pair_sum, block_word, block_sum, as_word, TablesOf, header, Placed}
 
--- a record that stands before the last ends within the records' bytes
-pub record_fits : (size i count n : ℕ) → i < count → size * count ≤ n → size * i + size ≤ n
-record_fits size i count n h l = omega (arith, mul-suc size i, mul-le-mul_left size h)
-
 -- one more number is added to a sum
 pub sum_next : (f : ℕ → ℕ) (i sum w : ℕ) → sum ≡ total i f → w ≡ f i → sum + w ≡ total (i + 1) f
 sum_next f i sum w p q = rw (p, q, total_next i f)
-
--- the same for two words of a record
-pub pair_next : (records : List ℕ) (size second i sum v w : ℕ) → sum ≡ pair_sum records size second i → v ≡ word_at records (size * i)
-    → w ≡ word_at records (size * i + second)
-    → sum + (v + w) ≡ pair_sum records size second (i + 1)
-pair_next records size second i sum v w p q r = sum_next _ i sum (v + w) p (rw (q, r))
 
 -- nothing is written
 pub table_none : (xs : List ℕ) (from : ℕ) (f : ℕ → ℕ) → Table xs xs from 0 f

@@ -1,56 +1,35 @@
 // The index of a file: where its functions, sentences, conditions, terms and blocks stand (specs/Code/Index.antt has the layout).
-ghost use Rattle.std.specs.Prelude.{◌++◌, ◌≡◌, ◌&&◌, ◌+◌, ◌*◌, ◌≤◌, ◌<◌, length, drop, eqb};
+ghost use Rattle.std.specs.Prelude.{ℕ, ◌++◌, ◌≡◌, ◌&&◌, ◌+◌, ◌*◌, ◌≤◌, ◌<◌, length, drop, eqb};
 ghost use Rattle.file.specs.Answer.{given};
+ghost use Rattle.file.specs.Below.{total};
 ghost use Rattle.file.specs.Sections.{sections_of, file_of};
 ghost use Rattle.file.specs.Code.Counts.{counts_of, Limits, file_length};
 ghost use Rattle.law.specs.Runs.{used_up};
-ghost use Rattle.law.specs.Code.Filling.{Table, word_sum, pair_sum, block_sum, as_word, TablesOf, header, Placed};
+ghost use Rattle.law.specs.Code.Filling.{Table, block_sum, as_word, TablesOf, header, Placed};
 
 use crate::{BLOCKS, CONDITION_TERMS, FIRST_CONDITIONS, FIRST_SENTENCES, Index, SENTENCE_TERMS};
 use file::{Sections, word_at};
 
 // An array's length is known only where it is made, so the functions below ask for it and say it again.
 
-// Writes the sums of one word of each record, from no record to all of them, and answers the last.
-fn fill_sums(
+// Writes the sums of a number of each record, from no record to all of them, and answers the last.
+fn fill_sums<F: Fn(usize) -> usize>(
     index: &mut Index,
     from: usize,
-    records: &[u8],
     count: usize,
-    size: usize,
-    at: usize,
+    number: F,
 ) -> usize
-    requires { (size * count ≤ length records.now) × (at + 4 ≤ size) × (from + count < 972) × (length index.old ≡ 972) }
-    ensures { (result ≡ word_sum records.now size at count) × (result ≤ 4294967295 * count) × (length index.new ≡ 972)
-        × Table index.old index.new from (count + 1) (λ n. as_word (word_sum records.now size at n)) }
+    requires callable { (i : ℕ) → i < count → F.pre number i }
+    requires small { (i n : ℕ) → i < count → F.post number i n → n ≤ 8589934590 }
+    requires room { (from + count < 972) × (length index.old ≡ 972) }
+    ensures sums { (f : ℕ → ℕ) → ((i n : ℕ) → i < count → F.post number i n → n ≡ f i)
+        → (result ≡ total count f) × Table index.old index.new from (count + 1) (λ n. as_word (total n f)) }
+    ensures bound { (result ≤ 8589934590 * count) × (length index.new ≡ 972) }
 {
     let mut sum: usize = 0;
     index[from] = 0;
     for i in 0..count {
-        sum += word_at(records, size * i + at) as usize;
-        index[from + (i + 1)] = (sum % 65536) as u16;
-    }
-    sum
-}
-
-// Writes the sums of two words of each record, the first and another, from no record to all of them, and answers the last.
-fn fill_pair_sums(
-    index: &mut Index,
-    from: usize,
-    records: &[u8],
-    count: usize,
-    size: usize,
-    second: usize,
-) -> usize
-    requires { (size * count ≤ length records.now) × (second + 4 ≤ size) × (from + count < 972) × (length index.old ≡ 972) }
-    ensures { (result ≡ pair_sum records.now size second count) × (result ≤ 8589934590 * count) × (length index.new ≡ 972)
-        × Table index.old index.new from (count + 1) (λ n. as_word (pair_sum records.now size second n)) }
-{
-    let mut sum: usize = 0;
-    index[from] = 0;
-    for i in 0..count {
-        let at = size * i;
-        sum += word_at(records, at) as usize + word_at(records, at + second) as usize;
+        sum += number(i);
         index[from + (i + 1)] = (sum % 65536) as u16;
     }
     sum
@@ -70,7 +49,7 @@ fn add_block(terms: &[u8], t: usize, sum: usize) -> usize
 
 // Writes the first sentence of the block at each term record, where the first block's stands at `first`, and answers the sentences of all blocks.
 fn fill_blocks(index: &mut Index, from: usize, terms: &[u8], count: usize, first: usize) -> usize
-    requires { (24 * count ≤ length terms.now) × (from + count ≤ 972) × (first ≤ 274877906880) × (length index.old ≡ 972) }
+    requires { (24 * count ≤ length terms.now) × (from + count ≤ 972) × (first ≤ 549755813760) × (length index.old ≡ 972) }
     ensures { (result ≡ block_sum terms.now count) × (result ≤ 4294967295 * count) × (length index.new ≡ 972)
         × Table index.old index.new from count (λ t. as_word (first + block_sum terms.now t)) }
 {
@@ -106,24 +85,19 @@ fn fill_tables(index: &mut Index, law: &[u8], sections: Sections) -> bool
     let sentence_records = &law[sentences_at..sentences_at + 20 * sentences];
     let condition_records = &law[conditions_at..conditions_at + 16 * conditions];
     let term_records = &law[terms_at..terms_at + 24 * terms];
-    let function_sentences = fill_sums(index, FIRST_SENTENCES, function_records, functions, 20, 8);
-    let sentence_conditions = fill_sums(
-        index,
-        FIRST_CONDITIONS,
-        sentence_records,
-        sentences,
-        20,
-        4,
-    );
-    let condition_terms = fill_pair_sums(
-        index,
-        CONDITION_TERMS,
-        condition_records,
-        conditions,
-        16,
-        4,
-    );
-    let sentence_terms = fill_pair_sums(index, SENTENCE_TERMS, sentence_records, sentences, 20, 8);
+    let function_sentences = fill_sums(index, FIRST_SENTENCES, functions, |f| {
+        word_at(function_records, 20 * f + 8) as usize
+    });
+    let sentence_conditions = fill_sums(index, FIRST_CONDITIONS, sentences, |s| {
+        word_at(sentence_records, 20 * s + 4) as usize
+    });
+    let condition_terms = fill_sums(index, CONDITION_TERMS, conditions, |c| {
+        word_at(condition_records, 16 * c) as usize
+            + word_at(condition_records, 16 * c + 4) as usize
+    });
+    let sentence_terms = fill_sums(index, SENTENCE_TERMS, sentences, |s| {
+        word_at(sentence_records, 20 * s) as usize + word_at(sentence_records, 20 * s + 8) as usize
+    });
     let block_sentences = fill_blocks(index, BLOCKS, term_records, terms, function_sentences);
     used_exactly(
         function_sentences + block_sentences,

@@ -22,8 +22,10 @@ pub mod places;
 pub mod runs;
 pub mod whole;
 
+pub const INDEX_WORDS: usize = 972;
+
 // The words that say where things stand in a law: eight for its sections, then five tables (specs/Code/Index.antt).
-pub type Index = [u16; 972];
+pub type Index = [u16; INDEX_WORDS];
 
 // Where the tables of an index begin.
 const FIRST_SENTENCES: usize = 8;
@@ -88,7 +90,7 @@ pub fn read_law(law: &[u8], index: &mut Index) -> Result<(), Refusal>
     ensures { (check_answer result ≡ check_of law.now) × IndexAfter result law.now index.new }
 {
     if let Err(why) = check_bytes(law, index) {
-        *index = [0; 972];
+        *index = [0; INDEX_WORDS];
         return Err(why);
     }
     Ok(())
@@ -98,6 +100,6 @@ pub fn read_law(law: &[u8], index: &mut Index) -> Result<(), Refusal>
 pub fn check_law(law: &[u8]) -> Result<(), Refusal>
     ensures { check_answer result ≡ check_of law.now }
 {
-    let mut index: Index = [0; 972];
+    let mut index: Index = [0; INDEX_WORDS];
     read_law(law, &mut index)
 }
