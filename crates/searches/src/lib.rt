@@ -4,5 +4,6 @@
 
 mod failed;
 pub mod literal;
+pub mod pair;
 pub mod repeats;
 pub mod shadow;

@@ -5,7 +5,7 @@ ghost use Rattle.file.specs.Forest.{contents, rest};
 ghost use Rattle.law.specs.Runs.{end_of};
 ghost use Rattle.law.specs.Variables.{distinct};
 ghost use Rattle.matching.specs.Literal.{literal_matches};
-ghost use Rattle.matching.specs.Code.Part.{row_of, literal_part, symbols_of, Stands};
+ghost use Rattle.matching.specs.Code.Part.{row_of, literal_part, symbols_of};
 ghost use Rattle.matching.specs.Pattern.{Atom};
 ghost use Rattle.matching.specs.Match.{Values};
 ghost use Rattle.matching.specs.Code.Bound.{values_up_to, values_of, Keyed, Kept};
@@ -16,6 +16,7 @@ ghost use Rattle.searches.specs.Code.Repeats.{Agree, Disjoint};
 ghost use Rattle.searches.specs.Code.Failed.{Settled, RemembersAround, Remembering, Remembered};
 
 use crate::failed::{Rest, Rests};
+use crate::pair::Pair;
 use crate::repeats::{Sure, closed, stands_apart};
 use file::word_at;
 use law::runs::end_of;
@@ -450,30 +451,22 @@ pub fn is_literal(part: &[u8]) -> bool
 
 // Does a pattern match a literal part? The search from no values, with nothing around.
 #[inline(never)]
-pub fn search_literal(
-    text: &[u8],
-    terms: &[u8],
-    pattern: &[u8],
-    at: usize,
-    row: &[u8],
-    start: usize,
-) -> bool
-    requires terms_len_bound { (length terms.now < 65536) × Stands terms.now pattern.now at × Stands terms.now row.now start }
-    requires pattern_bound { (distinct (variables_in (row_of text.now pattern.now)) ≤ 32) × (nesting (row_of text.now pattern.now) ≤ 33) × (literal_part row.now ≡ true) }
-    ensures { result ≡ literal_matches (row_of text.now pattern.now) (symbols_of text.now row.now) }
+pub fn search_literal(pair: &Pair) -> bool
+    requires { (distinct (variables_in (row_of pair.now.records.text.now pair.now.pattern.now)) ≤ 32)
+        × (nesting (row_of pair.now.records.text.now pair.now.pattern.now) ≤ 33) × (literal_part pair.now.row.now ≡ true) }
+    ensures { result ≡ literal_matches (row_of pair.now.records.text.now pair.now.pattern.now) (symbols_of pair.now.records.text.now pair.now.row.now) }
 {
-    let records = Records { text, terms };
     let mut failed = Rests {
         places: [Rest::NONE; 512],
     };
     let outer = Pending::none();
     let sure = Sure::fixed(0);
     literal_run(
-        &records,
-        pattern,
-        at,
-        row,
-        start,
+        &pair.records,
+        pair.pattern,
+        pair.at,
+        pair.row,
+        pair.start,
         &outer,
         Bindings::none(),
         sure,

@@ -3,7 +3,7 @@ ghost use Rattle.std.specs.Prelude.{[], ◌≡◌, false, ◌≤◌, ◌<◌, le
 ghost use Rattle.std.proofs.Math.Option.{none};
 ghost use Rattle.law.specs.Variables.{distinct};
 ghost use Rattle.matching.specs.Shadow.{shadows};
-ghost use Rattle.matching.specs.Code.Part.{row_of, Stands};
+ghost use Rattle.matching.specs.Code.Part.{row_of};
 ghost use Rattle.matching.specs.Code.Bound.{values_of};
 ghost use Rattle.matching.specs.Code.Step.{found, each_length, each_inside, Free, Facing, TriesAll, Stopped, first_variable};
 ghost use Rattle.searches.specs.Code.Capacity.{variables_in};
@@ -11,6 +11,7 @@ ghost use Rattle.searches.specs.Code.Asked.{first_in, Asked, matched_values};
 ghost use Rattle.searches.specs.Code.Failed.{first_values, Settled, Failed, Remembers, MatchKept};
 
 use crate::failed::{Rest, Rests};
+use crate::pair::Pair;
 use crate::repeats::{Sure, closed};
 use law::runs::end_of;
 use matching::front::known_front;
@@ -213,29 +214,20 @@ fn shadow_run(
 
 // Does an earlier pattern shadow a later one? The search from no values.
 #[inline(never)]
-pub fn search_shadow(
-    text: &[u8],
-    terms: &[u8],
-    earlier: &[u8],
-    at: usize,
-    later: &[u8],
-    start: usize,
-) -> bool
-    requires terms_len_bound { (length terms.now < 65536) × Stands terms.now earlier.now at × Stands terms.now later.now start }
-    requires earlier_bound { distinct (variables_in (row_of text.now earlier.now)) ≤ 32 }
-    ensures { result ≡ shadows (row_of text.now earlier.now) (row_of text.now later.now) }
+pub fn search_shadow(pair: &Pair) -> bool
+    requires { distinct (variables_in (row_of pair.now.records.text.now pair.now.pattern.now)) ≤ 32 }
+    ensures { result ≡ shadows (row_of pair.now.records.text.now pair.now.pattern.now) (row_of pair.now.records.text.now pair.now.row.now) }
 {
-    let records = Records { text, terms };
     let mut failed = Rests {
         places: [Rest::NONE; 512],
     };
     let sure = Sure::fixed(0);
     shadow_run(
-        &records,
-        earlier,
-        at,
-        later,
-        start,
+        &pair.records,
+        pair.pattern,
+        pair.at,
+        pair.row,
+        pair.start,
         Bindings::none(),
         sure,
         &mut failed,

@@ -71,63 +71,38 @@ module _ (bytes index : List ℕ) (indexed : Indexed bytes index) (accepted : Ac
   argument_is t n part e same = rw e at same
 
   -- all term records, as the code cuts them out
-  module _ (n : ℕ) (section : List ℕ) (all : n ≡ get_or index 7 0) (cut : section ≡ terms_at file 0 n) where
-    whole_section : section ≡ file.terms.records
-    whole_section =
-        let count : n ≡ file.terms.count = all ∙ indexed.words.terms in
-        cut ∙ rw count (take_all (24 * file.terms.count) file.terms.records (omega (arith, readable.whole)))
+  pub all_terms : (n : ℕ) (section : List ℕ) → n ≡ get_or index 7 0 → section ≡ terms_at file 0 n → section ≡ file.terms.records
+  all_terms n section all cut =
+      let count : n ≡ file.terms.count = all ∙ indexed.words.terms in
+      cut ∙ rw count (take_all (24 * file.terms.count) file.terms.records (omega (arith, readable.whole)))
 
-    section_small : length section < 65536
-    section_small = rw whole_section (omega (arith, readable.whole, terms_limit bytes index indexed))
+  module _ (text section : List ℕ) (words : text ≡ file.text.records) (whole : section ≡ file.terms.records) where
+    pub few_terms : length section < 65536
+    few_terms = rw whole (omega (arith, readable.whole, terms_limit bytes index indexed))
 
     stands : (at count : ℕ) → at + count ≤ file.terms.count → Stands section (terms_at file at count) (24 * at)
     stands at count inside =
-        rw whole_section
+        rw whole
         (record {
           inside = omega (arith, terms_length file readable.whole at count inside, readable.whole);
           same = rw (terms_length file readable.whole at count inside);
         })
 
-    pattern_stands : (s at : ℕ) (part : List ℕ) → s < file.sentences.count → at ≡ pattern_at file s → part ≡ pattern_part file s → Stands section part (24 * at)
-    unfolding pattern_part
-    pattern_stands s at part h e same = rw (e, same) (stands (pattern_at file s) (pattern_size file s) (pattern_ends s h))
+    module _ (s : ℕ) (part : List ℕ) (inside : s < file.sentences.count) (same : part ≡ pattern_part file s) where
+      pub pattern_stands : (at : ℕ) → at ≡ pattern_at file s → Stands section part (24 * at)
+      unfolding pattern_part
+      pattern_stands at e = rw (e, same) (stands (pattern_at file s) (pattern_size file s) (pattern_ends s inside))
 
-    argument_stands : (t : ℕ) (part : List ℕ) → t < file.terms.count → part ≡ argument_part file t → Stands section part (24 * (t + 1))
+      pub pattern_few : distinct (variables_in (row_of text part)) ≤ 32
+      pattern_few = rw (words, same) (pattern_distinct file readable s inside accepted.patterns)
+
+      pub pattern_nested : nesting (row_of text part) ≤ 33
+      pattern_nested = rw (words, same) (pattern_nesting file readable s inside accepted.depth)
+
+    pub argument_stands : (t : ℕ) (part : List ℕ) → t < file.terms.count → part ≡ argument_part file t → Stands section part (24 * (t + 1))
     unfolding argument_part
     argument_stands t part h same =
         rw same (stands (t + 1) (word_at file.terms.records (24 * t + 12)) (record_inside file readable t h))
-
-    module _ (text : List ℕ) (words : text ≡ file.text.records) where
-      pub shadow_asks : (s t at start : ℕ) (earlier later : List ℕ) → s < file.sentences.count → t < file.sentences.count
-          → at ≡ pattern_at file s → start ≡ pattern_at file t → earlier ≡ pattern_part file s → later ≡ pattern_part file t
-          → ((length section < 65536) × Stands section earlier (24 * at) × Stands section later (24 * start)) × (distinct (variables_in (row_of text earlier)) ≤ 32)
-      shadow_asks s t at start earlier later hs ht a b p q = (
-        (section_small, pattern_stands s at earlier hs a p, pattern_stands t start later ht b q),
-        rw (words, p) (pattern_distinct file readable s hs accepted.patterns),
-      )
-
-      pub shadow_is : (s t : ℕ) (earlier later : List ℕ) (r : Bool) → earlier ≡ pattern_part file s → later ≡ pattern_part file t
-          → r ≡ shadows (row_of text earlier) (row_of text later)
-          → r ≡ shadows (row_of file.text.records (pattern_part file s)) (row_of file.text.records (pattern_part file t))
-      shadow_is s t earlier later r p q h = rw (words, p, q) at h
-
-      pub literal_asks : (s t at : ℕ) (pattern row : List ℕ) → s < file.sentences.count → t < file.terms.count
-          → literal_part (argument_part file t) ≡ true → at ≡ pattern_at file s → pattern ≡ pattern_part file s → row ≡ argument_part file t
-          → ((length section < 65536) × Stands section pattern (24 * at) × Stands section row (24 * (t + 1)))
-          × ((distinct (variables_in (row_of text pattern)) ≤ 32) × (nesting (row_of text pattern) ≤ 33) × (literal_part row ≡ true))
-      literal_asks s t at pattern row hs ht l a p q = (
-        (section_small, pattern_stands s at pattern hs a p, argument_stands t row ht q),
-        (
-          rw (words, p) (pattern_distinct file readable s hs accepted.patterns),
-          rw (words, p) (pattern_nesting file readable s hs accepted.depth),
-          rw q l,
-        ),
-      )
-
-      pub literal_is : (s t : ℕ) (pattern row : List ℕ) (r : Bool) → pattern ≡ pattern_part file s → row ≡ argument_part file t
-          → r ≡ literal_matches (row_of text pattern) (symbols_of text row)
-          → r ≡ literal_matches (row_of file.text.records (pattern_part file s)) (symbols_of file.text.records (argument_part file t))
-      literal_is s t pattern row r p q h = rw (words, p, q) at h
 
 -- ---- what is answered within an accepted law
 

@@ -2,7 +2,7 @@
 // searched.
 #![tactic(auto)]
 
-ghost use Rattle.std.specs.Prelude.{◌≡◌, true, ◌≤◌, ◌<◌, length, IfSome};
+ghost use Rattle.std.specs.Prelude.{◌≡◌, true, ◌≤◌, ◌<◌, IfSome};
 ghost use Rattle.file.specs.Answer.{given};
 ghost use Rattle.file.specs.Sections.{file_of};
 ghost use Rattle.law.specs.Places.{pattern_part};
@@ -11,7 +11,7 @@ ghost use Rattle.law.specs.Code.Accepted.{Accepted};
 ghost use Rattle.law.specs.Variables.{distinct};
 ghost use Rattle.matching.specs.Shadow.{shadows};
 ghost use Rattle.matching.specs.Literal.{literal_matches};
-ghost use Rattle.matching.specs.Code.Part.{row_of, literal_part, symbols_of, Stands};
+ghost use Rattle.matching.specs.Code.Part.{row_of, literal_part, symbols_of};
 ghost use Rattle.searches.specs.Code.Capacity.{variables_in};
 ghost use Rattle.searches.specs.Code.Asked.{nesting};
 ghost use Rattle.sentences.specs.Entry.{argument_part, literal_call, shadow_in, recognise_in, shadow_outcome, recognise_outcome, shadow_answer, recognise_answer};
@@ -21,7 +21,9 @@ pub use crate::errors::{MatchError, ShadowError};
 use crate::loose::{loose, once, parted};
 use crate::parity::uneven;
 use law::{AcceptedLaw, Index, read_law};
+use matching::Records;
 use searches::literal::{is_literal, search_literal};
+use searches::pair::Pair;
 use searches::shadow::search_shadow;
 
 mod errors;
@@ -29,42 +31,53 @@ mod loose;
 mod parity;
 
 // Whether a pattern has a match with a row, where that is known without a search.
-fn known(text: &[u8], pattern: &[u8], row: &[u8]) -> Option<bool>
-    ensures { IfSome result (Matches text.now pattern.now row.now) }
+fn known(pair: &Pair) -> Option<bool>
+    ensures { IfSome result (Matches pair.now.records.text.now pair.now.pattern.now pair.now.row.now) }
 {
-    if parted(text, pattern, row) || !loose(text, pattern, row) {
+    let text = pair.records.text;
+    if parted(text, pair.pattern, pair.row) || !loose(text, pair.pattern, pair.row) {
         return Some(false);
     }
-    if once(text, pattern) {
+    if once(text, pair.pattern) {
         return Some(true);
     }
-    if uneven(text, pattern, row) {
+    if uneven(text, pair.pattern, pair.row) {
         return Some(false);
     }
     None
 }
 
 // Does an earlier pattern shadow a later one?
-fn shadow(text: &[u8], terms: &[u8], earlier: &[u8], at: usize, later: &[u8], start: usize) -> bool
-    requires terms_len_bound { (length terms.now < 65536) × Stands terms.now earlier.now at × Stands terms.now later.now start }
-    requires earlier_bound { distinct (variables_in (row_of text.now earlier.now)) ≤ 32 }
-    ensures { result ≡ shadows (row_of text.now earlier.now) (row_of text.now later.now) }
+fn shadow(pair: &Pair) -> bool
+    requires { distinct (variables_in (row_of pair.now.records.text.now pair.now.pattern.now)) ≤ 32 }
+    ensures { result ≡ shadows (row_of pair.now.records.text.now pair.now.pattern.now) (row_of pair.now.records.text.now pair.now.row.now) }
 {
-    match known(text, earlier, later) {
+    match known(pair) {
         Some(answer) => answer,
-        None => search_shadow(text, terms, earlier, at, later, start),
+        None => search_shadow(pair),
     }
 }
 
 // Does a pattern match a literal part?
-fn literal(text: &[u8], terms: &[u8], pattern: &[u8], at: usize, row: &[u8], start: usize) -> bool
-    requires terms_len_bound { (length terms.now < 65536) × Stands terms.now pattern.now at × Stands terms.now row.now start }
-    requires pattern_bound { (distinct (variables_in (row_of text.now pattern.now)) ≤ 32) × (nesting (row_of text.now pattern.now) ≤ 33) × (literal_part row.now ≡ true) }
-    ensures { result ≡ literal_matches (row_of text.now pattern.now) (symbols_of text.now row.now) }
+fn literal(pair: &Pair) -> bool
+    requires { (distinct (variables_in (row_of pair.now.records.text.now pair.now.pattern.now)) ≤ 32)
+        × (nesting (row_of pair.now.records.text.now pair.now.pattern.now) ≤ 33) × (literal_part pair.now.row.now ≡ true) }
+    ensures { result ≡ literal_matches (row_of pair.now.records.text.now pair.now.pattern.now) (symbols_of pair.now.records.text.now pair.now.row.now) }
 {
-    match known(text, pattern, row) {
+    match known(pair) {
         Some(answer) => answer,
-        None => search_literal(text, terms, pattern, at, row, start),
+        None => search_literal(pair),
+    }
+}
+
+// The text of a law and all its term records.
+fn all_records<'a>(accepted: &AcceptedLaw<'a>) -> Records<'a>
+    ensures { (result.text.now ≡ (file_of accepted.now.law.bytes.now).text.records) × (result.terms.now ≡ (file_of accepted.now.law.bytes.now).terms.records) }
+{
+    let law = &accepted.law;
+    Records {
+        text: law.text(),
+        terms: law.records(0, law.terms()),
     }
 }
 
@@ -75,17 +88,13 @@ pub fn sentence_shadows(accepted: &AcceptedLaw, earlier: usize, later: usize) ->
         (row_of (file_of accepted.now.law.bytes.now).text.records (pattern_part (file_of accepted.now.law.bytes.now) later)) }
 {
     let law = &accepted.law;
-    let section = law.records(0, law.terms());
-    let at = 24 * law.pattern_at(earlier);
-    let start = 24 * law.pattern_at(later);
-    shadow(
-        law.text(),
-        section,
-        law.pattern(earlier),
-        at,
-        law.pattern(later),
-        start,
-    )
+    shadow(&Pair {
+        records: all_records(accepted),
+        pattern: law.pattern(earlier),
+        at: 24 * law.pattern_at(earlier),
+        row: law.pattern(later),
+        start: 24 * law.pattern_at(later),
+    })
 }
 
 // The records inside a term record: a call's argument.
@@ -106,17 +115,13 @@ pub fn sentence_matches(accepted: &AcceptedLaw, sentence: usize, term: usize) ->
         (symbols_of (file_of accepted.now.law.bytes.now).text.records (argument_part (file_of accepted.now.law.bytes.now) term)) }
 {
     let law = &accepted.law;
-    let section = law.records(0, law.terms());
-    let at = 24 * law.pattern_at(sentence);
-    let start = 24 * (term + 1);
-    literal(
-        law.text(),
-        section,
-        law.pattern(sentence),
-        at,
-        argument_of(accepted, term),
-        start,
-    )
+    literal(&Pair {
+        records: all_records(accepted),
+        pattern: law.pattern(sentence),
+        at: 24 * law.pattern_at(sentence),
+        row: argument_of(accepted, term),
+        start: 24 * (term + 1),
+    })
 }
 
 // Is a term record a call whose argument is literal?

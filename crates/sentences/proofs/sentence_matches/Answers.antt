@@ -1,29 +1,35 @@
--- All that `literal` asks for holds in an accepted law: `literal_asks`.
+-- All that `literal` asks for holds in an accepted law.
 use Rattle.std.proofs.Common.{arith}
 use Rattle.law.proofs.IndexLaws.{terms_limit}
-use Rattle.sentences.proofs.SentenceLaws.{pattern_low, literal_asks, literal_is}
+use Rattle.sentences.proofs.SentenceLaws.{pattern_low, few_terms, pattern_stands, argument_stands, pattern_few, pattern_nested}
 use Rattle.sentences.proofs.sentence_matches.Goals as goal
 
-pub overflow_mul-at : goal.overflow_mul-at
-overflow_mul-at c =
-    let a = c.args.accepted.now in omega (arith, pattern_low _ _ a.law.indexed a.accepted _ _ c.requires.0 c.pattern_at-at.ensures)
+pub overflow_mul-pattern_at : goal.overflow_mul-pattern_at
+overflow_mul-pattern_at c =
+    let a = c.args.accepted.now in omega (arith, pattern_low _ _ a.law.indexed a.accepted _ _ c.requires.0 c.pattern_at.ensures)
 
-pub overflow_mul-start : goal.overflow_mul-start
-overflow_mul-start c = omega (arith, terms_limit _ _ c.args.accepted.now.law.indexed, c.requires.1)
+pub overflow_add-term : goal.overflow_add-term
+overflow_add-term c = omega (arith, terms_limit _ _ c.args.accepted.now.law.indexed, c.requires.1)
 
-pub literal-requires-clause-terms_len_bound : goal.literal-requires-clause-terms_len_bound
-literal-requires-clause-terms_len_bound c =
+pub overflow_mul-term : goal.overflow_mul-term
+overflow_mul-term c = omega (arith, terms_limit _ _ c.args.accepted.now.law.indexed, c.requires.1)
+
+pub invariant_of-literal : goal.invariant_of-literal
+invariant_of-literal c =
     let a = c.args.accepted.now in
-    (literal_asks _ _ a.law.indexed a.accepted _ _ c.terms.ensures c.records-section.ensures _ c.text.ensures _ _ _ _ _ c.requires.0 c.requires.1 c.requires.2
-    c.pattern_at-at.ensures c.pattern.ensures c.argument_of.ensures).0
+    let all = c.all_records.ensures in
+    record {
+      few = few_terms _ _ a.law.indexed a.accepted _ _ all.0 all.1;
+      pattern_stands = pattern_stands _ _ a.law.indexed a.accepted _ _ all.0 all.1 _ _ c.requires.0 c.pattern.ensures _ c.pattern_at.ensures;
+      row_stands = argument_stands _ _ a.law.indexed a.accepted _ _ all.0 all.1 _ _ c.requires.1 c.argument_of.ensures;
+    }
 
-pub literal-requires-clause-pattern_bound : goal.literal-requires-clause-pattern_bound
-literal-requires-clause-pattern_bound c =
+pub literal-requires : goal.literal-requires
+literal-requires c =
     let a = c.args.accepted.now in
-    (literal_asks _ _ a.law.indexed a.accepted _ _ c.terms.ensures c.records-section.ensures _ c.text.ensures _ _ _ _ _ c.requires.0 c.requires.1 c.requires.2
-    c.pattern_at-at.ensures c.pattern.ensures c.argument_of.ensures).1
-
-pub returns : goal.returns
-returns c =
-    let a = c.args.accepted.now in
-    literal_is _ _ a.law.indexed a.accepted _ _ c.terms.ensures c.records-section.ensures _ c.text.ensures _ _ _ _ _ c.pattern.ensures c.argument_of.ensures c.literal.ensures
+    let all = c.all_records.ensures in
+    let p = c.requires in (
+      pattern_few _ _ a.law.indexed a.accepted _ _ all.0 all.1 _ _ p.0 c.pattern.ensures,
+      pattern_nested _ _ a.law.indexed a.accepted _ _ all.0 all.1 _ _ p.0 c.pattern.ensures,
+      rw c.argument_of.ensures p.2,
+    )

@@ -1,29 +1,28 @@
--- All that `shadow` asks for holds in an accepted law: `shadow_asks`.
+-- All that `shadow` asks for holds in an accepted law.
 use Rattle.std.proofs.Common.{arith}
-use Rattle.sentences.proofs.SentenceLaws.{pattern_low, shadow_asks, shadow_is}
+use Rattle.sentences.proofs.SentenceLaws.{pattern_low, few_terms, pattern_stands, pattern_few}
 use Rattle.sentences.proofs.sentence_shadows.Goals as goal
 
-pub overflow_mul-at : goal.overflow_mul-at
-overflow_mul-at c =
-    let a = c.args.accepted.now in omega (arith, pattern_low _ _ a.law.indexed a.accepted _ _ c.requires.0 c.pattern_at-at.ensures)
+pub overflow_mul-pattern_at : goal.overflow_mul-pattern_at
+overflow_mul-pattern_at c =
+    let a = c.args.accepted.now in omega (arith, pattern_low _ _ a.law.indexed a.accepted _ _ c.requires.0 c.pattern_at.ensures)
 
-pub overflow_mul-start : goal.overflow_mul-start
-overflow_mul-start c =
-    let a = c.args.accepted.now in omega (arith, pattern_low _ _ a.law.indexed a.accepted _ _ c.requires.1 c.pattern_at-start.ensures)
+pub overflow_mul-pattern_at-2 : goal.overflow_mul-pattern_at-2
+overflow_mul-pattern_at-2 c =
+    let a = c.args.accepted.now in omega (arith, pattern_low _ _ a.law.indexed a.accepted _ _ c.requires.1 c.pattern_at-2.ensures)
 
-pub shadow-requires-clause-terms_len_bound : goal.shadow-requires-clause-terms_len_bound
-shadow-requires-clause-terms_len_bound c =
+pub invariant_of-shadow : goal.invariant_of-shadow
+invariant_of-shadow c =
     let a = c.args.accepted.now in
-    (shadow_asks _ _ a.law.indexed a.accepted _ _ c.terms.ensures c.records-section.ensures _ c.text.ensures _ _ _ _ _ _ c.requires.0 c.requires.1
-    c.pattern_at-at.ensures c.pattern_at-start.ensures c.pattern.ensures c.pattern-2.ensures).0
+    let all = c.all_records.ensures in
+    record {
+      few = few_terms _ _ a.law.indexed a.accepted _ _ all.0 all.1;
+      pattern_stands = pattern_stands _ _ a.law.indexed a.accepted _ _ all.0 all.1 _ _ c.requires.0 c.pattern.ensures _ c.pattern_at.ensures;
+      row_stands = pattern_stands _ _ a.law.indexed a.accepted _ _ all.0 all.1 _ _ c.requires.1 c.pattern-2.ensures _ c.pattern_at-2.ensures;
+    }
 
-pub shadow-requires-clause-earlier_bound : goal.shadow-requires-clause-earlier_bound
-shadow-requires-clause-earlier_bound c =
+pub shadow-requires : goal.shadow-requires
+shadow-requires c =
     let a = c.args.accepted.now in
-    (shadow_asks _ _ a.law.indexed a.accepted _ _ c.terms.ensures c.records-section.ensures _ c.text.ensures _ _ _ _ _ _ c.requires.0 c.requires.1
-    c.pattern_at-at.ensures c.pattern_at-start.ensures c.pattern.ensures c.pattern-2.ensures).1
-
-pub returns : goal.returns
-returns c =
-    let a = c.args.accepted.now in
-    shadow_is _ _ a.law.indexed a.accepted _ _ c.terms.ensures c.records-section.ensures _ c.text.ensures _ _ _ _ _ c.pattern.ensures c.pattern-2.ensures c.shadow.ensures
+    let all = c.all_records.ensures in
+    pattern_few _ _ a.law.indexed a.accepted _ _ all.0 all.1 _ _ c.requires.0 c.pattern.ensures
