@@ -7,6 +7,7 @@ use mathlib.Core.Path.{◌≡◌, refl, sym, ◌∙◌}
 use native.Mathlib.Omega.{arith}
 use native.Mathlib.Nat.{zero-add}
 use native.Mathlib.Numerals.{add-one}
+use Rattle.std.specs.Prelude.{Some, None}
 use lib.ListN.{get_or}
 use Rattle.file.specs.Sections.{File, file_of}
 use Rattle.law.specs.Tree.{Run, no_condition}
@@ -21,7 +22,7 @@ use Rattle.matching.specs.Shadow.{shadows, shadows_with}
 use Rattle.sentences.specs.Entry.{pattern_in}
 use Rattle.matching.proofs.PartLaws.{row_run}
 use Rattle.lints.specs.Dead.{Earlier, unconditional, earliest}
-use Rattle.lints.specs.Code.Records.{conditions_at, earlier_at, number_or0}
+use Rattle.lints.specs.Code.Records.{conditions_at, earlier_at, earliest_from}
 
 -- the first number of two, where there is one
 abbrev pub or_else : Option ℕ → Option ℕ → Option ℕ
@@ -140,10 +141,10 @@ module _ {bytes index : List ℕ} (indexed : Indexed bytes index) (first later i
   pub again_pattern : {r : Bool} → a - b ≡ 0 → r ≡ answered → r ≡ false → earliest_in i ≡ none → earliest_in (i + 1) ≡ none
   again_pattern z h f e = rw (add-one i) (not_by_pattern (file_of bytes) first _ i (sym conditions_number ∙ z) (answer_is h ∙ f) e)
 
-  pub shadow_found : {r : Bool} → a - b ≡ 0 → r ≡ answered → r ≡ true → earliest_in i ≡ none → i + 1 ≡ number_or0 (earliest_in later)
-  shadow_found z h f e = rw (found_shadow (file_of bytes) first _ i later more (sym conditions_number ∙ z) (answer_is h ∙ f) e) (add-one i)
+  pub shadow_found : {r : Bool} → a - b ≡ 0 → r ≡ answered → r ≡ true → earliest_in i ≡ none → earliest_from (Some (i + 1)) ≡ earliest_in later
+  shadow_found z h f e = rw (found_shadow (file_of bytes) first _ i later more (sym conditions_number ∙ z) (answer_is h ∙ f) e, add-one i)
 
 -- no sentence is left
 pub search_ends : (file : File) (first later i : ℕ) (p : Pattern) → later ≤ i → i ≤ later → earliest [] (earlier_at file first i) p ≡ none
-    → 0 ≡ number_or0 (earliest [] (earlier_at file first later) p)
+    → earliest_from None ≡ earliest [] (earlier_at file first later) p
 search_ends file first later i p h k e = let same : later ≡ i = omega arith in rw (same, e)

@@ -9,4 +9,5 @@ pub mod Owners
 pub mod LevelLaws
 pub mod DeadLaws
 pub mod ArgumentParts
+pub mod Holdings
 pub mod RecognitionLaws

@@ -4,6 +4,8 @@ use mathlib.Core.Bool.{Bool, true, false, cond, not, ◌||◌}
 use mathlib.Core.List.{List, [], ◌∷◌, ◌++◌}
 use mathlib.Core.Option.{Option, none, some}
 use mathlib.Core.Path.{◌≡◌, refl, sym, ap, ◌∙◌}
+use Rattle.std.specs.Prelude.{Option as Answer, Some, None}
+use Rattle.std.proofs.lemmas.Option.{same_Some}
 use native.Mathlib.Omega.{arith}
 use native.Mathlib.Nat.{zero-add, add-sub_cancel_left}
 use lib.Seq.{take_at}
@@ -45,9 +47,7 @@ use Rattle.matching.proofs.PartLaws.{row_run}
 use Rattle.searches.proofs.LiteralParts.{part_literal, part_symbols}
 use Rattle.lints.specs.Recognition.{some_matches, compared_with, compared, passed, accepted}
 use Rattle.lints.specs.Code.Records.{Prepared, formats_in, call_at}
-use Rattle.lints.specs.Code.Verdicts.{verdict_of, last_placed, function_sentences, comparison}
-use Rattle.lints.specs.declared.recognition.Verdict.{Verdict}
-use Rattle.lints.specs.declared.recognition.Verdict.TheVariants.{Nothing, TooWide, ByFormats, ByLiterals}
+use Rattle.lints.specs.Code.Verdicts.{Verdict, Wide, ByFormats, ByLiterals, Nothing, verdict_of, last_placed, function_sentences, comparison}
 use Rattle.lints.proofs.ArgumentParts.{argument_here}
 
 -- ---- the last definition of a name
@@ -101,16 +101,17 @@ module _ (file : File) (name : List ℕ) where
       rw (function_reads file f (omega arith))
       (definition_later (function_at file f) (functions_at file (suc f)) name ss (definition_before k (suc f) ss (omega arith) (rw next at h)))
 
-  -- what the function f defines; nothing, from the number of functions on
-  abbrev defined_by : ℕ → Option Sentences
-  defined_by f = cond (ltb f file.functions.count) (some (function_sentences file f)) none
+  -- what the function that was found defines
+  abbrev defined_by : Answer ℕ → Option Sentences
+  defined_by None = none
+  defined_by (Some f) = some (function_sentences file f)
 
   module _ (slots : List ℕ) (place : ℕ) (places : SlotsOf file slots) (is : place ≡ position (file_names file) name) where
     -- the last of the first n functions whose name has the place, where no later function defines the name
     last_defined : (n : ℕ) → n ≤ file.functions.count → definition (functions_at file n) name ≡ none
-        → definition (tree_of file) name ≡ defined_by (last_placed slots place file.functions.count n)
+        → definition (tree_of file) name ≡ defined_by (last_placed slots place n)
     unfolding last_placed
-    last_defined zero l h = rw (tree_functions_lem file, h, le-ltb file.functions.count file.functions.count (omega arith))
+    last_defined zero l h = rw (tree_functions_lem file, h)
     last_defined (suc n) l h = go (eqb (get_or slots n 0) place) refl (last_defined n)
       where
         here : get_or slots n 0 ≡ position (file_names file) (function_folded file n)
@@ -121,46 +122,44 @@ module _ (file : File) (name : List ℕ) where
         other d false e = e
 
         go : (b : Bool) → eqb (get_or slots n 0) place ≡ b
-            → (n ≤ file.functions.count → definition (functions_at file n) name ≡ none → definition (tree_of file) name ≡ defined_by (last_placed slots place file.functions.count n))
-            → definition (tree_of file) name ≡ defined_by (cond b n (last_placed slots place file.functions.count n))
+            → (n ≤ file.functions.count → definition (functions_at file n) name ≡ none → definition (tree_of file) name ≡ defined_by (last_placed slots place n))
+            → definition (tree_of file) name ≡ defined_by (cond b (Some n) (last_placed slots place n))
         go true e ih =
             let same : function_folded file n ≡ name =
             place_same (file_names file) (function_folded file n) name (sym here ∙ (eqb-true (get_or slots n 0) place e ∙ is)) (function_placed file n (omega arith)) in
-            rw (lt-ltb n file.functions.count (omega arith), tree_functions_lem file)
+            rw (tree_functions_lem file)
             (definition_before n 0 (function_sentences file n) (omega arith) (rw zero-add (definition_here n (omega arith) same h)))
         go false e ih = ih (omega arith) (definition_other n (omega arith) (other e (same_bytes (function_folded file n) name) refl) h)
 
     -- of all functions
-    pub last_of_all : {count f : ℕ} → count ≡ file.functions.count → f ≡ last_placed slots place count count → definition (tree_of file) name ≡ defined_by f
+    pub last_of_all : {count : ℕ} {f : Answer ℕ} → count ≡ file.functions.count → f ≡ last_placed slots place count → definition (tree_of file) name ≡ defined_by f
     last_of_all {count} {f} e q =
         rw (q, e)
         (last_defined file.functions.count (omega arith) (rw (functions_end file file.functions.count (omega arith)) (undefined name)))
 
--- a function that was found has the place
-last_found : (slots : List ℕ) (place count n : ℕ) → n ≤ count → last_placed slots place count n < count
-    → get_or slots (last_placed slots place count n) 0 ≡ place
+-- a function that was found is one of these, and has the place
+last_found : (slots : List ℕ) (place f n : ℕ) → last_placed slots place n ≡ Some f → (f < n) × (get_or slots f 0 ≡ place)
 unfolding last_placed
-last_found slots place count zero l k = absurd (omega arith)
-last_found slots place count (suc n) l k = go (eqb (get_or slots n 0) place) refl k (last_found slots place count n (omega arith))
+last_found slots place f zero e = cc
+last_found slots place f (suc n) e = go (eqb (get_or slots n 0) place) refl e (last_found slots place f n)
   where
-    go : (b : Bool) → eqb (get_or slots n 0) place ≡ b → cond b n (last_placed slots place count n) < count
-        → (last_placed slots place count n < count → get_or slots (last_placed slots place count n) 0 ≡ place)
-        → get_or slots (cond b n (last_placed slots place count n)) 0 ≡ place
-    go true e k ih = eqb-true (get_or slots n 0) place e
-    go false e k ih = ih k
+    go : (b : Bool) → eqb (get_or slots n 0) place ≡ b → cond b (Some n) (last_placed slots place n) ≡ Some f
+        → (last_placed slots place n ≡ Some f → (f < n) × (get_or slots f 0 ≡ place)) → (f < suc n) × (get_or slots f 0 ≡ place)
+    go true e q ih = let same : n ≡ f = same_Some n f q in rw (← same) (omega arith, eqb-true (get_or slots n 0) place e)
+    go false e q ih = (omega (arith, (ih q).0), (ih q).1)
 
 -- the search from the last function down: the functions from f on have other places
-pub last_here : (slots : List ℕ) (place count f g : ℕ) → f ≡ suc g → get_or slots g 0 ≡ place → g ≡ last_placed slots place count f
+pub last_here : (slots : List ℕ) (place f g : ℕ) → f ≡ suc g → get_or slots g 0 ≡ place → Some g ≡ last_placed slots place f
 unfolding last_placed
-last_here slots place count f g e h = rw (e, eq-eqb (get_or slots g 0) place h)
+last_here slots place f g e h = rw (e, eq-eqb (get_or slots g 0) place h)
 
-pub last_next : (slots : List ℕ) (place count f g : ℕ) → f ≡ suc g → (get_or slots g 0 ≡ place → ⊥) → last_placed slots place count f ≡ last_placed slots place count g
+pub last_next : (slots : List ℕ) (place f g : ℕ) → f ≡ suc g → (get_or slots g 0 ≡ place → ⊥) → last_placed slots place f ≡ last_placed slots place g
 unfolding last_placed
-last_next slots place count f g e h = rw (e, ne_eqb (get_or slots g 0) place h)
+last_next slots place f g e h = rw (e, ne_eqb (get_or slots g 0) place h)
 
-pub last_none : (slots : List ℕ) (place count f : ℕ) → f ≡ 0 → count ≡ last_placed slots place count f
+pub last_none : (slots : List ℕ) (place f : ℕ) → f ≡ 0 → None ≡ last_placed slots place f
 unfolding last_placed
-last_none slots place count f e = rw e
+last_none slots place f e = rw e
 
 -- ---- the sentences that match a literal argument
 
@@ -256,7 +255,7 @@ module _ {bytes index slots store : List ℕ} {limit : ℕ} (p : Prepared bytes 
 
   -- the argument has too many shapes
   pub compared_wide : {words : List ℕ} {ok : Bool} → FormatMade limit (passed (formats_in (file_of bytes) limit store) (call_at (file_of bytes) t)) ok words
-      → ok ≡ false → TooWide ≡ comparison limit (formats_in (file_of bytes) limit store) (call_at (file_of bytes) t)
+      → ok ≡ false → Wide ≡ comparison limit (formats_in (file_of bytes) limit store) (call_at (file_of bytes) t)
   unfolding comparison
   compared_wide made bad = rw (lt-ltb limit (size (passed (formats_in (file_of bytes) limit store) (call_at (file_of bytes) t))) (made_passes made bad))
 
@@ -312,8 +311,7 @@ module _ (file : File) (f t : ℕ) {literal : Bool} (known : literal ≡ is_lite
   literal_known e = sym known ∙ e
 
 module _ {bytes index slots store : List ℕ} {limit : ℕ} (p : Prepared bytes index slots store limit) (t : ℕ) (inside : t < (file_of bytes).terms.count)
-    (kind : word_at (file_of bytes).terms.records (24 * t) ≡ 7) {place count f : ℕ} (at_slot : place ≡ get_or slots (64 + t) 0) (all : count ≡ get_or index 4 0)
-    (last : f ≡ last_placed slots place count count) where
+    (kind : word_at (file_of bytes).terms.records (24 * t) ≡ 7) {place count : ℕ} (at_slot : place ≡ get_or slots (64 + t) 0) (all : count ≡ get_or index 4 0) where
   count_is : count ≡ (file_of bytes).functions.count
   count_is = all ∙ p.asked.indexed.words.functions
 
@@ -321,28 +319,30 @@ module _ {bytes index slots store : List ℕ} {limit : ℕ} (p : Prepared bytes 
   pub place_is : place ≡ position (file_names (file_of bytes)) (call_folded (file_of bytes) t)
   place_is = at_slot ∙ p.asked.places.calls t inside kind
 
-  defined : definition (tree_of (file_of bytes)) (call_folded (file_of bytes) t) ≡ defined_by (file_of bytes) (call_folded (file_of bytes) t) f
-  defined = last_of_all (file_of bytes) (call_folded (file_of bytes) t) slots place p.asked.places place_is count_is last
+  defined : {found : Answer ℕ} → found ≡ last_placed slots place count
+      → definition (tree_of (file_of bytes)) (call_folded (file_of bytes) t) ≡ defined_by (file_of bytes) (call_folded (file_of bytes) t) found
+  defined last = last_of_all (file_of bytes) (call_folded (file_of bytes) t) slots place p.asked.places place_is count_is last
 
   -- its function is not defined
-  pub verdict_undefined : count ≤ f → Nothing ≡ verdict_of limit (tree_of (file_of bytes)) (formats_in (file_of bytes) limit store) (call_at (file_of bytes) t)
+  pub verdict_undefined : None ≡ last_placed slots place count
+      → Nothing ≡ verdict_of limit (tree_of (file_of bytes)) (formats_in (file_of bytes) limit store) (call_at (file_of bytes) t)
   unfolding verdict_of compared
-  verdict_undefined l = rw (defined, le-ltb f (file_of bytes).functions.count (omega (arith, count_is)))
+  verdict_undefined last = rw (defined last)
 
-  module _ (found : f < count) where
+  module _ {f : ℕ} (last : Some f ≡ last_placed slots place count) where
     pub function_here_lem : f < (file_of bytes).functions.count
-    function_here_lem = omega (arith, count_is)
+    function_here_lem = omega (arith, (last_found slots place f count (sym last)).0, count_is)
 
     -- the place is one of the names'
     pub place_inside : place < length (file_names (file_of bytes))
     place_inside =
-        let here : get_or slots f 0 ≡ place = rw last (last_found slots place count count (omega arith) (rw last at found)) in
+        let here : get_or slots f 0 ≡ place = (last_found slots place f count (sym last)).1 in
         rw (← here, p.asked.places.functions f function_here_lem) (function_placed (file_of bytes) f function_here_lem)
 
     compared_here : {r : Bool} → r ≡ compared_with (some (function_sentences (file_of bytes) f)) (argument_in (file_of bytes) t)
         → compared (tree_of (file_of bytes)) (call_at (file_of bytes) t) ≡ r
     unfolding compared
-    compared_here e = rw (defined, lt-ltb f (file_of bytes).functions.count function_here_lem) (sym e)
+    compared_here e = rw (defined last) (sym e)
 
     -- it is not compared
     pub verdict_silent : {r : Bool} → r ≡ compared_with (some (function_sentences (file_of bytes) f)) (argument_in (file_of bytes) t) → r ≡ false

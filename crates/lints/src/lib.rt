@@ -5,6 +5,7 @@
 
 pub mod builtin;
 pub mod dead;
+pub mod held;
 pub mod levels;
 pub mod open;
 pub mod recognition;

@@ -1,5 +1,5 @@
 -- What the code of the lints asks and finds by the numbers of records, from 0.
-use Rattle.std.specs.Prelude.{ℕ, zero, suc, ◌+◌, ◌*◌, List, [], ◌++◌, length}
+use Rattle.std.specs.Prelude.{ℕ, zero, suc, ◌+◌, ◌*◌, List, [], ◌++◌, length, Option as Answer, Some, None}
 use Rattle.std.proofs.Math.Option.{Option, none, some}
 use Rattle.file.specs.Word.{word_at}
 use Rattle.file.specs.Sections.{File, file_of}
@@ -43,7 +43,7 @@ module _ (file : File) where
   earlier_at first (suc n) =
       earlier_at first n ++ unconditional (conditions_at (first + n)) (suc n) (run_of file (own file) (pattern_at file (first + n)) (pattern_part file (first + n)))
 
--- a sentence's number from 1, 0 for none
-abbrev pub number_or0 : Option ℕ → ℕ
-number_or0 none = 0
-number_or0 (some n) = n
+-- the number of a sentence that was found
+abbrev pub earliest_from : Answer ℕ → Option ℕ
+earliest_from None = none
+earliest_from (Some n) = some n

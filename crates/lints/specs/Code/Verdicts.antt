@@ -1,5 +1,5 @@
 -- What lint 2 says of one call.
-use Rattle.std.specs.Prelude.{ℕ, zero, suc, cond, List, get_or, eqb, ltb}
+use Rattle.std.specs.Prelude.{ℕ, zero, suc, cond, List, get_or, eqb, ltb, Option, Some, None, Result, Ok, Err}
 use Rattle.file.specs.Sections.{File}
 use Rattle.law.specs.Tree.{Sentences, Law, keep}
 use Rattle.law.specs.Places.{sentences_of, first_sentence}
@@ -10,13 +10,29 @@ use Rattle.formats.specs.Infer.{Formats}
 use Rattle.matching.specs.Literal.{is_literal}
 use Rattle.lints.specs.Calls.{Call}
 use Rattle.lints.specs.Recognition.{compared, passed, accepted}
-use Rattle.lints.specs.declared.recognition.Verdict.{Verdict}
-use Rattle.lints.specs.declared.recognition.Verdict.TheVariants.{Nothing, TooWide, ByFormats, ByLiterals}
+use Rattle.lints.specs.declared.recognition.Reason as reasons
+use Rattle.lints.specs.declared.recognition.TooWide.{TooWide}
 
--- of one that is compared: `TooWide` where its argument has over `limit` shapes
+abbrev pub Verdict : Type 0
+Verdict = Result (Option reasons.Reason) TooWide
+
+-- its argument has too many shapes to be compared; no sentence matches it, by formats or by literals; nothing
+abbrev pub Wide : Verdict
+Wide = Err (record {})
+
+abbrev pub ByFormats : Verdict
+ByFormats = Ok (Some reasons.TheVariants.Formats)
+
+abbrev pub ByLiterals : Verdict
+ByLiterals = Ok (Some reasons.TheVariants.Literals)
+
+abbrev pub Nothing : Verdict
+Nothing = Ok None
+
+-- of one that is compared: `Wide` where its argument has over `limit` shapes
 unfoldable pub comparison : ℕ → Formats → Call → Verdict
 comparison limit formats c =
-    cond (ltb limit (size (passed formats c))) TooWide
+    cond (ltb limit (size (passed formats c))) Wide
     (cond (disjoint_formats (of (passed formats c)) (accepted formats c)) ByFormats (cond (is_literal c.argument) ByLiterals Nothing))
 
 unfoldable pub verdict_of : ℕ → Law → Formats → Call → Verdict
@@ -24,10 +40,10 @@ verdict_of limit law formats c = cond (compared law c) (comparison limit formats
 
 -- ---- what the code finds on its way
 
--- the last of the first n functions whose name has this place; `missing` where no name has it
-unfoldable pub last_placed : List ℕ → ℕ → ℕ → ℕ → ℕ
-last_placed slots place missing zero = missing
-last_placed slots place missing (suc n) = cond (eqb (get_or slots n 0) place) n (last_placed slots place missing n)
+-- the last of the first n functions whose name has this place
+unfoldable pub last_placed : List ℕ → ℕ → ℕ → Option ℕ
+last_placed slots place zero = None
+last_placed slots place (suc n) = cond (eqb (get_or slots n 0) place) (Some n) (last_placed slots place n)
 
 -- the sentences of the function f
 abbrev pub function_sentences : File → ℕ → Sentences

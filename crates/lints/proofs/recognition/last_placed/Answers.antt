@@ -1,0 +1,16 @@
+use Rattle.std.proofs.Common.{sym, ◌∙◌, arith}
+use Rattle.lints.proofs.RecognitionLaws.{last_here, last_next, last_none}
+use Rattle.lints.proofs.recognition.last_placed.Goals as goal
+
+pub loop-f-preserved : goal.loop-f-preserved
+loop-f-preserved c =
+    c.loop-f.invariant
+    ∙ last_next c.args.slots.now c.args.place c.loop-f.f _ (omega arith) (λ e. c.if-wide-place.false (c.wide.ensures.0 ∙ e))
+
+pub returns-then-wide-place : goal.returns-then-wide-place
+returns-then-wide-place c =
+    last_here c.args.slots.now c.args.place c.loop-f.f _ (omega arith) (sym c.wide.ensures.0 ∙ c.if-wide-place.true)
+    ∙ sym c.loop-f.invariant
+
+pub returns : goal.returns
+returns c = last_none c.args.slots.now c.args.place c.loop-f.f (omega arith) ∙ sym c.loop-f.invariant
