@@ -6,7 +6,7 @@ use mathlib.Core.Option.{Option, none, some}
 use mathlib.Core.Path.{◌≡◌, refl, sym, ap, ◌∙◌}
 use native.Mathlib.Omega.{arith}
 use lib.ListN.{length, take, drop}
-use lib.Dec.{ltb}
+use lib.Dec.{eqb, ltb}
 use borrow.Author.Tests.{eq-eqb, ne_eqb, eqb-true, not-true, not-false}
 use Rattle.names.specs.Name.{folded}
 use Rattle.file.specs.Word.{word_at}
@@ -32,14 +32,18 @@ use Rattle.lints.specs.Builtin.{builtins, domain_in, failure, failed, builtin_on
 use Rattle.lints.specs.Code.Part.{argument_of}
 use Rattle.lints.specs.Code.Records.{call_at}
 use Rattle.lints.proofs.PartLaws.{failure_same}
+use Rattle.lints.specs.Lint.{lint_number}
+use Rattle.lints.specs.Code.Overrides.{lint_meant}
+use Rattle.lints.specs.declared.levels.Lint.{Lint}
+use Rattle.lints.specs.declared.levels.Lint.TheVariants.{Dead, Recognition, Builtin, Open}
 use Rattle.findings.specs.declared.Task.{Task}
 use Rattle.findings.specs.declared.Note.{Note}
-use Rattle.lints.specs.declared.recognition.Verdict.{Verdict}
-use Rattle.lints.specs.declared.recognition.Verdict.TheVariants.{Nothing, TooWide, ByFormats, ByLiterals}
+use Rattle.std.specs.Prelude.{Ok, Err}
+use Rattle.findings.specs.declared.Ended.TheVariants as ended
 use Rattle.findings.specs.Code.Events.{Tally, Over, Event, noting, too_wide, Sink, sink_of, met, collect}
-use Rattle.findings.specs.Code.Tasks.{note_words, remark_events, recognition_events, call_events, calls_at}
+use Rattle.findings.specs.Code.Tasks.{number_of, note_words, remark_events, recognition_events, call_events, calls_at}
 use Rattle.findings.specs.Code.Judging.{call_note, call_found, verdict_events, failure_events, is_over}
-use Rattle.lints.specs.Code.Verdicts.{verdict_of, comparison}
+use Rattle.lints.specs.Code.Verdicts.{Verdict, Wide, ByFormats, ByLiterals, Nothing, verdict_of, comparison}
 use Rattle.findings.proofs.CollectLaws.{collect_none, collect_one}
 
 -- ---- collecting
@@ -55,9 +59,9 @@ met_by f room s e h = rw e h
 -- an argument that is too wide ends the count
 pub collect_wide : (room : ℕ) (tally : Tally) (words : List ℕ) → sink_of Over words ≡ collect room (sink_of tally words) (too_wide ∷ [])
 unfolding collect
-collect_wide room zero words = refl
-collect_wide room (suc zero) words = refl
-collect_wide room (suc (suc n)) words = refl
+collect_wide room (Err ended.TooWide) words = refl
+collect_wide room (Err ended.Full) words = refl
+collect_wide room (Ok n) words = refl
 
 -- a count that has ended stays
 collect_ended : (room : ℕ) (words : List ℕ) (es : List Event) → sink_of Over words ≡ collect room (sink_of Over words) es
@@ -66,7 +70,9 @@ collect_ended room words [] = refl
 collect_ended room words (e ∷ es) = collect_ended room words es
 
 pub collect_over : (room : ℕ) (tally : Tally) (words : List ℕ) (es : List Event) → is_over tally ≡ true → sink_of tally words ≡ collect room (sink_of tally words) es
-collect_over room tally words es h = rw (eqb-true tally Over h) (collect_ended room words es)
+collect_over room (Ok n) words es h = cc
+collect_over room (Err ended.TooWide) words es h = collect_ended room words es
+collect_over room (Err ended.Full) words es h = cc
 
 -- ---- a finding about a call
 
@@ -111,7 +117,7 @@ verdict_events_lem file task formats law t =
     (disjoint_formats (of (passed formats (call_at file t))) (accepted formats (call_at file t))) (is_literal (argument_in file t))
   where
     go : (a b c d : Bool)
-        → verdict_events file task t (cond a (cond b TooWide (cond c ByFormats (cond d ByLiterals Nothing))) Nothing)
+        → verdict_events file task t (cond a (cond b Wide (cond c ByFormats (cond d ByLiterals Nothing))) Nothing)
         ≡ when a (cond b (too_wide ∷ []) (when task.shown (remark_events task (cond c
         (remark (call_at file t) (by_formats (call_at file t).name (accepted formats (call_at file t)) (of (passed formats (call_at file t)))) ∷ [])
         (when d (remark (call_at file t) (by_literals (call_at file t).name) ∷ []))))))
@@ -183,16 +189,25 @@ module _ (file : File) (t : ℕ) {kind : ℕ} (read : kind ≡ word_at file.term
     call_events_lem = rw (eq-eqb (word_at file.terms.records (24 * t)) 7 (kind_call e)) (append-nil (call_events law formats task (call_at file t)))
 
     -- lint 2, lint 3, and the others
-    pub met_recognition : (room : ℕ) (s : Sink) {r : Sink} → task.lint ≡ 2 → r ≡ collect room s (recognition_events law formats task (call_at file t))
+    pub met_recognition : (room : ℕ) (s : Sink) {r : Sink} → task.lint ≡ Recognition → r ≡ collect room s (recognition_events law formats task (call_at file t))
         → r ≡ collect room s (each (call_events law formats task) (calls_at file t))
     unfolding call_events
     met_recognition room s two is = is ∙ rw (call_events_lem, two)
 
-    pub met_builtin : (room : ℕ) (s : Sink) {r : Sink} → task.lint ≡ 3 → r ≡ collect room s (remark_events task (builtin_on law (call_at file t)))
+    pub met_builtin : (room : ℕ) (s : Sink) {r : Sink} → task.lint ≡ Builtin → r ≡ collect room s (remark_events task (builtin_on law (call_at file t)))
         → r ≡ collect room s (each (call_events law formats task) (calls_at file t))
     unfolding call_events
     met_builtin room s three is = is ∙ rw (call_events_lem, three)
 
-    pub met_other : (room : ℕ) (s : Sink) → (task.lint ≡ 2 → ⊥) → (task.lint ≡ 3 → ⊥) → s ≡ collect room s (each (call_events law formats task) (calls_at file t))
+    pub met_other : (room : ℕ) (s : Sink) → (task.lint ≡ Recognition → ⊥) → (task.lint ≡ Builtin → ⊥)
+        → s ≡ collect room s (each (call_events law formats task) (calls_at file t))
     unfolding call_events
-    met_other room s a b = rw (call_events_lem, ne_eqb task.lint 2 a, ne_eqb task.lint 3 b) (collect_none room s)
+    met_other room s a b = rw call_events_lem (go task.lint a b)
+      where
+        go : (l : Lint) → (l ≡ Recognition → ⊥) → (l ≡ Builtin → ⊥)
+            → s ≡ collect room s (cond (eqb (lint_number (lint_meant l)) 2) (recognition_events law formats task (call_at file t))
+            (when (eqb (lint_number (lint_meant l)) 3) (remark_events task (builtin_on law (call_at file t)))))
+        go Dead a b = collect_none room s
+        go Recognition a b = absurd (a refl)
+        go Builtin a b = absurd (b refl)
+        go Open a b = collect_none room s

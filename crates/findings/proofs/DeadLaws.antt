@@ -19,9 +19,13 @@ use Rattle.matching.specs.Shadow.{shadows_with}
 use Rattle.sentences.specs.Entry.{pattern_in}
 use Rattle.lints.specs.Finding.{Remark}
 use Rattle.lints.specs.Dead.{Earlier, unconditional, earliest, dead_after}
-use Rattle.lints.specs.Code.Records.{conditions_at, earlier_at, number_or0}
+use Rattle.lints.specs.Code.Records.{earlier_at, earliest_from}
 use Rattle.lints.proofs.DeadLaws.{or_else, earliest_append}
 use Rattle.findings.specs.declared.Task.{Task}
+use Rattle.std.specs.Prelude.{Ok, Err, Some, None, Option as Answer}
+use Rattle.std.specs.Result.{is_err}
+use Rattle.findings.specs.declared.Ended.{Ended}
+use Rattle.findings.specs.declared.Ended.TheVariants as ended
 use Rattle.findings.specs.Code.Events.{Tally, noting, Sink, sink_of, met, collect}
 use Rattle.findings.specs.Code.Tasks.{note_words, remark_event, remark_events}
 use Rattle.findings.proofs.CollectLaws.{collect_append}
@@ -33,49 +37,12 @@ remarks_append task [] qs = refl
 remarks_append task (r ∷ rs) qs = ap (λ es. remark_event task r ∷ es) (remarks_append task rs qs)
 
 -- no finding counts after the end, or where there are too many
-ended_stays : (room : ℕ) (words : List ℕ) (task : Task) (tally : Tally) → tally < 2 → (rs : List Remark)
-    → collect room (sink_of tally words) (remark_events task rs) ≡ sink_of tally words
+ended_stays : (room : ℕ) (words : List ℕ) (task : Task) (why : Ended) (rs : List Remark)
+    → collect room (sink_of (Err why) words) (remark_events task rs) ≡ sink_of (Err why) words
 unfolding collect remark_events
-ended_stays room words task zero h [] = refl
-ended_stays room words task zero h (r ∷ rs) = ended_stays room words task zero h rs
-ended_stays room words task (suc zero) h [] = refl
-ended_stays room words task (suc zero) h (r ∷ rs) = ended_stays room words task (suc zero) h rs
-ended_stays room words task (suc (suc n)) h rs = absurd (omega (arith, h))
-
--- numbers count from 1
-abbrev Positive : Option ℕ → Type 0
-Positive none = Unit {0}
-Positive (some n) = 0 < n
-
-either_positive : (a b : Option ℕ) → Positive a → Positive b → Positive (or_else a b)
-either_positive none b h k = k
-either_positive (some n) b h k = h
-
-one_positive : (cs : Conditions) (n : ℕ) (r : Run) (p : Pattern) → Positive (earliest [] (unconditional cs (suc n) r) p)
-unfolding earliest
-one_positive no_condition n r p = go (shadows_with [] (pattern_of r) p)
-  where
-    go : (b : Bool) → Positive (cond b (some (suc n)) none)
-    go true = omega arith
-    go false = tt
-one_positive (condition q w cs) n r p = tt
-
-earliest_positive : (file : File) (first : ℕ) (p : Pattern) (n : ℕ) → Positive (earliest [] (earlier_at file first n) p)
-unfolding earliest earlier_at
-earliest_positive file first p zero = tt
-earliest_positive file first p (suc n) =
-    let run : Run = run_of file (own file) (pattern_at file (first + n)) (pattern_part file (first + n)) in
-    let one : List Earlier = unconditional (conditions_at file (first + n)) (suc n) run in
-    rw (earliest_append [] (earlier_at file first n) one p)
-    (either_positive (earliest [] (earlier_at file first n) p) (earliest [] one p) (earliest_positive file first p n) (one_positive (conditions_at file (first + n)) n run p))
-
-none_of : (o : Option ℕ) (n : ℕ) → Positive o → n ≡ number_or0 o → n ≡ 0 → o ≡ none
-none_of none n h e z = refl
-none_of (some k) n h e z = absurd (omega arith)
-
-some_of_lem : (o : Option ℕ) (n : ℕ) → n ≡ number_or0 o → (n ≡ 0 → ⊥) → o ≡ some n
-some_of_lem none n e z = absurd (z e)
-some_of_lem (some k) n e z = ap (λ m. some m) (sym e)
+ended_stays room words task why [] = refl
+ended_stays room words task ended.TooWide (r ∷ rs) = ended_stays room words task ended.TooWide rs
+ended_stays room words task ended.Full (r ∷ rs) = ended_stays room words task ended.Full rs
 
 -- the eight words of a finding on a sentence, as the code reads its span
 pub sentence_noted : (file : File) (task : Task) (s a b start stop : ℕ) (tally : Tally) (words : List ℕ) {after : Sink}
@@ -88,27 +55,29 @@ sentence_noted file task s a b start stop tally words p q h =
 
 module _ (file : File) (task : Task) (first : ℕ) where
   -- one sentence, where no finding counts
-  pub sentence_ended : (words : List ℕ) (later : ℕ) (tally : Tally) → tally < 2 → (in_block : Bool)
+  pub sentence_ended : (words : List ℕ) (later : ℕ) (tally : Tally) → is_err tally ≡ true → (in_block : Bool)
       → sink_of tally words ≡ collect task.room (sink_of tally words) (dead_events file task in_block first later)
   unfolding dead_events
-  sentence_ended words later tally h in_block = sym (ended_stays task.room words task tally h _)
+  sentence_ended words later (Ok n) h in_block = cc
+  sentence_ended words later (Err why) h in_block = sym (ended_stays task.room words task why _)
 
   -- the earliest sentence that shadows it
   abbrev earliest_before : ℕ → Option ℕ
   earliest_before later = earliest [] (earlier_at file first later) (pattern_in file (first + later))
 
-  module _ (words : List ℕ) (tally : Tally) (later : ℕ) {n : ℕ} (h : n ≡ number_or0 (earliest_before later)) where
+  module _ (words : List ℕ) (tally : Tally) (later : ℕ) where
     -- no sentence shadows it
-    pub not_dead : n ≡ 0 → (in_block : Bool) → sink_of tally words ≡ collect task.room (sink_of tally words) (dead_events file task in_block first later)
+    pub not_dead : earliest_from None ≡ earliest_before later → (in_block : Bool)
+        → sink_of tally words ≡ collect task.room (sink_of tally words) (dead_events file task in_block first later)
     unfolding dead_events collect remark_events
-    not_dead z in_block = rw (none_of (earliest_before later) n (earliest_positive file first (pattern_in file (first + later)) later) h z)
+    not_dead h in_block = rw (← h)
 
     -- one does
-    pub is_dead : {after : Sink} → (n ≡ 0 → ⊥)
+    pub is_dead : {n : ℕ} {after : Sink} → earliest_from (Some n) ≡ earliest_before later
         → after ≡ met task.room (noting (sentence_words file task (first + later) (later + 1) n)) tally words → (in_block : Bool)
         → after ≡ collect task.room (sink_of tally words) (dead_events file task in_block first later)
     unfolding dead_events collect remark_events
-    is_dead z e in_block = rw (some_of_lem (earliest_before later) n h z, ← add-one later) e
+    is_dead h e in_block = rw (← h, ← add-one later) e
 
   -- so many sentences: at the start, after one more, and at the end
   module _ (count : ℕ) where

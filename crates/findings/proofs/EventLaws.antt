@@ -21,12 +21,20 @@ use Rattle.lints.specs.Recognition.{compared, passed, accepted, judged, recognit
 use Rattle.lints.specs.Builtin.{failed, failure, domain_in, builtins, builtin_on, builtin_remarks, builtin_findings}
 use Rattle.lints.specs.Open.{e_occurrences, open_in, open_remarks, open_findings}
 use Rattle.lints.specs.Levels.{Settings, severity_of, is_shown, shown}
+use Rattle.lints.specs.Code.Overrides.{lint_meant, lint_coded}
 use Rattle.lints.specs.Findings.{findings_by, findings_of}
 use Rattle.findings.specs.declared.Task.{Task}
 use Rattle.findings.specs.Code.Events.{Event, noting, too_wide}
 use Rattle.findings.specs.Code.Tasks.{remark_event, remark_events, recognition_events, call_events, block_events, function_events, at_position, functions_events}
 use Rattle.findings.specs.Code.All.{task_for, task_events, events_by, all_events}
 use Rattle.findings.proofs.WalkEvents.{each_append, walk_sentence_calls, walk_sentence_blocks}
+
+-- the code's lint has the lint's number
+pub coded_number : (l : Lint) → lint_number (lint_meant (lint_coded l)) ≡ lint_number l
+coded_number dead_sentence = refl
+coded_number recognition_impossible = refl
+coded_number builtin_domain = refl
+coded_number open_expressions = refl
 
 -- ---- lists
 
@@ -167,7 +175,7 @@ module _ (settings : Settings) where
 
     remark_found : (l : Lint) (p : ℕ) (owner : Name) (r : Remark) → lint_of r.claim ≡ l → remark_event (task_at l p) r ≡ event_of (finding_in p owner r)
     unfolding finding_words
-    remark_found l p owner r e = rw (← e)
+    remark_found l p owner r e = rw (← e) (rw (coded_number (lint_of r.claim)))
 
     remarks_found : (l : Lint) (p : ℕ) (owner : Name) (rs : List Remark) → Of l rs → remark_events (task_at l p) rs ≡ map event_of (map (finding_in p owner) rs)
     unfolding remark_events
@@ -196,6 +204,7 @@ module _ (settings : Settings) where
       unfolding task_events
       task_found l remarks other ofs says =
           rw (
+            coded_number l,
             other,
             or-false (is_shown settings l),
             functions_found l remarks ofs says 0 law,

@@ -10,3 +10,4 @@ pub mod WalkEvents
 pub mod EventLaws
 pub mod OverLaws
 pub mod AllLaws
+pub mod Prepared

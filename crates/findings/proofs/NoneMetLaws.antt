@@ -31,7 +31,7 @@ use Rattle.lints.proofs.Records.{OfCalls, InBlock, functions_every}
 use Rattle.findings.specs.declared.Task.{Task}
 use Rattle.findings.specs.Code.Events.{Event, Sink, collect}
 use Rattle.findings.specs.Code.Walk.{walked, walked_sentences, walked_conditions}
-use Rattle.findings.specs.Code.Tasks.{call_events, block_events, inside_events, none_inside}
+use Rattle.findings.specs.Code.Tasks.{number_of, call_events, block_events, inside_events, none_inside}
 use Rattle.findings.proofs.CollectLaws.{collect_none}
 use Rattle.findings.proofs.WalkLaws.{calls_of, words_calls, block_none}
 
@@ -90,12 +90,12 @@ module _ (on_call : CallOf → List Event) (on_block : Sentences → List Event)
         )
 
 -- lint 1 meets nothing at a call
-dead_calls : (law : Law) (formats : Formats) (task : Task) → task.lint ≡ 1 → (c : CallOf) → call_events law formats task c ≡ []
+dead_calls : (law : Law) (formats : Formats) (task : Task) → (number_of task) ≡ 1 → (c : CallOf) → call_events law formats task c ≡ []
 unfolding call_events
 dead_calls law formats task e c = rw e
 
 -- lint 1, where the functions have all sentences
-no_blocks_inside : (bytes index : List ℕ) (law : Law) (formats : Formats) (task : Task) → Indexed bytes index → Readable (file_of bytes) → task.lint ≡ 1
+no_blocks_inside : (bytes index : List ℕ) (law : Law) (formats : Formats) (task : Task) → Indexed bytes index → Readable (file_of bytes) → (number_of task) ≡ 1
     → get_or index (8 + get_or index 4 0) 0 ≡ get_or index 5 0
     → (n s : ℕ) → s + n ≤ (file_of bytes).sentences.count → inside_events law formats task (keep n (sentences_at (file_of bytes) s)) ≡ []
 no_blocks_inside bytes index law formats task indexed readable lint same n s h =
@@ -103,7 +103,7 @@ no_blocks_inside bytes index law formats task indexed readable lint same n s h =
     let place : get_or index (8 + (file_of bytes).functions.count) 0 ≡ get_or index 5 0 = rw words.functions at same in
     let all : first_sentence (file_of bytes) (file_of bytes).functions.count ≡ (file_of bytes).sentences.count =
     omega (arith, place, words.first_sentences (file_of bytes).functions.count (omega arith), words.sentences) in
-    rw (eq-eqb task.lint 1 lint)
+    rw (eq-eqb (number_of task) 1 lint)
     (none_in_sentences (call_events law formats task) (block_events task) (dead_calls law formats task lint) (block_none task) (file_of bytes) all readable n s h)
 
 -- ---- where there is no call
@@ -143,31 +143,31 @@ call_kind : (mark : Mark) (a b kind x y : ℕ) → term_from kind a b ≡ Call x
 call_kind mark a b kind x y e = eqb-true kind 7 (called (eqb kind 7) _ _ (words_calls [] mark a b empty kind ∙ ap (λ w. calls_of [] mark w empty) e))
 
 -- lints 2 and 3, in the sentences of a function
-no_calls_inside : (file : File) (law : Law) (formats : Formats) (task : Task) → Readable file → (task.lint ≡ 1 → ⊥)
+no_calls_inside : (file : File) (law : Law) (formats : Formats) (task : Task) → Readable file → ((number_of task) ≡ 1 → ⊥)
     → ((t : ℕ) → t < file.terms.count → word_at file.terms.records (24 * t) ≡ 7 → ⊥)
     → (f : ℕ) → f < file.functions.count → inside_events law formats task (keep (sentences_of file f) (sentences_at file (first_sentence file f))) ≡ []
 unfolding block_events term_at
 no_calls_inside file law formats task readable other none f h =
     let no_call_lem : OfCalls file NoCall = λ t a b inside e part. none t inside (call_kind (mark_at t file.terms.records (24 * t + 16)) _ _ _ a b e) in
     let every = rw (function_reads file f h) at (functions_every file readable NoCall no_call_lem (file.functions.count - f) f (omega arith)) in
-    rw (ne_eqb task.lint 1 other)
-    (none_called_sentences (call_events law formats task) (block_events task) (λ ss. rw (ne_eqb task.lint 1 other)) InDigits (InBlock file)
+    rw (ne_eqb (number_of task) 1 other)
+    (none_called_sentences (call_events law formats task) (block_events task) (λ ss. rw (ne_eqb (number_of task) 1 other)) InDigits (InBlock file)
     (keep (sentences_of file f) (sentences_at file (first_sentence file f))) every.0)
 
 -- ---- a function
 
 pub nothing_inside : (bytes index slots : List ℕ) (law : Law) (formats : Formats) (task : Task) → Indexed bytes index → Readable (file_of bytes)
     → ((t : ℕ) → t < (file_of bytes).terms.count → word_at (file_of bytes).terms.records (24 * t) ≡ 7 → get_or slots 577 0 ≡ 1)
-    → none_inside index slots task.lint ≡ true → (f n s : ℕ) → f < (file_of bytes).functions.count → n ≡ sentences_of (file_of bytes) f
+    → none_inside index slots (number_of task) ≡ true → (f n s : ℕ) → f < (file_of bytes).functions.count → n ≡ sentences_of (file_of bytes) f
     → s ≡ first_sentence (file_of bytes) f → s + n ≤ (file_of bytes).sentences.count → (noted : Sink)
     → noted ≡ collect task.room noted (inside_events law formats task (keep n (sentences_at (file_of bytes) s)))
 nothing_inside bytes index slots law formats task indexed readable marked alone f n s inside count first h noted =
-    rw (go (eqb task.lint 1) refl) (collect_none task.room noted)
+    rw (go (eqb (number_of task) 1) refl) (collect_none task.room noted)
   where
-    go : (is : Bool) → eqb task.lint 1 ≡ is → inside_events law formats task (keep n (sentences_at (file_of bytes) s)) ≡ []
+    go : (is : Bool) → eqb (number_of task) 1 ≡ is → inside_events law formats task (keep n (sentences_at (file_of bytes) s)) ≡ []
     go true e =
-        no_blocks_inside bytes index law formats task indexed readable (eqb-true task.lint 1 e) (eqb-true _ _ (rw e at alone)) n s h
+        no_blocks_inside bytes index law formats task indexed readable (eqb-true (number_of task) 1 e) (eqb-true _ _ (rw e at alone)) n s h
     go false e =
         let none : get_or slots 577 0 ≡ 0 = eqb-true _ _ (rw e at alone) in
         rw (count, first)
-        (no_calls_inside (file_of bytes) law formats task readable (eqb-false task.lint 1 e) (λ t l k. omega (arith, marked t l k, none)) f inside)
+        (no_calls_inside (file_of bytes) law formats task readable (eqb-false (number_of task) 1 e) (λ t l k. omega (arith, marked t l k, none)) f inside)

@@ -13,6 +13,8 @@ use Rattle.lints.specs.Calls.{Call, sentence_calls}
 use Rattle.lints.specs.Recognition.{compared, passed, judged, some_over, arguments_over}
 use Rattle.lints.specs.Levels.{Settings, is_shown}
 use Rattle.findings.specs.declared.Task.{Task}
+use Rattle.std.specs.Prelude.{Ok, Err}
+use Rattle.findings.specs.declared.Ended.TheVariants as ended
 use Rattle.findings.specs.Code.Events.{Tally, Over, Event, too_wide, Sink, sink_of, met, collect}
 use Rattle.findings.specs.Code.Tasks.{remark_events, recognition_events, call_events, block_events, function_events, at_position, functions_events}
 use Rattle.findings.specs.Code.All.{task_for, task_events, all_events}
@@ -44,9 +46,9 @@ unfolding collect
 wide_ends room s = go s.tally
   where
     go : (t : Tally) → (met room too_wide t s.words).tally ≡ Over
-    go zero = refl
-    go (suc zero) = refl
-    go (suc (suc n)) = refl
+    go (Err ended.TooWide) = refl
+    go (Err ended.Full) = refl
+    go (Ok n) = refl
 
 -- one or the other
 either : (a b : Bool) {P : Type 0} → (a || b) ≡ true → (a ≡ true → P) → (b ≡ true → P) → P

@@ -23,7 +23,7 @@ use Rattle.lints.specs.Dead.{Earlier, unconditional, earliest, dead_by, dead_aft
 use Rattle.findings.specs.declared.Task.{Task}
 use Rattle.findings.specs.Code.Events.{Event, Sink, collect}
 use Rattle.findings.specs.Code.Walk.{walked, walked_term, walked_sentences}
-use Rattle.findings.specs.Code.Tasks.{remark_event, remark_events, block_events}
+use Rattle.findings.specs.Code.Tasks.{number_of, remark_event, remark_events, block_events}
 use Rattle.findings.proofs.CollectLaws.{collect_none}
 
 -- ---- the size of a tree: its terms, sentences and conditions
@@ -133,7 +133,7 @@ module _ (on_call : CallOf → List Event) (on_block : Sentences → List Event)
 -- there are none where there is no sentence
 pub block_none : (task : Task) → block_events task no_sentence ≡ []
 unfolding block_events remark_events dead_after
-block_none task = go (eqb task.lint 1)
+block_none task = go (eqb (number_of task) 1)
   where
     go : (b : Bool) → when {X = Event} b [] ≡ []
     go true = refl
@@ -162,17 +162,17 @@ dead_after_lem task valued earlier n (sentence m p cs r ss) =
       dead_after_lem task valued next (suc n) ss,
     )
 
-pub own_block : (task : Task) (ss : Sentences) → block_events task ss ≡ when (eqb task.lint 1) (remark_events task (own_dead ss))
+pub own_block : (task : Task) (ss : Sentences) → block_events task ss ≡ when (eqb (number_of task) 1) (remark_events task (own_dead ss))
 unfolding block_events remark_events
-own_block task ss = ap (when (eqb task.lint 1)) (dead_after_lem task [] [] 1 ss)
+own_block task ss = ap (when (eqb (number_of task) 1)) (dead_after_lem task [] [] 1 ss)
 
 -- the dead ones of a block's own sentences are noted in lint 1 only
-pub block_passed : (task : Task) (ss : Sentences) (s : Sink) → (task.lint ≡ 1 → ⊥) → s ≡ collect task.room s (block_events task ss)
+pub block_passed : (task : Task) (ss : Sentences) (s : Sink) → ((number_of task) ≡ 1 → ⊥) → s ≡ collect task.room s (block_events task ss)
 unfolding block_events
-block_passed task ss s h = rw (ne_eqb task.lint 1 h) (collect_none task.room s)
+block_passed task ss s h = rw (ne_eqb (number_of task) 1 h) (collect_none task.room s)
 
-pub block_noted : (task : Task) (ss : Sentences) (s t : Sink) → task.lint ≡ 1 → t ≡ collect task.room s (remark_events task (dead_after true [] [] 1 ss))
+pub block_noted : (task : Task) (ss : Sentences) (s t : Sink) → (number_of task) ≡ 1 → t ≡ collect task.room s (remark_events task (dead_after true [] [] 1 ss))
     → t ≡ collect task.room s (block_events task ss)
 unfolding block_events
 block_noted task ss s t h q =
-    q ∙ ap (λ (b : Bool). collect task.room s (when b (remark_events task (block_dead ss)))) (sym (eq-eqb task.lint 1 h))
+    q ∙ ap (λ (b : Bool). collect task.room s (when b (remark_events task (block_dead ss)))) (sym (eq-eqb (number_of task) 1 h))

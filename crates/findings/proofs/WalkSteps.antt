@@ -1,7 +1,7 @@
 -- What is met in a part of the term records, in sentences, in conditions and in functions, one at a time; how each step leaves what is collected; and
 -- that each step goes to something smaller.
 use Prim.Native.Nat.{ℕ, zero, suc, ◌+◌, ◌*◌, ◌-◌, ◌≤◌, ◌<◌, ◌/◌}
-use mathlib.Core.Bool.{Bool}
+use mathlib.Core.Bool.{Bool, true, false}
 use mathlib.Core.List.{List, [], ◌++◌, append-nil}
 use mathlib.Core.Path.{◌≡◌, refl, sym, ap, ◌∙◌}
 use native.Mathlib.Omega.{arith}
@@ -35,14 +35,42 @@ use Rattle.matching.specs.Code.Part.{from}
 use Rattle.matching.proofs.CutLaws.{from_length, from_from, from_all}
 use Rattle.lints.specs.Open.{open_in}
 use Rattle.lints.specs.Code.Records.{Prepared}
+use denote.Enum.Bare.{sameb}
+use Rattle.lints.specs.Lint.{lint_number}
+use Rattle.lints.specs.contracts.levels.Lint.{the_type}
+use Rattle.lints.specs.declared.levels.Lint.{Lint}
+use Rattle.lints.specs.declared.levels.Lint.TheVariants.{Dead, Recognition, Builtin, Open}
+use Rattle.lints.specs.Code.Overrides.{lint_meant}
 use Rattle.findings.specs.declared.Task.{Task}
 use Rattle.findings.specs.Code.Events.{Event, Sink, collect}
 use Rattle.findings.specs.Code.Walk.{walked}
-use Rattle.findings.specs.Code.Tasks.{call_events, block_events, calls_at, run_events, term_events, inside_events}
+use Rattle.findings.specs.Code.Tasks.{number_of, call_events, block_events, calls_at, run_events, term_events, inside_events}
 use Rattle.findings.specs.Code.Tasks.{condition_events, function_events, functions_events, lint_events, at_position}
 use Rattle.findings.specs.Code.Tasks.{remark_events}
 use Rattle.findings.proofs.CollectLaws.{collect_append, collect_none, collect_then}
 use Rattle.findings.proofs.WalkLaws.{run_size, sentences_size, conditions_size, term_size, calls_of, words_calls, run_walked, term_walked, leaf_walked, block_none, own_block}
+
+-- a lint by its number
+pub is_dead_lint : {l : Lint} → l ≡ Dead → lint_number (lint_meant l) ≡ 1
+is_dead_lint e = rw e
+
+pub not_dead_lint : (l : Lint) → (l ≡ Dead → ⊥) → lint_number (lint_meant l) ≡ 1 → ⊥
+not_dead_lint Dead n e = n refl
+not_dead_lint Recognition n e = omega (arith, e)
+not_dead_lint Builtin n e = omega (arith, e)
+not_dead_lint Open n e = omega (arith, e)
+
+pub is_open_lint : (l : Lint) {is : Bool} → is ≡ sameb the_type l Open → is ≡ true → lint_number (lint_meant l) ≡ 4
+is_open_lint Dead e h = cc
+is_open_lint Recognition e h = cc
+is_open_lint Builtin e h = cc
+is_open_lint Open e h = refl
+
+pub not_open_lint : (l : Lint) {is : Bool} → is ≡ sameb the_type l Open → is ≡ false → lint_number (lint_meant l) ≡ 4 → ⊥
+not_open_lint Dead e h k = omega (arith, k)
+not_open_lint Recognition e h k = omega (arith, k)
+not_open_lint Builtin e h k = omega (arith, k)
+not_open_lint Open e h k = cc
 
 module _ (file : File) where
   own_none : (t : ℕ) → own file t 0 ≡ no_sentence
@@ -92,7 +120,7 @@ module _ (file : File) (formats : Formats) (task : Task) where
   term_met at p = term_events (tree_of file) formats task (run_of file (own file) at p)
 
   abbrev pub pattern_met : ℕ → List ℕ → List Event
-  pattern_met at p = when (eqb task.lint 1) (run_met at p)
+  pattern_met at p = when (eqb (number_of task) 1) (run_met at p)
 
   -- at a term record, and at a block's own sentences
   abbrev pub calls_met : ℕ → List Event
@@ -124,7 +152,7 @@ module _ (file : File) (formats : Formats) (task : Task) where
   run_first : (at : ℕ) (p : List ℕ) → 24 ≤ length p → run_met at p ≡ term_met at p ++ run_met (at + 1 + word_at p 12) (rest 24 end_of p)
   run_first at p some =
       rw (run_node file (own file) at p some)
-      (run_walked (call_events (tree_of file) formats task) (block_events task) (eqb task.lint 1) file.text.records (own file) at (mark_at at p 16)
+      (run_walked (call_events (tree_of file) formats task) (block_events task) (eqb (number_of task) 1) file.text.records (own file) at (mark_at at p 16)
       (term_at p 0) (run_of file (own file) (at + 1) (contents 24 end_of p)) (run_of file (own file) (at + 1 + word_at p 12) (rest 24 end_of p)))
 
   -- nothing is met in a symbol or a variable
@@ -132,7 +160,7 @@ module _ (file : File) (formats : Formats) (task : Task) where
   unfolding term_at
   leaf_none at p some h =
       rw (run_node file (own file) at p some)
-      (leaf_walked (call_events (tree_of file) formats task) (block_events task) (eqb task.lint 1) file.text.records (own file) at (mark_at at p 16)
+      (leaf_walked (call_events (tree_of file) formats task) (block_events task) (eqb (number_of task) 1) file.text.records (own file) at (mark_at at p 16)
       (word_at p 4) (word_at p 8) (run_of file (own file) (at + 1) (contents 24 end_of p))
       (run_of file (own file) (at + 1 + word_at p 12) (rest 24 end_of p)) (word_at p 0) h)
 
@@ -147,7 +175,7 @@ module _ (file : File) (formats : Formats) (task : Task) where
     unfolding own
     term_first at e p part some end =
         rw (end, run_node file (own file) at p some, calls_at_lem file readable at p part some)
-        (term_walked (call_events (tree_of file) formats task) (block_events task) (eqb task.lint 1) file.text.records (own file) at (mark_at at p 16)
+        (term_walked (call_events (tree_of file) formats task) (block_events task) (eqb (number_of task) 1) file.text.records (own file) at (mark_at at p 16)
         (term_at p 0) (word_at p 12) (run_of file (own file) (at + 1) (contents 24 end_of p)) (run_of file (own file) (at + 1 + word_at p 12) (rest 24 end_of p))
         (part_inside file readable at p part some)
         (contents_none file (at + 1) p)
@@ -205,12 +233,12 @@ module _ (file : File) (formats : Formats) (task : Task) where
   after s es = collect task.room s es
 
   -- a pattern is gone through in lint 1 only
-  pub pattern_passed : (at : ℕ) (p : List ℕ) (s : Sink) → (task.lint ≡ 1 → ⊥) → s ≡ after s (pattern_met file formats task at p)
-  pattern_passed at p s h = rw (ne_eqb task.lint 1 h) (collect_none task.room s)
+  pub pattern_passed : (at : ℕ) (p : List ℕ) (s : Sink) → ((number_of task) ≡ 1 → ⊥) → s ≡ after s (pattern_met file formats task at p)
+  pattern_passed at p s h = rw (ne_eqb (number_of task) 1 h) (collect_none task.room s)
 
-  pub pattern_walked : (at : ℕ) (p : List ℕ) (s t : Sink) → task.lint ≡ 1 → t ≡ after s (run_met file formats task at p)
+  pub pattern_walked : (at : ℕ) (p : List ℕ) (s t : Sink) → (number_of task) ≡ 1 → t ≡ after s (run_met file formats task at p)
       → t ≡ after s (pattern_met file formats task at p)
-  pattern_walked at p s t h q = q ∙ ap (λ (b : Bool). after s (when b (run_met file formats task at p))) (sym (eq-eqb task.lint 1 h))
+  pattern_walked at p s t h q = q ∙ ap (λ (b : Bool). after s (when b (run_met file formats task at p))) (sym (eq-eqb (number_of task) 1 h))
 
   module _ (readable : Readable file) where
     -- the first term of a part, with all that is inside it
@@ -311,17 +339,17 @@ module _ (file : File) (formats : Formats) (task : Task) where
 
   -- a function: lint 4 looks at its own sentences only
   module _ (f count first : ℕ) (number : count ≡ sentences_of file f) (from : first ≡ first_sentence file f) where
-    pub function_open : (s t : Sink) → task.lint ≡ 4 → t ≡ after s (remark_events task (open_in (keep count (sentences_at file first))))
+    pub function_open : (s t : Sink) → (number_of task) ≡ 4 → t ≡ after s (remark_events task (open_in (keep count (sentences_at file first))))
         → t ≡ after s (function_events (tree_of file) formats task (keep (sentences_of file f) (sentences_at file (first_sentence file f))))
     unfolding function_events
-    function_open s t h e = rw (eq-eqb task.lint 4 h, ← number, ← from) e
+    function_open s t h e = rw (eq-eqb (number_of task) 4 h, ← number, ← from) e
 
-    pub function_steps : (s noted t : Sink) → (task.lint ≡ 4 → ⊥) → noted ≡ after s (own_met file formats task count first)
+    pub function_steps : (s noted t : Sink) → ((number_of task) ≡ 4 → ⊥) → noted ≡ after s (own_met file formats task count first)
         → t ≡ after noted (sentences_met file formats task count first)
         → t ≡ after s (function_events (tree_of file) formats task (keep (sentences_of file f) (sentences_at file (first_sentence file f))))
     unfolding function_events
     function_steps s noted t h i j =
-        rw (ne_eqb task.lint 4 h, ← number, ← from, ← own_block task (keep count (sentences_at file first)))
+        rw (ne_eqb (number_of task) 4 h, ← number, ← from, ← own_block task (keep count (sentences_at file first)))
         (collect_then task.room s noted t _ _ i j)
 
   -- the functions that a loop has left, after f of them

@@ -5,4 +5,5 @@ pub mod Walk
 pub mod Tasks
 pub mod Judging
 pub mod DeadSteps
+pub mod Ways
 pub mod All

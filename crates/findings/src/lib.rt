@@ -6,27 +6,31 @@ ghost use Rattle.buffers.specs.Written.{written};
 ghost use Rattle.findings.specs.Code.Events.{noting, sink_of, met};
 ghost use Rattle.findings.specs.Code.Tasks.{note_words};
 
+use lints::levels::Lint;
+
 pub mod all;
 mod calls;
 mod dead;
 mod open;
 mod walk;
+mod way;
 
-// The count of findings, one number so that it is passed on in a register: it ended at an argument that has too many shapes to be compared (0), there are
-// more findings than there is room for (1), or it has come so far (2 and more). specs/Code/Events.antt has these as `Over`, `Full` and `Upto`.
-pub type Tally = usize;
+// Why the count of findings ended: an argument has too many shapes to be compared, or there are more findings than there is room for.
+#[derive(Clone, Copy, PartialEq, Eq, Debug)]
+pub enum Ended {
+    TooWide,
+    Full,
+}
 
-pub const OVER: Tally = 0;
+// How far the count of findings has come. It is passed on also once it is `Full`, since an argument that is too wide comes before that (refusal 10
+// before 11).
+pub type Tally = Result<usize, Ended>;
 
-pub const FULL: Tally = 1;
-
-pub const NONE: Tally = 2;
-
-// What a way through a law is for: the lint's number, the severity of its findings, whether they are shown, the position of the function that is gone
-// through, the words that there is room for, and the most shapes of a format.
+// What a way through a law is for: the lint, the severity of its findings, whether they are shown, the position of the function that is gone through, the
+// words that there is room for, and the most shapes of a format.
 #[derive(Clone, Copy)]
 pub struct Task {
-    pub lint: u32,
+    pub lint: Lint,
     pub severity: u32,
     pub shown: bool,
     pub position: u32,
@@ -45,33 +49,34 @@ pub struct Note {
 }
 
 // Writes the eight words of a finding.
-fn write_note(task: Task, note: Note, out: &mut [u32], at: usize)
+fn write_note(task: &Task, note: &Note, out: &mut [u32], at: usize)
     requires { at + 8 ≤ length out.old }
-    ensures { out.new ≡ written out.old at (note_words task note) }
+    ensures { out.new ≡ written out.old at (note_words task.now note.now) }
 {
-    out[at] = task.lint;
-    out[at + 1] = task.severity;
-    out[at + 2] = note.start;
-    out[at + 3] = note.end;
-    out[at + 4] = note.a;
-    out[at + 5] = note.b;
-    out[at + 6] = task.position;
-    out[at + 7] = note.subject;
+    out[at..at + 8].copy_from_slice(&[
+        u32::from(task.lint),
+        task.severity,
+        note.start,
+        note.end,
+        note.a,
+        note.b,
+        task.position,
+        note.subject,
+    ]);
 }
 
 // Counts a finding, and writes it where the buffer has room for it.
-fn put_note(task: Task, note: Note, out: &mut [u32], tally: Tally) -> Tally
-    ensures { sink_of result out.new ≡ met task.room (noting (note_words task note)) tally out.old }
+fn put_note(task: &Task, note: &Note, out: &mut [u32], tally: Tally) -> Tally
+    ensures { sink_of result out.new ≡ met task.now.room (noting (note_words task.now note.now)) tally out.old }
 {
-    if tally < NONE {
+    let Ok(n) = tally else {
         return tally;
-    }
-    let n = tally - NONE;
+    };
     if task.room / 8 <= n {
-        return FULL;
+        return Err(Ended::Full);
     }
     if n < out.len() / 8 {
         write_note(task, note, out, 8 * n);
     }
-    tally + 1
+    Ok(n + 1)
 }

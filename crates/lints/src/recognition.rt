@@ -9,7 +9,7 @@ ghost use Rattle.matching.specs.Literal.{is_literal, literal_terms};
 ghost use Rattle.sentences.specs.Entry.{argument_in};
 ghost use Rattle.lints.specs.Recognition.{some_matches, compared_with};
 ghost use Rattle.lints.specs.Code.Records.{formats_in, call_at};
-ghost use Rattle.lints.specs.Code.Verdicts.{verdict_of, last_placed, function_sentences, comparison};
+ghost use Rattle.lints.specs.Code.Verdicts.{reason_number, verdict_of, last_placed, function_sentences, comparison};
 
 use crate::held::Formats;
 use formats::Slots;
@@ -25,6 +25,18 @@ use shapes::disjoint_formats;
 pub enum Reason {
     Formats,
     Literals,
+}
+
+// The word a of a finding of lint 2.
+impl From<Reason> for u32 {
+    ghost from_gives = { λ reason number. number ≡ reason_number reason };
+
+    fn from(reason: Reason) -> u32 {
+        match reason {
+            Reason::Formats => 1,
+            Reason::Literals => 2,
+        }
+    }
 }
 
 // An argument has too many shapes to be compared.
@@ -69,7 +81,12 @@ fn is_compared(accepted: &AcceptedLaw, f: usize, t: usize, literal: bool) -> boo
 }
 
 // What is said of the call at a term record, where it is compared: why no sentence matches it, if that is certain. Its name has this place.
-fn compare_call(formats: &Formats, t: usize, place: usize, literal: bool) -> Result<Option<Reason>, TooWide>
+fn compare_call(
+    formats: &Formats,
+    t: usize,
+    place: usize,
+    literal: bool,
+) -> Result<Option<Reason>, TooWide>
     requires term { (t < (file_of formats.now.law.law.bytes.now).terms.count) × (literal ≡ is_literal (argument_in (file_of formats.now.law.law.bytes.now) t)) }
     requires place_value { (place ≡ position (file_names (file_of formats.now.law.law.bytes.now)) (call_folded (file_of formats.now.law.law.bytes.now) t))
         × (place < length (file_names (file_of formats.now.law.law.bytes.now))) }

@@ -10,13 +10,13 @@ use Rattle.lints.specs.Dead.{earliest, dead_by, dead_after}
 use Rattle.lints.specs.Code.Records.{earlier_at}
 use Rattle.findings.specs.declared.Task.{Task}
 use Rattle.findings.specs.Code.Events.{Event}
-use Rattle.findings.specs.Code.Tasks.{remark_events}
+use Rattle.findings.specs.Code.Tasks.{number_of, remark_events}
 
 module _ (file : File) where
   -- the eight words of a finding on the sentence s
   abbrev pub sentence_words : Task → ℕ → ℕ → ℕ → List ℕ
   sentence_words task s a b =
-      eight_words task.lint task.severity (word_at file.sentences.records (20 * s + 12)) (word_at file.sentences.records (20 * s + 12 + 4))
+      eight_words (number_of task) task.severity (word_at file.sentences.records (20 * s + 12)) (word_at file.sentences.records (20 * s + 12 + 4))
       a b task.position s
 
   -- what is met at the sentence that has `later` sentences before it, from `first` on

@@ -1,24 +1,26 @@
 -- What the lints meet on their way through a law, in order, and what is left of it in a lent buffer.
-use Rattle.std.specs.Prelude.{ℕ, zero, suc, ◌+◌, ◌*◌, cond, List, [], ◌∷◌, ◌≡◌, length, leb}
+use Rattle.std.specs.Prelude.{ℕ, ◌+◌, ◌*◌, cond, List, [], ◌∷◌, ◌≡◌, length, leb, Result, Ok, Err}
 use Rattle.buffers.specs.Written.{written}
+use Rattle.findings.specs.declared.Ended.{Ended}
+use Rattle.findings.specs.declared.Ended.TheVariants as ended
 
 -- a finding, by its eight words, or an argument with too many shapes to be compared (refusal 10)
 pub data Event : Type 0 where
   noting : List ℕ → Event
   too_wide : Event
 
--- how far the count of findings has come, as a number: an argument was too wide, there are more findings than there is room for, or there are so many
+-- how far the count of findings has come: an argument was too wide, there are more findings than there is room for, or there are so many
 abbrev pub Tally : Type 0
-Tally = ℕ
+Tally = Result ℕ Ended
 
 abbrev pub Over : Tally
-Over = zero
+Over = Err ended.TooWide
 
 abbrev pub Full : Tally
-Full = suc zero
+Full = Err ended.Full
 
 abbrev pub Upto : ℕ → Tally
-Upto n = suc (suc n)
+Upto n = Ok n
 
 -- the count, and the buffer
 pub record Sink : Type 0 where
@@ -38,11 +40,11 @@ with_note room n words finding = cond (leb (8 * n + 8) room) (sink_of (Upto (n +
 
 -- what is met; an argument that is too wide ends it all, also where findings do not fit: refusal 10 comes before 11
 abbrev pub met : ℕ → Event → Tally → List ℕ → Sink
-met room e zero words = sink_of Over words
-met room (noting finding) (suc zero) words = sink_of Full words
-met room too_wide (suc zero) words = sink_of Over words
-met room (noting finding) (suc (suc n)) words = with_note room n words finding
-met room too_wide (suc (suc n)) words = sink_of Over words
+met room e (Err ended.TooWide) words = sink_of Over words
+met room (noting finding) (Err ended.Full) words = sink_of Full words
+met room too_wide (Err ended.Full) words = sink_of Over words
+met room (noting finding) (Ok n) words = with_note room n words finding
+met room too_wide (Ok n) words = sink_of Over words
 
 unfoldable pub collect : ℕ → Sink → List Event → Sink
 collect room s [] = s

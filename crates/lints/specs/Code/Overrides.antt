@@ -14,6 +14,12 @@ lint_meant lints.TheVariants.Recognition = recognition_impossible
 lint_meant lints.TheVariants.Builtin = builtin_domain
 lint_meant lints.TheVariants.Open = open_expressions
 
+abbrev pub lint_coded : Lint → lints.Lint
+lint_coded dead_sentence = lints.TheVariants.Dead
+lint_coded recognition_impossible = lints.TheVariants.Recognition
+lint_coded builtin_domain = lints.TheVariants.Builtin
+lint_coded open_expressions = lints.TheVariants.Open
+
 abbrev pub severity_number : severities.Severity → ℕ
 severity_number severities.TheVariants.Error = 0
 severity_number severities.TheVariants.Deny = deny

@@ -29,6 +29,11 @@ ByLiterals = Ok (Some reasons.TheVariants.Literals)
 abbrev pub Nothing : Verdict
 Nothing = Ok None
 
+-- the word a of a finding says by what
+abbrev pub reason_number : reasons.Reason → ℕ
+reason_number reasons.TheVariants.Formats = 1
+reason_number reasons.TheVariants.Literals = 2
+
 -- of one that is compared: `Wide` where its argument has over `limit` shapes
 unfoldable pub comparison : ℕ → Formats → Call → Verdict
 comparison limit formats c =

@@ -12,8 +12,7 @@ overflow_add-t c = omega (arith, c.requires.term.0, terms_limit _ _ c.args.forma
 
 pub row_format-requires : goal.row_format-requires
 row_format-requires c =
-    let long = lent_length c.args.formats.now.limit c.args.formats.now.small in
-    (
+    let long = lent_length c.args.formats.now.limit c.args.formats.now.small in (
       argument_asked (prepared c.args.formats.now) c.args.t c.requires.term.0 refl c.argument-part.ensures c.wide-all.ensures.0 long refl,
       long,
       c.args.formats.now.places,

@@ -1,0 +1,13 @@
+// What goes through a law with its formats for one lint.
+ghost use Rattle.std.specs.Prelude.{◌≡◌};
+
+use crate::Task;
+use lints::held::Formats;
+
+// A law with its formats, and a task for which it is gone through.
+#[derive(Clone, Copy)]
+pub struct Way<'a> {
+    pub formats: &'a Formats<'a>,
+    pub task: Task,
+    pub ghost limit: { formats.now.limit ≡ task.limit },
+}
