@@ -7,7 +7,7 @@ use mathlib.Core.Path.{◌≡◌, refl, ap, ◌∙◌}
 use native.Mathlib.Omega.{arith}
 use lib.ListN.{get_or}
 use lib.Dec.{eqb}
-use borrow.Author.Tests.{eqb-true, eqb-false, eq-eqb, ne_eqb}
+use borrow.Author.Tests.{not-true, eqb-true, eqb-false, eq-eqb, ne_eqb}
 use Rattle.file.specs.Forest.{Forest, end, node}
 use Rattle.file.specs.Head.{term_from, term_at}
 use Rattle.file.specs.Word.{word_at}
@@ -24,6 +24,7 @@ use Rattle.law.specs.Code.Index.{Indexed, Readable}
 use Rattle.law.proofs.PlaceLaws.{block_start, block_grows}
 use Rattle.law.proofs.Functions.{keep_none, kept_reads, function_reads}
 use Rattle.formats.specs.Infer.{Formats}
+use Rattle.formats.specs.declared.slots.Slots.{Slots}
 use Rattle.matching.specs.Match.{when}
 use Rattle.matching.specs.Literal.{InDigits}
 use Rattle.lints.proofs.Everywhere.{EveryRun, EverySentence, EveryCondition}
@@ -156,8 +157,8 @@ no_calls_inside file law formats task readable other none f h =
 
 -- ---- a function
 
-pub nothing_inside : (bytes index slots : List ℕ) (law : Law) (formats : Formats) (task : Task) → Indexed bytes index → Readable (file_of bytes)
-    → ((t : ℕ) → t < (file_of bytes).terms.count → word_at (file_of bytes).terms.records (24 * t) ≡ 7 → get_or slots 577 0 ≡ 1)
+pub nothing_inside : (bytes index : List ℕ) (slots : Slots) (law : Law) (formats : Formats) (task : Task) → Indexed bytes index → Readable (file_of bytes)
+    → ((t : ℕ) → t < (file_of bytes).terms.count → word_at (file_of bytes).terms.records (24 * t) ≡ 7 → slots.has_call ≡ true)
     → none_inside index slots (number_of task) ≡ true → (f n s : ℕ) → f < (file_of bytes).functions.count → n ≡ sentences_of (file_of bytes) f
     → s ≡ first_sentence (file_of bytes) f → s + n ≤ (file_of bytes).sentences.count → (noted : Sink)
     → noted ≡ collect task.room noted (inside_events law formats task (keep n (sentences_at (file_of bytes) s)))
@@ -168,6 +169,7 @@ nothing_inside bytes index slots law formats task indexed readable marked alone 
     go true e =
         no_blocks_inside bytes index law formats task indexed readable (eqb-true (number_of task) 1 e) (eqb-true _ _ (rw e at alone)) n s h
     go false e =
-        let none : get_or slots 577 0 ≡ 0 = eqb-true _ _ (rw e at alone) in
+        let none : slots.has_call ≡ false = not-true slots.has_call (rw e at alone) in
         rw (count, first)
-        (no_calls_inside (file_of bytes) law formats task readable (eqb-false (number_of task) 1 e) (λ t l k. omega (arith, marked t l k, none)) f inside)
+        (no_calls_inside (file_of bytes) law formats task readable (eqb-false (number_of task) 1 e)
+        (λ t l k. let some : slots.has_call ≡ true = marked t l k in cc) f inside)

@@ -29,6 +29,7 @@ use Rattle.law.proofs.PartLaws.{part_small, pattern_part_lem, result_part_lem, c
 use Rattle.law.proofs.PlaceLaws.{function_inside}
 use Rattle.law.proofs.IndexLaws.{functions_limit, sentences_limit, conditions_limit, terms_limit, sentences_before, conditions_before_lem, owns, owned, condition_result_fits}
 use Rattle.formats.specs.Infer.{Formats}
+use Rattle.formats.specs.declared.slots.Slots.{Slots}
 use Rattle.matching.specs.Match.{when, each}
 use Rattle.sentences.specs.Entry.{argument_part, argument_in}
 use Rattle.matching.specs.Code.Part.{from}
@@ -559,7 +560,7 @@ module _ {file : File} {formats : Formats} {task : Task} {at i : ℕ} {p : List 
 
 -- ---- what is read of a prepared law
 
-module _ {bytes index slots store : List ℕ} {limit : ℕ} (prepared : Prepared bytes index slots store limit) where
+module _ {bytes index : List ℕ} {slots : Slots} {store : List ℕ} {limit : ℕ} (prepared : Prepared bytes index slots store limit) where
   indexed : Indexed bytes index
   indexed = prepared.asked.indexed
 

@@ -7,7 +7,7 @@ ghost use Rattle.findings.specs.Code.All.{task_for, is_due, task_met, all_met};
 use crate::walk::lint_law;
 use crate::way::Way;
 use crate::{Tally, Task};
-use lints::held::Formats;
+use formats::held::Formats;
 use lints::levels::{Lint, Settings};
 
 // What a lint is to do.

@@ -15,7 +15,7 @@ use lints::builtin::builtin_fails;
 use lints::levels::Lint;
 use lints::recognition::judge_call;
 use names::name_in;
-use sentences::argument;
+use sentences::argument_of;
 
 // A finding about the call at a term record, with a word of its own.
 fn call_note(accepted: &AcceptedLaw, t: usize, a: u32) -> Note
@@ -85,7 +85,7 @@ fn note_builtin(way: &Way, t: usize, out: &mut [u32], tally: Tally) -> Tally
     let start = law.term_word(t, 4);
     let len = law.term_word(t, 8);
     let name = name_in(words, start, len);
-    match builtin_fails(words, name, argument(law.bytes, law.index, t)) {
+    match builtin_fails(words, name, argument_of(&way.formats.law, t)) {
         None => tally,
         Some(why) => put_call(way, t, u32::from(why), out, tally),
     }

@@ -137,7 +137,7 @@ fn none_inside(way: &Way) -> bool
     let law = &way.formats.law.law;
     match way.task.lint {
         Lint::Dead => law.first_sentence(law.functions()) == law.sentences(),
-        _ => way.formats.slots[577] == 0,
+        _ => !way.formats.slots.has_call,
     }
 }
 

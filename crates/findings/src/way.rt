@@ -2,7 +2,7 @@
 ghost use Rattle.std.specs.Prelude.{◌≡◌};
 
 use crate::Task;
-use lints::held::Formats;
+use formats::held::Formats;
 
 // A law with its formats, and a task for which it is gone through.
 #[derive(Clone, Copy)]

@@ -7,7 +7,7 @@ use Rattle.law.proofs.Allowed.{accepted_readable}
 use Rattle.formats.specs.Store.{store_size}
 use Rattle.formats.specs.Code.Slots.{file_names}
 use Rattle.formats.specs.Code.Turns.{arguments_in, results_in}
-use Rattle.lints.specs.declared.held.Formats.{Formats}
+use Rattle.formats.specs.declared.held.Formats.{Formats}
 use Rattle.lints.specs.Code.Records.{Prepared}
 
 -- all that the lints ask of them

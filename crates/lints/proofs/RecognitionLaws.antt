@@ -4,10 +4,11 @@ use mathlib.Core.Bool.{Bool, true, false, cond, not, ◌||◌}
 use mathlib.Core.List.{List, [], ◌∷◌, ◌++◌}
 use mathlib.Core.Option.{Option, none, some}
 use mathlib.Core.Path.{◌≡◌, refl, sym, ap, ◌∙◌}
-use Rattle.std.specs.Prelude.{Option as Answer, Some, None}
+use Rattle.std.specs.Prelude.{Option as Answer, Some, None, Result, Ok, Err}
+use Rattle.formats.specs.declared.TooWide.{TooWide}
 use Rattle.std.proofs.lemmas.Option.{same_Some}
 use native.Mathlib.Omega.{arith}
-use native.Mathlib.Nat.{zero-add, add-sub_cancel_left}
+use native.Mathlib.Nat.{zero-add}
 use lib.Seq.{take_at}
 use lib.ListN.{length, take, drop, get_or}
 use lib.Dec.{eqb, ltb}
@@ -21,7 +22,7 @@ use Rattle.law.specs.Definition.{definition}
 use Rattle.law.specs.Places.{sentences_of, first_sentence, pattern_at, pattern_part}
 use Rattle.law.specs.Reading.{tree_of, sentences_at, own}
 use Rattle.law.specs.Expression.{Terms}
-use Rattle.law.specs.Code.Index.{Indexed, Readable}
+use Rattle.law.specs.Code.Index.{Indexed, Readable, PartAt}
 use Rattle.law.proofs.Functions.{function_at, functions_at, tree_functions_lem, functions_end, function_reads, kept_reads}
 use Rattle.law.proofs.IndexLaws as indexed
 use Rattle.law.proofs.PlaceLaws as places
@@ -29,14 +30,13 @@ use Rattle.shapes.specs.Format.{Shapes, of, size}
 use Rattle.shapes.specs.Disjoint.{disjoint_formats}
 use Rattle.shapes.specs.Words.{read_format}
 use Rattle.shapes.proofs.WordLaws.{read_write}
-use Rattle.formats.specs.FormatOf.{Results}
 use Rattle.formats.specs.Infer.{find}
-use Rattle.formats.specs.Code.Rows.{format_at, Knows, part_shapes, RowAsked}
+use Rattle.formats.specs.Code.Rows.{format_at, part_shapes}
 use Rattle.formats.specs.Code.Turns.{FormatMade, results_in}
 use Rattle.formats.proofs.EntryLaws.{found_at}
-use Rattle.formats.proofs.StateLaws.{read_argument_format, part_inside, number_inside}
-use Rattle.formats.proofs.SentenceLaws.{arguments_said, holding_stored, holding_knows, made_fits, made_passes, made_words}
-use Rattle.formats.proofs.TurnLaws.{row_asked}
+use Rattle.formats.proofs.StateLaws.{read_argument_format}
+use Rattle.formats.proofs.SentenceLaws.{arguments_said, made_fits, made_passes, made_words}
+use Rattle.formats.specs.declared.slots.Slots.{Slots}
 use Rattle.formats.specs.Code.Slots.{position, function_folded, call_folded, file_names, SlotsOf}
 use Rattle.formats.proofs.SlotLaws.{function_placed}
 use Rattle.law.specs.Symbol.{Symbol}
@@ -106,27 +106,27 @@ module _ (file : File) (name : List ℕ) where
   defined_by None = none
   defined_by (Some f) = some (function_sentences file f)
 
-  module _ (slots : List ℕ) (place : ℕ) (places : SlotsOf file slots) (is : place ≡ position (file_names file) name) where
+  module _ (slots : Slots) (place : ℕ) (places : SlotsOf file slots) (is : place ≡ position (file_names file) name) where
     -- the last of the first n functions whose name has the place, where no later function defines the name
     last_defined : (n : ℕ) → n ≤ file.functions.count → definition (functions_at file n) name ≡ none
         → definition (tree_of file) name ≡ defined_by (last_placed slots place n)
     unfolding last_placed
     last_defined zero l h = rw (tree_functions_lem file, h)
-    last_defined (suc n) l h = go (eqb (get_or slots n 0) place) refl (last_defined n)
+    last_defined (suc n) l h = go (eqb (get_or slots.functions n 0) place) refl (last_defined n)
       where
-        here : get_or slots n 0 ≡ position (file_names file) (function_folded file n)
+        here : get_or slots.functions n 0 ≡ position (file_names file) (function_folded file n)
         here = places.functions n (omega arith)
 
-        other : eqb (get_or slots n 0) place ≡ false → (b : Bool) → same_bytes (function_folded file n) name ≡ b → same_bytes (function_folded file n) name ≡ false
-        other d true e = absurd (eqb-false (get_or slots n 0) place d (here ∙ ap (position (file_names file)) (same_sound (function_folded file n) name e) ∙ sym is))
+        other : eqb (get_or slots.functions n 0) place ≡ false → (b : Bool) → same_bytes (function_folded file n) name ≡ b → same_bytes (function_folded file n) name ≡ false
+        other d true e = absurd (eqb-false (get_or slots.functions n 0) place d (here ∙ ap (position (file_names file)) (same_sound (function_folded file n) name e) ∙ sym is))
         other d false e = e
 
-        go : (b : Bool) → eqb (get_or slots n 0) place ≡ b
+        go : (b : Bool) → eqb (get_or slots.functions n 0) place ≡ b
             → (n ≤ file.functions.count → definition (functions_at file n) name ≡ none → definition (tree_of file) name ≡ defined_by (last_placed slots place n))
             → definition (tree_of file) name ≡ defined_by (cond b (Some n) (last_placed slots place n))
         go true e ih =
             let same : function_folded file n ≡ name =
-            place_same (file_names file) (function_folded file n) name (sym here ∙ (eqb-true (get_or slots n 0) place e ∙ is)) (function_placed file n (omega arith)) in
+            place_same (file_names file) (function_folded file n) name (sym here ∙ (eqb-true (get_or slots.functions n 0) place e ∙ is)) (function_placed file n (omega arith)) in
             rw (tree_functions_lem file)
             (definition_before n 0 (function_sentences file n) (omega arith) (rw zero-add (definition_here n (omega arith) same h)))
         go false e ih = ih (omega arith) (definition_other n (omega arith) (other e (same_bytes (function_folded file n) name) refl) h)
@@ -138,26 +138,26 @@ module _ (file : File) (name : List ℕ) where
         (last_defined file.functions.count (omega arith) (rw (functions_end file file.functions.count (omega arith)) (undefined name)))
 
 -- a function that was found is one of these, and has the place
-last_found : (slots : List ℕ) (place f n : ℕ) → last_placed slots place n ≡ Some f → (f < n) × (get_or slots f 0 ≡ place)
+last_found : (slots : Slots) (place f n : ℕ) → last_placed slots place n ≡ Some f → (f < n) × (get_or slots.functions f 0 ≡ place)
 unfolding last_placed
 last_found slots place f zero e = cc
-last_found slots place f (suc n) e = go (eqb (get_or slots n 0) place) refl e (last_found slots place f n)
+last_found slots place f (suc n) e = go (eqb (get_or slots.functions n 0) place) refl e (last_found slots place f n)
   where
-    go : (b : Bool) → eqb (get_or slots n 0) place ≡ b → cond b (Some n) (last_placed slots place n) ≡ Some f
-        → (last_placed slots place n ≡ Some f → (f < n) × (get_or slots f 0 ≡ place)) → (f < suc n) × (get_or slots f 0 ≡ place)
-    go true e q ih = let same : n ≡ f = same_Some n f q in rw (← same) (omega arith, eqb-true (get_or slots n 0) place e)
+    go : (b : Bool) → eqb (get_or slots.functions n 0) place ≡ b → cond b (Some n) (last_placed slots place n) ≡ Some f
+        → (last_placed slots place n ≡ Some f → (f < n) × (get_or slots.functions f 0 ≡ place)) → (f < suc n) × (get_or slots.functions f 0 ≡ place)
+    go true e q ih = let same : n ≡ f = same_Some n f q in rw (← same) (omega arith, eqb-true (get_or slots.functions n 0) place e)
     go false e q ih = (omega (arith, (ih q).0), (ih q).1)
 
 -- the search from the last function down: the functions from f on have other places
-pub last_here : (slots : List ℕ) (place f g : ℕ) → f ≡ suc g → get_or slots g 0 ≡ place → Some g ≡ last_placed slots place f
+pub last_here : (slots : Slots) (place f g : ℕ) → f ≡ suc g → get_or slots.functions g 0 ≡ place → Some g ≡ last_placed slots place f
 unfolding last_placed
-last_here slots place f g e h = rw (e, eq-eqb (get_or slots g 0) place h)
+last_here slots place f g e h = rw (e, eq-eqb (get_or slots.functions g 0) place h)
 
-pub last_next : (slots : List ℕ) (place f g : ℕ) → f ≡ suc g → (get_or slots g 0 ≡ place → ⊥) → last_placed slots place f ≡ last_placed slots place g
+pub last_next : (slots : Slots) (place f g : ℕ) → f ≡ suc g → (get_or slots.functions g 0 ≡ place → ⊥) → last_placed slots place f ≡ last_placed slots place g
 unfolding last_placed
-last_next slots place f g e h = rw (e, ne_eqb (get_or slots g 0) place h)
+last_next slots place f g e h = rw (e, ne_eqb (get_or slots.functions g 0) place h)
 
-pub last_none : (slots : List ℕ) (place f : ℕ) → f ≡ 0 → None ≡ last_placed slots place f
+pub last_none : (slots : Slots) (place f : ℕ) → f ≡ 0 → None ≡ last_placed slots place f
 unfolding last_placed
 last_none slots place f e = rw e
 
@@ -237,25 +237,21 @@ module _ {file : File} {f s stop : ℕ} (t : ℕ) (m : MatchesLeft file f (liter
 
 -- ---- the formats that are compared
 
-module _ {bytes index slots store : List ℕ} {limit : ℕ} (p : Prepared bytes index slots store limit) (t : ℕ) where
-  -- what is asked to make the format of the argument
-  pub argument_asked : {at known most : ℕ} {part out : List ℕ} → t < (file_of bytes).terms.count → at ≡ t + 1 → part ≡ argument_part (file_of bytes) t → known ≡ get_or slots 576 0
-      → length out ≡ limit + 1 → most ≡ limit + 1 → RowAsked (file_of bytes) at part store limit known out 1 most
-  argument_asked l e same k long m =
-      row_asked p.asked (argument_here (file_of bytes) p.asked.readable l e same) (holding_stored _ p.holding (k ∙ p.asked.places.count) p.asked.small) long m
+module _ {bytes index : List ℕ} {slots : Slots} {store : List ℕ} {limit : ℕ} (p : Prepared bytes index slots store limit) (t : ℕ) where
+  -- the argument is a part of the term records
+  pub argument_asked : {at : ℕ} {part : List ℕ} → t < (file_of bytes).terms.count → at ≡ t + 1 → part ≡ argument_part (file_of bytes) t → PartAt (file_of bytes) at part
+  argument_asked l e same = argument_here (file_of bytes) p.asked.readable l e same
 
-  -- it is made
-  pub argument_made : {at known : ℕ} {part words : List ℕ} {ok : Bool} → at ≡ t + 1 → part ≡ argument_part (file_of bytes) t → known ≡ get_or slots 576 0
-      → ((r : Results) → Knows (file_of bytes) slots store limit known r → FormatMade limit (part_shapes (file_of bytes) r at part) ok words)
+  -- the format that is made of it
+  pub argument_made : {at : ℕ} {part words : List ℕ} {ok : Result (Unit {0}) TooWide} → at ≡ t + 1 → part ≡ argument_part (file_of bytes) t
+      → FormatMade limit (part_shapes (file_of bytes) (find (results_in limit (file_names (file_of bytes)) store)) at part) ok words
       → FormatMade limit (passed (formats_in (file_of bytes) limit store) (call_at (file_of bytes) t)) ok words
   unfolding argument_in
-  argument_made {at} {known} {part} {words} {ok} e same k made =
-      rw (e, same) at (made (find (results_in limit (file_names (file_of bytes)) store))
-      (holding_knows (file_of bytes) slots known p.asked.places p.holding (k ∙ p.asked.places.count) p.asked.small))
+  argument_made e same made = rw (e, same) at made
 
   -- the argument has too many shapes
-  pub compared_wide : {words : List ℕ} {ok : Bool} → FormatMade limit (passed (formats_in (file_of bytes) limit store) (call_at (file_of bytes) t)) ok words
-      → ok ≡ false → Wide ≡ comparison limit (formats_in (file_of bytes) limit store) (call_at (file_of bytes) t)
+  pub compared_wide : {words : List ℕ} {ok : Result (Unit {0}) TooWide} → FormatMade limit (passed (formats_in (file_of bytes) limit store) (call_at (file_of bytes) t)) ok words
+      → ok ≡ Err (record {}) → Wide ≡ comparison limit (formats_in (file_of bytes) limit store) (call_at (file_of bytes) t)
   unfolding comparison
   compared_wide made bad = rw (lt-ltb limit (size (passed (formats_in (file_of bytes) limit store) (call_at (file_of bytes) t))) (made_passes made bad))
 
@@ -268,15 +264,9 @@ module _ {bytes index slots store : List ℕ} {limit : ℕ} (p : Prepared bytes 
         rw (arguments_said h few)
         (found_at (file_names (file_of bytes)) p.holding.arguments (call_folded (file_of bytes) t) place h.entries.argument_names is ∙ sym (read_argument_format h place inside few))
 
-    pub accepted_inside : 2 * place * (limit + 1) + (limit + 1) ≤ length store
-    accepted_inside = part_inside p.holding.holds (2 * place) (omega arith)
-
-    pub accepted_few : 2 * place * (limit + 1) + (limit + 1) ≤ 8320
-    accepted_few = omega (arith, number_inside p.holding.holds.entries (2 * place) (omega arith), p.asked.small)
-
-    module _ {words : List ℕ} (rest : List ℕ) {ok : Bool} (made : FormatMade limit (passed (formats_in (file_of bytes) limit store) (call_at (file_of bytes) t)) ok words) (good : ok ≡ true)
-        {r literal : Bool} (test : r ≡ disjoint_formats (read_format (take (limit + 1) (words ++ rest)))
-        (read_format (take (2 * place * (limit + 1) + (limit + 1) - 2 * place * (limit + 1)) (drop (2 * place * (limit + 1)) store))))
+    module _ {words : List ℕ} (rest : List ℕ) {ok : Result (Unit {0}) TooWide} (made : FormatMade limit (passed (formats_in (file_of bytes) limit store) (call_at (file_of bytes) t)) ok words)
+        (good : ok ≡ Ok tt) {stored : List ℕ} (read : stored ≡ format_at limit store (2 * place))
+        {r literal : Bool} (test : r ≡ disjoint_formats (read_format (take (limit + 1) (words ++ rest))) (read_format stored))
         (known : literal ≡ is_literal (argument_in (file_of bytes) t)) where
       compared_is : cond r ByFormats (cond literal ByLiterals Nothing) ≡ comparison limit (formats_in (file_of bytes) limit store) (call_at (file_of bytes) t)
       unfolding comparison
@@ -286,7 +276,7 @@ module _ {bytes index slots store : List ℕ} {limit : ℕ} (p : Prepared bytes 
           let new : read_format (take (limit + 1) (words ++ rest)) ≡ of shapes =
           ap read_format (take_at words rest (limit + 1) made.kept ∙ made_words made good) ∙ read_write limit (of shapes) fits (omega (arith, p.asked.small)) in
           let apart : r ≡ disjoint_formats (of shapes) (accepted (formats_in (file_of bytes) limit store) (call_at (file_of bytes) t)) =
-          test ∙ rw (new, add-sub_cancel_left (2 * place * (limit + 1)) (limit + 1), accepted_is) in
+          test ∙ rw (new, read, accepted_is) in
           rw (apart, known, le-ltb limit (size shapes) fits)
 
       pub compared_apart : r ≡ true → ByFormats ≡ comparison limit (formats_in (file_of bytes) limit store) (call_at (file_of bytes) t)
@@ -310,8 +300,8 @@ module _ (file : File) (f t : ℕ) {literal : Bool} (known : literal ≡ is_lite
   pub literal_known : literal ≡ true → is_literal (argument_in file t) ≡ true
   literal_known e = sym known ∙ e
 
-module _ {bytes index slots store : List ℕ} {limit : ℕ} (p : Prepared bytes index slots store limit) (t : ℕ) (inside : t < (file_of bytes).terms.count)
-    (kind : word_at (file_of bytes).terms.records (24 * t) ≡ 7) {place count : ℕ} (at_slot : place ≡ get_or slots (64 + t) 0) (all : count ≡ get_or index 4 0) where
+module _ {bytes index : List ℕ} {slots : Slots} {store : List ℕ} {limit : ℕ} (p : Prepared bytes index slots store limit) (t : ℕ) (inside : t < (file_of bytes).terms.count)
+    (kind : word_at (file_of bytes).terms.records (24 * t) ≡ 7) {place count : ℕ} (at_slot : place ≡ get_or slots.calls t 0) (all : count ≡ get_or index 4 0) where
   count_is : count ≡ (file_of bytes).functions.count
   count_is = all ∙ p.asked.indexed.words.functions
 
@@ -336,7 +326,7 @@ module _ {bytes index slots store : List ℕ} {limit : ℕ} (p : Prepared bytes 
     -- the place is one of the names'
     pub place_inside : place < length (file_names (file_of bytes))
     place_inside =
-        let here : get_or slots f 0 ≡ place = (last_found slots place f count (sym last)).1 in
+        let here : get_or slots.functions f 0 ≡ place = (last_found slots place f count (sym last)).1 in
         rw (← here, p.asked.places.functions f function_here_lem) (function_placed (file_of bytes) f function_here_lem)
 
     compared_here : {r : Bool} → r ≡ compared_with (some (function_sentences (file_of bytes) f)) (argument_in (file_of bytes) t)

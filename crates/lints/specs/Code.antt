@@ -4,4 +4,3 @@ pub mod Part
 pub mod Records
 pub mod Overrides
 pub mod Verdicts
-pub mod Held

@@ -6,7 +6,7 @@ ghost use Rattle.lints.specs.Dead.{earliest};
 ghost use Rattle.lints.specs.Code.Records.{earlier_at, earliest_from};
 
 use law::AcceptedLaw;
-use sentences::shadow_sentences;
+use sentences::sentence_shadows;
 
 // The number from 1 of the earliest of so many sentences from `first` on that has no conditions and shadows the sentence after them. The search is
 // the loop of document 01, "The listing": it goes over the earlier sentences and yields the number by break.
@@ -23,7 +23,7 @@ pub fn earliest_shadow(accepted: &AcceptedLaw, first: usize, later: usize) -> Op
         }
         let s = first + i;
         let conditions = law.first_condition(s + 1) - law.first_condition(s);
-        if conditions == 0 && shadow_sentences(law.bytes, law.index, s, first + later) {
+        if conditions == 0 && sentence_shadows(accepted, s, first + later) {
             break Some(i + 1);
         }
         i += 1;

@@ -5,7 +5,6 @@
 
 pub mod builtin;
 pub mod dead;
-pub mod held;
 pub mod levels;
 pub mod open;
 pub mod recognition;

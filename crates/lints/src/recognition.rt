@@ -11,13 +11,12 @@ ghost use Rattle.lints.specs.Recognition.{some_matches, compared_with};
 ghost use Rattle.lints.specs.Code.Records.{formats_in, call_at};
 ghost use Rattle.lints.specs.Code.Verdicts.{reason_number, verdict_of, last_placed, function_sentences, comparison};
 
-use crate::held::Formats;
-use formats::Slots;
-use formats::infer::row_format;
-use formats::slots::wide;
+use formats::TooWide;
+use formats::held::Formats;
+use formats::slots::Slots;
 use law::AcceptedLaw;
 use searches::literal::is_literal;
-use sentences::{argument, literal_sentence};
+use sentences::{argument_of, sentence_matches};
 use shapes::disjoint_formats;
 
 // By what no sentence matches a call: its argument's format, or its argument itself, which is literal.
@@ -39,17 +38,13 @@ impl From<Reason> for u32 {
     }
 }
 
-// An argument has too many shapes to be compared.
-#[derive(Clone, Copy, PartialEq, Eq, Debug)]
-pub struct TooWide;
-
 // The last of so many functions whose name has this place.
 fn last_placed(slots: &Slots, count: usize, place: usize) -> Option<usize>
     requires { count ≤ 64 }
     ensures { result ≡ last_placed slots.now place count }
 {
     for f in (0..count).rev() {
-        if wide(slots[f]) == place {
+        if usize::from(slots.functions[f]) == place {
             return Some(f);
         }
     }
@@ -64,7 +59,7 @@ fn some_matches(accepted: &AcceptedLaw, f: usize, t: usize) -> bool
 {
     let law = &accepted.law;
     for s in law.first_sentence(f)..law.first_sentence(f + 1) {
-        if literal_sentence(law.bytes, law.index, s, t) {
+        if sentence_matches(accepted, s, t) {
             return true;
         }
     }
@@ -94,25 +89,10 @@ fn compare_call(
         (call_at (file_of formats.now.law.law.bytes.now) t) }
 {
     let mut row = [0u32; 65];
-    let law = &formats.law.law;
     let end = formats.limit + 1;
-    let part = argument(law.bytes, law.index, t);
-    let all = wide(formats.slots[576]);
-    if !row_format(
-        law.bytes,
-        formats.slots,
-        formats.store,
-        part,
-        t + 1,
-        formats.limit,
-        all,
-        &mut row[..end],
-    ) {
-        return Err(TooWide);
-    }
-    let a = 2 * place * end;
-    let e = a + end;
-    if disjoint_formats(&row[..end], &formats.store[a..e]) {
+    let part = argument_of(&formats.law, t);
+    formats.row_format(part, t + 1, &mut row[..end])?;
+    if disjoint_formats(&row[..end], formats.argument(place)) {
         return Ok(Some(Reason::Formats));
     }
     if literal {
@@ -128,11 +108,11 @@ pub fn judge_call(formats: &Formats, t: usize) -> Result<Option<Reason>, TooWide
         (formats_in (file_of formats.now.law.law.bytes.now) formats.now.limit formats.now.store.now) (call_at (file_of formats.now.law.law.bytes.now) t) }
 {
     let law = &formats.law.law;
-    let place = wide(formats.slots[64 + t]);
+    let place = usize::from(formats.slots.calls[t]);
     let Some(f) = last_placed(formats.slots, law.functions(), place) else {
         return Ok(None);
     };
-    let literal = is_literal(argument(law.bytes, law.index, t));
+    let literal = is_literal(argument_of(&formats.law, t));
     if !is_compared(&formats.law, f, t, literal) {
         return Ok(None);
     }

@@ -11,7 +11,7 @@ use Rattle.findings.specs.Code.Events.{Event}
 use Rattle.findings.specs.Code.Tasks.{number_of, lint_events}
 use Rattle.findings.specs.declared.way.Way.{Way}
 use Rattle.findings.specs.Code.Ways.{law_in, formats_of}
-use Rattle.lints.specs.declared.held.Formats as held
+use Rattle.formats.specs.declared.held.Formats as held
 use Rattle.lints.specs.Code.Records.{formats_in}
 use Rattle.file.specs.Sections.{file_of}
 use Rattle.law.specs.Reading.{tree_of}

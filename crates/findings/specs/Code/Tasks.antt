@@ -1,11 +1,12 @@
 -- What each lint meets, by the task that the code is given: the lint's number, the severity that its findings have, whether they are shown, the position
 -- of the function that is gone through, the words that there is room for, and the most shapes of a format.
-use Rattle.std.specs.Prelude.{ℕ, suc, ◌+◌, ◌*◌, Bool, cond, List, [], ◌∷◌, ◌++◌, map, get_or, eqb, ltb}
+use Rattle.std.specs.Prelude.{ℕ, suc, ◌+◌, ◌*◌, Bool, not, cond, List, [], ◌∷◌, ◌++◌, map, get_or, eqb, ltb}
 use Rattle.file.specs.Word.{word_at}
 use Rattle.file.specs.Sections.{File}
 use Rattle.law.specs.Tree.{Run, Sentences, Conditions, Law, keep}
 use Rattle.shapes.specs.Format.{size}
 use Rattle.formats.specs.Infer.{Formats}
+use Rattle.formats.specs.declared.slots.Slots.{Slots}
 use Rattle.matching.specs.Match.{when}
 use Rattle.lints.specs.Lint.{lint_number}
 use Rattle.lints.specs.Code.Overrides.{lint_meant}
@@ -80,8 +81,8 @@ function_events law formats task ss =
 
 -- by the words of the index and the slots, and by a lint's number: the functions have all sentences, so that no block has any (lint 1); there is no call
 -- (lints 2 and 3)
-abbrev pub none_inside : List ℕ → List ℕ → ℕ → Bool
-none_inside index slots lint = cond (eqb lint 1) (eqb (get_or index (8 + get_or index 4 0) 0) (get_or index 5 0)) (eqb (get_or slots 577 0) 0)
+abbrev pub none_inside : List ℕ → Slots → ℕ → Bool
+none_inside index slots lint = cond (eqb lint 1) (eqb (get_or index (8 + get_or index 4 0) 0) (get_or index 5 0)) (not slots.has_call)
 
 -- a task at another position
 abbrev pub at_position : Task → ℕ → Task

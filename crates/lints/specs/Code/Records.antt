@@ -8,6 +8,7 @@ use Rattle.law.specs.Places.{pattern_at, pattern_part, conditions_of, first_cond
 use Rattle.law.specs.Reading.{name_at, mark_at, run_of, own, conditions_from}
 use Rattle.law.specs.Code.Accepted.{Accepted}
 use Rattle.formats.specs.Infer.{Formats}
+use Rattle.formats.specs.declared.slots.Slots.{Slots}
 use Rattle.formats.specs.Code.Slots.{file_names}
 use Rattle.formats.specs.Code.Turns.{RoundAsked, Holding, arguments_in, results_in}
 use Rattle.sentences.specs.Entry.{argument_in}
@@ -15,7 +16,7 @@ use Rattle.lints.specs.Calls.{Call}
 use Rattle.lints.specs.Dead.{Earlier, unconditional}
 
 -- an accepted law, its index, the places of its names, and a store with the formats of its names
-pub record Prepared (bytes index slots store : List ℕ) (limit : ℕ) : Type 0 where
+pub record Prepared (bytes index : List ℕ) (slots : Slots) (store : List ℕ) (limit : ℕ) : Type 0 where
   pub accepted : Accepted bytes
   pub asked : RoundAsked bytes index slots limit (length (file_names (file_of bytes)))
   pub holding : Holding limit (file_names (file_of bytes)) store

@@ -11,7 +11,8 @@ use Rattle.matching.specs.Literal.{is_literal}
 use Rattle.lints.specs.Calls.{Call}
 use Rattle.lints.specs.Recognition.{compared, passed, accepted}
 use Rattle.lints.specs.declared.recognition.Reason as reasons
-use Rattle.lints.specs.declared.recognition.TooWide.{TooWide}
+use Rattle.formats.specs.declared.TooWide.{TooWide}
+use Rattle.formats.specs.declared.slots.Slots.{Slots}
 
 abbrev pub Verdict : Type 0
 Verdict = Result (Option reasons.Reason) TooWide
@@ -46,9 +47,9 @@ verdict_of limit law formats c = cond (compared law c) (comparison limit formats
 -- ---- what the code finds on its way
 
 -- the last of the first n functions whose name has this place
-unfoldable pub last_placed : List ℕ → ℕ → ℕ → Option ℕ
+unfoldable pub last_placed : Slots → ℕ → ℕ → Option ℕ
 last_placed slots place zero = None
-last_placed slots place (suc n) = cond (eqb (get_or slots n 0) place) (Some n) (last_placed slots place n)
+last_placed slots place (suc n) = cond (eqb (get_or slots.functions n 0) place) (Some n) (last_placed slots place n)
 
 -- the sentences of the function f
 abbrev pub function_sentences : File → ℕ → Sentences

@@ -13,11 +13,11 @@ name_in-name-requires c =
 pub returns-in-None : goal.returns-in-None
 returns-in-None c =
     builtin_met (file_of c.args.way.now.formats.now.law.law.bytes.now) c.args.t c.args.way.now.task (tree_of (file_of c.args.way.now.formats.now.law.law.bytes.now)) c.args.way.now.task.room (sink_of c.args.tally c.args.out.now) c.text-words.ensures
-    c.term_word-start.ensures c.term_word-len.ensures c.name_in-name.ensures c.argument.ensures c.in-None.ensures
+    c.term_word-start.ensures c.term_word-len.ensures c.name_in-name.ensures c.argument_of.ensures c.in-None.ensures
     (collect_none c.args.way.now.task.room (sink_of c.args.tally c.args.out.now))
 
 pub returns-in-Some : goal.returns-in-Some
 returns-in-Some c =
     builtin_met (file_of c.args.way.now.formats.now.law.law.bytes.now) c.args.t c.args.way.now.task (tree_of (file_of c.args.way.now.formats.now.law.law.bytes.now)) c.args.way.now.task.room (sink_of c.args.tally c.args.out.now) c.text-words.ensures
-    c.term_word-start.ensures c.term_word-len.ensures c.name_in-name.ensures c.argument.ensures c.in-Some.ensures
+    c.term_word-start.ensures c.term_word-len.ensures c.name_in-name.ensures c.argument_of.ensures c.in-Some.ensures
     (rw (← c.from.ensures) (collect_met c.args.way.now.task.room (call_found (file_of c.args.way.now.formats.now.law.law.bytes.now) c.args.way.now.task c.args.t c.from.result) c.args.tally c.args.out.now c.put_call.ensures))

@@ -3,7 +3,7 @@ use Rattle.law.proofs.IndexLaws.{sentences_limit}
 use Rattle.file.specs.Sections.{file_of}
 use Rattle.lints.proofs.DeadLaws as laws
 use Rattle.lints.proofs.dead.earliest_shadow.Goals as goal
-use Rattle.lints.proofs.dead.earliest_shadow.Goals.{else-conditions-eq0-via-then-conditions-eq0+else-shadow_sentences, else-conditions-eq0-via-else-conditions-eq0}
+use Rattle.lints.proofs.dead.earliest_shadow.Goals.{else-conditions-eq0-via-then-conditions-eq0+else-sentence_shadows, else-conditions-eq0-via-else-conditions-eq0}
 
 pub loop-i-init : goal.loop-i-init
 loop-i-init c = (omega arith, laws.search_starts (file_of c.args.accepted.now.law.bytes.now) c.args.first _)
@@ -25,10 +25,10 @@ pub loop-i-preserved : goal.loop-i-preserved
 loop-i-preserved c = (
   omega (arith, c.if-later-i.false),
   elim c.else-conditions-eq0.branch [
-    | else-conditions-eq0-via-then-conditions-eq0+else-shadow_sentences w ↦
+    | else-conditions-eq0-via-then-conditions-eq0+else-sentence_shadows w ↦
         laws.again_pattern c.args.accepted.now.law.indexed _ _ c.loop-i.i _ _ c.requires (omega (arith, c.if-later-i.false))
-        c.first_condition.ensures c.first_condition-in-loop-i.ensures w.if-conditions-eq0.true w.shadow_sentences.ensures
-        w.if-shadow_sentences.false c.loop-i.invariant.1
+        c.first_condition.ensures c.first_condition-in-loop-i.ensures w.if-conditions-eq0.true w.sentence_shadows.ensures
+        w.if-sentence_shadows.false c.loop-i.invariant.1
     | else-conditions-eq0-via-else-conditions-eq0 w ↦
         laws.again_conditions c.args.accepted.now.law.indexed _ _ c.loop-i.i _ _ c.requires (omega (arith, c.if-later-i.false))
         c.first_condition.ensures c.first_condition-in-loop-i.ensures w.if-conditions-eq0.false c.loop-i.invariant.1
@@ -42,10 +42,10 @@ returns-then-later-i c = (
   omega arith,
 )
 
-pub returns-then-shadow_sentences : goal.returns-then-shadow_sentences
-returns-then-shadow_sentences c = (
+pub returns-then-sentence_shadows : goal.returns-then-sentence_shadows
+returns-then-sentence_shadows c = (
   laws.shadow_found c.args.accepted.now.law.indexed _ _ c.loop-i.i _ _ c.requires (omega (arith, c.if-later-i.false)) c.first_condition.ensures
-      c.first_condition-in-loop-i.ensures c.if-conditions-eq0.true c.shadow_sentences.ensures c.if-shadow_sentences.true c.loop-i.invariant.1,
+      c.first_condition-in-loop-i.ensures c.if-conditions-eq0.true c.sentence_shadows.ensures c.if-sentence_shadows.true c.loop-i.invariant.1,
   omega (arith, c.if-later-i.false),
 )
 

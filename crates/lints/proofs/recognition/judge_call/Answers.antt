@@ -6,9 +6,6 @@ use Rattle.lints.proofs.Holdings.{prepared}
 use Rattle.lints.proofs.RecognitionLaws.{literal_read, place_is, function_here_lem, place_inside, verdict_undefined, verdict_silent, verdict_compared}
 use Rattle.lints.proofs.recognition.judge_call.Goals as goal
 
-pub overflow_add-t : goal.overflow_add-t
-overflow_add-t c = omega (arith, c.requires.0, terms_limit _ _ c.args.formats.now.law.law.indexed)
-
 pub bounds-formats-t : goal.bounds-formats-t
 bounds-formats-t c = omega (arith, c.requires.0, terms_limit _ _ c.args.formats.now.law.law.indexed)
 
@@ -18,29 +15,29 @@ last_placed-requires c =
     omega (arith, c.functions.ensures, indexed.words.functions, functions_limit _ _ indexed)
 
 pub returns-in_default : goal.returns-in_default
-returns-in_default c = verdict_undefined (prepared c.args.formats.now) c.args.t c.requires.0 c.requires.1 c.wide-place.ensures.0 c.functions.ensures c.in_default.ensures
+returns-in_default c = verdict_undefined (prepared c.args.formats.now) c.args.t c.requires.0 c.requires.1 c.from-place.ensures c.functions.ensures c.in_default.ensures
 
 pub is_compared-requires : goal.is_compared-requires
 is_compared-requires c = record {
   f_bound = (
-    function_here_lem (prepared c.args.formats.now) c.args.t c.requires.0 c.requires.1 c.wide-place.ensures.0 c.functions.ensures c.in-Some.ensures,
+    function_here_lem (prepared c.args.formats.now) c.args.t c.requires.0 c.requires.1 c.from-place.ensures c.functions.ensures c.in-Some.ensures,
     c.requires.0,
-    literal_read (file_of c.args.formats.now.law.law.bytes.now) c.args.t c.argument.ensures c.is_literal-literal.ensures,
+    literal_read (file_of c.args.formats.now.law.law.bytes.now) c.args.t c.argument_of.ensures c.is_literal-literal.ensures,
   );
 }
 
 pub returns-then-not-is_compared : goal.returns-then-not-is_compared
-returns-then-not-is_compared c = verdict_silent (prepared c.args.formats.now) c.args.t c.requires.0 c.requires.1 c.wide-place.ensures.0 c.functions.ensures c.in-Some.ensures
+returns-then-not-is_compared c = verdict_silent (prepared c.args.formats.now) c.args.t c.requires.0 c.requires.1 c.from-place.ensures c.functions.ensures c.in-Some.ensures
     c.is_compared.ensures c.if-not-is_compared.true
 
 pub compare_call-requires-clause-term : goal.compare_call-requires-clause-term
 compare_call-requires-clause-term c =
-    (c.requires.0, literal_read (file_of c.args.formats.now.law.law.bytes.now) c.args.t c.argument.ensures c.is_literal-literal.ensures)
+    (c.requires.0, literal_read (file_of c.args.formats.now.law.law.bytes.now) c.args.t c.argument_of.ensures c.is_literal-literal.ensures)
 
 pub compare_call-requires-clause-place_value : goal.compare_call-requires-clause-place_value
 compare_call-requires-clause-place_value c =
-    (place_is (prepared c.args.formats.now) c.args.t c.requires.0 c.requires.1 c.wide-place.ensures.0 c.functions.ensures, place_inside (prepared c.args.formats.now) c.args.t c.requires.0 c.requires.1 c.wide-place.ensures.0 c.functions.ensures c.in-Some.ensures)
+    (place_is (prepared c.args.formats.now) c.args.t c.requires.0 c.requires.1 c.from-place.ensures c.functions.ensures, place_inside (prepared c.args.formats.now) c.args.t c.requires.0 c.requires.1 c.from-place.ensures c.functions.ensures c.in-Some.ensures)
 
 pub returns : goal.returns
-returns c = verdict_compared (prepared c.args.formats.now) c.args.t c.requires.0 c.requires.1 c.wide-place.ensures.0 c.functions.ensures c.in-Some.ensures
+returns c = verdict_compared (prepared c.args.formats.now) c.args.t c.requires.0 c.requires.1 c.from-place.ensures c.functions.ensures c.in-Some.ensures
     c.is_compared.ensures c.if-not-is_compared.false c.compare_call.ensures

@@ -5,11 +5,11 @@ use Rattle.lints.proofs.recognition.last_placed.Goals as goal
 pub loop-f-preserved : goal.loop-f-preserved
 loop-f-preserved c =
     c.loop-f.invariant
-    ∙ last_next c.args.slots.now c.args.place c.loop-f.f _ (omega arith) (λ e. c.if-wide-place.false (c.wide.ensures.0 ∙ e))
+    ∙ last_next c.args.slots.now c.args.place c.loop-f.f _ (omega arith) (λ e. c.if-from-place.false (c.from.ensures ∙ e))
 
-pub returns-then-wide-place : goal.returns-then-wide-place
-returns-then-wide-place c =
-    last_here c.args.slots.now c.args.place c.loop-f.f _ (omega arith) (sym c.wide.ensures.0 ∙ c.if-wide-place.true)
+pub returns-then-from-place : goal.returns-then-from-place
+returns-then-from-place c =
+    last_here c.args.slots.now c.args.place c.loop-f.f _ (omega arith) (sym c.from.ensures ∙ c.if-from-place.true)
     ∙ sym c.loop-f.invariant
 
 pub returns : goal.returns

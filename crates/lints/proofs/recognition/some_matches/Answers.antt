@@ -17,20 +17,20 @@ first_sentence-s-end-requires c = function_few c.args.accepted.now.law.indexed c
 pub loop-s-init : goal.loop-s-init
 loop-s-init c = matches_start c.args.accepted.now.law.indexed c.args.f c.requires.f_bound.0 _ _ c.first_sentence-s.ensures c.first_sentence-s-end.ensures
 
-pub literal_sentence-requires-clause-sentence_bound : goal.literal_sentence-requires-clause-sentence_bound
-literal_sentence-requires-clause-sentence_bound c = (
+pub sentence_matches-requires : goal.sentence_matches-requires
+sentence_matches-requires c = (
   omega (arith, c.loop-s-test.true, c.loop-s.invariant.few),
   c.requires.f_bound.1,
   sym (argument_literal (file_of c.args.accepted.now.law.bytes.now) c.args.t) ∙ c.requires.f_bound.2,
 )
 
-pub returns-then-literal_sentence : goal.returns-then-literal_sentence
-returns-then-literal_sentence c =
-    matches_here c.args.t c.loop-s.invariant (accepted_readable _ c.args.accepted.now.accepted) c.loop-s-test.true c.literal_sentence.ensures c.if-literal_sentence.true
+pub returns-then-sentence_matches : goal.returns-then-sentence_matches
+returns-then-sentence_matches c =
+    matches_here c.args.t c.loop-s.invariant (accepted_readable _ c.args.accepted.now.accepted) c.loop-s-test.true c.sentence_matches.ensures c.if-sentence_matches.true
 
 pub loop-s-preserved : goal.loop-s-preserved
 loop-s-preserved c =
-    matches_next c.args.t c.loop-s.invariant (accepted_readable _ c.args.accepted.now.accepted) c.loop-s-test.true c.literal_sentence.ensures c.if-literal_sentence.false
+    matches_next c.args.t c.loop-s.invariant (accepted_readable _ c.args.accepted.now.accepted) c.loop-s-test.true c.sentence_matches.ensures c.if-sentence_matches.false
 
 pub returns : goal.returns
 returns c = matches_end c.args.t c.loop-s.invariant (accepted_readable _ c.args.accepted.now.accepted) c.loop-s-test.false
