@@ -47,6 +47,7 @@ enum Operand {
 }
 
 // ---- integers
+// The text and a part of the term records are two parameters: a struct of both would be made anew for each part that is cut off.
 
 // A number as an operand: a macrodigit by its value, however many zeros lead.
 fn number_operand(digits: &[u8]) -> Option<Operand>
