@@ -23,7 +23,10 @@ use Rattle.matching.specs.Code.Step.{begins_with, BeginsIn}
 use Rattle.std.specs.Prelude.{Some, None, Option as Maybe}
 use Rattle.matching.proofs.SameLaws.{false_not_true}
 use Rattle.matching.proofs.CutLaws.{from_all, from_length, from_from}
+use Rattle.law.specs.Code.Whole.{term_parts}
+use Rattle.law.proofs.RunLaws.{end_high}
 use Rattle.matching.proofs.PartLaws.{row_empty, row_node}
+use Rattle.matching.proofs.TermLaws.{rows, row_parts, NoLonger, no_longer}
 
 -- ---- rows of one form
 
@@ -153,45 +156,63 @@ module _ (text value row : List ℕ) {p : Bool} (first : p ≡ is_bracket (term_
           let known : Answered (Some k) = rw i at h in
           sym (inside_left ∙ ap nothing_left (sym known.1) ∙ row_short text (take (n - 24) (drop 24 row)) k known.0)
 
--- ---- what `begins` answers at each return: from i and j on the value and the row are left
+-- ---- what `begins` answers at each return: these are left of the value and of the row
 
-pub record Begun (text value row : List ℕ) (i j : ℕ) : Type 0 where
-  pub value_within : i ≤ length value
-  pub row_within : j ≤ length row
-  pub left : after same_atom (row_of text value) (row_of text row) ≡ after same_atom (row_of text (from i value)) (row_of text (from j row))
+pub record Begun (text value row left_value left_row : List ℕ) : Type 0 where
+  pub within : length left_row ≤ length row
+  pub place : left_row ≡ from (length row - length left_row) row
+  pub short : NoLonger (length value) (term_parts left_value)
+  pub left : after same_atom (row_of text value) (row_of text row) ≡ after same_atom (rows text (term_parts left_value)) (row_of text left_row)
 
-pub begun : (text value row : List ℕ) → Begun text value row 0 0
-begun text value row = record { value_within = omega arith; row_within = omega arith; left = rw (from_all value, from_all row) }
+pub begun : (text value row : List ℕ) → Begun text value row value row
+begun text value row =
+    let none : length row - length row ≡ 0 = omega arith in
+    record {
+      within = omega arith;
+      place = rw (none, from_all row);
+      short = no_longer (length value) value (omega arith);
+      left = rw (row_parts text value);
+    }
 
-module _ {text value row : List ℕ} {i j : ℕ} (so_far : Begun text value row i j) where
+module _ {text value row left_value left_row : List ℕ} (so_far : Begun text value row left_value left_row) where
   -- nothing is left of the value
-  pub begins_after : length (from i value) < 24 → BeginsIn row (Some j) × (begins_with text row (Some j) ≡ after same_atom (row_of text value) (row_of text row))
+  pub begins_after : term_parts left_value ≡ [] → BeginsIn row (Some (length row - length left_row))
+      × (begins_with text row (Some (length row - length left_row)) ≡ after same_atom (row_of text value) (row_of text row))
   unfolding after
-  begins_after h = (so_far.row_within, sym (so_far.left ∙ rw (row_empty text (from i value) h)))
+  begins_after none =
+      let ends : after same_atom (row_of text value) (row_of text row) ≡ row_of text left_row ∷ [] =
+      so_far.left ∙ ap (λ ss. after same_atom (rows text ss) (row_of text left_row)) none in
+      (omega arith, sym (ends ∙ ap (λ s. row_of text s ∷ []) so_far.place))
 
-  module _ (some : 24 ≤ length (from i value)) where
+  -- a term, with what is behind it
+  module _ (term behind : List ℕ) (here : term_parts left_value ≡ term ∷ term_parts behind) where
+    pub term_short : length term ≤ length value
+    term_short = (rw here at so_far.short).0
+
     -- nothing is left of the row
-    pub begins_short : length (from j row) < 24 → BeginsIn row None × (begins_with text row None ≡ after same_atom (row_of text value) (row_of text row))
+    pub begins_short : length left_row < 24 → BeginsIn row None × (begins_with text row None ≡ after same_atom (row_of text value) (row_of text row))
     begins_short h =
-        (tt, sym (so_far.left ∙ rw (row_node text (from i value) some, row_empty text (from j row) h) (after_none text (term_at (from i value) 0) _ _)))
+        (tt, sym (so_far.left ∙ ap (λ ss. after same_atom (rows text ss) (row_of text left_row)) here ∙ rw (row_empty text left_row h) (after_none text (term_at term 0) _ _)))
 
-    module _ (more : 24 ≤ length (from j row)) {t : Bool} (told : t ≡ same_first text (from i value) (from j row)) where
+    module _ (more : 24 ≤ length left_row) {t : Bool} (told : t ≡ same_first text term left_row) where
       next : after same_atom (row_of text value) (row_of text row)
-          ≡ when t (after same_atom (row_of text (rest 24 end_of (from i value))) (row_of text (rest 24 end_of (from j row))))
+          ≡ when t (after same_atom (rows text (term_parts behind)) (row_of text (rest 24 end_of left_row)))
       next =
-          so_far.left
-          ∙ rw (told, row_node text (from i value) some, row_node text (from j row) more)
-          (after_heads text (term_at (from i value) 0) (term_at (from j row) 0) _ _ _ _)
+          so_far.left ∙ ap (λ ss. after same_atom (rows text ss) (row_of text left_row)) here
+          ∙ rw (told, row_node text left_row more) (after_heads text (term_at term 0) (term_at left_row 0) _ _ _ _)
 
       -- the first terms are not the same
       pub begins_differs : t ≡ false → BeginsIn row None × (begins_with text row None ≡ after same_atom (row_of text value) (row_of text row))
       begins_differs e = (tt, sym (next ∙ rw e))
 
       -- they are
-      pub begins_next : {m n : ℕ} → t ≡ true → m ≡ end_of (from i value) → m ≤ length (from i value) → n ≡ end_of (from j row) → n ≤ length (from j row)
-          → Begun text value row (i + m) (j + n)
-      begins_next {m} {n} e p a q b = record {
-        value_within = omega (arith, from_length i value, so_far.value_within);
-        row_within = omega (arith, from_length j row, so_far.row_within);
-        left = next ∙ rw (e, ← p, ← q, from_from m i value, from_from n j row);
-      }
+      pub begins_next : t ≡ true → {later : List ℕ} → later ≡ rest 24 end_of left_row → Begun text value row behind later
+      begins_next e {later} is =
+          let size : length later ≡ length left_row - end_of left_row = ap length is ∙ from_length (end_of left_row) left_row in
+          let place : length row - length later ≡ length row - length left_row + end_of left_row = omega (arith, so_far.within, end_high left_row) in
+          record {
+            within = omega (arith, so_far.within);
+            place = rw place (is ∙ ap (from (end_of left_row)) so_far.place ∙ from_from (end_of left_row) (length row - length left_row) row);
+            short = (rw here at so_far.short).1;
+            left = next ∙ rw (e, is);
+          }

@@ -1,5 +1,6 @@
 pub mod PartLaws
 pub mod CutLaws
+pub mod TermLaws
 pub mod VariableLaws
 pub mod AtomLaws
 pub mod BeginLaws

@@ -7,6 +7,8 @@ ghost use Rattle.matching.specs.Code.Step.{begins_with, BeginsIn};
 
 use crate::atoms::{atoms_same, is_bracket};
 use law::runs::end_of;
+use law::whole;
+use law::whole::Terms;
 
 // Are the first terms of these parts the same? Brackets ask about their contents.
 #[cycle(begins_same_first)]
@@ -27,25 +29,18 @@ fn same_first(text: &[u8], value: &[u8], row: &[u8]) -> bool
     }
 }
 
-// The position in a row after the terms of a value, if the row begins with them. By positions in both, since a step is as long as a term and the row's position is
-// answered.
+// The position in a row after the terms of a value, if the row begins with them.
 #[cycle(begins_same_first)]
 pub fn begins(text: &[u8], value: &[u8], row: &[u8]) -> Option<usize>
     ensures { BeginsIn row.now result
         × (begins_with text.now row.now result ≡ after same_atom (row_of text.now value.now) (row_of text.now row.now)) }
 {
-    let mut i = 0;
-    let mut j = 0;
-    loop {
-        let left = &value[i..];
-        let right = &row[j..];
-        if left.len() < 24 {
-            break Some(j);
+    let mut left = row;
+    for term in Terms(value) {
+        if left.len() < 24 || !same_first(text, term, left) {
+            return None;
         }
-        if right.len() < 24 || !same_first(text, left, right) {
-            break None;
-        }
-        i += end_of(left);
-        j += end_of(right);
+        left = whole::after(left);
     }
+    Some(row.len() - left.len())
 }

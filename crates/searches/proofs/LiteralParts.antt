@@ -24,7 +24,7 @@ use Rattle.matching.specs.Literal.{is_literal, literal_terms, literal_matches}
 use Rattle.matching.specs.Code.Part.{row_of, literal_part, symbols_of, symbol_at}
 use Rattle.matching.specs.Code.Step.{found}
 use Rattle.searches.specs.Code.Asked.{some_holds, resume}
-use Rattle.matching.proofs.CutLaws.{from_length}
+use Rattle.matching.proofs.TermLaws.{NoLonger, no_longer}
 use Rattle.searches.proofs.LiteralSearch.{literal_search}
 
 -- a term before the runs inside and after it: a symbol is literal, brackets are if their contents are
@@ -154,17 +154,6 @@ literal_parts =
     each_part (λ part. literal_part part ≡ parts_literal (term_parts part))
     (λ part short. rw (literal_none part short, parts_none part short))
     (λ part long after. rw (literal_node part long, parts_node part long) (ap (literal_term (term_at part 0) (literal_part (contents 24 end_of part))) after))
-
--- none of them is longer
-abbrev pub NoLonger : ℕ → List (List ℕ) → Type 0
-NoLonger n [] = Unit {0}
-NoLonger n (s ∷ ss) = (length s ≤ n) × NoLonger n ss
-
-no_longer : (n : ℕ) (part : List ℕ) → length part ≤ n → NoLonger n (term_parts part)
-no_longer n =
-    each_part (λ part. length part ≤ n → NoLonger n (term_parts part))
-    (λ part short h. rw (parts_none part short) tt)
-    (λ part long after h. rw (parts_node part long) (h, after (omega (arith, from_length (end_of part) part))))
 
 -- some terms are gone through, and these are left
 pub record LeftOf (part left : List ℕ) : Type 0 where

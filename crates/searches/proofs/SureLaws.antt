@@ -12,9 +12,8 @@ use Rattle.file.specs.Forest.{contents}
 use Rattle.law.specs.Runs.{end_of}
 use Rattle.law.specs.Variables.{Variable, occurs}
 use Rattle.matching.specs.Code.Part.{row_of, from, Begin, at_start, one_on}
-use Rattle.matching.specs.Code.Bound.{values_up_to, values_of, Bound}
+use Rattle.matching.specs.Code.Bound.{values_up_to, Bound}
 use Rattle.searches.specs.Code.Capacity.{variables_in}
-use Rattle.searches.specs.Code.Repeats.{Agree}
 use Rattle.searches.specs.Code.Failed.{first_values, Settled, Failed, Remembers, Fixed, MatchKept}
 use Rattle.matching.specs.declared.Bindings.{Bindings}
 use Rattle.searches.specs.declared.failed.Rest.{Rest}
