@@ -1,5 +1,5 @@
 -- The parts of a file's bytes where the records of its sections stand, as code cuts them out: that they hold the records, and what refusal 5 says of them.
-use Prim.Native.Nat.{ℕ, ◌+◌, ◌*◌, ◌-◌, ◌≤◌}
+use Prim.Native.Nat.{ℕ, ◌+◌, ◌*◌, ◌-◌}
 use mathlib.Core.List.{List}
 use mathlib.Core.Bool.{Bool, ◌&&◌}
 use mathlib.Core.Path.{◌≡◌, ◌∙◌}
@@ -27,23 +27,6 @@ conditions_part bytes s = cut_out (16 + s.text + 20 * s.functions + 20 * s.sente
 
 abbrev pub terms_part : List ℕ → Sections → List ℕ
 terms_part bytes s = cut_out (20 + s.text + 20 * s.functions + 20 * s.sentences + 16 * s.conditions) (24 * s.terms) bytes
-
--- a part that ends within the bytes is as long as asked for
-cut_fits : (start len : ℕ) (bytes : List ℕ) → start + len ≤ length bytes → len ≤ length (cut_out start len bytes)
-cut_fits start len bytes h = simp (length-take, length-drop) (omega arith)
-
--- so the parts of sections 2 to 5 hold as many records as the sections count
-pub functions_fit : (bytes : List ℕ) (s : Sections) → length bytes ≡ file_length s → 20 * s.functions ≤ length (functions_part bytes s)
-functions_fit bytes s h = cut_fits (8 + s.text) (20 * s.functions) bytes (omega arith)
-
-pub sentences_fit : (bytes : List ℕ) (s : Sections) → length bytes ≡ file_length s → 20 * s.sentences ≤ length (sentences_part bytes s)
-sentences_fit bytes s h = cut_fits (12 + s.text + 20 * s.functions) (20 * s.sentences) bytes (omega arith)
-
-pub conditions_fit : (bytes : List ℕ) (s : Sections) → length bytes ≡ file_length s → 16 * s.conditions ≤ length (conditions_part bytes s)
-conditions_fit bytes s h = cut_fits (16 + s.text + 20 * s.functions + 20 * s.sentences) (16 * s.conditions) bytes (omega arith)
-
-pub terms_fit : (bytes : List ℕ) (s : Sections) → length bytes ≡ file_length s → 24 * s.terms ≤ length (terms_part bytes s)
-terms_fit bytes s h = cut_fits (20 + s.text + 20 * s.functions + 20 * s.sentences + 16 * s.conditions) (24 * s.terms) bytes (omega arith)
 
 -- bytes that are cut into sections with these counts are as long as the counts say, and no count is over its limit
 pub counts_known : (bytes : List ℕ) (s : Sections) → sections_of bytes ≡ given (file_of bytes) → counts_of (file_of bytes) ≡ s

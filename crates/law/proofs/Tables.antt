@@ -7,7 +7,7 @@ use native.Mathlib.Omega.{arith}
 use native.Mathlib.Decide.{dec_lt}
 use native.Mathlib.Nat.{add-zero, mod-eq_of_lt}
 use lib.ListN.{length, get_or, set, take, drop, take-append-drop}
-use lib.Seq.{get_or-set_same, get_or-set_other, get_or-append-add, get_or-drop, sets, sets-eq}
+use lib.Seq.{get_or-set_same, get_or-set_other, get_or-append-add, get_or-drop}
 use lib.Dec.{eqb}
 use borrow.Author.Tests.{eqb-true, ne_eqb}
 use Rattle.file.specs.Word.{word_at}
@@ -123,13 +123,6 @@ tables_of_parts file x₀ x₁ x₂ x₃ x₄ x₅ limits t₁ t₂ t₃ t₄ t�
       sentence_terms = λ s l. t₅.below (331 + s) (omega arith) ∙ t₄.inside s (omega arith);
       blocks = t₅.inside;
     }
-
--- what two tests give, the second of which is made only where the first holds
-pub and_held : (a b t : Bool) → a ≡ true → t ≡ b → t ≡ a && b
-and_held a b t p q = rw p q
-
-pub and_failed : (a b t : Bool) → a ≡ false → t ≡ a → t ≡ a && b
-and_failed a b t p q = rw p (q ∙ p)
 
 -- after a test that two numbers are the same, either may stand for the other
 same_after : (x : Bool) (m n : ℕ) (p : ℕ → Bool) → x && eqb m n && p n ≡ x && eqb m n && p m
@@ -251,10 +244,6 @@ index_made file tables limits h t =
       blocks = λ n l.
           word (460 + n) _ (omega arith) (t.blocks n l) (omega (arith, u.sentences, total_mono n file.terms.count (block_size file) (omega arith)));
     }
-
--- the header, written word by word
-pub header_written : (s : Sections) (xs : List ℕ) → length xs ≡ 972 → sets xs 0 (header s) ≡ header s ++ drop 8 xs
-header_written s xs h = sets-eq (header s) xs 0 (omega arith)
 
 -- a header before tables
 pub placed_made : (file : File) (s : Sections) (tables index : List ℕ) → counts_of file ≡ s → TablesOf file tables

@@ -41,10 +41,11 @@ fn add_block(terms: &[u8], t: usize, sum: usize) -> usize
     requires { (24 * t + 24 ≤ length terms.now) × (t < 972) × (sum ≡ block_sum terms.now t) × (sum ≤ 4294967295 * t) }
     ensures { (result ≡ block_sum terms.now (t + 1)) × (result ≤ 4294967295 * (t + 1)) }
 {
-    if word_at(terms, 24 * t) != 8 {
-        return sum;
+    if word_at(terms, 24 * t) == 8 {
+        sum + word_at(terms, 24 * t + 4) as usize
+    } else {
+        sum
     }
-    sum + word_at(terms, 24 * t + 4) as usize
 }
 
 // Writes the first sentence of the block at each term record, where the first block's stands at `first`, and answers the sentences of all blocks.
@@ -77,10 +78,10 @@ fn fill_tables(index: &mut Index, law: &[u8], sections: Sections) -> bool
     let sentences = sections.sentences;
     let conditions = sections.conditions;
     let terms = sections.terms;
-    let functions_at = 8 + sections.text;
-    let sentences_at = 12 + sections.text + 20 * functions;
-    let conditions_at = 16 + sections.text + 20 * functions + 20 * sentences;
-    let terms_at = 20 + sections.text + 20 * functions + 20 * sentences + 16 * conditions;
+    let functions_at = sections.functions_at();
+    let sentences_at = sections.sentences_at();
+    let conditions_at = sections.conditions_at();
+    let terms_at = sections.terms_at();
     let function_records = &law[functions_at..functions_at + 20 * functions];
     let sentence_records = &law[sentences_at..sentences_at + 20 * sentences];
     let condition_records = &law[conditions_at..conditions_at + 16 * conditions];
@@ -112,14 +113,10 @@ fn fill_header(index: &mut Index, sections: Sections)
     requires { Limits sections × (length index.old ≡ 972) }
     ensures { index.new ≡ header sections ++ drop 8 index.old }
 {
-    index[0] = (8 + sections.text) as u16;
-    index[1] = (12 + sections.text + 20 * sections.functions) as u16;
-    index[2] = (16 + sections.text + 20 * sections.functions + 20 * sections.sentences) as u16;
-    index[3] = (20
-        + sections.text
-        + 20 * sections.functions
-        + 20 * sections.sentences
-        + 16 * sections.conditions) as u16;
+    index[0] = sections.functions_at() as u16;
+    index[1] = sections.sentences_at() as u16;
+    index[2] = sections.conditions_at() as u16;
+    index[3] = sections.terms_at() as u16;
     index[4] = sections.functions as u16;
     index[5] = sections.sentences as u16;
     index[6] = sections.conditions as u16;
