@@ -40,10 +40,11 @@ use Rattle.formats.specs.Code.Rows.{term_shapes, part_shapes, first_shapes, RowA
 use Rattle.std.specs.Prelude.{Some, None}
 use Rattle.file.specs.declared.Term.TheVariants as terms
 use Rattle.shapes.specs.declared.RowEnd.{RowEnd}
+use Rattle.shapes.specs.declared.RowEnd.TheVariants.{Closed, Open}
 use Rattle.shapes.specs.declared.leaf.Leaf.{Leaf}
 use Rattle.shapes.specs.declared.row.Row as rows
 use Rattle.shapes.specs.Code.Leaves.{leaf_meant}
-use Rattle.shapes.specs.Code.Rows.{row_meant, IsRowOf}
+use Rattle.shapes.specs.Code.Rows.{row_meant, row_next, row_opens, IsRowOf}
 use Rattle.formats.specs.declared.slots.Slots.{Slots}
 
 -- ---- a row, written or over
@@ -71,6 +72,22 @@ written_outside old at new most h k = go
 
 some_is : {a b : RowEnd} → Some a ≡ Some b → a ≡ b
 some_is e = cc
+
+-- where a row ends, and how
+next_is : (n : ℕ) (o : Bool) → row_next (cond o (Open n) (Closed n)) ≡ n
+next_is n true = refl
+next_is n false = refl
+
+opens_is : (n : ℕ) (o : Bool) → row_opens (cond o (Open n) (Closed n)) ≡ o
+opens_is n true = refl
+opens_is n false = refl
+
+pub ends_is : (e : RowEnd) (n : ℕ) (o : Bool) → row_next e ≡ n → row_opens e ≡ o → Some e ≡ ends n o
+ends_is (Closed m) n o p q = rw (p, ← q)
+ends_is (Open m) n o p q = rw (p, ← q)
+
+pub ends_itself : (e : RowEnd) → Some e ≡ ends (row_next e) (row_opens e)
+ends_itself e = ends_is e _ _ refl refl
 
 module _ (shapes : Shapes) (before after : List ℕ) (from most : ℕ) where
   -- shapes that pass the room
@@ -109,10 +126,10 @@ module _ (shapes : Shapes) (before after : List ℕ) (from most : ℕ) where
       go (no p) = let q : ends n o ≡ over = r.over (omega arith) in let z : ◌≡◌ {A = ℕ} 0 1 = cc in absurd (omega arith)
 
   pub ends_at : (n : ℕ) (o : Bool) → RowIs shapes before after from most (ends n o) → n ≡ from + size shapes
-  ends_at n o r = ap (λ e. e.next) (some_is (r.fits (ends_fits n o r)).0)
+  ends_at n o r = sym (next_is n o) ∙ ap row_next (some_is (r.fits (ends_fits n o r)).0) ∙ next_is _ _
 
   pub ends_open : (n : ℕ) (o : Bool) → RowIs shapes before after from most (ends n o) → o ≡ is_open shapes
-  ends_open n o r = ap (λ e. e.is_open) (some_is (r.fits (ends_fits n o r)).0)
+  ends_open n o r = sym (opens_is n o) ∙ ap row_opens (some_is (r.fits (ends_fits n o r)).0) ∙ opens_is _ _
 
   pub ends_words : (n : ℕ) (o : Bool) → RowIs shapes before after from most (ends n o) → after ≡ written before from (shape_words shapes)
   ends_words n o r = (r.fits (ends_fits n o r)).1
@@ -456,10 +473,10 @@ module _ {file : File} {at : ℕ} {p store : List ℕ} {limit count : ℕ} {befo
     bracket_over i k r =
         group_over (part_shapes file results (at + 1) (contents 24 end_of p)) before after from most (rw (i, k) at r)
 
-    pub bracket_written : {e n word : ℕ} {o : Bool} {row : Row} → e ≡ end_of p → row ≡ ends n o → word ≡ bracket_word (n - (from + 1)) o
+    pub bracket_written : (n : ℕ) (o : Bool) {e word : ℕ} {row : Row} → e ≡ end_of p → row ≡ ends n o → word ≡ bracket_word (n - (from + 1)) o
         → RowIs (part_shapes file results (at + 1) (take (e - 24) (drop 24 p))) before after (from + 1) most row
         → RowIs (group (part_shapes file results (at + 1) (contents 24 end_of p)) (end false)) before (set after from word) from most (ends n false)
-    bracket_written {n = n} {word = word} {o = o} i k w r =
+    bracket_written n o {word = word} i k w r =
         group_written (part_shapes file results (at + 1) (contents 24 end_of p)) before after from most n word o (rw (i, k) at r) asked.room w
 
     -- a first record that is a call
@@ -477,11 +494,11 @@ module _ {file : File} {at : ℕ} {p store : List ℕ} {limit count : ℕ} {befo
         rw (part_first file results at p asked.readable asked.here some)
         (both_over (first_shapes file results at p) _ before after from most (rw e at r))
 
-    pub row_first_open : {n : ℕ} {o : Bool} {row : Row} → row ≡ ends n o → o ≡ true → RowIs (first_shapes file results at p) before after from most row
-        → RowIs (part_shapes file results at p) before after from most (ends n o)
-    row_first_open {n = n} {o = o} e h r =
+    pub row_first_open : (n : ℕ) {row : Row} → row ≡ Some (Open n) → RowIs (first_shapes file results at p) before after from most row
+        → RowIs (part_shapes file results at p) before after from most (Some (Open n))
+    row_first_open n e r =
         rw (part_first file results at p asked.readable asked.here some)
-        (both_open (first_shapes file results at p) _ before after from most n o h (rw e at r))
+        (both_open (first_shapes file results at p) _ before after from most n true refl (rw e at r))
 
     pub row_first_rest : {middle : List ℕ} {n e k : ℕ} {o : Bool} {row next : Row} → row ≡ ends n o → o ≡ false → e ≡ end_of p → k ≡ word_at p 12
         → RowIs (first_shapes file results at p) before middle from most row

@@ -187,7 +187,7 @@ pub record RowsLeft (limit : ℕ) (file : File) (patterns : Side) (t : Results) 
 -- before the first sentence
 pub rows_start : {limit : ℕ} {file : File} {patterns : Side} {t : Results} {first number : ℕ} {joined : List ℕ} → limit ≤ 64 → FormatIn limit joined
     → RowsLeft limit file patterns t (read_format joined) first number 0 joined
-rows_start {limit} {file} {patterns} {t} {first} {number} {joined} few h =
+rows_start {limit} {first = first} {number = number} {joined = joined} few h =
     let said : read_format joined ≡ h.format = ap read_format h.same ∙ read_write limit h.format h.encodable (omega arith) in
     record {
       format = h.format;

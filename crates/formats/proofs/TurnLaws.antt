@@ -71,9 +71,9 @@ module _ (limit : ℕ) (f : Shapes) (old new : List ℕ) where
       }
 
   -- a row that was written over zeros, and a header in front of it
-  pub made_written : {most next header : ℕ} {o : Bool} {row : Row} → old ≡ replicate (limit + 1) 0 → most ≡ limit + 1 → row ≡ ends next o
+  pub made_written : (next : ℕ) (o : Bool) {most header : ℕ} {row : Row} → old ≡ replicate (limit + 1) 0 → most ≡ limit + 1 → row ≡ ends next o
       → header ≡ next - 1 + cond o 256 0 → RowIs f old new 1 most row → FormatMade limit f (Ok tt) (set new 0 header)
-  made_written {most = most} {next = next} {header = header} {o = o} zeros e ends_row h r = record {
+  made_written next o {most = most} {header = header} zeros e ends_row h r = record {
     fits = λ _. (refl, words);
     over = λ l. absurd (omega (arith, fit));
     kept = length-set new 0 header ∙ (r.kept ∙ long);

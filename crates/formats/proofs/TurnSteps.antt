@@ -106,9 +106,9 @@ module _ {bytes index : List ℕ} {slots : Slots} {limit count : ℕ} (h : Round
   turn_place = function_placed (file_of bytes) f inside
 
   -- the number of its format, by its slot
-  pub turn_number : (patterns : Side) (place k : ℕ) → place ≡ get_or slots.functions f 0 → k ≡ format_number patterns place
-      → k ≡ format_number patterns (position (file_names (file_of bytes)) (function_folded (file_of bytes) f))
-  turn_number patterns place k p q = q ∙ rw (p ∙ h.places.functions f inside)
+  pub turn_number : (side : Side) (place k : ℕ) → place ≡ get_or slots.functions f 0 → k ≡ format_number side place
+      → k ≡ format_number side (position (file_names (file_of bytes)) (function_folded (file_of bytes) f))
+  turn_number side place k p q = q ∙ rw (p ∙ h.places.functions f inside)
 
   pub turn_place_few : position (file_names (file_of bytes)) (function_folded (file_of bytes) f) < 64
   turn_place_few = omega (arith, turn_place, names_few (file_of bytes), indexed.functions_limit bytes index h.indexed)

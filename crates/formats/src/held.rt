@@ -42,7 +42,7 @@ impl<'a> Formats<'a> {
             limit: self.limit,
         };
         let known = Known {
-            placed,
+            placed: &placed,
             store: self.store,
             count: placed.names(),
         };

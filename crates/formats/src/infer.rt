@@ -44,17 +44,17 @@ impl Side {
 // The format of a run of term records, every word of it, or zeros where it has too many shapes. As in `write_row`, there are results that the
 // store holds.
 pub fn row_format(known: &Known, part: &[u8], at: usize, out: &mut [u32]) -> Result<(), TooWide>
-    requires { RowAsked (file_of known.now.placed.law.bytes.now) at part.now known.now.store.now known.now.placed.limit known.now.count out.old 1 (length out.old)
-        × (length out.old ≡ known.now.placed.limit + 1) }
+    requires { RowAsked (file_of known.now.placed.now.law.bytes.now) at part.now known.now.store.now known.now.placed.now.limit known.now.count out.old 1 (length out.old)
+        × (length out.old ≡ known.now.placed.now.limit + 1) }
     ensures { (t : Results) → KnowsAll known.now t
-        → FormatMade known.now.placed.limit (part_shapes (file_of known.now.placed.law.bytes.now) t at part.now) result out.new }
+        → FormatMade known.now.placed.now.limit (part_shapes (file_of known.now.placed.now.law.bytes.now) t at part.now) result out.new }
 {
     out.fill(0);
     let Some(end) = write_row(known, part, at, out, 1) else {
         out.fill(0);
         return Err(TooWide);
     };
-    out[0] = header_word(end.next - 1, end.is_open);
+    out[0] = header_word(end.next() - 1, end.is_open());
     Ok(())
 }
 
@@ -84,7 +84,7 @@ fn sentence_format(
     match side {
         Side::Pattern => {
             let known = Known {
-                placed: *placed,
+                placed,
                 store,
                 count: 0,
             };
@@ -92,7 +92,7 @@ fn sentence_format(
         }
         Side::Result => {
             let known = Known {
-                placed: *placed,
+                placed,
                 store,
                 count: placed.names(),
             };

@@ -22,7 +22,7 @@ const RECORD: usize = 24;
 // What a row reads: a law and the places of its names, and a store that has the results of the first `count` of them.
 #[derive(Clone, Copy)]
 pub struct Known<'a> {
-    pub placed: Placed<'a>,
+    pub placed: &'a Placed<'a>,
     pub store: &'a [u32],
     pub count: usize,
 }
@@ -30,9 +30,9 @@ pub struct Known<'a> {
 impl<'a> Known<'a> {
     // The words of the result that the store has for the name of a place; none from `count` on.
     fn result(&self, place: usize) -> Option<&'a [u32]>
-        requires { Stored self.now.store.now self.now.placed.limit self.now.count × (place < 256) }
+        requires { Stored self.now.store.now self.now.placed.now.limit self.now.count × (place < 256) }
         ensures { MatchOption result (self.now.count ≤ place)
-            (λ words. (place < self.now.count) × (words.now ≡ format_at self.now.placed.limit self.now.store.now (2 * place + 1))) }
+            (λ words. (place < self.now.count) × (words.now ≡ format_at self.now.placed.now.limit self.now.store.now (2 * place + 1))) }
     {
         if self.count <= place {
             return None;
@@ -65,10 +65,7 @@ fn write_leaf(leaf: Leaf, out: &mut [u32], to: usize) -> Option<RowEnd>
         return None;
     }
     out[to] = u32::from(leaf);
-    Some(RowEnd {
-        next: to + 1,
-        is_open: false,
-    })
+    Some(RowEnd::Closed(to + 1))
 }
 
 // Writes the words of the symbols, s. and t. variables that a part begins with, while there is room, and answers how many. They are
@@ -90,31 +87,22 @@ fn write_leaves(part: &[u8], out: &mut [u32], to: usize) -> usize
 
 // The shapes that the store has for a call, by the place of its name. From `count` on no function has the name, and the row ends open.
 fn write_call(known: &Known, place: usize, out: &mut [u32], to: usize) -> Option<RowEnd>
-    requires { Stored known.now.store.now known.now.placed.limit known.now.count × (place < 256) × (to ≤ length out.old) }
+    requires { Stored known.now.store.now known.now.placed.now.limit known.now.count × (place < 256) × (to ≤ length out.old) }
     ensures between { Between to (length out.old) result }
-    ensures row { RowIs (callee_shapes (stored_at known.now.store.now known.now.placed.limit known.now.count place)) out.old out.new to (length out.old) result }
+    ensures row { RowIs (callee_shapes (stored_at known.now.store.now known.now.placed.now.limit known.now.count place)) out.old out.new to (length out.old) result }
 {
     let Some(format) = known.result(place) else {
-        return Some(RowEnd {
-            next: to,
-            is_open: true,
-        });
+        return Some(RowEnd::Open(to));
     };
     let Some(row) = Row::of_format(format) else {
-        return Some(RowEnd {
-            next: to,
-            is_open: false, // never: no shapes, and the row goes on
-        });
+        return Some(RowEnd::Closed(to)); // never: no shapes, and the row goes on
     };
     if out.len() - to < row.words.len() {
         return None;
     }
     let next = to + row.words.len();
     out[to..next].copy_from_slice(row.words);
-    Some(RowEnd {
-        next,
-        is_open: row.is_open,
-    })
+    Some(RowEnd::new(next, row.is_open))
 }
 
 // A bracket: the shapes inside it, and its word in front of them once their number is known.
@@ -126,10 +114,10 @@ fn write_bracket(
     out: &mut [u32],
     to: usize,
 ) -> Option<RowEnd>
-    requires { RowAsked (file_of known.now.placed.law.bytes.now) at part.now known.now.store.now known.now.placed.limit known.now.count out.old to (length out.old) × (24 ≤ length part.now) }
+    requires { RowAsked (file_of known.now.placed.now.law.bytes.now) at part.now known.now.store.now known.now.placed.now.limit known.now.count out.old to (length out.old) × (24 ≤ length part.now) }
     ensures between { Between to (length out.old) result }
     ensures row { (t : Results) → KnowsAll known.now t
-        → RowIs (group (part_shapes (file_of known.now.placed.law.bytes.now) t (at + 1) (contents 24 end_of part.now)) (end false))
+        → RowIs (group (part_shapes (file_of known.now.placed.now.law.bytes.now) t (at + 1) (contents 24 end_of part.now)) (end false))
         out.old out.new to (length out.old) result }
 {
     if out.len() <= to {
@@ -137,20 +125,18 @@ fn write_bracket(
     }
     let inside = &part[RECORD..end_of(part)];
     let end = write_row(known, inside, at + 1, out, to + 1)?;
-    out[to] = bracket_word(end.next - (to + 1), end.is_open);
-    Some(RowEnd {
-        next: end.next,
-        is_open: false,
-    })
+    let next = end.next();
+    out[to] = bracket_word(next - (to + 1), end.is_open());
+    Some(RowEnd::Closed(next))
 }
 
 // The shapes of a part's first record.
 #[cycle(write_row)]
 fn write_first(known: &Known, part: &[u8], at: usize, out: &mut [u32], to: usize) -> Option<RowEnd>
-    requires { RowAsked (file_of known.now.placed.law.bytes.now) at part.now known.now.store.now known.now.placed.limit known.now.count out.old to (length out.old) × (24 ≤ length part.now) }
+    requires { RowAsked (file_of known.now.placed.now.law.bytes.now) at part.now known.now.store.now known.now.placed.now.limit known.now.count out.old to (length out.old) × (24 ≤ length part.now) }
     ensures between { Between to (length out.old) result }
     ensures row { (t : Results) → KnowsAll known.now t
-        → RowIs (first_shapes (file_of known.now.placed.law.bytes.now) t at part.now) out.old out.new to (length out.old) result }
+        → RowIs (first_shapes (file_of known.now.placed.now.law.bytes.now) t at part.now) out.old out.new to (length out.old) result }
 {
     match term_at(part, 0) {
         Term::Symbol(symbol) => write_leaf(Leaf::from(symbol), out, to),
@@ -158,10 +144,7 @@ fn write_first(known: &Known, part: &[u8], at: usize, out: &mut [u32], to: usize
         Term::TVariable(_, _) => write_leaf(Leaf::Unknown, out, to),
         Term::Bracket => write_bracket(known, part, at, out, to),
         Term::Call(_, _) => write_call(known, usize::from(known.placed.slots.calls[at]), out, to),
-        Term::EVariable(_, _) | Term::Block(_) => Some(RowEnd {
-            next: to,
-            is_open: true,
-        }),
+        Term::EVariable(_, _) | Term::Block(_) => Some(RowEnd::Open(to)),
     }
 }
 
@@ -176,25 +159,24 @@ pub fn write_row(
     out: &mut [u32],
     to: usize,
 ) -> Option<RowEnd>
-    requires { RowAsked (file_of known.now.placed.law.bytes.now) at part.now known.now.store.now known.now.placed.limit known.now.count out.old to (length out.old) }
+    requires { RowAsked (file_of known.now.placed.now.law.bytes.now) at part.now known.now.store.now known.now.placed.now.limit known.now.count out.old to (length out.old) }
     ensures between { Between to (length out.old) result }
     ensures row { (t : Results) → KnowsAll known.now t
-        → RowIs (part_shapes (file_of known.now.placed.law.bytes.now) t at part.now) out.old out.new to (length out.old) result }
+        → RowIs (part_shapes (file_of known.now.placed.now.law.bytes.now) t at part.now) out.old out.new to (length out.old) result }
 {
     let n = write_leaves(part, out, to);
     let left = &part[RECORD * n..];
     let here = at + n;
     let from = to + n;
     if left.len() < RECORD {
-        return Some(RowEnd {
-            next: from,
-            is_open: false,
-        });
+        return Some(RowEnd::Closed(from));
     }
     let first = write_first(known, left, here, out, from)?;
-    if first.is_open {
-        return Some(first);
+    match first {
+        RowEnd::Open(_) => Some(first),
+        RowEnd::Closed(next) => {
+            let past = here + 1 + word_at(left, 12) as usize;
+            write_row(known, after(left), past, out, next)
+        }
     }
-    let past = here + 1 + word_at(left, 12) as usize;
-    write_row(known, after(left), past, out, first.next)
 }

@@ -1,12 +1,12 @@
 // Formats as text, written into a lent buffer.
 ghost use Rattle.std.specs.Prelude.{◌≡◌, true, false, cond, [], ◌∷◌, ◌+◌, ◌*◌, ◌≤◌, length};
-ghost use Rattle.shapes.specs.Words.{read_format};
-ghost use Rattle.shapes.specs.Code.Rows.{row_meant, word_count};
+ghost use Rattle.shapes.specs.Words.{shapes_in, read_format};
+ghost use Rattle.shapes.specs.Code.Rows.{word_count};
 ghost use Rattle.buffers.specs.Code.Put.{Put, largest};
 ghost use Rattle.shapes.specs.Display.{display, shown_answer, display_at};
 ghost use Rattle.shapes.specs.Code.Shown.{shown, first_shown};
 
-use crate::row::{Row, Shape};
+use crate::row::{Row, Shape, split_first};
 use buffers::{put, put_byte};
 
 // A space, unless what follows is the first item.
@@ -28,7 +28,7 @@ fn show_shape(shape: Shape, out: &mut [u8], at: usize) -> usize
         Shape::Leaf(leaf) => put_byte(leaf.letter(), out, at),
         Shape::Bracket(contents) => {
             let start = put(b"([", out, at);
-            let next = show_row(contents, true, out, start);
+            let next = show_row(contents.words, contents.is_open, true, out, start);
             put(b"])", out, next)
         }
     }
@@ -36,13 +36,13 @@ fn show_shape(shape: Shape, out: &mut [u8], at: usize) -> usize
 
 // The items of a row, and `..` where it is open.
 #[cycle(show_row_show_shape)]
-fn show_row(row: Row, first: bool, out: &mut [u8], at: usize) -> usize
-    requires { at + 8 * length row.words.now + 3 ≤ largest }
-    ensures end { result ≤ at + 8 * length row.entry.words.now + 3 }
-    ensures put { Put out.old at (shown first (row_meant row.entry)) result out.new }
+fn show_row(words: &[u32], is_open: bool, first: bool, out: &mut [u8], at: usize) -> usize
+    requires { at + 8 * length words.now + 3 ≤ largest }
+    ensures end { result ≤ at + 8 * length words.now + 3 }
+    ensures put { Put out.old at (shown first (shapes_in is_open words.now)) result out.new }
 {
-    let Some((shape, rest)) = row.split_first() else {
-        if !row.is_open {
+    let Some((shape, rest)) = split_first(words) else {
+        if !is_open {
             return at;
         }
         let start = put_space(first, out, at);
@@ -50,7 +50,7 @@ fn show_row(row: Row, first: bool, out: &mut [u8], at: usize) -> usize
     };
     let start = put_space(first, out, at);
     let next = show_shape(shape, out, start);
-    show_row(rest, false, out, next)
+    show_row(rest, is_open, false, out, next)
 }
 
 // A format as text, as far as there is room; the position after all of it in any case. No words are the empty format.
@@ -62,7 +62,7 @@ pub fn show_format(format: &[u32], out: &mut [u8], at: usize) -> usize
         return put(b"never", out, at);
     };
     let start = put(b"[", out, at);
-    let next = show_row(row, true, out, start);
+    let next = show_row(row.words, row.is_open, true, out, start);
     put(b"]", out, next)
 }
 

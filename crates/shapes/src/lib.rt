@@ -5,13 +5,13 @@ ghost use Rattle.std.specs.Prelude.{◌≡◌, true, false, cond, ◌+◌, ◌%�
 ghost use Rattle.shapes.specs.Format.{end, size};
 ghost use Rattle.shapes.specs.Join.{join_rows, join_formats};
 ghost use Rattle.shapes.specs.Disjoint.{disjoint_rows, disjoint_formats};
-ghost use Rattle.shapes.specs.Words.{bracket_word, shape_words, format_words, read_format};
+ghost use Rattle.shapes.specs.Words.{bracket_word, shape_words, format_words, shapes_in, read_format};
 ghost use Rattle.shapes.specs.Code.Words.{row_end, FormatIn};
 ghost use Rattle.buffers.specs.Written.{written};
-ghost use Rattle.shapes.specs.Code.Rows.{row_meant, word_count, apart, first_join, ShapesWritten};
+ghost use Rattle.shapes.specs.Code.Rows.{word_count, apart, first_join, row_next, row_opens, ShapesWritten};
 
 use crate::leaf::Leaf;
-use crate::row::{Row, Shape};
+use crate::row::{Row, Shape, split_first};
 
 pub mod display;
 pub mod leaf;
@@ -26,11 +26,40 @@ const OPEN: u32 = 256;
 // What the word of a bracket has more where its contents are open.
 const OPEN_INSIDE: u32 = 1024;
 
-// Where a row that was written ends: the position after its words, and whether it is open.
-#[derive(Clone, Copy)]
-pub struct RowEnd {
-    pub next: usize,
-    pub is_open: bool,
+// A row that was written ends closed or open, before a position.
+#[derive(Clone, Copy, Debug, PartialEq, Eq)]
+pub enum RowEnd {
+    Closed(usize),
+    Open(usize),
+}
+
+impl RowEnd {
+    // The end of a row before a position, open or not.
+    pub fn new(next: usize, is_open: bool) -> RowEnd
+        ensures next { row_next result ≡ next }
+        ensures opens { row_opens result ≡ is_open }
+    {
+        if is_open {
+            RowEnd::Open(next)
+        } else {
+            RowEnd::Closed(next)
+        }
+    }
+
+    // The position after the row's words.
+    pub fn next(self) -> usize
+        ensures { result ≡ row_next self }
+    {
+        match self {
+            RowEnd::Closed(next) | RowEnd::Open(next) => next,
+        }
+    }
+
+    pub fn is_open(self) -> bool
+        ensures { result ≡ row_opens self }
+    {
+        matches!(self, RowEnd::Open(_))
+    }
 }
 
 // The word of a bracket with so many shapes inside it.
@@ -59,21 +88,23 @@ fn disjoint_shapes(a: Shape, b: Shape) -> bool
         (Shape::Leaf(leaf), Shape::Bracket(_)) | (Shape::Bracket(_), Shape::Leaf(leaf)) => {
             !leaf.holds_brackets()
         }
-        (Shape::Bracket(a), Shape::Bracket(b)) => disjoint_rows(a, b),
+        (Shape::Bracket(a), Shape::Bracket(b)) => {
+            disjoint_rows(a.words, a.is_open, b.words, b.is_open)
+        }
     }
 }
 
-// Is no expression in both rows of shapes?
+// Is no expression in both rows of shapes? A row's words and whether it is open are handed on apart: a row as a whole would go through memory.
 #[cycle(disjoint_rows_disjoint_shapes)]
-fn disjoint_rows(a: Row, b: Row) -> bool
-    ensures { result ≡ disjoint_rows (row_meant a.entry) (row_meant b.entry) }
+fn disjoint_rows(a: &[u32], a_open: bool, b: &[u32], b_open: bool) -> bool
+    ensures { result ≡ disjoint_rows (shapes_in a_open a.now) (shapes_in b_open b.now) }
 {
-    match (a.split_first(), b.split_first()) {
+    match (split_first(a), split_first(b)) {
         (None, None) => false,
-        (None, Some(_)) => !a.is_open,
-        (Some(_), None) => !b.is_open,
+        (None, Some(_)) => !a_open,
+        (Some(_), None) => !b_open,
         (Some((x, a_rest)), Some((y, b_rest))) => {
-            disjoint_shapes(x, y) || disjoint_rows(a_rest, b_rest)
+            disjoint_shapes(x, y) || disjoint_rows(a_rest, a_open, b_rest, b_open)
         }
     }
 }
@@ -91,9 +122,9 @@ fn join_shapes(a: Shape, b: Shape, out: &mut [u32], at: usize) -> usize
             at + 1
         }
         (Shape::Bracket(a), Shape::Bracket(b)) => {
-            let joined = join_rows(a, b, out, at + 1);
-            out[at] = bracket_word(joined.next - at - 1, joined.is_open);
-            joined.next
+            let end = join_rows(a.words, a.is_open, b.words, b.is_open, out, at + 1);
+            out[at] = bracket_word(end.next() - at - 1, end.is_open());
+            end.next()
         }
         _ => {
             out[at] = u32::from(Leaf::Unknown); // one of the two alone is a bracket
@@ -104,24 +135,18 @@ fn join_shapes(a: Shape, b: Shape, out: &mut [u32], at: usize) -> usize
 
 // The join of two rows of shapes, written at a position.
 #[cycle(join_rows_join_shapes)]
-fn join_rows(a: Row, b: Row, out: &mut [u32], at: usize) -> RowEnd
-    requires { (at + length a.words.now ≤ length out.old) × (length a.words.now ≤ 127) }
-    ensures end { result.next ≤ at + length a.entry.words.now }
-    ensures joined { ShapesWritten (join_rows (row_meant a.entry) (row_meant b.entry)) out.old at result.next result.is_open out.new }
+fn join_rows(a: &[u32], a_open: bool, b: &[u32], b_open: bool, out: &mut [u32], at: usize) -> RowEnd
+    requires { (at + length a.now ≤ length out.old) × (length a.now ≤ 127) }
+    ensures end { row_next result ≤ at + length a.now }
+    ensures joined { ShapesWritten (join_rows (shapes_in a_open a.now) (shapes_in b_open b.now)) out.old at (row_next result) (row_opens result) out.new }
 {
-    match (a.split_first(), b.split_first()) {
-        (None, None) => RowEnd {
-            next: at,
-            is_open: a.is_open || b.is_open,
-        },
+    match (split_first(a), split_first(b)) {
+        (None, None) => RowEnd::new(at, a_open || b_open),
         (Some((x, a_rest)), Some((y, b_rest))) => {
             let next = join_shapes(x, y, out, at);
-            join_rows(a_rest, b_rest, out, next)
+            join_rows(a_rest, a_open, b_rest, b_open, out, next)
         }
-        _ => RowEnd {
-            next: at,
-            is_open: true,
-        },
+        _ => RowEnd::Open(at),
     }
 }
 
@@ -145,7 +170,7 @@ pub fn disjoint_formats(a: &[u32], b: &[u32]) -> bool
     ensures { result ≡ disjoint_formats (read_format a.now) (read_format b.now) }
 {
     match (Row::of_format(a), Row::of_format(b)) {
-        (Some(a), Some(b)) => disjoint_rows(a, b),
+        (Some(a), Some(b)) => disjoint_rows(a.words, a.is_open, b.words, b.is_open),
         _ => true,
     }
 }
@@ -160,8 +185,8 @@ pub fn join_formats(limit: usize, a: &[u32], b: &[u32], out: &mut [u32])
         (_, None) => out.copy_from_slice(a),
         (Some(a), Some(b)) => {
             out.fill(0);
-            let joined = join_rows(a, b, out, 1);
-            out[0] = header_word(joined.next - 1, joined.is_open);
+            let end = join_rows(a.words, a.is_open, b.words, b.is_open, out, 1);
+            out[0] = header_word(end.next() - 1, end.is_open());
         }
     }
 }

@@ -1,8 +1,8 @@
 // Rows of shapes by their words, depth first, taken apart from the front.
-ghost use Rattle.std.specs.Prelude.{◌≡◌, MatchOption};
-ghost use Rattle.shapes.specs.Format.{end, never};
+ghost use Rattle.std.specs.Prelude.{◌≡◌, length, MatchOption};
+ghost use Rattle.shapes.specs.Format.{never};
 ghost use Rattle.shapes.specs.Words.{is_bracket, read_format};
-ghost use Rattle.shapes.specs.Code.Rows.{row_meant, IsRowOf, IsFirstAndRest};
+ghost use Rattle.shapes.specs.Code.Rows.{IsRowOf, IsFirstAndRest};
 
 use crate::leaf::Leaf;
 use crate::{OPEN, OPEN_INSIDE, is_never};
@@ -48,32 +48,21 @@ impl<'a> Row<'a> {
             is_open: OPEN <= header,
         })
     }
+}
 
-    // The first shape, and the row after it.
-    pub fn split_first(self) -> Option<(Shape<'a>, Row<'a>)>
-        ensures { MatchOption result (row_meant self.entry ≡ end self.entry.is_open) (λ parts. IsFirstAndRest self.entry parts.0 parts.1) }
-    {
-        let (&word, after) = self.words.split_first()?;
-        if !is_bracket(word) {
-            let first = Shape::Leaf(Leaf::from(word));
-            return Some((first, self.with_words(after)));
-        }
-        let inside = (word / 8 % 128) as usize;
-        let (contents, rest) = after.split_at(inside.min(after.len()));
-        let first = Shape::Bracket(Row {
-            words: contents,
-            is_open: OPEN_INSIDE <= word,
-        });
-        Some((first, self.with_words(rest)))
+// The first shape of a row's words, and the words after it.
+pub fn split_first<'a>(words: &'a [u32]) -> Option<(Shape<'a>, &'a [u32])>
+    ensures { MatchOption result (length words.now ≡ 0) (λ parts. IsFirstAndRest words.now parts.0 parts.1.now) }
+{
+    let (&word, after) = words.split_first()?;
+    if !is_bracket(word) {
+        return Some((Shape::Leaf(Leaf::from(word)), after));
     }
-
-    // A row of other words, as open as this one.
-    fn with_words(self, words: &'a [u32]) -> Row<'a>
-        ensures { result ≡ record { words = words.entry; is_open = self.entry.is_open } }
-    {
-        Row {
-            words,
-            is_open: self.is_open,
-        }
-    }
+    let inside = (word / 8 % 128) as usize;
+    let (contents, rest) = after.split_at(inside.min(after.len()));
+    let bracket = Row {
+        words: contents,
+        is_open: OPEN_INSIDE <= word,
+    };
+    Some((Shape::Bracket(bracket), rest))
 }

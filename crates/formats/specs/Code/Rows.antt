@@ -18,6 +18,8 @@ use Rattle.buffers.specs.Written.{written}
 use Rattle.formats.specs.FormatOf.{Results, result_shapes}
 use Rattle.formats.specs.Code.Slots.{call_folded, IsCall}
 use Rattle.shapes.specs.declared.RowEnd.{RowEnd}
+use Rattle.shapes.specs.declared.RowEnd.TheVariants.{Closed, Open}
+use Rattle.shapes.specs.Code.Rows.{row_next}
 use Rattle.shapes.specs.declared.leaf.Leaf.{Leaf}
 use Rattle.shapes.specs.Code.Leaves.{leaf_meant, symbol_leaf}
 use Rattle.formats.specs.declared.slots.Slots.{Slots}
@@ -37,7 +39,7 @@ pub record Knows (file : File) (slots : Slots) (store : List ℕ) (limit count :
 -- the same of what a row reads
 abbrev pub KnowsAll : Known → Results → Type 0
 KnowsAll known results =
-    Knows (file_of known.placed.law.bytes.now) known.placed.slots.now known.store.now known.placed.limit known.count results
+    Knows (file_of known.placed.now.law.bytes.now) known.placed.now.slots.now known.store.now known.placed.now.limit known.count results
 
 -- words that are as they were before a position and from another on
 abbrev pub KeptOutside : ℕ → ℕ → List ℕ → List ℕ → Type 0
@@ -51,7 +53,7 @@ abbrev pub over : Row
 over = None
 
 abbrev pub ends : ℕ → Bool → Row
-ends n o = Some (record { next = n; is_open = o })
+ends n o = Some (cond o (Open n) (Closed n))
 
 -- shapes written from a position on, where they end at most at a position; else the row is over
 pub record RowIs (shapes : Shapes) (before after : List ℕ) (at most : ℕ) (row : Row) : Type 0 where
@@ -62,7 +64,7 @@ pub record RowIs (shapes : Shapes) (before after : List ℕ) (at most : ℕ) (ro
 
 -- where a row may end, whatever the results are
 abbrev pub Between : ℕ → ℕ → Row → Type 0
-Between from most row = IfSome row (λ e. (from ≤ e.next) × (e.next ≤ most))
+Between from most row = IfSome row (λ e. (from ≤ row_next e) × (row_next e ≤ most))
 
 -- ---- the store that a row reads
 

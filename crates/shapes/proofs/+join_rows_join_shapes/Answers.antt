@@ -1,32 +1,33 @@
-use Rattle.std.proofs.Common.{◌<◌, length, arith, refl, ap, ◌∙◌}
+use Rattle.std.proofs.Common.{◌≡◌, ◌||◌, ◌<◌, length, arith, refl, ap, ◌∙◌}
 use Rattle.shapes.specs.Leaf.{unknown, leaf_word}
 use Rattle.shapes.specs.Format.{size}
-use Rattle.shapes.proofs.FirstLaws.{join_none_none, join_none_some, join_some_none, join_some_some, end_joined, leaf_joined, brackets_joined}
+use Rattle.shapes.proofs.FirstLaws.{split_none, join_none_none, join_none_some, join_some_none, join_some_some, end_joined, leaf_joined, brackets_joined}
 use Rattle.shapes.proofs.+join_rows_join_shapes.Goals as goal
-use Rattle.shapes.proofs.+join_rows_join_shapes.Goals.{join_shapes-in_default-via-in-Leaf+in_default, join_shapes-in_default-via-in-Bracket+in_default}
+use Rattle.shapes.proofs.+join_rows_join_shapes.Goals.{join_rows-then-a_open, join_rows-else-a_open, join_shapes-in_default-via-in-Leaf+in_default, join_shapes-in_default-via-in-Bracket+in_default}
 
-pub join_rows-returns-then-a-clause-joined : goal.join_rows-returns-then-a-clause-joined
-join_rows-returns-then-a-clause-joined t c =
-    rw (c.in-None-None.ensures, c.in-None-None.ensures') (end_joined _ _ _ _ (rw (join_none_none, c.if-a.true)))
-
-pub join_rows-returns-else-a-clause-joined : goal.join_rows-returns-else-a-clause-joined
-join_rows-returns-else-a-clause-joined t c =
-    rw (c.in-None-None.ensures, c.in-None-None.ensures') (end_joined _ _ _ _ (rw (join_none_none, c.if-a.false)))
+pub join_rows-returns-after-a_open-clause-joined : goal.join_rows-returns-after-a_open-clause-joined
+join_rows-returns-after-a_open-clause-joined t c =
+    let either : c.if-a_open.new ≡ (c.args.a_open || c.args.b_open) = elim c.if-a_open.branch [
+      | join_rows-then-a_open w ↦ w.new-is ∙ rw w.if-a_open.true
+      | join_rows-else-a_open w ↦ w.new-is ∙ rw w.if-a_open.false
+    ] in
+    rw (c.new.ensures.next, c.new.ensures.opens ∙ either, split_none c.args.a_open c.args.a.now c.in-None-None.ensures, split_none c.args.b_open c.args.b.now c.in-None-None.ensures')
+    (end_joined _ _ _ _ (join_none_none _ _))
 
 pub join_rows-returns-in-Some-Some-clause-joined :
     goal.join_rows-returns-in-Some-Some-clause-joined
 join_rows-returns-in-Some-Some-clause-joined t c =
-    rw (c.in-Some-Some.ensures.parts, c.in-Some-Some.ensures'.parts)
+    rw (c.in-Some-Some.ensures.parts c.args.a_open, c.in-Some-Some.ensures'.parts c.args.b_open)
     (join_some_some _ _ _ _ _ _ _ _ _ _ _ (omega (arith, c.in-Some-Some.ensures.count)) c.join_shapes-next.ensures.end.1 c.join_shapes-next.ensures.words c.join_rows.ensures.joined)
 
 pub join_rows-returns-in_default-clause-joined : goal.join_rows-returns-in_default-clause-joined
 join_rows-returns-in_default-clause-joined t c =
-    rw (c.in_default.ensures, c.in_default.ensures'.parts) (end_joined _ _ _ _ (join_none_some _ _ _))
+    rw (split_none c.args.a_open c.args.a.now c.in_default.ensures, c.in_default.ensures'.parts c.args.b_open) (end_joined _ _ _ _ (join_none_some _ _ _))
 
 pub join_rows-returns-in_default-2-clause-joined :
     goal.join_rows-returns-in_default-2-clause-joined
 join_rows-returns-in_default-2-clause-joined t c =
-    rw (c.in_default.ensures.parts, c.in_default.ensures') (end_joined _ _ _ _ (join_some_none _ _ _))
+    rw (c.in_default.ensures.parts c.args.a_open, split_none c.args.b_open c.args.b.now c.in_default.ensures') (end_joined _ _ _ _ (join_some_none _ _ _))
 
 pub join_shapes-returns-in-Leaf-Leaf-clause-end : goal.join_shapes-returns-in-Leaf-Leaf-clause-end
 unfolding size
@@ -42,12 +43,12 @@ pub join_shapes-returns-in-Bracket-Bracket-clause-end :
     goal.join_shapes-returns-in-Bracket-Bracket-clause-end
 unfolding size
 join_shapes-returns-in-Bracket-Bracket-clause-end t c =
-    rw (c.in-Bracket-Bracket.is-0, c.in-Bracket-Bracket.is-1) (omega (arith, c.join_rows-joined.ensures.end), omega (arith, c.join_rows-joined.ensures.joined.after))
+    rw (c.in-Bracket-Bracket.is-0, c.in-Bracket-Bracket.is-1) (omega (arith, c.join_rows-end.ensures.end), omega (arith, c.join_rows-end.ensures.joined.after))
 
 pub join_shapes-returns-in-Bracket-Bracket-clause-words :
     goal.join_shapes-returns-in-Bracket-Bracket-clause-words
 join_shapes-returns-in-Bracket-Bracket-clause-words t c =
-    rw (c.in-Bracket-Bracket.is-0, c.in-Bracket-Bracket.is-1) (brackets_joined _ _ _ _ _ _ _ (omega (arith, c.join_rows-joined.ensures.end, rw c.in-Bracket-Bracket.is-0 at c.requires.0)) c.join_rows-joined.ensures.joined c.bracket_word.ensures).1
+    rw (c.in-Bracket-Bracket.is-0, c.in-Bracket-Bracket.is-1) (brackets_joined _ _ _ _ _ _ _ (omega (arith, c.join_rows-end.ensures.end, rw c.in-Bracket-Bracket.is-0 at c.requires.0)) c.join_rows-end.ensures.joined (rw (c.next.ensures, c.is_open.ensures) at c.bracket_word.ensures)).1
 
 pub join_shapes-returns-in_default-clause-end : goal.join_shapes-returns-in_default-clause-end
 unfolding size

@@ -8,11 +8,11 @@ copy_from_slice-requires c = omega (arith, format_in_length _ _ c.requires.2)
 pub copy_from_slice-requires-in_default-None : goal.copy_from_slice-requires-in_default-None
 copy_from_slice-requires-in_default-None c = omega (arith, format_in_length _ _ c.requires.1)
 
-pub join_rows-joined-requires : goal.join_rows-joined-requires
-join_rows-joined-requires c = omega (arith, format_in_length _ _ c.requires.1, c.in-Some-Some.ensures.within, c.fill.ensures.len)
+pub join_rows-end-requires : goal.join_rows-end-requires
+join_rows-end-requires c = omega (arith, format_in_length _ _ c.requires.1, c.in-Some-Some.ensures.within, c.fill.ensures.len)
 
 pub header_word-requires : goal.header_word-requires
-header_word-requires c = omega (arith, format_in_length _ _ c.requires.1, c.in-Some-Some.ensures.within, c.join_rows-joined.ensures.end)
+header_word-requires c = omega (arith, format_in_length _ _ c.requires.1, c.in-Some-Some.ensures.within, c.join_rows-end.ensures.end)
 
 pub returns-in-None-default : goal.returns-in-None-default
 returns-in-None-default c = join_never_left _ _ _ _ c.requires.0 c.requires.2 c.in-None-default.ensures c.copy_from_slice.ensures.after
@@ -23,4 +23,4 @@ returns-in_default-None c = join_never_right _ _ _ _ c.requires.0 c.requires.1 c
 pub returns-in-Some-Some : goal.returns-in-Some-Some
 returns-in-Some-Some c =
     join_rows_are _ _ _ _ _ _ _ _ _ _ c.in-Some-Some.ensures.same c.in-Some-Some.ensures'.same (c.fill.ensures.after (λ y e. e) ∙ ap (λ n. replicate n 0) c.requires.3)
-    (omega (arith, format_in_length _ _ c.requires.1, c.in-Some-Some.ensures.within, c.join_rows-joined.ensures.end)) c.join_rows-joined.ensures.joined c.header_word.ensures
+    (omega (arith, format_in_length _ _ c.requires.1, c.in-Some-Some.ensures.within, c.join_rows-end.ensures.end)) c.join_rows-end.ensures.joined (rw (c.next.ensures, c.is_open.ensures) at c.header_word.ensures)

@@ -1,10 +1,12 @@
 -- The code's rows of shapes, and a row's first shape.
-use Rattle.std.specs.Prelude.{ℕ, ◌+◌, ◌-◌, ◌%◌, ◌≤◌, ◌<◌, Bool, not, ◌≡◌, List, length, take, drop, get_or, leb}
+use Rattle.std.specs.Prelude.{ℕ, ◌+◌, ◌-◌, ◌%◌, ◌≤◌, ◌<◌, Bool, true, false, not, ◌≡◌, List, length, take, drop, get_or, leb}
 use Rattle.shapes.specs.Leaf.{unknown, holds_brackets, join_leaves, leaves_apart}
 use Rattle.shapes.specs.Format.{Shapes, item, group, of, size, is_open}
 use Rattle.shapes.specs.Join.{join_rows}
 use Rattle.shapes.specs.Disjoint.{disjoint_rows}
 use Rattle.shapes.specs.Words.{shape_words, shapes_in, read_format}
+use Rattle.shapes.specs.declared.RowEnd.{RowEnd}
+use Rattle.shapes.specs.declared.RowEnd.TheVariants.{Closed, Open}
 use Rattle.shapes.specs.declared.row.Row.{Row}
 use Rattle.shapes.specs.declared.row.Shape.{Shape}
 use Rattle.shapes.specs.declared.row.Shape.TheVariants.{Leaf, Bracket}
@@ -33,11 +35,19 @@ pub record IsRowOf (format : List ℕ) (row : Row) : Type 0 where
   pub words : row.words.now ≡ take (get_or format 0 0 % 256) (drop 1 format)
   pub opens : row.is_open ≡ leb 256 (get_or format 0 0)
 
--- a row is its first shape in front of the rest
-pub record IsFirstAndRest (whole : Row) (first : Shape) (rest : Row) : Type 0 where
-  pub parts : row_meant whole ≡ in_front first (row_meant rest)
-  pub ends : rest.is_open ≡ whole.is_open
-  pub count : length whole.words.now ≡ word_count first + length rest.words.now
+-- words are those of a first shape, and of the rest
+pub record IsFirstAndRest (words : List ℕ) (first : Shape) (rest : List ℕ) : Type 0 where
+  pub parts : (o : Bool) → shapes_in o words ≡ in_front first (shapes_in o rest)
+  pub count : length words ≡ word_count first + length rest
+
+-- where a row that was written ends, and whether it is open
+abbrev pub row_next : RowEnd → ℕ
+row_next (Closed n) = n
+row_next (Open n) = n
+
+abbrev pub row_opens : RowEnd → Bool
+row_opens (Closed n) = false
+row_opens (Open n) = true
 
 -- is no term of both shapes?
 abbrev pub apart : Shape → Shape → Bool

@@ -1,4 +1,6 @@
 use Rattle.std.proofs.Common.{refl, ap, ◌∙◌, replicate}
+use Rattle.shapes.specs.Code.Rows.{row_next, row_opens}
+use Rattle.formats.proofs.RowLaws.{ends_itself}
 use Rattle.formats.proofs.TurnLaws.{row_cleared, made_over, made_written}
 use Rattle.formats.proofs.infer.row_format.Goals as goal
 
@@ -12,5 +14,5 @@ returns-in_default c = λ t knows.
 
 pub returns : goal.returns
 returns c = λ t knows.
-    made_written _ _ _ _ {next = c.in-Some.end.next} (c.fill.ensures.after (λ y e. e) ∙ ap (λ n. replicate n 0) c.requires.1) (c.fill.ensures.len ∙ c.requires.1) refl
-    c.header_word.ensures (c.in-Some.ensures.row t knows)
+    made_written _ _ _ _ (row_next c.in-Some.end) (row_opens c.in-Some.end) (c.fill.ensures.after (λ y e. e) ∙ ap (λ n. replicate n 0) c.requires.1) (c.fill.ensures.len ∙ c.requires.1) (ends_itself _)
+    (rw (c.next.ensures, c.is_open.ensures) at c.header_word.ensures) (c.in-Some.ensures.row t knows)

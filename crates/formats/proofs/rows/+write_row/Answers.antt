@@ -1,5 +1,6 @@
-use Rattle.std.proofs.Common.{true, arith, refl, sym, ◌∙◌}
+use Rattle.std.proofs.Common.{true, false, Some, arith, refl, ap, sym, ◌∙◌}
 use Rattle.law.proofs.Forests.{inside_falls}
+use Rattle.shapes.specs.Code.Rows.{row_next, row_opens}
 use Rattle.formats.specs.Code.Rows.{left_of}
 use Rattle.formats.proofs.RowLaws as laws
 use Rattle.formats.proofs.rows.+write_row.Goals as goal
@@ -20,8 +21,8 @@ write_bracket-returns-in_err-end-clause-row t c = λ results knows.
 
 pub write_bracket-returns-clause-row : goal.write_bracket-returns-clause-row
 write_bracket-returns-clause-row t c = λ results knows.
-    laws.bracket_written c.requires.0 c.requires.1 results {n = c.in_ok-end.end.next} {o = c.in_ok-end.end.is_open} c.end_of.ensures.0 refl c.bracket_word.ensures
-    (c.in_ok-end.ensures.row results knows)
+    rw c.next-next.ensures (laws.bracket_written c.requires.0 c.requires.1 results (row_next c.in_ok-end.end) (row_opens c.in_ok-end.end) c.end_of.ensures.0 (laws.ends_itself _) (rw (c.next-next.ensures, c.is_open.ensures) at c.bracket_word.ensures)
+    (c.in_ok-end.ensures.row results knows))
 
 pub write_first-returns-in-Call-clause-row : goal.write_first-returns-in-Call-clause-row
 write_first-returns-in-Call-clause-row t c = λ results knows.
@@ -52,24 +53,25 @@ write_row-returns-in_err-first-clause-row t c = λ results knows.
     (onward.goes results _ _ (laws.row_first_over onward.asked c.if-left-lt-RECORD.false results refl
     (rw c.write_leaves-n.auto.out at (c.in_err-first.ensures.row results knows))))
 
-pub write_row-returns-then-first-clause-row : goal.write_row-returns-then-first-clause-row
-write_row-returns-then-first-clause-row t c = λ results knows.
+pub write_row-returns-in-Open-clause-row : goal.write_row-returns-in-Open-clause-row
+write_row-returns-in-Open-clause-row t c = λ results knows.
     let onward = c.write_leaves-n.ensures.leaves _ c.args.at c.args.known.now.store.now _ _ c.requires in
-    onward.goes results _ _ (laws.row_first_open onward.asked c.if-left-lt-RECORD.false results {n = c.in_ok-first.first.next} refl c.if-first.true
-    (rw c.write_leaves-n.auto.out at (c.in_ok-first.ensures.row results knows)))
+    rw c.in-Open.is
+    (onward.goes results _ _ (laws.row_first_open onward.asked c.if-left-lt-RECORD.false results _ (ap (λ e. Some e) c.in-Open.is)
+    (rw c.write_leaves-n.auto.out at (c.in_ok-first.ensures.row results knows))))
 
 pub write_row-write_row-requires : goal.write_row-write_row-requires
 write_row-write_row-requires t c =
     let onward = c.write_leaves-n.ensures.leaves _ c.args.at c.args.known.now.store.now _ _ c.requires in
     let kept = c.write_first.auto.out ∙ c.write_leaves-n.auto.out in (
       omega (arith, c.after.ensures.1, laws.left_length c.write_leaves-n.result c.args.part.now),
-      rw (c.after.ensures.0, kept) (laws.asked_rest onward.asked c.if-left-lt-RECORD.false refl c.word_at.ensures (omega (arith, c.in_ok-first.ensures.between, c.write_leaves-n.auto.out)) c.write_first.auto.out),
+      rw (c.after.ensures.0, kept) (laws.asked_rest onward.asked c.if-left-lt-RECORD.false refl c.word_at.ensures (omega (arith, rw c.in-Closed.is at c.in_ok-first.ensures.between, c.write_leaves-n.auto.out)) c.write_first.auto.out),
     )
 
-pub write_row-returns-clause-row : goal.write_row-returns-clause-row
-write_row-returns-clause-row t c = λ results knows.
+pub write_row-returns-in-Closed-clause-row : goal.write_row-returns-in-Closed-clause-row
+write_row-returns-in-Closed-clause-row t c = λ results knows.
     let onward = c.write_leaves-n.ensures.leaves _ c.args.at c.args.known.now.store.now _ _ c.requires in
     let kept = c.write_first.auto.out ∙ c.write_leaves-n.auto.out in
-    onward.goes results _ _ (laws.row_first_rest onward.asked c.if-left-lt-RECORD.false results {n = c.in_ok-first.first.next} refl c.if-first.false refl c.word_at.ensures
+    onward.goes results _ _ (laws.row_first_rest onward.asked c.if-left-lt-RECORD.false results {n = c.in-Closed.next} {o = false} (ap (λ e. Some e) c.in-Closed.is) refl refl c.word_at.ensures
     (rw c.write_leaves-n.auto.out at (c.in_ok-first.ensures.row results knows))
     (rw (c.after.ensures.0, kept) at (c.write_row.ensures.row results knows)))

@@ -1,7 +1,7 @@
 use Rattle.std.proofs.Common.{arith, ap, ◌∙◌}
 use Rattle.buffers.specs.Written.{written}
 use Rattle.formats.proofs.StateLaws.{lent_written}
-use Rattle.formats.proofs.RowLaws.{row_unknown, row_never, row_callee_over, row_callee}
+use Rattle.formats.proofs.RowLaws.{ends_is, row_unknown, row_never, row_callee_over, row_callee}
 use Rattle.formats.proofs.rows.write_call.Goals as goal
 
 pub returns-in_default-clause-row : goal.returns-in_default-clause-row
@@ -17,5 +17,6 @@ returns-then-out-to-clause-row c =
 
 pub returns-clause-row : goal.returns-clause-row
 returns-clause-row c =
-    row_callee _ _ _ _ c.requires.0 c.in-Some.ensures.0 _ _ _ c.requires.2 (omega arith) _ c.in-Some.ensures.1 _ _ c.in-Some-of_format.ensures c.if-out-to.false
-    (lent_written _ _ c.args.to _ (rw c.copy_from_slice.ensures.after) ∙ ap (written c.args.out.now c.args.to) c.copy_from_slice.ensures.after)
+    rw (ends_is c.new.result _ _ c.new.ensures.next c.new.ensures.opens)
+    (row_callee _ _ _ _ c.requires.0 c.in-Some.ensures.0 _ _ _ c.requires.2 (omega arith) _ c.in-Some.ensures.1 _ _ c.in-Some-of_format.ensures c.if-out-to.false
+    (lent_written _ _ c.args.to _ (rw c.copy_from_slice.ensures.after) ∙ ap (written c.args.out.now c.args.to) c.copy_from_slice.ensures.after))
