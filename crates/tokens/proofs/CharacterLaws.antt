@@ -1,5 +1,6 @@
 -- Laws for the character at a byte: what the library finds in as many bytes as the first of them tells.
-use Rattle.std.proofs.Common.{ℕ, ◌-◌, ◌≤◌, ◌<◌, List, [], ◌∷◌, ◌++◌, Bool, true, false, ◌&&◌, ◌≡◌, refl, sym, ap, ◌∙◌, Result, Ok, Err, Option, Some, None, MatchResult, length, take, drop, get_or, arith, append_assoc, append-nil, length-append}
+use Rattle.std.proofs.Common.{ℕ, ◌+◌, ◌-◌, ◌≤◌, ◌<◌, List, [], ◌∷◌, ◌++◌, Bool, true, false, eqb, ◌&&◌, ◌≡◌, refl, sym, ap, ◌∙◌, Result, Ok, Err, Option, Some, None, MatchResult, length, take, drop, get_or, arith, append_assoc, append-nil, length-append}
+use mathlib.Core.Bool.{true≢false}
 use mathlib.Core.Logic.{◌⊎◌, inl, inr}
 use Rattle.std.specs.Result.{result_ok}
 use Rattle.std.specs.List.{slice_get, slice_range}
@@ -8,19 +9,19 @@ use Rattle.std.proofs.Math.Utf8.{scalar, scalars, encode, encodes}
 use Rattle.std.proofs.lemmas.Str.{chars-encodes}
 use Rattle.std.proofs.lemmas.List.{take_all}
 use Rattle.std.proofs.lemmas.Bool.Decides.{nat_tests}
-use lib.Seq.{take-append_seam}
+use lib.Seq.{take-append_seam, drop-cons}
 use lib.ListN.{take-append-drop, length-drop}
 use Rattle.file.specs.Fields.{scalar_allowed}
 use Rattle.file.proofs.Below.{both, both_first, both_second}
 use Rattle.tokens.specs.Token.{utf8}
 use Rattle.tokens.specs.Lex.{begins, character_in}
 use Rattle.tokens.specs.Code.Found.{width_of, CharacterAt}
-use Rattle.tokens.proofs.Utf8.{scalar_bound, utf8_some, character_found, width_found}
+use Rattle.tokens.proofs.Utf8.{utf8_one, first_byte, scalar_bound, utf8_some, character_found, width_found}
 use Rattle.tokens.proofs.Begins.{begins_all, begins_found}
 
 -- ---- the library's words
 
-same_bytes : (c : ℕ) → encode c ≡ utf8 c
+pub same_bytes : (c : ℕ) → encode c ≡ utf8 c
 unfolding encode utf8
 same_bytes c = refl
 
@@ -29,6 +30,9 @@ scalar_to c h = grind (arith, nat_tests)
 
 scalar_from : (c : ℕ) → scalar_allowed c ≡ true → scalar c ≡ true
 scalar_from c h = grind (arith, nat_tests)
+
+low_allowed : (b : ℕ) → b < 128 → scalar_allowed b ≡ true
+low_allowed b l = grind (arith, nat_tests)
 
 -- what an error says, and what a success does
 pub failed : {A E : Type 0} (P : A → Type 0) (Q : E → Type 0) (r : Result A E) → MatchResult r P Q → ◌≡◌ {A = Option A} None (result_ok r) → (e : E) × Q e
@@ -112,3 +116,27 @@ whole_character s t w c q e u first = go u.0 u.1.0 u.1.1 (ap chars (sym u.1.1) �
         let is : character_in s ≡ d = ap character_in there ∙ character_found d more (scalar_bound d ok) in
         let stands : begins (utf8 d) s ≡ true = ap (begins (utf8 d)) there ∙ begins_all (utf8 d) more in
         rw same (sym is, ok, stands, size, rw size (utf8_some d))
+
+-- it lies in the text
+pub character_within : (s : List ℕ) (at : ℕ) (c w : ℕ) → CharacterAt (drop at s) (Some (c, w)) → (at + w ≤ length s) × (w ≡ length (utf8 c)) × (1 ≤ w)
+character_within s at c w h =
+    let there : utf8 c ++ drop (length (utf8 c)) (drop at s) ≡ drop at s = begins_found (utf8 c) (drop at s) h.2 in
+    let more = ap length there in
+    (omega (arith, h.3, h.4, more, length-append (utf8 c) (drop (length (utf8 c)) (drop at s)), length-drop at s), h.3, h.4)
+
+-- its first byte, where that is below 128, is the character
+pub first_here : (s : List ℕ) (i c w b : ℕ) → b < 128 → CharacterAt (drop i s) (Some (c, w)) → (i < length s) × (eqb (get_or s i 0) b ≡ eqb c b)
+first_here s i c w b l h =
+    let inside = character_within s i c w h in
+    let here : i < length s = omega arith in (
+      here,
+      rw (drop-cons s i 0 here) at
+          (ap (λ z. eqb (get_or z 0 256) b) (sym (begins_found (utf8 c) (drop i s) h.2)) ∙ first_byte c b 256 (drop (length (utf8 c)) (drop i s)) l),
+    )
+
+-- a byte below 128 is a character
+pub ascii_stands : (b : ℕ) (r : List ℕ) → b < 128 → CharacterAt (b ∷ r) None → ⊥
+ascii_stands b r l h =
+    let one : utf8 b ≡ b ∷ [] = utf8_one b l in
+    let found : character_in (b ∷ r) ≡ b = rw one at (character_found b r (omega arith)) in
+    true≢false (sym (rw (found, low_allowed b l, one) (begins_all (b ∷ []) r)) ∙ h)

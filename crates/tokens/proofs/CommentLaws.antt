@@ -9,14 +9,15 @@ use native.Mathlib.Numerals.{add-one}
 use native.Mathlib.Nat.{add_assoc}
 use lib.ListN.{length, drop, get_or, length-append, length-drop}
 use lib.Seq.{drop-cons, drop-drop, drop-append_seam}
-use lib.Dec.{eqb}
-use borrow.Author.Tests.{eqb-true, eqb-false, eq-eqb, ne_eqb}
+use lib.Dec.{eqb, ltb}
+use borrow.Author.Tests.{eqb-true, eqb-false, eq-eqb, ne_eqb, ltb-true, ltb-false}
 use Rattle.names.specs.Name.{every_byte}
 use Rattle.file.specs.Fields.{scalar_allowed}
 use Rattle.file.proofs.Below.{both, second_fails_lem}
 use Rattle.tokens.specs.Token.{utf8, characters_bytes, comment, apart, unclosed, piece_bytes}
 use Rattle.tokens.specs.Lex.{begins, character_in, characters_to, at_close, guess, checked, next}
 use Rattle.tokens.specs.Code.Found.{CharacterAt, found_at}
+use Rattle.tokens.proofs.CharacterLaws.{ascii_stands}
 use Rattle.tokens.proofs.Utf8.{utf8_one, first_byte}
 use Rattle.tokens.proofs.Begins.{begins_found}
 use Rattle.tokens.proofs.NextPiece.{comment_next}
@@ -186,3 +187,13 @@ module _ {s : List ℕ} {at i : ℕ} (h : Commenting s at i) where
       let took : next (drop at s) ≡ some (comment cs) = rw whole (comment_next cs after (both (every_byte scalar_allowed cs) (unclosed cs) h.passed.every no_close)) in
       let size : i + 2 ≡ at + length (piece_bytes (comment cs)) = omega (arith, h.passed.place, length-append (characters_bytes cs) (42 ∷ 47 ∷ [])) in
       rw (took, size)
+
+  -- no character more
+  pub comment_end : CharacterAt (drop i s) None → None ≡ found_at at (next (drop at s))
+  comment_end f = go (ltb i (length s)) (begins (42 ∷ 47 ∷ []) (drop i s)) refl refl
+    where
+      go : (b u : Bool) → ltb i (length s) ≡ b → begins (42 ∷ 47 ∷ []) (drop i s) ≡ u → None ≡ found_at at (next (drop at s))
+      go false u t e = comment_over (ltb-false i (length s) t)
+      go true true t e =
+          absurd (ascii_stands 42 (47 ∷ drop 2 (drop i s)) (omega arith) (rw (sym (begins_found (42 ∷ 47 ∷ []) (drop i s) e)) at f))
+      go true false t e = comment_broken (ltb-true i (length s) t) (sym e) refl f

@@ -8,14 +8,15 @@ use native.Mathlib.Omega.{arith}
 use native.Mathlib.Numerals.{add-one}
 use lib.ListN.{length, drop, get_or, length-append, length-drop}
 use lib.Seq.{drop-cons}
-use lib.Dec.{eqb}
-use borrow.Author.Tests.{eq-eqb, ne_eqb}
+use lib.Dec.{eqb, ltb}
+use borrow.Author.Tests.{eqb-true, eqb-false, eq-eqb, ne_eqb, ltb-true, ltb-false}
 use Rattle.names.specs.Name.{every_byte}
 use Rattle.file.specs.Fields.{scalar_allowed}
 use Rattle.file.proofs.Below.{both, second_fails_lem}
 use Rattle.tokens.specs.Token.{utf8, characters_bytes, quoted, quotable, atom_bytes, atom, token}
 use Rattle.tokens.specs.Lex.{begins, character_in, characters_to, at_quote, guess, checked, next}
 use Rattle.tokens.specs.Code.Found.{CharacterAt, found_at}
+use Rattle.tokens.proofs.CharacterLaws.{first_here, ascii_stands}
 use Rattle.tokens.proofs.Utf8.{first_byte, utf8_some}
 use Rattle.tokens.proofs.Begins.{begins_found}
 use Rattle.tokens.proofs.NextPiece.{quoted_next}
@@ -140,3 +141,20 @@ module _ {s : List ℕ} {at i : ℕ} (h : Quoting s at i) where
           let took : next (drop at s) ≡ some (token (atom (quoted (c ∷ cs)))) = rw whole (quoted_next (c ∷ cs) (drop (suc i) s) v v) in
           let size : i + 1 ≡ at + length (atom_bytes (quoted (c ∷ cs))) = omega (arith, p, length-append (characters_bytes (c ∷ cs)) (39 ∷ [])) in
           rw (took, size)
+
+  -- the next of the characters, or none
+  module _ {c w : ℕ} (f : CharacterAt (drop i s) (Some (c, w))) where
+    pub is_quote : c ≡ 39 → (i < length s) × (get_or s i 0 ≡ 39)
+    is_quote e = let first = first_here s i c w 39 (omega arith) f in (first.0, eqb-true (get_or s i 0) 39 (first.1 ∙ eq-eqb c 39 e))
+
+    pub no_quote : (c ≡ 39 → ⊥) → (i < length s) × (get_or s i 0 ≡ 39 → ⊥)
+    no_quote e = let first = first_here s i c w 39 (omega arith) f in (first.0, eqb-false (get_or s i 0) 39 (first.1 ∙ ne_eqb c 39 e))
+
+  pub quoting_none : CharacterAt (drop i s) None → None ≡ found_at at (next (drop at s))
+  quoting_none f = go (ltb i (length s)) refl
+    where
+      go : (b : Bool) → ltb i (length s) ≡ b → None ≡ found_at at (next (drop at s))
+      go true t =
+          let l = ltb-true i (length s) t in
+          quoting_broken l (λ e. ascii_stands 39 (drop (suc i) s) (omega arith) (rw (drop-cons s i 0 l, e) at f)) f
+      go false t = quoting_over (ltb-false i (length s) t)

@@ -1,6 +1,7 @@
 // The characters of a text, in UTF-8.
-ghost use Rattle.std.specs.Prelude.{◌≡◌, drop};
-ghost use Rattle.tokens.specs.Code.Found.{CharacterAt, width_of};
+ghost use Rattle.std.specs.Prelude.{◌-◌, ◌≡◌, length, drop};
+ghost use Rattle.std.specs.Iterator.{at_most};
+ghost use Rattle.tokens.specs.Code.Found.{CharacterAt, YieldsCharacter, width_of};
 
 use std::str;
 
@@ -24,4 +25,26 @@ pub fn character_at(text: &[u8], at: usize) -> Option<(char, usize)>
     let width = width_of(*bytes.first()?);
     let spelled = str::from_utf8(bytes.get(..width)?).ok()?;
     Some((spelled.chars().next()?, width))
+}
+
+// Goes over the characters of a text from a byte on, each with the byte where it starts. It ends with the text, or where no character stands.
+#[derive(Clone, Copy)]
+pub struct Characters<'a> {
+    pub text: &'a [u8],
+    pub at: usize,
+}
+
+impl<'a> Iterator for Characters<'a> {
+    type Item = (usize, char);
+
+    ghost next_gives = { λ before item later. YieldsCharacter before.text.now before.at item later.text.now later.at };
+
+    ghost remaining = { λ s. at_most (length s.text.now - s.at) };
+
+    fn next(&mut self) -> Option<(usize, char)> {
+        let start = self.at;
+        let (c, width) = character_at(self.text, start)?;
+        self.at = start + width;
+        Some((start, c))
+    }
 }

@@ -4,7 +4,7 @@ ghost use Rattle.tokens.specs.Lex.{begins, next};
 ghost use Rattle.tokens.specs.Code.Found.{found_at, is_blank};
 
 use crate::atoms::{identifier_or_variable, number_at};
-use crate::characters::character_at;
+use crate::characters::Characters;
 use crate::kinds::Kind;
 use names::{digit_byte, letter_byte};
 
@@ -31,20 +31,16 @@ fn quoted_at(text: &[u8], at: usize) -> Option<Found>
     ensures { result ≡ found_at at (next (drop at text.now)) }
 {
     let first = at + 1;
-    let mut i = first;
-    // The sizes of characters differ, so no `for` goes over the bytes.
-    while i < text.len() {
-        if text[i] == b'\'' {
+    for (i, c) in (Characters { text, at: first }) {
+        if c == '\'' {
             if i == first {
                 return None;
             }
             return Some(Found::Token(Kind::Quoted, i + 1));
         }
-        let (c, width) = character_at(text, i)?;
         if c == BACKSLASH {
             return None;
         }
-        i += width;
     }
     None
 }
@@ -57,14 +53,10 @@ fn comment_at(text: &[u8], at: usize) -> Option<Found>
     if !stands_at(text, at + 1, b"*") {
         return None;
     }
-    let mut i = at + 2;
-    // The sizes of characters differ, so no `for` goes over the bytes.
-    while i < text.len() {
+    for (i, _) in (Characters { text, at: at + 2 }) {
         if stands_at(text, i, b"*/") {
             return Some(Found::Between(i + 2));
         }
-        let (_, width) = character_at(text, i)?;
-        i += width;
     }
     None
 }

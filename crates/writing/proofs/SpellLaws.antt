@@ -112,3 +112,11 @@ module _ {text : List ℕ} {i to : ℕ} {all : List Record} {old : List ℕ} {at
             passing =
                 passing_next p ((0 ∷ c ∷ 0 ∷ 0 ∷ i ∷ (i + w) ∷ []) ∷ []) (character_records (i + w) cs) (rw (same, wide)) (rw (bytes_one (0 ∷ c ∷ 0 ∷ 0 ∷ i ∷ (i + w) ∷ [])) put);
           }
+
+  -- no character more
+  pub spelling_none : CharacterAt (drop i text) None → Put old at (records_bytes all) next now
+  spelling_none f = go (ltb i to) refl
+    where
+      go : (b : Bool) → ltb i to ≡ b → Put old at (records_bytes all) next now
+      go true t = spelling_broken (ltb-true i to t) f
+      go false t = spelling_end (ltb-false i to t)

@@ -11,7 +11,7 @@ ghost use Rattle.writing.specs.Code.Found.{record_kind};
 use crate::records::put_record;
 use crate::source::Source;
 use tokens::Lexeme;
-use tokens::characters::character_at;
+use tokens::characters::Characters;
 use tokens::kinds::Kind;
 
 // The number in a term record of a token that has one record of its own.
@@ -35,15 +35,12 @@ fn put_characters(text: &[u8], from: usize, to: usize, out: &mut [u8], at: usize
         × ((cs : List ℕ) → Spans text.now from to cs → Put out.old at (records_bytes (character_records from cs)) result out.new) }
 {
     let mut next = at;
-    let mut i = from;
-    // The sizes of characters differ, so no `for` goes over the bytes.
-    while i < to {
-        let Some((c, width)) = character_at(text, i) else {
+    for (i, c) in (Characters { text, at: from }) {
+        if i >= to {
             return next;
-        };
-        let end = i + width;
+        }
+        let end = i + c.len_utf8();
         next = put_record(&[0, c as u32, 0, 0, i as u32, end as u32], out, next);
-        i = end;
     }
     next
 }

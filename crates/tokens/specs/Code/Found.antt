@@ -21,6 +21,12 @@ abbrev pub CharacterAt : List ℕ → Option (ℕ × ℕ) → Type 0
 CharacterAt s None = scalar_allowed (character_in s) && begins (utf8 (character_in s)) s ≡ false
 CharacterAt s (Some p) = (p.0 ≡ character_in s) × (scalar_allowed p.0 ≡ true) × (begins (utf8 p.0) s ≡ true) × (p.1 ≡ length (utf8 p.0)) × (1 ≤ p.1)
 
+-- the next character of a text from a byte on, and the text and the byte that are left
+abbrev pub YieldsCharacter : List ℕ → ℕ → Option (ℕ × ℕ) → List ℕ → ℕ → Type 0
+YieldsCharacter s at None t after = CharacterAt (drop at s) None × (t ≡ s) × (after ≡ at)
+YieldsCharacter s at (Some p) t after =
+    (p.0 ≡ at) × CharacterAt (drop at s) (Some (p.1, length (utf8 p.1))) × (after ≡ at + length (utf8 p.1)) × (after ≤ length s) × (t ≡ s)
+
 -- ---- variables
 
 -- where the index after a point ends that begins at a byte
