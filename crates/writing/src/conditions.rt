@@ -1,7 +1,8 @@
 // The section of conditions.
-ghost use Rattle.std.specs.Prelude.{◌+◌, ◌<◌, ◌≤◌, List, false as no, length, drop};
+ghost use Rattle.std.specs.Prelude.{◌+◌, ◌<◌, ◌≤◌, List, ◌≡◌, false as no, ◌&&◌, eqb, length, drop, get_or};
 ghost use Rattle.buffers.specs.Code.Put.{Put, largest};
 ghost use Rattle.tokens.specs.Token.{Placed};
+ghost use Rattle.tokens.specs.Code.Arrays.{kinds_in};
 ghost use Rattle.encoding.specs.Encode.{records_bytes, section_bytes};
 ghost use Rattle.encoding.specs.Code.FlatFile.{flat_conditions};
 ghost use Rattle.writing.specs.Code.Held.{HeldIn, Stand, at_first};
@@ -13,6 +14,13 @@ use crate::source::Source;
 use tokens::kinds::Kind;
 
 impl<'a> Source<'a> {
+    // Does a condition begin after the token at a place?
+    fn begins_condition(&self, inside: bool, i: usize) -> bool
+        ensures { result ≡ inside && eqb (get_or (kinds_in self.now.tokens.now) i 0) 44 }
+    {
+        inside && self.is_at(Kind::Comma, i)
+    }
+
     // The record of the condition that begins after a token, if one does.
     fn put_condition(&self, inside: bool, i: usize, out: &mut [u8], at: usize) -> usize
         requires { (at + 16 ≤ largest) × (i < length self.now.tokens.now) }
@@ -20,8 +28,7 @@ impl<'a> Source<'a> {
             × ((ts : List Placed) → HeldIn self.now.tokens.now ts → Stand self.now.text.now ts
             → Put out.old at (records_bytes (at_first (conditions_at inside) (drop i ts))) result out.new) }
     {
-        let parted = self.is_at(Kind::Comma, i);
-        if !(inside & parted) {
+        if !self.begins_condition(inside, i) {
             return at;
         }
         let first = i + 1;

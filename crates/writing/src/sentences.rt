@@ -19,10 +19,8 @@ impl<'a> Source<'a> {
         requires { i < length self.now.tokens.now }
         ensures { result ≡ sentence_begins inside (get_or (kinds_in self.now.tokens.now) i 0) (get_or (kinds_in self.now.tokens.now) (i + 1) 0) }
     {
-        let opened = self.is_at(Kind::LeftBrace, i);
-        let parted = self.is_at(Kind::Semicolon, i);
-        let closed = self.is_at(Kind::RightBrace, i + 1);
-        (opened | (inside & parted)) & !closed
+        let begun = self.is_at(Kind::LeftBrace, i) || inside && self.is_at(Kind::Semicolon, i);
+        begun && !self.is_at(Kind::RightBrace, i + 1)
     }
 
     // The record of the sentence that begins after a token, if one does.
