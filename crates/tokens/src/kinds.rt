@@ -27,7 +27,7 @@ pub enum Kind {
 
 impl Kind {
     // The kind of variable that a letter begins, if one does.
-    pub fn of_letter(letter: u8) -> Option<Kind>
+    pub(crate) fn of_letter(letter: u8) -> Option<Kind>
         ensures { result ≡ variable_of letter }
     {
         match letter {
@@ -39,7 +39,7 @@ impl Kind {
     }
 
     // The sign of one byte, if the byte is one.
-    pub fn of_sign(byte: u8) -> Option<Kind>
+    pub(crate) fn of_sign(byte: u8) -> Option<Kind>
         ensures { result ≡ sign_of byte }
     {
         match byte {

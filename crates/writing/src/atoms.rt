@@ -47,7 +47,7 @@ fn put_characters(text: &[u8], from: usize, to: usize, out: &mut [u8], at: usize
 
 impl<'a> Source<'a> {
     // The records of a token that is no bracket and no name of a call.
-    pub fn put_atom(&self, token: Lexeme, out: &mut [u8], at: usize) -> usize
+    pub(crate) fn put_atom(&self, token: Lexeme, out: &mut [u8], at: usize) -> usize
         requires { at ≤ 1000000000000000 }
         ensures { (at ≤ result) × (result ≤ at + 1680000)
             × ((p : Placed) → kind_code token.kind ≡ kind_at p → token.start ≡ p.start → token.end ≡ end_at p → Stands self.now.text.now p

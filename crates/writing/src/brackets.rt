@@ -58,7 +58,7 @@ impl<'a> Source<'a> {
     }
 
     // Fills the array, from the last token to the first.
-    pub fn look_ahead(&self, ahead: &mut [Ahead])
+    pub(crate) fn look_ahead(&self, ahead: &mut [Ahead])
         requires { length self.now.tokens.now ≤ length ahead.old }
         ensures closed { ClosedFrom 0 (kinds_in self.now.tokens.now) (closers_in ahead.new) }
         ensures summed { (ts : List Placed) → HeldIn self.now.tokens.now ts → Stand self.now.text.now ts
@@ -86,7 +86,7 @@ impl<'a> Source<'a> {
     }
 
     // The number of records from a place on, up to the closing sign.
-    pub fn inner_records(&self, ahead: &[Ahead], from: usize) -> u32
+    pub(crate) fn inner_records(&self, ahead: &[Ahead], from: usize) -> u32
         requires { (length self.now.tokens.now ≤ length ahead.now) × (from ≤ length self.now.tokens.now) }
         ensures { (ts : List Placed) → Nested self.now.tokens.now ahead.now ts
             → result ≡ (scan (run_state (called_at (kinds_in self.now.tokens.now) from)) 0 (drop from ts)).records }
@@ -97,7 +97,7 @@ impl<'a> Source<'a> {
     }
 
     // Where the closing sign ends.
-    pub fn inner_end(&self, ahead: &[Ahead], from: usize) -> u32
+    pub(crate) fn inner_end(&self, ahead: &[Ahead], from: usize) -> u32
         requires { (length self.now.tokens.now ≤ length ahead.now) × (from ≤ length self.now.tokens.now) }
         ensures { (ts : List Placed) → Nested self.now.tokens.now ahead.now ts
             → result ≡ (scan where_inside 0 (drop from ts)).end }

@@ -42,7 +42,7 @@ impl<'a> Source<'a> {
     }
 
     // The section of conditions: the records, and their number before them.
-    pub fn condition_section(&self, out: &mut [u8], at: usize) -> usize
+    pub(crate) fn condition_section(&self, out: &mut [u8], at: usize) -> usize
         requires { at ≤ 900000000000 }
         ensures { (result ≤ at + 65540)
             × ((ts : List Placed) → HeldIn self.now.tokens.now ts → Stand self.now.text.now ts

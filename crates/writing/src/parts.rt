@@ -35,7 +35,7 @@ impl<'a> Source<'a> {
     }
 
     // The number of records that begin with a token inside braces; the name of a call has none.
-    pub fn weight(&self, token: Lexeme, calling: bool) -> u32
+    pub(crate) fn weight(&self, token: Lexeme, calling: bool) -> u32
         ensures { (result ≤ 4096)
             × ((p : Placed) → kind_code token.kind ≡ kind_at p → token.start ≡ p.start → token.end ≡ end_at p → Stands self.now.text.now p
             → result ≡ weight (run_state calling) p) }
@@ -54,7 +54,7 @@ impl<'a> Source<'a> {
     }
 
     // The number of records of the run from a place on.
-    pub fn part_records(&self, from: usize) -> u32
+    pub(crate) fn part_records(&self, from: usize) -> u32
         requires { from ≤ 4097 }
         ensures { (ts : List Placed) → HeldIn self.now.tokens.now ts → Stand self.now.text.now ts
             → result ≡ part_records where_inside (drop from ts) }
@@ -73,7 +73,7 @@ impl<'a> Source<'a> {
     }
 
     // Where the last token of the run from a place on ends; another place where it has none.
-    pub fn part_end(&self, other: u32, from: usize) -> u32
+    pub(crate) fn part_end(&self, other: u32, from: usize) -> u32
         ensures { (ts : List Placed) → HeldIn self.now.tokens.now ts → result ≡ part_end other (drop from ts) }
     {
         let mut end = other;

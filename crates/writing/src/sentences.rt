@@ -45,7 +45,7 @@ impl<'a> Source<'a> {
     }
 
     // The section of sentences: the records, and their number before them.
-    pub fn sentence_section(&self, out: &mut [u8], at: usize) -> usize
+    pub(crate) fn sentence_section(&self, out: &mut [u8], at: usize) -> usize
         requires { at ≤ 900000000000 }
         ensures { (result ≤ at + 81924)
             × ((ts : List Placed) → HeldIn self.now.tokens.now ts → Stand self.now.text.now ts

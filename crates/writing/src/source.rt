@@ -20,28 +20,28 @@ impl<'a> Source<'a> {
     ghost use Rattle.writing.specs.Code.Found.{place_of, count_kinds};
 
     // Is the token at a place of this kind?
-    pub fn is_at(&self, kind: Kind, i: usize) -> bool
+    pub(crate) fn is_at(&self, kind: Kind, i: usize) -> bool
         ensures { result ≡ eqb (get_or (kinds_in self.now.tokens.now) i 0) (kind_code kind) }
     {
         i < self.tokens.len() && self.tokens[i].kind == kind
     }
 
     // Where a token starts in the text; 0 past the last.
-    pub fn start_at(&self, i: usize) -> u32
+    pub(crate) fn start_at(&self, i: usize) -> u32
         ensures { (result ≡ get_or (starts_in self.now.tokens.now) i 0) × (result < 65536) }
     {
         self.tokens.get(i).map_or(0, |token| u32::from(token.start))
     }
 
     // Where it ends; 0 past the last.
-    pub fn end_at(&self, i: usize) -> u32
+    pub(crate) fn end_at(&self, i: usize) -> u32
         ensures { (result ≡ get_or (ends_in self.now.tokens.now) i 0) × (result < 65536) }
     {
         self.tokens.get(i).map_or(0, |token| u32::from(token.end))
     }
 
     // The place of the first token of a kind from a place on; past the last where there is none.
-    pub fn place_of(&self, kind: Kind, from: usize) -> usize
+    pub(crate) fn place_of(&self, kind: Kind, from: usize) -> usize
         requires { from ≤ length self.now.tokens.now }
         ensures { (result ≡ place_of (kind_code kind) from (kinds_in self.now.tokens.now)) × (result ≤ length self.now.tokens.now) }
     {
@@ -54,7 +54,7 @@ impl<'a> Source<'a> {
     }
 
     // The number of tokens of a kind before the first of another, from a place on.
-    pub fn count(&self, kind: Kind, stop: Kind, from: usize) -> u32
+    pub(crate) fn count(&self, kind: Kind, stop: Kind, from: usize) -> u32
         requires { from ≤ length self.now.tokens.now }
         ensures { result ≡ count_kinds (kind_code kind) (kind_code stop) (drop from (kinds_in self.now.tokens.now)) }
     {

@@ -88,7 +88,7 @@ impl<'a> Source<'a> {
     }
 
     // The section of terms: the records, and their number before them.
-    pub fn term_section(&self, ahead: &mut [Ahead], out: &mut [u8], at: usize) -> usize
+    pub(crate) fn term_section(&self, ahead: &mut [Ahead], out: &mut [u8], at: usize) -> usize
         requires { (at ≤ 900000000000) × (length self.now.tokens.now ≤ length ahead.old) }
         ensures { (result ≤ at + 6881280004)
             × ((ts : List Placed) → HeldIn self.now.tokens.now ts → Stand self.now.text.now ts
