@@ -1,5 +1,5 @@
 -- What lints 2 and 3 note of one call (src/calls.rt): the events of a verdict and of a failure are those of the lint's remarks.
-use Prim.Native.Nat.{ℕ, zero, suc, ◌+◌, ◌*◌, ◌≤◌, ◌<◌}
+use Prim.Native.Nat.{ℕ, ◌+◌, ◌*◌, ◌≤◌, ◌<◌}
 use mathlib.Core.Bool.{Bool, true, false, cond, not}
 use mathlib.Core.List.{List, [], ◌∷◌, append-nil}
 use mathlib.Core.Option.{Option, none, some}
@@ -7,7 +7,7 @@ use mathlib.Core.Path.{◌≡◌, refl, sym, ap, ◌∙◌}
 use native.Mathlib.Omega.{arith}
 use lib.ListN.{length, take, drop}
 use lib.Dec.{eqb, ltb}
-use borrow.Author.Tests.{eq-eqb, ne_eqb, eqb-true, not-true, not-false}
+use borrow.Author.Tests.{eq-eqb, ne_eqb, not-true, not-false}
 use Rattle.names.specs.Name.{folded}
 use Rattle.file.specs.Word.{word_at}
 use Rattle.file.specs.Sections.{File}
@@ -41,7 +41,7 @@ use Rattle.findings.specs.declared.Note.{Note}
 use Rattle.std.specs.Prelude.{Ok, Err}
 use Rattle.findings.specs.declared.Ended.TheVariants as ended
 use Rattle.findings.specs.Code.Events.{Tally, Over, Event, noting, too_wide, Sink, sink_of, met, collect}
-use Rattle.findings.specs.Code.Tasks.{number_of, note_words, remark_events, recognition_events, call_events, calls_at}
+use Rattle.findings.specs.Code.Tasks.{note_words, remark_events, recognition_events, call_events, calls_at}
 use Rattle.findings.specs.Code.Judging.{call_note, call_found, verdict_events, failure_events, is_over}
 use Rattle.lints.specs.Code.Verdicts.{Verdict, Wide, ByFormats, ByLiterals, Nothing, verdict_of, comparison}
 use Rattle.findings.proofs.CollectLaws.{collect_none, collect_one}

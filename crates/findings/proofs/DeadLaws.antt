@@ -1,28 +1,24 @@
 -- Lint 1, a sentence at a time (src/dead.rt): what is noted of each sentence.
-use Prim.Native.Nat.{ℕ, zero, suc, ◌+◌, ◌*◌, ◌-◌, ◌≤◌, ◌<◌}
-use mathlib.Core.Bool.{Bool, true, false, cond}
+use Prim.Native.Nat.{ℕ, suc, ◌+◌, ◌*◌, ◌-◌, ◌≤◌, ◌<◌}
+use mathlib.Core.Bool.{Bool, true}
 use mathlib.Core.List.{List, [], ◌∷◌, ◌++◌}
-use mathlib.Core.Option.{Option, none, some}
+use mathlib.Core.Option.{Option}
 use mathlib.Core.Path.{◌≡◌, refl, sym, ap, ◌∙◌}
 use native.Mathlib.Omega.{arith}
 use native.Mathlib.Nat.{add-zero, sub-zero}
 use native.Mathlib.Numerals.{add-one}
 use Rattle.file.specs.Word.{word_at}
 use Rattle.file.specs.Sections.{File}
-use Rattle.law.specs.Tree.{Run, Conditions, no_condition, condition, keep}
-use Rattle.law.specs.Places.{pattern_at, pattern_part}
-use Rattle.law.specs.Reading.{run_of, own, sentences_at}
+use Rattle.law.specs.Tree.{keep}
+use Rattle.law.specs.Reading.{sentences_at}
 use Rattle.law.specs.Code.Index.{Readable}
 use Rattle.law.proofs.Functions.{kept_reads}
-use Rattle.matching.specs.Pattern.{Pattern, pattern_of}
-use Rattle.matching.specs.Shadow.{shadows_with}
 use Rattle.sentences.specs.Entry.{pattern_in}
 use Rattle.lints.specs.Finding.{Remark}
-use Rattle.lints.specs.Dead.{Earlier, unconditional, earliest, dead_after}
+use Rattle.lints.specs.Dead.{earliest, dead_after}
 use Rattle.lints.specs.Code.Records.{earlier_at, earliest_from}
-use Rattle.lints.proofs.DeadLaws.{or_else, earliest_append}
 use Rattle.findings.specs.declared.Task.{Task}
-use Rattle.std.specs.Prelude.{Ok, Err, Some, None, Option as Answer}
+use Rattle.std.specs.Prelude.{Ok, Err, Some, None}
 use Rattle.std.specs.Result.{is_err}
 use Rattle.findings.specs.declared.Ended.{Ended}
 use Rattle.findings.specs.declared.Ended.TheVariants as ended

@@ -1,5 +1,4 @@
 -- What the fields of a law's formats come to.
-use Prim.Native.Nat.{ℕ}
 use mathlib.Core.Path.{refl}
 use lib.ListN.{drop}
 use Rattle.file.specs.Sections.{file_of}

@@ -1,18 +1,17 @@
 -- Laws of settings, as the code goes through the overrides.
-use Prim.Native.Nat.{ℕ, suc, ◌+◌, ◌/◌, ◌%◌, ◌≤◌, ◌<◌}
+use Prim.Native.Nat.{ℕ, ◌+◌, ◌/◌, ◌%◌, ◌≤◌, ◌<◌}
 use mathlib.Core.Bool.{Bool, true, false, not, ◌&&◌}
 use mathlib.Core.List.{List, [], ◌∷◌, map}
 use mathlib.Core.Option.{none, some}
 use mathlib.Core.Path.{◌≡◌, refl, sym, ap, ◌∙◌}
-use native.Mathlib.Omega.{arith}
 use native.Mathlib.Numerals.{add-one}
-use borrow.Author.Tests.{eq-eqb, ne_eqb, le-leb, lt-leb}
+use borrow.Author.Tests.{eq-eqb, ne_eqb}
 use Rattle.std.proofs.lemmas.List.{length-map}
 use lib.ListN.{length, drop, get_or, drop_of_length-le}
 use lib.Seq.{drop-cons}
 use lib.Dec.{eqb, leb}
-use Rattle.lints.specs.Lint.{Lint, dead_sentence, recognition_impossible, builtin_domain, open_expressions, lint_number, allow, own_severity}
-use Rattle.lints.specs.Levels.{Override, override_from, settings_from, overrides_allowed, settings_allowed, override_of, severity_of, is_shown}
+use Rattle.lints.specs.Lint.{Lint, lint_number, allow}
+use Rattle.lints.specs.Levels.{override_from, settings_from, overrides_allowed, settings_allowed, override_of}
 use denote.Enum.Bare.{sameb}
 use Rattle.lints.specs.contracts.levels.Severity.{the_type}
 use Rattle.lints.specs.declared.levels.Severity.{Severity}

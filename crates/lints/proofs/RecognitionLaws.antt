@@ -10,8 +10,8 @@ use Rattle.std.proofs.lemmas.Option.{same_Some}
 use native.Mathlib.Omega.{arith}
 use native.Mathlib.Nat.{zero-add}
 use lib.Seq.{take_at}
-use lib.ListN.{length, take, drop, get_or}
-use lib.Dec.{eqb, ltb}
+use lib.ListN.{length, take, get_or}
+use lib.Dec.{eqb}
 use borrow.Author.Tests.{lt-ltb, le-ltb, eq-eqb, ne_eqb, eqb-true, eqb-false}
 use Rattle.names.specs.Name.{folded, same_bytes}
 use Rattle.names.proofs.Laws.{same_sound, same_refl}

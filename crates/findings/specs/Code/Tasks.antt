@@ -3,7 +3,7 @@
 use Rattle.std.specs.Prelude.{ℕ, suc, ◌+◌, ◌*◌, Bool, not, cond, List, [], ◌∷◌, ◌++◌, map, get_or, eqb, ltb}
 use Rattle.file.specs.Word.{word_at}
 use Rattle.file.specs.Sections.{File}
-use Rattle.law.specs.Tree.{Run, Sentences, Conditions, Law, keep}
+use Rattle.law.specs.Tree.{Run, Sentences, Conditions, Law}
 use Rattle.shapes.specs.Format.{size}
 use Rattle.formats.specs.Infer.{Formats}
 use Rattle.formats.specs.declared.slots.Slots.{Slots}

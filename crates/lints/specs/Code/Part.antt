@@ -1,5 +1,5 @@
 -- What the code of lints 3 and 4 promises of one part of the term records.
-use Rattle.std.specs.Prelude.{ℕ, Bool, true, false, cond, List, ◌≡◌, take, drop, eqb, Option, Some, None}
+use Rattle.std.specs.Prelude.{ℕ, Bool, cond, List, ◌≡◌, take, drop, eqb, Option, Some, None}
 use Rattle.std.proofs.Math.Option as math
 use Rattle.names.specs.Name.{digit_byte}
 use Rattle.numbers.specs.Value.{value_of, is_macrodigit}

@@ -1,5 +1,5 @@
 -- What lint 2 says of one call.
-use Rattle.std.specs.Prelude.{ℕ, zero, suc, cond, List, get_or, eqb, ltb, Option, Some, None, Result, Ok, Err}
+use Rattle.std.specs.Prelude.{ℕ, zero, suc, cond, get_or, eqb, ltb, Option, Some, None, Result, Ok, Err}
 use Rattle.file.specs.Sections.{File}
 use Rattle.law.specs.Tree.{Sentences, Law, keep}
 use Rattle.law.specs.Places.{sentences_of, first_sentence}

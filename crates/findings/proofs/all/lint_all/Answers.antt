@@ -1,6 +1,4 @@
 -- A lint a turn: `linted_next`.
-use Rattle.file.specs.Sections.{file_of}
-use Rattle.findings.specs.Code.Events.{sink_of}
 use Rattle.findings.proofs.AllLaws.{linted_begun, linted_next, linted_all}
 use Rattle.findings.proofs.all.lint_all.Goals as goal
 

@@ -1,6 +1,6 @@
 use Rattle.file.specs.Sections.{file_of}
 use Rattle.law.specs.Reading.{tree_of}
-use Rattle.lints.specs.Code.Records.{formats_in, call_at}
+use Rattle.lints.specs.Code.Records.{formats_in}
 use Rattle.findings.specs.Code.Events.{sink_of}
 use Rattle.findings.specs.Code.Tasks.{call_events}
 use Rattle.findings.proofs.CallLaws.{kind_call, met_none, met_recognition, met_builtin, met_other}

@@ -1,4 +1,3 @@
-use Rattle.std.proofs.Common.{arith}
 use Rattle.file.specs.Sections.{file_of}
 use Rattle.law.proofs.Allowed.{accepted_readable}
 use Rattle.findings.proofs.DeadLaws.{dead_starts, dead_again, dead_ends}

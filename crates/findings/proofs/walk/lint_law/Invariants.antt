@@ -1,9 +1,5 @@
 use Rattle.std.proofs.Common.{◌≡◌}
-use Rattle.file.specs.Sections.{file_of}
-use Rattle.law.specs.Reading.{tree_of}
-use Rattle.lints.specs.Code.Records.{formats_in}
 use Rattle.findings.specs.Code.Events.{sink_of}
-use Rattle.findings.specs.Code.Tasks.{lint_events}
 use Rattle.findings.specs.Code.Ways.{file_in, formats_of, law_met}
 use Rattle.findings.proofs.WalkSteps as steps
 use Rattle.findings.proofs.walk.lint_law.Given as goal

@@ -1,7 +1,6 @@
 use Rattle.std.proofs.Common.{arith, sym, ◌∙◌}
 use Rattle.file.specs.Sections.{file_of}
 use Rattle.law.proofs.Allowed.{accepted_readable}
-use Rattle.law.proofs.IndexLaws.{sentences_limit}
 use Rattle.lints.proofs.RecognitionLaws.{argument_literal, function_few, matches_start, matches_here, matches_next, matches_end}
 use Rattle.lints.proofs.recognition.some_matches.Goals as goal
 
