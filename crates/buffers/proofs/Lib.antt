@@ -2,3 +2,4 @@ pub mod WrittenLaws
 pub mod FittedLaws
 pub mod PutLaws
 pub mod DigitLaws
+pub mod TextLaws

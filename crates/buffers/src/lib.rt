@@ -8,6 +8,10 @@ ghost use Rattle.std.specs.Prelude.{◌≡◌, [], ◌∷◌, ◌+◌, ◌≤◌
 ghost use Rattle.buffers.specs.Code.Put.{Put, largest};
 ghost use Rattle.buffers.specs.Decimal.{decimal};
 
+pub use crate::text::Text;
+
+mod text;
+
 // Every word of the one list into the other.
 pub fn copy_words(from: &[u32], to: &mut [u32])
     requires { length from.now ≡ length to.old }

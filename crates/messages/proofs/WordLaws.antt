@@ -4,10 +4,12 @@ use mathlib.Core.List.{List, Memᴰ}
 use mathlib.Core.Path.{◌≡◌, refl, sym, ap, ◌∙◌}
 use native.Mathlib.Omega.{arith}
 use lib.ListN.{length, get_or}
+use mathlib.Core.Bool.{false}
+use Rattle.names.specs.Name.{between}
 use Rattle.file.specs.Sections.{File}
 use Rattle.law.specs.Reading.{function_name, tree_of}
 use Rattle.law.specs.Code.Index.{Readable}
-use Rattle.lints.specs.Lint.{lint_number}
+use Rattle.lints.specs.Lint.{Lint, dead_sentence, recognition_impossible, builtin_domain, open_expressions, lint_number, last_lint}
 use Rattle.lints.specs.Finding.{Failure, two_integers_wanted, division_by_zero, digits_wanted, Claim, dead, fails, open_pattern, Finding, lint_of, word_a, word_b, failure_number, finding_words}
 use Rattle.lints.specs.Findings.{findings_of}
 use Rattle.lints.specs.Message.{claim_text, message}
@@ -30,6 +32,13 @@ pub why_third : (why : Failure) {a : ℕ} → failure_number why ≡ a → (a �
 why_third two_integers_wanted e h k = absurd (h (sym e))
 why_third division_by_zero e h k = absurd (k (sym e))
 why_third digits_wanted e h k = refl
+
+-- no lint has another number
+no_other : (l : Lint) → between 1 last_lint (lint_number l) ≡ false → ⊥
+no_other dead_sentence e = cc
+no_other recognition_impossible e = cc
+no_other builtin_domain e = cc
+no_other open_expressions e = cc
 
 -- what the words are
 record Words (lint a b position subject : ℕ) (x : Finding) : Type 0 where
@@ -134,16 +143,20 @@ module _ {file : File} {limit : ℕ} {store : List ℕ} {lint a b position subje
       go (of_open n e) w = absurd (omega (arith, l, lint_of_lem e))
 
   -- lint 4
-  pub open_text : (lint ≡ 1 → ⊥) → (lint ≡ 2 → ⊥) → (lint ≡ 3 → ⊥) → message x ≡ claim_text (function_name file position) (open_pattern a)
+  pub open_text : lint ≡ 4 → message x ≡ claim_text (function_name file position) (open_pattern a)
   unfolding message
-  open_text not1 not2 not3 = go h.tells.said h.are
+  open_text l = go h.tells.said h.are
     where
       go : Said file limit store x.claim x.subject.at → Words lint a b position subject x
           → message x ≡ claim_text (function_name file position) (open_pattern a)
-      go (of_dead later earlier e) w = absurd (not1 (lint_of_lem e))
-      go (of_formats here e) w = absurd (not2 (lint_of_lem e))
-      go (of_literals here e) w = absurd (not2 (lint_of_lem e))
-      go (of_fails here why e) w = absurd (not3 (lint_of_lem e))
+      go (of_dead later earlier e) w = absurd (omega (arith, l, lint_of_lem e))
+      go (of_formats here e) w = absurd (omega (arith, l, lint_of_lem e))
+      go (of_literals here e) w = absurd (omega (arith, l, lint_of_lem e))
+      go (of_fails here why e) w = absurd (omega (arith, l, lint_of_lem e))
       go (of_open n e) w =
           let count : a ≡ n = w.a_is ∙ ap word_a e in
           rw (w.position_is, count, h.tells.owner, e)
+
+  -- there is no other
+  pub lint_known : between 1 last_lint lint ≡ false → ⊥
+  lint_known none = no_other (lint_of x.claim) (rw h.are.lint_is at none)
