@@ -3,7 +3,7 @@
 ghost use Rattle.std.specs.Prelude.{◌≡◌, false, map, leb, MatchResult};
 ghost use Rattle.names.specs.Name.{between};
 ghost use Rattle.lints.specs.Lint.{lint_number, last_lint, allow, own_severity};
-ghost use Rattle.lints.specs.Levels.{override_from, settings_from, overrides_allowed, settings_allowed, override_of, severity_of, is_shown};
+ghost use Rattle.lints.specs.Levels.{override_from, overrides_allowed, settings_allowed, override_of, severity_of, is_shown};
 ghost use Rattle.lints.specs.Code.Overrides.{lint_meant, severity_number, settings_meant, override_allowed, level_from};
 
 // A lint. `lint_meant` of specs/Code/Overrides.antt gives it.
@@ -167,11 +167,4 @@ impl Settings<'_> {
             Some(severity) => severity != u32::from(Severity::Allow),
         }
     }
-}
-
-// Whether settings are allowed (refusal 14).
-pub fn settings_allowed(mode: u32, overrides: &[u32]) -> bool
-    ensures { result ≡ settings_allowed (settings_from mode overrides.now) }
-{
-    Settings { mode, overrides }.is_allowed()
 }

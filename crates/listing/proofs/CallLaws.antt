@@ -57,7 +57,7 @@ module _ (limit : ℕ) (settings : Settings) (bytes store : List ℕ) (front : R
 
 -- ---- findings that had no place in the call's own buffer are collected again
 
-module _ (settings : Settings) {limit : ℕ} {bytes index slots store own : List ℕ} {count : ℕ} (c : Collected limit settings bytes index slots store own count) (words : List ℕ)
+module _ (settings : Settings) {limit : ℕ} {bytes store own : List ℕ} {count : ℕ} (c : Collected limit settings bytes store own count) (words : List ℕ)
     (fits : 8 * count ≤ length words) where
   pub again : (room : ℕ) (tally : Tally) (after : List ℕ) → room ≡ length words
       → sink_of tally after

@@ -13,25 +13,27 @@ use Rattle.file.specs.Answer.{Answer, refused, given}
 use Rattle.file.specs.Sections.{file_of}
 use Rattle.law.specs.Tree.{Law}
 use Rattle.law.specs.Reading.{tree_of}
-use Rattle.law.proofs.Allowed.{accepted_readable}
+use Rattle.law.specs.declared.places.AcceptedLaw.{AcceptedLaw}
 use Rattle.law.proofs.Functions.{tree_length}
 use Rattle.law.proofs.IndexLaws.{functions_limit}
 use Rattle.formats.specs.Infer.{Inferred, infer}
 use Rattle.formats.specs.Store.{store_size, store_words}
 use Rattle.formats.specs.Code.Entries.{StoreHolds}
 use Rattle.formats.specs.Code.Slots.{SlotsOf, file_names}
-use Rattle.formats.specs.Code.Turns.{InferIs}
-use Rattle.formats.specs.declared.infer.Inference.{Inference}
-use Rattle.formats.specs.declared.infer.Inference.TheVariants.{TooWide, Ran}
-use Rattle.formats.proofs.CallLaws.{outcome_over}
+use Rattle.formats.specs.Code.Turns.{InferIs, too_wide}
+use Rattle.formats.specs.declared.Inferred as code
+use Rattle.formats.specs.declared.TooWide.{TooWide}
+use Rattle.formats.specs.declared.slots.Slots.{Slots}
+use Rattle.formats.specs.Code.Held.{Holds}
+use Rattle.formats.proofs.CallLaws.{infer_ten}
 use Rattle.formats.proofs.StateLaws.{read_past, store_length}
 use Rattle.formats.proofs.SizeLaws.{infer_storable}
-use Rattle.formats.proofs.SentenceLaws.{arguments_said, results_said}
+use Rattle.formats.proofs.SentenceLaws.{arguments_said, results_said, holds_said}
 use Rattle.lints.specs.Finding.{Finding}
 use Rattle.lints.specs.Recognition.{arguments_over}
 use Rattle.lints.specs.Levels.{Settings, shown, listing_words}
 use Rattle.lints.specs.Findings.{findings_of, formats_of, Listing, listing}
-use Rattle.lints.specs.Code.Records.{Prepared, formats_in}
+use Rattle.lints.specs.Code.Records.{formats_in}
 use Rattle.findings.specs.Code.Events.{Tally, Over, Full, Upto, Sink, sink_of, collect}
 use Rattle.findings.specs.Code.All.{all_events}
 use Rattle.listing.specs.declared.Turned.{Turned}
@@ -43,7 +45,7 @@ use Rattle.runs.proofs.NoFalse.{listing_parts}
 use Rattle.listing.proofs.PromiseLaws.{words_length, start_taken}
 use Rattle.listing.proofs.GatherLaws.{Wide, Narrow, comes_to_lem}
 
-module _ {limit : ℕ} {bytes index store : List ℕ} (p : Prepares limit bytes index store) {slots : List ℕ} (s : SlotsOf (file_of bytes) slots) where
+module _ {limit : ℕ} {bytes index store : List ℕ} (p : Prepares limit bytes index store) {slots : Slots} (s : SlotsOf (file_of bytes) slots) where
   few : length (tree_of (file_of bytes)) ≤ 64
   few = omega (arith, tree_length (file_of bytes), functions_limit bytes index p.indexed)
 
@@ -52,19 +54,9 @@ module _ {limit : ℕ} {bytes index store : List ℕ} (p : Prepares limit bytes 
       → StoreHolds limit (file_names (file_of bytes)) i.formats.arguments i.formats.results tail after
   holds i tail after inferred words = record { entries = infer_storable limit (tree_of (file_of bytes)) i few inferred; words = words }
 
-  pub ready : (i : Inferred) (tail after : List ℕ) → infer limit (tree_of (file_of bytes)) ≡ given i → after ≡ store_words limit i ++ tail
-      → Prepared bytes index slots after limit
-  ready i tail after inferred words = record {
-    accepted = p.accepted;
-    asked = record {
-      indexed = p.indexed;
-      readable = accepted_readable bytes p.accepted;
-      places = s;
-      names = refl;
-      small = p.small;
-    };
-    holding = record { arguments = i.formats.arguments; results = i.formats.results; tail = tail; holds = holds i tail after inferred words };
-  }
+  pub stored : (i : Inferred) (tail after : List ℕ) → infer limit (tree_of (file_of bytes)) ≡ given i → after ≡ store_words limit i ++ tail
+      → Holds limit (file_names (file_of bytes)) after
+  stored i tail after inferred words = holds_said (holds i tail after inferred words) (omega (arith, p.small))
 
   -- what the store says is what was inferred
   pub said : (i : Inferred) (tail after : List ℕ) → infer limit (tree_of (file_of bytes)) ≡ given i → after ≡ store_words limit i ++ tail
@@ -72,24 +64,29 @@ module _ {limit : ℕ} {bytes index store : List ℕ} (p : Prepares limit bytes 
   said i tail after inferred words =
       rw (arguments_said (holds i tail after inferred words) (omega (arith, p.small)), results_said (holds i tail after inferred words) (omega (arith, p.small)))
 
+-- an accepted law, and a store that is long enough
+pub prepares : (a : AcceptedLaw) {limit : ℕ} {store : List ℕ} → limit ≤ 64 → store_size limit ≤ length store
+    → Prepares limit a.law.bytes.now a.law.index.now store
+prepares a small room = record { indexed = a.law.indexed; accepted = a.accepted; small = small; room = room }
+
 -- ---- tallies differ
 
 over_full : Over ≡ Full → ⊥
-over_full e = omega (arith, e)
+over_full e = cc
 
 over_upto : (n : ℕ) → Over ≡ Upto n → ⊥
-over_upto n e = omega (arith, e)
+over_upto n e = cc
 
 full_upto : (n : ℕ) → Full ≡ Upto n → ⊥
-full_upto n e = omega (arith, e)
+full_upto n e = cc
 
 upto_same : (m n : ℕ) → Upto m ≡ Upto n → m ≡ n
-upto_same m n e = omega (arith, e)
+upto_same m n e = cc
 
 -- ---- findings of a law whose formats are in the store
 
-module _ {limit rounds : ℕ} {settled : Bool} (room : ℕ) (settings : Settings) {bytes index slots store : List ℕ} {tally : Tally} (out now : List ℕ)
-    (p : Prepares limit bytes index store) (s : SlotsOf (file_of bytes) slots) (f : StoreFilled limit (file_of bytes) store rounds settled)
+module _ {limit : ℕ} {inferred : code.Inferred} (room : ℕ) (settings : Settings) {bytes index store : List ℕ} {slots : Slots} {tally : Tally} (out now : List ℕ)
+    (p : Prepares limit bytes index store) (s : SlotsOf (file_of bytes) slots) (f : StoreFilled limit (file_of bytes) store inferred)
     (e : sink_of tally now
     ≡ collect room (sink_of (Upto 0) out) (all_events (tree_of (file_of bytes)) (formats_in (file_of bytes) limit store) settings room limit)) where
   abbrev law : Law
@@ -142,11 +139,11 @@ module _ {limit rounds : ℕ} {settled : Bool} (room : ℕ) (settings : Settings
         buffer = placed;
       }
 
-  pub gather_upto : (count : ℕ) → tally ≡ Upto count → GatherIs limit settings room bytes store store out now (Ok (record { count = count; rounds = rounds; settled = settled }))
+  pub gather_upto : (count : ℕ) → tally ≡ Upto count → GatherIs limit settings room bytes store store out now (Ok (record { count = count; rounds = inferred.rounds; settled = inferred.settled }))
   gather_upto count is = go came
     where
       go : Wide limit settings law (sink_of tally now) ⊎ Narrow limit settings room law f.made out (sink_of tally now)
-          → GatherIs limit settings room bytes store store out now (Ok (record { count = count; rounds = rounds; settled = settled }))
+          → GatherIs limit settings room bytes store store out now (Ok (record { count = count; rounds = inferred.rounds; settled = inferred.settled }))
       go (inl w) = absurd (over_upto count (sym w.tally ∙ is))
       go (inr n) = record {
         store = kept n;
@@ -164,43 +161,44 @@ listing_over : (limit : ℕ) (settings : Settings) (law : Law) (n : ℕ) → inf
 unfolding listing formats_of
 listing_over limit settings law n e = rw e
 
-ran_wide : (rounds : ℕ) (settled : Bool) → Ran rounds settled ≡ TooWide → ⊥
-ran_wide rounds settled e = let z : ◌≡◌ {A = ℕ} 0 1 = cc in omega arith
+made_wide : (i : code.Inferred) → ◌≡◌ {A = Result code.Inferred TooWide} (Ok i) (Err too_wide) → ⊥
+made_wide i e = cc
 
-module _ {limit : ℕ} (room : ℕ) (settings : Settings) {bytes index before slots : List ℕ} (after : List ℕ) (r : Inference)
+module _ {limit : ℕ} (room : ℕ) (settings : Settings) {bytes index before : List ℕ} {slots : Slots} (after : List ℕ) (r : Result code.Inferred TooWide)
     (p : Prepares limit bytes index before) (s : SlotsOf (file_of bytes) slots)
     (h : InferIs limit (infer limit (tree_of (file_of bytes))) before after r) where
   abbrev tree : Law
   tree = tree_of (file_of bytes)
 
   -- a format has too many shapes
-  pub infer_wide : (out : List ℕ) → r ≡ TooWide → GatherIs limit settings room bytes before after out out (Err turned.Shapes)
+  pub infer_wide : (out : List ℕ) → r ≡ Err too_wide → GatherIs limit settings room bytes before after out out (Err turned.Shapes)
   infer_wide out is = go (infer limit tree) refl h
     where
       ten : (n : ℕ) → infer limit tree ≡ refused n → n ≡ 10
-      ten n e =
-          let same = ap (λ o. o.answer) (outcome_over limit tree before after p.room r h is) in
-          let here : refused 10 ≡ refused n = rw (le-ltb (length before) (store_size limit) p.room, e) at same in
-          cc
+      ten n e = rw e at (infer_ten limit tree)
 
       go : (a : Answer Inferred) → infer limit tree ≡ a → InferIs limit a before after r → GatherIs limit settings room bytes before after out out (Err turned.Shapes)
-      go (given i) e k = absurd (ran_wide i.rounds i.settled (sym k.1 ∙ is))
+      go (given i) e k = absurd (made_wide _ (sym k.1 ∙ is))
       go (refused n) e k = record {
         store = rw (listing_over limit settings tree n e, ten n e) k.0;
         gathered = rw (listing_over limit settings tree n e) (ten n e, refl);
         buffer = rw e refl;
       }
 
-  module _ (rounds : ℕ) (settled : Bool) (is : r ≡ Ran rounds settled) where
+  module _ (inferred : code.Inferred) (is : r ≡ Ok inferred) where
     abbrev Formed : Type 0
-    Formed = (i : Inferred) × (infer limit tree ≡ given i) × (after ≡ store_words limit i ++ drop (store_size limit) before) × (Ran rounds settled ≡ Ran i.rounds i.settled)
+    Formed = (i : Inferred) × (infer limit tree ≡ given i) × (after ≡ store_words limit i ++ drop (store_size limit) before)
+        × (inferred ≡ record { rounds = i.rounds; settled = i.settled })
 
     formed : Formed
     formed = go (infer limit tree) refl h
       where
+        same : {a b : code.Inferred} → ◌≡◌ {A = Result code.Inferred TooWide} (Ok a) (Ok b) → a ≡ b
+        same e = cc
+
         go : (a : Answer Inferred) → infer limit tree ≡ a → InferIs limit a before after r → Formed
-        go (given i) e k = (i, e, k.0, sym is ∙ k.1)
-        go (refused n) e k = absurd (ran_wide rounds settled (sym is ∙ k.1))
+        go (given i) e k = (i, e, k.0, same (sym is ∙ k.1))
+        go (refused n) e k = absurd (made_wide inferred (sym is ∙ k.1))
 
     held : StoreHolds limit (file_names (file_of bytes)) formed.0.formats.arguments formed.0.formats.results (drop (store_size limit) before) after
     held = holds p s formed.0 (drop (store_size limit) before) after formed.1 formed.2
@@ -211,19 +209,13 @@ module _ {limit : ℕ} (room : ℕ) (settings : Settings) {bytes index before sl
         rw none at (read_past held 0)
 
     -- the store holds them
-    pub filled_store : StoreFilled limit (file_of bytes) after rounds settled
+    pub filled_store : StoreFilled limit (file_of bytes) after inferred
     filled_store = record {
       made = formed.0;
       inferred = formed.1;
       words = formed.2 ∙ ap (λ tail. store_words limit formed.0 ++ tail) (sym past);
-      ran = (ran_rounds formed.3, ran_settled formed.3);
+      ran = (ap (λ (i : code.Inferred). i.rounds) formed.3, ap (λ (i : code.Inferred). i.settled) formed.3);
     }
-      where
-        ran_rounds : {a b : ℕ} {x y : Bool} → Ran a x ≡ Ran b y → a ≡ b
-        ran_rounds e = cc
-
-        ran_settled : {a b : ℕ} {x y : Bool} → Ran a x ≡ Ran b y → x ≡ y
-        ran_settled e = cc
 
     pub filled_prepares : Prepares limit bytes index after
     filled_prepares = record {
@@ -248,7 +240,7 @@ ok_same e = cc
 
 -- ---- findings to be handed over
 
-module _ {limit : ℕ} (settings : Settings) {bytes index before after slots : List ℕ} (p : Prepares limit bytes index before) (s : SlotsOf (file_of bytes) slots)
+module _ {limit : ℕ} (settings : Settings) {bytes index before after : List ℕ} {slots : Slots} (p : Prepares limit bytes index before) (s : SlotsOf (file_of bytes) slots)
     (l : Listing) (is : listing limit settings (tree_of (file_of bytes)) ≡ given l) (words : after ≡ store_words limit l.inferred ++ drop (store_size limit) before) where
   says : formats_in (file_of bytes) limit after ≡ l.inferred.formats
   says = said p s l.inferred (drop (store_size limit) before) after (listing_parts limit settings (tree_of (file_of bytes)) l is).0 words
@@ -264,13 +256,16 @@ module _ {limit : ℕ} (settings : Settings) {bytes index before after slots : L
       ap (arguments_over limit (tree_of (file_of bytes))) says
       ∙ (listing_parts limit settings (tree_of (file_of bytes)) l is).1
 
+  -- the store holds formats
+  pub held_after : Holds limit (file_names (file_of bytes)) after
+  held_after = stored p s l.inferred (drop (store_size limit) before) after (listing_parts limit settings (tree_of (file_of bytes)) l is).0 words
+
   pub collected : (room : ℕ) (found : Listed) (own start : List ℕ) → length own ≡ length start
       → Fitted settings room l start own (Ok found) → 8 * length l.findings ≤ room
-      → Collected limit settings bytes index slots after own found.count
+      → Collected limit settings bytes after own found.count
   collected room found own start kept f fits =
       let number : found.count ≡ length l.findings = ap (λ (same : Listed). same.count) (ok_same (f.counted fits)) in
       record {
-        prepared = ready p s l.inferred (drop (store_size limit) before) after (listing_parts limit settings (tree_of (file_of bytes)) l is).0 words;
         within = within;
         counted = number ∙ ap length (sym shown_are);
         placed = λ few.

@@ -8,13 +8,15 @@ use native.Mathlib.Decide.{dec_lt}
 use native.Mathlib.Nat.{sub-zero}
 use borrow.Author.Tests.{eqb-true, le-ltb, lt-ltb, not-true, not-false}
 use lib.ListN.{length, drop, replicate}
-use Rattle.file.specs.Answer.{Answer, refused, given}
+use Rattle.std.specs.Prelude.{Result, Ok, Err, MatchResult}
+use Rattle.file.specs.Answer.{Answer, refused, given, map_answer}
 use Rattle.file.specs.Below.{every, total}
-use Rattle.file.specs.Sections.{File, sections_of, file_of}
+use Rattle.file.specs.Sections.{File, sections_of, file_of, number_of, answer_of}
 use Rattle.file.specs.Fields.{fields_allowed}
 use Rattle.file.specs.Code.Counts.{counts_of}
 use Rattle.file.specs.declared.Sections.{Sections}
-use Rattle.file.proofs.SectionLaws.{Told, sections_file}
+use Rattle.file.specs.declared.Refusal.{Refusal}
+use Rattle.file.proofs.SectionLaws.{Told, sections_file, cut_whole, cut_refused}
 use Rattle.law.specs.Places.{first_sentence, block_first, first_condition, pattern_at}
 use Rattle.law.specs.Runs.{used_up, runs_allowed, blocks_allowed}
 use Rattle.law.specs.Reading.{functions_from, tree_of}
@@ -99,6 +101,12 @@ counts_empty bytes s r told e = rw (told.file, told.counts) e
 
 pub refused_empty : (bytes : List ℕ) (n : ℕ) → sections_of bytes ≡ refused n → false ≡ empty_file (sections_of bytes)
 refused_empty bytes n cut = rw cut refl
+
+-- by what the cut answers
+pub by_sections : (bytes : List ℕ) (r : Result Sections Refusal) (b : Bool) → answer_of r ≡ map_answer counts_of (sections_of bytes)
+    → MatchResult r (λ s. b ≡ no_records s) (λ _. b ≡ false) → b ≡ empty_file (sections_of bytes)
+by_sections bytes (Ok s) b h m = counts_empty bytes s b (cut_whole bytes (Ok s) s h refl) m
+by_sections bytes (Err why) b h m = m ∙ refused_empty bytes (number_of why) (cut_refused bytes (Err why) why h refl)
 
 -- what is listed of a law without functions
 abbrev pub nothing : Listing

@@ -12,7 +12,9 @@ use Rattle.file.specs.Answer.{Answer, refused, given}
 use Rattle.file.specs.Sections.{file_of}
 use Rattle.law.specs.Tree.{Law}
 use Rattle.law.specs.Reading.{tree_of}
-use Rattle.formats.specs.Code.Slots.{SlotsOf}
+use Rattle.formats.specs.Code.Slots.{SlotsOf, file_names}
+use Rattle.formats.specs.Code.Held.{Holds}
+use Rattle.formats.specs.declared.slots.Slots.{Slots}
 use Rattle.buffers.specs.Written.{written}
 use Rattle.lints.specs.Finding.{Finding}
 use Rattle.lints.specs.Levels.{Settings, listing_words}
@@ -24,7 +26,7 @@ use Rattle.listing.specs.Outcome.{findings_front, fitted_bytes, bytes_front, own
 use Rattle.listing.specs.Code.Gather.{Prepares, Fitted, GatheredIs, GatherIs, shown_in, Collected}
 use Rattle.listing.specs.Code.Bytes.{told_pair}
 use Rattle.listing.specs.Promise.{findings_after, bytes_after}
-use Rattle.listing.proofs.CollectedLaws.{ok_same, shown_are, collected}
+use Rattle.listing.proofs.CollectedLaws.{ok_same, shown_are, held_after, collected}
 
 wide_full : ◌≡◌ {A = Result Listed Turned} (Err turned.Shapes) (Err turned.Findings) → ⊥
 wide_full e = cc
@@ -94,12 +96,16 @@ module _ {limit room : ℕ} (settings : Settings) {bytes before after start own 
       let (l, e, more) = full is in
       rw (g.store, e, lt-leb (8 * length l.findings) (length words) (omega (arith, more, size)))
 
-  module _ {index slots : List ℕ} (p : Prepares limit bytes index before) (s : SlotsOf (file_of bytes) slots) (found : Listed) (is : r ≡ Ok found) where
+  module _ {index : List ℕ} {slots : Slots} (p : Prepares limit bytes index before) (s : SlotsOf (file_of bytes) slots) (found : Listed) (is : r ≡ Ok found) where
     pub count_fits : 8 * found.count ≤ room
     count_fits = let (l, e, fits, f) = listed is in omega (arith, fits, ap (λ (same : Listed). same.count) (ok_same (f.counted fits)))
 
-    pub findings_collected : length own ≡ length start → Collected limit settings bytes index slots after own found.count
+    pub findings_collected : length own ≡ length start → Collected limit settings bytes after own found.count
     findings_collected kept = let (l, e, fits, f) = listed is in collected settings p s l e (rw e at g.store) room found own start kept f fits
+
+    -- and the store holds formats
+    pub findings_stored : Holds limit (file_names (file_of bytes)) after
+    findings_stored = let (l, e, fits, f) = listed is in held_after settings p s l e (rw e at g.store)
 
     pub findings_listed : (words end : List ℕ) → room ≡ length words → end ≡ written words 0 (listing_words settings (shown_in limit settings bytes after))
         → findings_after (Ok found) after end ≡ findings_front limit settings before words (given (tree_of (file_of bytes)))

@@ -51,7 +51,7 @@ found_at settings (f ∷ fs) (suc p) after h =
     let next : 8 * suc p ≡ suc (suc (suc (suc (suc (suc (suc (suc (8 * p)))))))) = omega arith in
     record { finding = rest.finding; at = rest.at; among = Memᴰ.tail rest.among; words = rw next rest.words }
 
-module _ (settings : Settings) {limit : ℕ} {bytes index slots store own : List ℕ} {count : ℕ} (c : Collected limit settings bytes index slots store own count) where
+module _ (settings : Settings) {limit : ℕ} {bytes store own : List ℕ} {count : ℕ} (c : Collected limit settings bytes store own count) where
   abbrev fs : List Finding
   fs = shown_in limit settings bytes store
 

@@ -57,7 +57,7 @@ module _ (bytes own : List ℕ) (count : ℕ) (buffer : List ℕ) (needed : ℕ)
 
 -- ---- the findings that were gathered
 
-module _ (settings : Settings) {limit : ℕ} {bytes index slots store own : List ℕ} {count : ℕ} (c : Collected limit settings bytes index slots store own count)
+module _ (settings : Settings) {limit : ℕ} {bytes store own : List ℕ} {count : ℕ} (c : Collected limit settings bytes store own count)
     (few : 8 * count ≤ length own) where
   abbrev fs : List Finding
   fs = shown_in limit settings bytes store

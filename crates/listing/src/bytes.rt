@@ -1,27 +1,27 @@
 // The calls that write bytes of a listing: the text of a finding, and the page.
-ghost use Rattle.std.specs.Prelude.{List, [], ◌≡◌, true, ℕ, ◌*◌, ◌≤◌, length};
+ghost use Rattle.std.specs.Prelude.{List, [], ◌≡◌, ℕ, ◌*◌, ◌≤◌, length};
 ghost use Rattle.file.specs.Answer.{given};
 ghost use Rattle.file.specs.Sections.{file_of};
-ghost use Rattle.file.specs.Fields.{fields_allowed};
 ghost use Rattle.law.specs.Law.{law_of};
 ghost use Rattle.law.specs.Reading.{tree_of};
-ghost use Rattle.law.specs.Code.Index.{Indexed};
-ghost use Rattle.lints.specs.Levels.{Settings, settings_from};
+ghost use Rattle.formats.specs.Store.{store_size};
+ghost use Rattle.lints.specs.Levels.{Settings as Chosen};
+ghost use Rattle.lints.specs.Code.Overrides.{settings_meant};
 ghost use Rattle.pages.specs.Page.{page};
 ghost use Rattle.pages.specs.Code.Lines.{words_page, Positions};
 ghost use Rattle.listing.specs.Outcome.{fitted_bytes, bytes_front, bytes_outcome, own_bytes, text_at};
-ghost use Rattle.listing.specs.Code.Gather.{Prepares, shown_in, Collected};
+ghost use Rattle.listing.specs.Code.Gather.{shown_in, Collected};
 ghost use Rattle.listing.specs.Code.Bytes.{wanted_number, wanted_bytes, told_pair};
 ghost use Rattle.listing.specs.Promise.{bytes_after};
 
 use crate::Turned;
 use crate::front::{LIMIT, check_front, is_empty, store_words};
 use crate::gather::{OWN, gather};
-use formats::Slots;
 use formats::call::clear_store;
+use formats::held::Formats;
 use formats::slots::slots_of;
-use law::{Index, Law};
-use lints::levels::settings_allowed;
+use law::{AcceptedLaw, Index, Law};
+use lints::levels::Settings;
 use messages::put_message;
 use pages::{page_length, put_heading, put_page};
 
@@ -34,19 +34,15 @@ pub enum Wanted {
 
 // Writes the text of the finding at a position among the call's own.
 fn tell(
-    law: &[u8],
-    index: &Index,
-    slots: &Slots,
-    store: &[u32],
-    limit: usize,
+    formats: &Formats,
     own: &[u32],
     count: usize,
     position: usize,
     text: &mut [u8],
 ) -> Result<usize, Turned>
-    requires { ((settings : Settings) × Collected limit settings law.now index.now slots.now store.now own.now count) × (8 * count ≤ length own.now) }
-    ensures { (settings : Settings) → Collected limit settings law.now index.now slots.now store.now own.now count
-        → told_pair result text.new ≡ fitted_bytes 13 text.old (text_at position (shown_in limit settings law.now store.now)) }
+    requires { ((settings : Chosen) × Collected formats.now.limit settings formats.now.law.law.bytes.now formats.now.store.now own.now count) × (8 * count ≤ length own.now) }
+    ensures { (settings : Chosen) → Collected formats.now.limit settings formats.now.law.law.bytes.now formats.now.store.now own.now count
+        → told_pair result text.new ≡ fitted_bytes 13 text.old (text_at position (shown_in formats.now.limit settings formats.now.law.law.bytes.now formats.now.store.now)) }
 {
     if count <= position {
         return Err(Turned::NoFinding);
@@ -55,104 +51,75 @@ fn tell(
     let at = 8 * position;
     let end = at + 8;
     let words = &own[at..end];
-    let length = put_message(law, index, slots, store, limit, words, &mut text[..0]); // no byte fits: only the length is found
+    let length = put_message(formats, words, &mut text[..0]); // no byte fits: only the length is found
     if room < length {
         return Err(Turned::Text);
     }
-    put_message(law, index, slots, store, limit, words, text);
+    put_message(formats, words, text);
     Ok(length)
 }
 
 // Writes the page of the call's own findings.
-fn print(
-    law: &[u8],
-    index: &Index,
-    own: &[u32],
-    count: usize,
-    page: &mut [u8],
-) -> Result<usize, Turned>
-    requires { Indexed law.now index.now × (fields_allowed (file_of law.now) ≡ true) × (count ≤ 256) × (8 * count ≤ length own.now)
-        × Positions (file_of law.now) own.now count }
-    ensures { told_pair result page.new ≡ fitted_bytes 18 page.old (given (words_page (file_of law.now) own.now count)) }
+fn print(law: &Law, own: &[u32], count: usize, page: &mut [u8]) -> Result<usize, Turned>
+    requires { (count ≤ 256) × (8 * count ≤ length own.now) × Positions (file_of law.now.bytes.now) own.now count }
+    ensures { told_pair result page.new ≡ fitted_bytes 18 page.old (given (words_page (file_of law.now.bytes.now) own.now count)) }
 {
     let length = page_length(count);
     if page.len() < length {
         return Err(Turned::Page);
     }
-    put_page(&Law { bytes: law, index }, own, count, page);
+    put_page(law, own, count, page);
     Ok(length)
 }
 
 // Writes what is wanted of the call's own findings.
 fn write_own(
-    law: &[u8],
-    index: &Index,
-    slots: &Slots,
-    store: &[u32],
-    limit: usize,
+    formats: &Formats,
     own: &[u32],
     count: usize,
     wanted: Wanted,
     buffer: &mut [u8],
 ) -> Result<usize, Turned>
-    requires { ((settings : Settings) × Collected limit settings law.now index.now slots.now store.now own.now count) × (8 * count ≤ length own.now) × (count ≤ 256) }
-    ensures { (settings : Settings) → Collected limit settings law.now index.now slots.now store.now own.now count
+    requires { ((settings : Chosen) × Collected formats.now.limit settings formats.now.law.law.bytes.now formats.now.store.now own.now count) × (8 * count ≤ length own.now) × (count ≤ 256) }
+    ensures { (settings : Chosen) → Collected formats.now.limit settings formats.now.law.law.bytes.now formats.now.store.now own.now count
         → told_pair result buffer.new ≡ fitted_bytes (wanted_number wanted) buffer.old
-        (wanted_bytes wanted settings (tree_of (file_of law.now)) (shown_in limit settings law.now store.now)) }
+        (wanted_bytes wanted settings (tree_of (file_of formats.now.law.law.bytes.now)) (shown_in formats.now.limit settings formats.now.law.law.bytes.now formats.now.store.now)) }
 {
     match wanted {
-        Wanted::Text(position) => tell(
-            law, index, slots, store, limit, own, count, position, buffer,
-        ),
-        Wanted::Page => print(law, index, own, count, buffer),
+        Wanted::Text(position) => tell(formats, own, count, position, buffer),
+        Wanted::Page => print(&formats.law.law, own, count, buffer),
     }
 }
 
 // Writes what is wanted of a law that is ready.
 fn write_ready(
-    law: &[u8],
-    index: &Index,
-    mode: u32,
-    overrides: &[u32],
+    accepted: &AcceptedLaw,
+    settings: &Settings,
     store: &mut [u32],
     limit: usize,
     wanted: Wanted,
     buffer: &mut [u8],
 ) -> Result<usize, Turned>
-    requires { Prepares limit law.now index.now store.old }
+    requires { (limit ≤ 64) × (store_size limit ≤ length store.old) }
     ensures { bytes_after result store.new buffer.new
-        ≡ bytes_front limit (settings_from mode overrides.now) (wanted_number wanted) (own_bytes (wanted_bytes wanted (settings_from mode overrides.now)))
-        store.old buffer.old (given (tree_of (file_of law.now))) }
+        ≡ bytes_front limit (settings_meant settings.now) (wanted_number wanted) (own_bytes (wanted_bytes wanted (settings_meant settings.now)))
+        store.old buffer.old (given (tree_of (file_of accepted.now.law.bytes.now))) }
 {
-    let slots = slots_of(law, index);
+    let slots = slots_of(&accepted.law);
     let mut own = [0u32; OWN];
-    let listed = gather(
-        law,
-        index,
-        &slots,
+    let listed = gather(accepted, &slots, store, limit, settings, OWN, &mut own)?;
+    let formats = Formats {
+        law: *accepted,
+        slots: &slots,
         store,
         limit,
-        mode,
-        overrides,
-        OWN,
-        &mut own[..OWN],
-    )?;
-    write_own(
-        law,
-        index,
-        &slots,
-        store,
-        limit,
-        &own[..OWN],
-        listed.count,
-        wanted,
-        buffer,
-    )
+    };
+    write_own(&formats, &own, listed.count, wanted, buffer)
 }
 
 // Writes the page of a law without functions: one heading, for which no index is needed.
 fn print_none(buffer: &mut [u8]) -> Result<usize, Turned>
-    ensures { (settings : Settings) → told_pair result buffer.new ≡ fitted_bytes 18 buffer.old (given (page settings 0 [])) }
+    ensures { (settings : Chosen) → told_pair result buffer.new ≡ fitted_bytes 18 buffer.old (given (page settings 0 [])) }
 {
     let length = page_length(0);
     if buffer.len() < length {
@@ -164,7 +131,7 @@ fn print_none(buffer: &mut [u8]) -> Result<usize, Turned>
 
 // Writes what is wanted where there is no finding.
 fn none_wanted(wanted: Wanted, buffer: &mut [u8]) -> Result<usize, Turned>
-    ensures { (settings : Settings)
+    ensures { (settings : Chosen)
         → told_pair result buffer.new ≡ fitted_bytes (wanted_number wanted) buffer.old (wanted_bytes wanted settings [] []) }
 {
     match wanted {
@@ -175,8 +142,7 @@ fn none_wanted(wanted: Wanted, buffer: &mut [u8]) -> Result<usize, Turned>
 
 // Writes what is wanted of a law without functions: there is no finding.
 fn write_none(
-    mode: u32,
-    overrides: &[u32],
+    settings: &Settings,
     store: &mut [u32],
     limit: usize,
     wanted: Wanted,
@@ -184,10 +150,10 @@ fn write_none(
 ) -> Result<usize, Turned>
     requires { limit ≤ 64 }
     ensures { (bytes : List ℕ) → law_of bytes ≡ given [] → bytes_after result store.new buffer.new
-        ≡ bytes_outcome limit (settings_from mode overrides.now) (wanted_number wanted) (own_bytes (wanted_bytes wanted (settings_from mode overrides.now)))
+        ≡ bytes_outcome limit (settings_meant settings.now) (wanted_number wanted) (own_bytes (wanted_bytes wanted (settings_meant settings.now)))
         bytes store.old buffer.old }
 {
-    if !settings_allowed(mode, overrides) {
+    if !settings.is_allowed() {
         return Err(Turned::Settings);
     }
     if store.len() < store_words(limit) {
@@ -199,21 +165,21 @@ fn write_none(
 
 // Writes what is wanted of the findings that the settings show, and the formats in the store.
 pub fn write(
-    mode: u32,
-    overrides: &[u32],
+    settings: &Settings,
     law: &[u8],
     store: &mut [u32],
     wanted: Wanted,
     buffer: &mut [u8],
 ) -> Result<usize, Turned>
     ensures { bytes_after result store.new buffer.new
-        ≡ bytes_outcome 64 (settings_from mode overrides.now) (wanted_number wanted) (own_bytes (wanted_bytes wanted (settings_from mode overrides.now)))
+        ≡ bytes_outcome 64 (settings_meant settings.now) (wanted_number wanted) (own_bytes (wanted_bytes wanted (settings_meant settings.now)))
         law.now store.old buffer.old }
 {
     if is_empty(law) {
-        return write_none(mode, overrides, store, LIMIT, wanted, buffer);
+        return write_none(settings, store, LIMIT, wanted, buffer);
     }
     let mut index: Index = [0; 972];
-    check_front(mode, overrides, law, store.len(), LIMIT, &mut index)?;
-    write_ready(law, &index, mode, overrides, store, LIMIT, wanted, buffer)
+    check_front(settings, law, store.len(), LIMIT, &mut index)?;
+    let accepted = AcceptedLaw::new(law, &index);
+    write_ready(&accepted, settings, store, LIMIT, wanted, buffer)
 }

@@ -3,13 +3,14 @@ ghost use Rattle.std.specs.Prelude.{List, ◌≡◌, ℕ, ◌≤◌, length};
 ghost use Rattle.file.specs.Sections.{sections_of};
 ghost use Rattle.law.specs.Law.{law_of};
 ghost use Rattle.formats.specs.Store.{store_size};
-ghost use Rattle.lints.specs.Levels.{settings_from, settings_allowed};
+ghost use Rattle.lints.specs.Levels.{settings_allowed};
+ghost use Rattle.lints.specs.Code.Overrides.{settings_meant};
 ghost use Rattle.listing.specs.Code.Gather.{no_records, empty_file, FrontIs, IndexLeft};
 
 use crate::Turned;
 use file::{Sections, sections_of};
 use law::{Index, read_law};
-use lints::levels::settings_allowed;
+use lints::levels::Settings;
 
 // The most shapes in a format.
 pub const LIMIT: usize = 64;
@@ -37,26 +38,22 @@ fn no_records(sections: Sections) -> bool
 pub fn is_empty(law: &[u8]) -> bool
     ensures { result ≡ empty_file (sections_of law.now) }
 {
-    match sections_of(law) {
-        Err(_) => false,
-        Ok(sections) => no_records(sections),
-    }
+    sections_of(law).is_ok_and(no_records)
 }
 
 // Checks settings, a file, and that so many words are a store; `FrontIs` of specs/Code/Gather.antt says what either answer means. The index of a law is filled.
 pub fn check_front(
-    mode: u32,
-    overrides: &[u32],
+    settings: &Settings,
     law: &[u8],
     words: usize,
     limit: usize,
     index: &mut Index,
 ) -> Result<(), Turned>
     requires { (length index.old ≡ 972) × (limit ≤ 64) }
-    ensures { ((store : List ℕ) → length store ≡ words → FrontIs limit (settings_from mode overrides.now) law.now store result index.new)
-        × IndexLeft (settings_allowed (settings_from mode overrides.now)) (law_of law.now) law.now index.old index.new }
+    ensures { ((store : List ℕ) → length store ≡ words → FrontIs limit (settings_meant settings.now) law.now store result index.new)
+        × IndexLeft (settings_allowed (settings_meant settings.now)) (law_of law.now) law.now index.old index.new }
 {
-    if !settings_allowed(mode, overrides) {
+    if !settings.is_allowed() {
         return Err(Turned::Settings);
     }
     read_law(law, index)?;

@@ -7,10 +7,12 @@ ghost use Rattle.file.specs.Sections.{file_of};
 ghost use Rattle.law.specs.Law.{law_of};
 ghost use Rattle.law.specs.Reading.{tree_of};
 ghost use Rattle.buffers.specs.Written.{written};
+ghost use Rattle.formats.specs.Store.{store_size};
 ghost use Rattle.lints.specs.Levels.{settings_from, listing_words};
-ghost use Rattle.listing.specs.declared.Turned.TheVariants.{File};
+ghost use Rattle.lints.specs.Code.Overrides.{settings_meant};
+ghost use Rattle.listing.specs.declared.Turned.TheVariants.{File, Shapes};
 ghost use Rattle.listing.specs.Outcome.{turned_number, findings_front, findings_outcome, text_outcome, page_outcome};
-ghost use Rattle.listing.specs.Code.Gather.{Prepares, shown_in, Collected};
+ghost use Rattle.listing.specs.Code.Gather.{shown_in, Collected};
 ghost use Rattle.listing.specs.Promise.{findings_after, bytes_after, FindingsPromise};
 
 use crate::bytes::{Wanted, write};
@@ -19,19 +21,19 @@ use crate::gather::{OWN, gather};
 use buffers::copy_words;
 use file::Refusal;
 use findings::all::lint_all;
-use formats::Slots;
+use formats::TooWide;
 use formats::call::clear_store;
+use formats::held::Formats;
 use formats::slots::slots_of;
-use law::Index;
-use law::places::sentences;
-use lints::levels::settings_allowed;
+use law::{AcceptedLaw, Index};
+use lints::levels::Settings;
 
 mod bytes;
 mod front;
 mod gather;
 
 // Why a call is turned back. `turned_number` of specs/Outcome.antt gives the number of documents 01 and 02.
-#[derive(Clone, Copy)]
+#[derive(Clone, Copy, PartialEq, Eq, Debug)]
 pub enum Turned {
     Settings,
     File(Refusal),
@@ -65,6 +67,14 @@ impl From<Refusal> for Turned {
     }
 }
 
+impl From<TooWide> for Turned {
+    ghost from_gives = { λ wide turned. turned ≡ Shapes };
+
+    fn from(_wide: TooWide) -> Turned {
+        Turned::Shapes
+    }
+}
+
 // The number of a refusal.
 impl From<Turned> for u32 {
     ghost from_gives = { λ why number. number ≡ turned_number why };
@@ -84,118 +94,73 @@ impl From<Turned> for u32 {
 }
 
 // Hands over findings: those of the call's own buffer, or, where that had no place for all, they are collected again.
-fn hand_over(
-    law: &[u8],
-    index: &Index,
-    slots: &Slots,
-    store: &[u32],
-    limit: usize,
-    mode: u32,
-    overrides: &[u32],
-    own: &[u32],
-    count: usize,
-    words: &mut [u32],
-)
-    requires { Collected limit (settings_from mode overrides.now) law.now index.now slots.now store.now own.now count × (8 * count ≤ length words.old) }
-    ensures { words.new ≡ written words.old 0 (listing_words (settings_from mode overrides.now)
-        (shown_in limit (settings_from mode overrides.now) law.now store.now)) }
+fn hand_over(formats: &Formats, settings: &Settings, own: &[u32], count: usize, words: &mut [u32])
+    requires { Collected formats.now.limit (settings_meant settings.now) formats.now.law.law.bytes.now formats.now.store.now own.now count
+        × (8 * count ≤ length words.old) }
+    ensures { words.new ≡ written words.old 0 (listing_words (settings_meant settings.now)
+        (shown_in formats.now.limit (settings_meant settings.now) formats.now.law.law.bytes.now formats.now.store.now)) }
 {
     let end = 8 * count;
     if own.len() < end {
         let lent = words.len();
-        lint_all(
-            law, index, slots, store, mode, overrides, lent, limit, words,
-        );
+        let _ = lint_all(formats, settings, lent, words); // they are as many as before
         return;
     }
     copy_words(&own[..end], &mut words[..end]);
 }
 
-// The findings call, of a law that is ready, with a buffer of its own.
-fn findings_gathered(
-    law: &[u8],
-    index: &Index,
-    mode: u32,
-    overrides: &[u32],
+// The findings call, of a law that is ready, with a buffer of its own of so many words.
+fn findings_gathered<const WORDS: usize>(
+    accepted: &AcceptedLaw,
+    settings: &Settings,
     store: &mut [u32],
     limit: usize,
-    own: &mut [u32],
     out: &mut [u32],
 ) -> Result<Listed, Turned>
-    requires { Prepares limit law.now index.now store.old }
+    requires { (limit ≤ 64) × (store_size limit ≤ length store.old) × (WORDS ≤ 2048) }
     ensures { findings_after result store.new out.new
-        ≡ findings_front limit (settings_from mode overrides.now) store.old out.old (given (tree_of (file_of law.now))) }
+        ≡ findings_front limit (settings_meant settings.now) store.old out.old (given (tree_of (file_of accepted.now.law.bytes.now))) }
 {
-    let slots = slots_of(law, index);
+    let slots = slots_of(&accepted.law);
+    let mut own = [0u32; WORDS];
     let room = out.len();
-    let listed = gather(law, index, &slots, store, limit, mode, overrides, room, own)?;
-    hand_over(
-        law,
-        index,
-        &slots,
+    let listed = gather(accepted, &slots, store, limit, settings, room, &mut own)?;
+    let formats = Formats {
+        law: *accepted,
+        slots: &slots,
         store,
         limit,
-        mode,
-        overrides,
-        own,
-        listed.count,
-        out,
-    );
+    };
+    hand_over(&formats, settings, &own, listed.count, out);
     Ok(listed)
 }
 
 // The same, with a buffer by the number of sentences.
 fn findings_ready(
-    law: &[u8],
-    index: &Index,
-    mode: u32,
-    overrides: &[u32],
+    accepted: &AcceptedLaw,
+    settings: &Settings,
     store: &mut [u32],
     limit: usize,
     words: &mut [u32],
 ) -> Result<Listed, Turned>
-    requires { Prepares limit law.now index.now store.old }
+    requires { (limit ≤ 64) × (store_size limit ≤ length store.old) }
     ensures { findings_after result store.new words.new
-        ≡ findings_front limit (settings_from mode overrides.now) store.old words.old (given (tree_of (file_of law.now))) }
+        ≡ findings_front limit (settings_meant settings.now) store.old words.old (given (tree_of (file_of accepted.now.law.bytes.now))) }
 {
-    if sentences(index) <= FEW {
-        let mut few = [0u32; OWN_FEW];
-        return findings_gathered(
-            law,
-            index,
-            mode,
-            overrides,
-            store,
-            limit,
-            &mut few[..OWN_FEW],
-            words,
-        );
+    if accepted.law.sentences() <= FEW {
+        findings_gathered::<OWN_FEW>(accepted, settings, store, limit, words)
+    } else {
+        findings_gathered::<OWN>(accepted, settings, store, limit, words)
     }
-    let mut own = [0u32; OWN];
-    findings_gathered(
-        law,
-        index,
-        mode,
-        overrides,
-        store,
-        limit,
-        &mut own[..OWN],
-        words,
-    )
 }
 
 // The findings call, of a law without functions: there are no findings, and one round settles.
-fn findings_none(
-    mode: u32,
-    overrides: &[u32],
-    store: &mut [u32],
-    limit: usize,
-) -> Result<Listed, Turned>
+fn findings_none(settings: &Settings, store: &mut [u32], limit: usize) -> Result<Listed, Turned>
     requires { limit ≤ 64 }
     ensures { (bytes words : List ℕ) → law_of bytes ≡ given [] → findings_after result store.new words
-        ≡ findings_outcome limit (settings_from mode overrides.now) bytes store.old words }
+        ≡ findings_outcome limit (settings_meant settings.now) bytes store.old words }
 {
-    if !settings_allowed(mode, overrides) {
+    if !settings.is_allowed() {
         return Err(Turned::Settings);
     }
     if store.len() < store_words(limit) {
@@ -219,12 +184,14 @@ pub fn findings(
 ) -> Result<Listed, Turned>
     ensures { FindingsPromise 64 (settings_from mode overrides.now) law.now store.old words.old store.new words.new result }
 {
+    let settings = Settings { mode, overrides };
     if is_empty(law) {
-        return findings_none(mode, overrides, store, LIMIT);
+        return findings_none(&settings, store, LIMIT);
     }
     let mut index: Index = [0; 972];
-    check_front(mode, overrides, law, store.len(), LIMIT, &mut index)?;
-    findings_ready(law, &index, mode, overrides, store, LIMIT, words)
+    check_front(&settings, law, store.len(), LIMIT, &mut index)?;
+    let accepted = AcceptedLaw::new(law, &index);
+    findings_ready(&accepted, &settings, store, LIMIT, words)
 }
 
 // Writes the text of the finding at a position among those that the settings show.
@@ -239,7 +206,13 @@ pub fn text(
     ensures { bytes_after result store.new text.new
         ≡ text_outcome 64 (settings_from mode overrides.now) law.now store.old position text.old }
 {
-    write(mode, overrides, law, store, Wanted::Text(position), text)
+    write(
+        &Settings { mode, overrides },
+        law,
+        store,
+        Wanted::Text(position),
+        text,
+    )
 }
 
 // Writes the page of the findings that the settings show.
@@ -253,5 +226,11 @@ pub fn page(
     ensures { bytes_after result store.new page.new
         ≡ page_outcome 64 (settings_from mode overrides.now) law.now store.old page.old }
 {
-    write(mode, overrides, law, store, Wanted::Page, page)
+    write(
+        &Settings { mode, overrides },
+        law,
+        store,
+        Wanted::Page,
+        page,
+    )
 }

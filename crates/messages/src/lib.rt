@@ -13,21 +13,19 @@ ghost use Rattle.lints.specs.Finding as finding;
 ghost use Rattle.lints.specs.Finding.{dead, fails, failure_number, finding_words};
 ghost use Rattle.lints.specs.Findings.{findings_of};
 ghost use Rattle.lints.specs.Message.{claim_text, message};
-ghost use Rattle.lints.specs.Code.Records.{Prepared, formats_in, call_at};
+ghost use Rattle.lints.specs.Code.Records.{formats_in, call_at};
 ghost use Rattle.lints.specs.Code.Part.{failure_meant};
 ghost use Rattle.messages.specs.Code.Spoken.{Spoken, CallHere, ComparedHere, in_block, apart_claim, recognition_claim};
 
 use crate::texts::{put_by_formats, put_by_literals, put_dead, put_fails, put_open};
 use buffers::Text;
-use formats::Slots;
-use formats::infer::row_format;
-use formats::slots::wide;
-use law::{Index, Law};
+use formats::held::Formats;
+use law::Law;
 use lints::builtin::Failure;
 use lints::levels::Lint;
 use lints::words::word;
 use names::name_in;
-use sentences::argument;
+use sentences::argument_of;
 
 mod texts;
 
@@ -60,65 +58,30 @@ fn put_dead_sentence(
 }
 
 // Lint 2 by formats: that which the store has for the callee, and that of the argument, made anew.
-fn put_apart(
-    text: &mut Text,
-    law: &[u8],
-    index: &Index,
-    slots: &Slots,
-    store: &[u32],
-    limit: usize,
-    t: usize,
-)
-    requires { Prepared law.now index.now slots.now store.now limit × ComparedHere (file_of law.now) limit store.now t × (text.old.at + 16384 ≤ largest) }
+fn put_apart(text: &mut Text, formats: &Formats, t: usize)
+    requires { ComparedHere (file_of formats.now.law.law.bytes.now) formats.now.limit formats.now.store.now t × (text.old.at + 16384 ≤ largest) }
     ensures { (owner : Name)
-        → Puts text.old text.new (claim_text owner (apart_claim (file_of law.now) limit store.now t)) }
+        → Puts text.old text.new (claim_text owner (apart_claim (file_of formats.now.law.law.bytes.now) formats.now.limit formats.now.store.now t)) }
 {
     let mut row = [0u32; 65];
-    let end = limit + 1;
-    let part = argument(law, index, t);
-    let known = wide(slots[576]);
-    row_format(
-        law,
-        slots,
-        store,
-        part,
-        t + 1,
-        limit,
-        known,
-        &mut row[..end],
-    );
-    let place = wide(slots[64 + t]);
-    let start = 2 * place * end;
-    let stop = start + end;
-    let accepted = &store[start..stop];
-    put_by_formats(
-        text,
-        call_name(&Law { bytes: law, index }, t),
-        accepted,
-        &row[..end],
-    );
+    let passed = &mut row[..formats.limit + 1];
+    let part = argument_of(&formats.law, t);
+    let _ = formats.row_format(part, t + 1, passed); // it is not too wide, since the finding is listed
+    let accepted = formats.argument(usize::from(formats.slots.calls[t]));
+    put_by_formats(text, call_name(&formats.law.law, t), accepted, passed);
 }
 
 // Lint 2: a call that no sentence of its function matches, by formats (a = 1) or by literals.
-fn put_recognition(
-    text: &mut Text,
-    law: &[u8],
-    index: &Index,
-    slots: &Slots,
-    store: &[u32],
-    limit: usize,
-    t: usize,
-    a: usize,
-)
-    requires { Prepared law.now index.now slots.now store.now limit × CallHere (file_of law.now) t
-        × (a ≡ 1 → ComparedHere (file_of law.now) limit store.now t) × (text.old.at + 16384 ≤ largest) }
+fn put_recognition(text: &mut Text, formats: &Formats, t: usize, a: usize)
+    requires { CallHere (file_of formats.now.law.law.bytes.now) t
+        × (a ≡ 1 → ComparedHere (file_of formats.now.law.law.bytes.now) formats.now.limit formats.now.store.now t) × (text.old.at + 16384 ≤ largest) }
     ensures { (owner : Name)
-        → Puts text.old text.new (claim_text owner (recognition_claim (file_of law.now) limit store.now t a)) }
+        → Puts text.old text.new (claim_text owner (recognition_claim (file_of formats.now.law.law.bytes.now) formats.now.limit formats.now.store.now t a)) }
 {
     if a == 1 {
-        put_apart(text, law, index, slots, store, limit, t);
+        put_apart(text, formats, t);
     } else {
-        put_by_literals(text, call_name(&Law { bytes: law, index }, t));
+        put_by_literals(text, call_name(&formats.law.law, t));
     }
 }
 
@@ -143,52 +106,34 @@ fn put_builtin(text: &mut Text, law: &Law, t: usize, a: usize)
 }
 
 // The text of a finding, from its eight words.
-fn put_claim(
-    text: &mut Text,
-    law: &[u8],
-    index: &Index,
-    slots: &Slots,
-    store: &[u32],
-    limit: usize,
-    words: &[u32],
-)
-    requires { Prepared law.now index.now slots.now store.now limit × Spoken (file_of law.now) limit store.now words.now × (text.old.at + 16384 ≤ largest) }
+fn put_claim(text: &mut Text, formats: &Formats, words: &[u32])
+    requires { Spoken (file_of formats.now.law.law.bytes.now) formats.now.limit formats.now.store.now words.now × (text.old.at + 16384 ≤ largest) }
     ensures { (f : finding.Finding) (severity : ℕ)
-        → Memᴰ f (findings_of (tree_of (file_of law.now)) (formats_in (file_of law.now) limit store.now))
+        → Memᴰ f (findings_of (tree_of (file_of formats.now.law.law.bytes.now)) (formats_in (file_of formats.now.law.law.bytes.now) formats.now.limit formats.now.store.now))
         → words.now ≡ finding_words severity f → Puts text.old text.new (message f) }
 {
+    let law = &formats.law.law;
     let a = word(words, 4);
     let b = word(words, 5);
     let position = word(words, 6);
     let subject = word(words, 7);
-    let law_at = Law { bytes: law, index };
     match Lint::try_from(words[0]) {
-        Ok(Lint::Dead) => put_dead_sentence(text, &law_at, position, subject, a, b),
-        Ok(Lint::Recognition) => {
-            put_recognition(text, law, index, slots, store, limit, subject, a)
-        }
-        Ok(Lint::Builtin) => put_builtin(text, &law_at, subject, a),
-        Ok(Lint::Open) => put_open(text, law_at.function_name(position), a),
+        Ok(Lint::Dead) => put_dead_sentence(text, law, position, subject, a, b),
+        Ok(Lint::Recognition) => put_recognition(text, formats, subject, a),
+        Ok(Lint::Builtin) => put_builtin(text, law, subject, a),
+        Ok(Lint::Open) => put_open(text, law.function_name(position), a),
         Err(_) => unreachable!(), // no finding has such a number
     }
 }
 
 // The text of a finding, from its eight words, put at the start of a buffer as far as there is room; its length in any case.
-pub fn put_message(
-    law: &[u8],
-    index: &Index,
-    slots: &Slots,
-    store: &[u32],
-    limit: usize,
-    words: &[u32],
-    out: &mut [u8],
-) -> usize
-    requires { Prepared law.now index.now slots.now store.now limit × Spoken (file_of law.now) limit store.now words.now }
+pub fn put_message(formats: &Formats, words: &[u32], out: &mut [u8]) -> usize
+    requires { Spoken (file_of formats.now.law.law.bytes.now) formats.now.limit formats.now.store.now words.now }
     ensures { (f : finding.Finding) (severity : ℕ)
-        → Memᴰ f (findings_of (tree_of (file_of law.now)) (formats_in (file_of law.now) limit store.now))
+        → Memᴰ f (findings_of (tree_of (file_of formats.now.law.law.bytes.now)) (formats_in (file_of formats.now.law.law.bytes.now) formats.now.limit formats.now.store.now))
         → words.now ≡ finding_words severity f → Put out.old 0 (message f) result out.new }
 {
     let mut text = Text { out, at: 0 };
-    put_claim(&mut text, law, index, slots, store, limit, words);
+    put_claim(&mut text, formats, words);
     text.at
 }

@@ -19,7 +19,19 @@ returns-in_err-check_front c =
     (findings_turned 64 (settings_from c.args.mode c.args.overrides.now) c.args.law.now c.args.store.now _ _ (c.check_front.ensures.0 _ refl) _ _
     c.in_err-check_front.was)
 
+pub new-accepted-requires : goal.new-accepted-requires
+new-accepted-requires c =
+    let p = front_ready 64 (settings_from c.args.mode c.args.overrides.now) c.args.law.now c.args.store.now _ _ (c.check_front.ensures.0 _ refl)
+    c.in_ok-check_front.was in
+    (p.indexed, p.accepted)
+
+pub findings_ready-requires : goal.findings_ready-requires
+findings_ready-requires c =
+    let p = front_ready 64 (settings_from c.args.mode c.args.overrides.now) c.args.law.now c.args.store.now _ _ (c.check_front.ensures.0 _ refl)
+    c.in_ok-check_front.was in
+    (p.small, p.room)
+
 pub returns : goal.returns
 returns c =
     findings_goes 64 (settings_from c.args.mode c.args.overrides.now) c.args.law.now c.args.store.now _ _ (c.check_front.ensures.0 _ refl) _ _ _
-    c.findings_ready.result c.in_ok-check_front.was c.findings_ready.ensures
+    c.findings_ready.result c.in_ok-check_front.was (rw c.new-accepted.ensures.0 at c.findings_ready.ensures)

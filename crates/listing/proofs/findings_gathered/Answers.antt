@@ -1,16 +1,23 @@
 use Rattle.std.proofs.Common.{arith, refl}
-use Rattle.lints.specs.Levels.{settings_from}
-use Rattle.listing.proofs.ReadyLaws.{findings_listed, findings_collected, count_fits}
+use Rattle.lints.specs.Code.Overrides.{settings_meant}
+use Rattle.listing.proofs.CollectedLaws.{prepares}
+use Rattle.listing.proofs.ReadyLaws.{findings_listed, findings_stored, findings_collected, count_fits}
 use Rattle.listing.proofs.findings_gathered.Goals as goal
 
+pub invariant_of-formats-clause-holding : goal.invariant_of-formats-clause-holding
+invariant_of-formats-clause-holding g c =
+    findings_stored (settings_meant c.args.settings.now) c.gather.ensures (prepares c.args.accepted.now c.requires.0 c.requires.1) c.slots_of-slots.ensures _
+    c.in_ok-listed.was
+
 pub hand_over-requires : goal.hand_over-requires
-hand_over-requires c =
-    let settings = settings_from c.args.mode c.args.overrides.now in (
-      findings_collected settings c.gather.ensures c.requires c.slots_of-slots.ensures _ c.in_ok-listed.was c.gather.auto.out,
-      omega (arith, count_fits settings c.gather.ensures c.requires c.slots_of-slots.ensures _ c.in_ok-listed.was),
+hand_over-requires g c =
+    let settings = settings_meant c.args.settings.now in
+    let p = prepares c.args.accepted.now c.requires.0 c.requires.1 in (
+      findings_collected settings c.gather.ensures p c.slots_of-slots.ensures _ c.in_ok-listed.was c.gather.auto.out,
+      omega (arith, count_fits settings c.gather.ensures p c.slots_of-slots.ensures _ c.in_ok-listed.was),
     )
 
 pub returns : goal.returns
-returns c =
-    findings_listed (settings_from c.args.mode c.args.overrides.now) c.gather.ensures c.requires c.slots_of-slots.ensures _ c.in_ok-listed.was
-    _ _ refl c.hand_over.ensures
+returns g c =
+    findings_listed (settings_meant c.args.settings.now) c.gather.ensures (prepares c.args.accepted.now c.requires.0 c.requires.1) c.slots_of-slots.ensures _
+    c.in_ok-listed.was _ _ refl c.hand_over.ensures

@@ -9,13 +9,14 @@ use Rattle.law.specs.Reading.{tree_of}
 use Rattle.law.specs.Code.Index.{Indexed}
 use Rattle.law.specs.Code.Accepted.{Accepted}
 use Rattle.formats.specs.Infer.{Inferred, infer}
+use Rattle.formats.specs.declared.Inferred as code
 use Rattle.formats.specs.Store.{store_size, store_words}
 use Rattle.buffers.specs.Written.{written}
 use Rattle.lints.specs.Finding.{Finding}
 use Rattle.lints.specs.Recognition.{arguments_over}
 use Rattle.lints.specs.Levels.{Settings, shown, listing_words}
 use Rattle.lints.specs.Findings.{findings_of, Listing, listing}
-use Rattle.lints.specs.Code.Records.{Prepared, formats_in}
+use Rattle.lints.specs.Code.Records.{formats_in}
 use Rattle.findings.specs.Code.Events as events
 use Rattle.findings.specs.Code.All.{all_events}
 use Rattle.listing.specs.declared.Turned.{Turned}
@@ -62,11 +63,11 @@ pub record Fitted (settings : Settings) (room : ℕ) (l : Listing) (before after
   pub over : room < 8 * length l.findings → r ≡ Err Findings
 
 -- a store that inference has filled
-pub record StoreFilled (limit : ℕ) (file : File) (store : List ℕ) (rounds : ℕ) (settled : Bool) : Type 0 where
+pub record StoreFilled (limit : ℕ) (file : File) (store : List ℕ) (i : code.Inferred) : Type 0 where
   pub made : Inferred
   pub inferred : infer limit (tree_of file) ≡ given made
   pub words : store ≡ store_words limit made ++ drop (store_size limit) store
-  pub ran : (rounds ≡ made.rounds) × (settled ≡ made.settled)
+  pub ran : (i.rounds ≡ made.rounds) × (i.settled ≡ made.settled)
 
 -- by what the law comes to; the store is filled, or zero with refusal 10
 abbrev pub GatheredIs : Settings → ℕ → Answer Listing → List ℕ → List ℕ → Result Listed Turned → Type 0
@@ -90,8 +91,7 @@ abbrev pub shown_in : ℕ → Settings → List ℕ → List ℕ → List Findin
 shown_in limit settings bytes store = shown settings (findings_of (tree_of (file_of bytes)) (formats_in (file_of bytes) limit store))
 
 -- they were counted, and stand in a buffer where they have place there
-pub record Collected (limit : ℕ) (settings : Settings) (bytes index slots store own : List ℕ) (count : ℕ) : Type 0 where
-  pub prepared : Prepared bytes index slots store limit
+pub record Collected (limit : ℕ) (settings : Settings) (bytes store own : List ℕ) (count : ℕ) : Type 0 where
   pub within : arguments_over limit (tree_of (file_of bytes)) (formats_in (file_of bytes) limit store) ≡ false
   pub counted : count ≡ length (shown_in limit settings bytes store)
   pub placed : 8 * count ≤ length own → take (8 * count) own ≡ listing_words settings (shown_in limit settings bytes store)

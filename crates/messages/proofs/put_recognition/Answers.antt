@@ -10,4 +10,4 @@ returns-then-a-eq1 c = λ owner. rw (eq-eqb c.args.a 1 c.if-a-eq1.true) (c.put_a
 pub returns-else-a-eq1 : goal.returns-else-a-eq1
 returns-else-a-eq1 c =
     λ owner. rw (ne_eqb c.args.a 1 c.if-a-eq1.false)
-    (c.put_by_literals.ensures owner (call_at (file_of c.args.law.now) c.args.t).name c.call_name.ensures.0)
+    (c.put_by_literals.ensures owner (call_at (file_of c.args.formats.now.law.law.bytes.now) c.args.t).name c.call_name.ensures.0)

@@ -1,25 +1,31 @@
+use Rattle.std.proofs.lemmas.Result.{err_from_is_err_and}
 use Rattle.law.proofs.Allowed.{accepted_readable}
-use Rattle.lints.specs.Levels.{settings_from}
-use Rattle.listing.proofs.CollectedLaws.{infer_wide, filled_prepares, filled_store, gather_both}
+use Rattle.lints.specs.Code.Overrides.{settings_meant}
+use Rattle.listing.proofs.CollectedLaws.{prepares, infer_wide, filled_prepares, filled_store, gather_both}
 use Rattle.listing.proofs.gather.gather.Goals as goal
 
-pub infer_store-requires : goal.infer_store-requires
-infer_store-requires c = (c.requires.0.indexed, accepted_readable _ c.requires.0.accepted, c.requires.0.small, c.requires.0.room, c.requires.1)
+pub invariant_of-placed : goal.invariant_of-placed
+invariant_of-placed c = record { readable = accepted_readable _ c.args.accepted.now.accepted; places = c.requires.0; small = c.requires.1 }
 
 pub gather_findings-requires : goal.gather_findings-requires
 gather_findings-requires c =
-    let settings = settings_from c.args.mode c.args.overrides.now in (
-      filled_prepares c.args.room settings _ c.infer_store.result c.requires.0 c.requires.1 c.infer_store.ensures _ _ c.in-Ran.is,
-      c.requires.1,
-      filled_store c.args.room settings _ c.infer_store.result c.requires.0 c.requires.1 c.infer_store.ensures _ _ c.in-Ran.is,
+    let settings = settings_meant c.args.settings.now in
+    let p = prepares c.args.accepted.now c.requires.1 c.requires.2 in
+    let filled = filled_prepares c.args.room settings _ c.infer_store.result p c.requires.0 c.infer_store.ensures _ c.in_ok-inferred.was in (
+      c.requires.0,
+      filled.small,
+      filled.room,
+      filled_store c.args.room settings _ c.infer_store.result p c.requires.0 c.infer_store.ensures _ c.in_ok-inferred.was,
     )
 
-pub returns-in-TooWide : goal.returns-in-TooWide
-returns-in-TooWide c =
-    infer_wide c.args.room (settings_from c.args.mode c.args.overrides.now) _ c.infer_store.result c.requires.0 c.requires.1 c.infer_store.ensures _
-    c.in-TooWide.is
+pub returns-in_err-inferred : goal.returns-in_err-inferred
+returns-in_err-inferred c =
+    let p = err_from_is_err_and c.from_residual.result c.from_residual.ensures.1 in
+    rw (p.1, p.2)
+    (infer_wide c.args.room (settings_meant c.args.settings.now) _ c.infer_store.result (prepares c.args.accepted.now c.requires.1 c.requires.2) c.requires.0
+    c.infer_store.ensures _ c.in_err-inferred.was)
 
-pub returns-in-Ran : goal.returns-in-Ran
-returns-in-Ran c =
-    gather_both c.args.room (settings_from c.args.mode c.args.overrides.now) _ c.infer_store.result c.requires.0 c.requires.1 c.infer_store.ensures
-    _ _ c.in-Ran.is _ _ _ _ c.gather_findings.ensures
+pub returns : goal.returns
+returns c =
+    gather_both c.args.room (settings_meant c.args.settings.now) _ c.infer_store.result (prepares c.args.accepted.now c.requires.1 c.requires.2) c.requires.0
+    c.infer_store.ensures _ c.in_ok-inferred.was _ _ _ _ c.gather_findings.ensures

@@ -1,22 +1,22 @@
-use Rattle.std.proofs.Common.{arith}
-use Rattle.lints.specs.Levels.{settings_from}
-use Rattle.listing.proofs.CollectedLaws.{ready, gather_wide, gather_full, gather_upto}
+use Rattle.lints.specs.Code.Overrides.{settings_meant}
+use Rattle.listing.proofs.CollectedLaws.{prepares, stored, gather_wide, gather_full, gather_upto}
 use Rattle.listing.proofs.gather.gather_findings.Goals as goal
 
-pub lint_all-tally-requires : goal.lint_all-tally-requires
-lint_all-tally-requires c = ready c.requires.0 c.requires.1 c.requires.2.made _ _ c.requires.2.inferred c.requires.2.words
+pub invariant_of-formats-clause-holding : goal.invariant_of-formats-clause-holding
+invariant_of-formats-clause-holding c =
+    stored (prepares c.args.accepted.now c.requires.1 c.requires.2) c.requires.0 c.requires.3.made _ _ c.requires.3.inferred c.requires.3.words
 
-pub returns-then-tally-eq-OVER : goal.returns-then-tally-eq-OVER
-returns-then-tally-eq-OVER c =
-    gather_wide c.args.room (settings_from c.args.mode c.args.overrides.now) c.args.out.now _ c.requires.0 c.requires.1 c.requires.2
-    c.lint_all-tally.ensures _ c.if-tally-eq-OVER.true c.clear_store.ensures
+pub returns-in-Err-TooWide : goal.returns-in-Err-TooWide
+returns-in-Err-TooWide c =
+    gather_wide c.args.room (settings_meant c.args.settings.now) c.args.out.now _ (prepares c.args.accepted.now c.requires.1 c.requires.2) c.requires.0 c.requires.3
+    c.lint_all.ensures _ (rw c.in-Err-TooWide.field-0-is at c.in-Err-TooWide.is) c.clear_store.ensures
 
-pub returns-then-tally-eq-FULL : goal.returns-then-tally-eq-FULL
-returns-then-tally-eq-FULL c =
-    gather_full c.args.room (settings_from c.args.mode c.args.overrides.now) c.args.out.now _ c.requires.0 c.requires.1 c.requires.2
-    c.lint_all-tally.ensures c.if-tally-eq-FULL.true
+pub returns-in-Err-Full : goal.returns-in-Err-Full
+returns-in-Err-Full c =
+    gather_full c.args.room (settings_meant c.args.settings.now) c.args.out.now _ (prepares c.args.accepted.now c.requires.1 c.requires.2) c.requires.0 c.requires.3
+    c.lint_all.ensures (rw c.in-Err-Full.field-0-is at c.in-Err-Full.is)
 
-pub returns : goal.returns
-returns c =
-    gather_upto c.args.room (settings_from c.args.mode c.args.overrides.now) c.args.out.now _ c.requires.0 c.requires.1 c.requires.2
-    c.lint_all-tally.ensures _ (omega (arith, c.if-tally-eq-FULL.false, c.if-tally-eq-OVER.false))
+pub returns-in-Ok : goal.returns-in-Ok
+returns-in-Ok c =
+    gather_upto c.args.room (settings_meant c.args.settings.now) c.args.out.now _ (prepares c.args.accepted.now c.requires.1 c.requires.2) c.requires.0 c.requires.3
+    c.lint_all.ensures _ c.in-Ok.is
