@@ -2,15 +2,15 @@
 -- numbers nor blocks' sentences matter.
 use Prim.Native.Nat.{ℕ, zero, suc, ◌+◌, ◌*◌, ◌-◌, ◌≤◌, ◌<◌}
 use mathlib.Core.Bool.{Bool, true, false, cond, beq, ◌&&◌}
-use mathlib.Core.List.{List, ◌∷◌}
+use mathlib.Core.List.{List, [], ◌∷◌}
 use mathlib.Core.Option.{Option, none, some}
 use Rattle.std.specs.Prelude.{Option as Answer, Some, None}
 use Rattle.std.specs.Option.{option_eq}
 use mathlib.Core.Path.{◌≡◌, refl, sym, ap, ◌∙◌}
 use native.Mathlib.Omega.{arith}
-use lib.ListN.{length, take, drop, length-take}
+use lib.ListN.{length, take, drop, length-take, length-drop}
 use lib.Dec.{eqb}
-use borrow.Author.Tests.{eq-eqb, ne_eqb}
+use borrow.Author.Tests.{ne_eqb}
 use Rattle.names.specs.Name.{digit_byte, every_byte}
 use Rattle.file.specs.Word.{word_at}
 use Rattle.file.specs.Forest.{Forest, end, node, contents, rest}
@@ -23,8 +23,11 @@ use Rattle.law.specs.Tree as tree
 use Rattle.numbers.specs.Value.{value_of, is_macrodigit}
 use Rattle.law.specs.Runs.{end_of, term_forest}
 use Rattle.law.specs.Reading.{mark_at, symbol_of, term_run, forest_run}
+use native.Mathlib.Decide.{dec_lt}
+use native.Mathlib.Nat.{zero-add}
+use Rattle.law.specs.Code.Whole.{term_parts}
+use Rattle.law.proofs.WholeTerms.{parts_none, parts_node, each_part}
 use Rattle.law.proofs.RunLaws.{end_low, end_high, terms_none, terms_node}
-use Rattle.matching.proofs.CutLaws.{from_length, from_from, from_all}
 use Rattle.lints.specs.Finding.{Failure, two_integers_wanted, division_by_zero, digits_wanted}
 use Rattle.lints.specs.Builtin.{is_sign, cons_found, macrodigits, unsigned, all_zero, second_fails, first_fails}
 use Rattle.lints.specs.Builtin.{integers_fail, characters_of, digits_fail, Domain, integers, digits, anything, failure}
@@ -307,96 +310,91 @@ kind_counts a b inside (suc (suc (suc (suc (suc (suc (suc (suc kind)))))))) =
       ne_eqb (suc (suc (suc (suc (suc (suc (suc (suc kind)))))))) 6 (λ e. omega (arith, e)),
     )
 
-inside_none : (kind : ℕ) → inside_counts kind 0 ≡ 0
-inside_none kind = go (eqb kind 6)
-  where
-    go : (t : Bool) → ◌≡◌ {A = ℕ} (cond t 0 0) 0
-    go true = refl
-    go false = refl
-
--- what is found once a record of a kind is counted itself: an e. variable, and another
-pub record SelfCounted (kind found now : ℕ) : Type 0 where
-  pub sum : now ≡ found + self_counts kind
-  pub few : now ≤ found + 1
-
-pub e_self : {kind found now : ℕ} → kind ≡ 5 → now ≡ found + 1 → SelfCounted kind found now
-e_self {kind} k n = record { sum = rw (eq-eqb kind 5 k) n; few = omega (arith, n) }
-
-pub e_not_self : {kind found now : ℕ} → (kind ≡ 5 → ⊥) → now ≡ found → SelfCounted kind found now
-e_not_self {kind} k n = record { sum = rw (ne_eqb kind 5 k) (omega (arith, n)); few = omega (arith, n) }
-
 e_none : (part : List ℕ) → length part < 24 → (text : List ℕ) → e_occurrences (argument_of text part) ≡ 0
 unfolding e_occurrences
 e_none part h text = rw (part_empty text part h)
 
--- so many are found before the byte i of a part, and the others are in what is left
-pub record Counted (part : List ℕ) (i found : ℕ) : Type 0 where
-  pub within : i ≤ length part
-  pub few : 24 * found ≤ i
-  pub counted : (text : List ℕ) → found + e_occurrences (argument_of text (left_from part i)) ≡ e_occurrences (argument_of text part)
+-- those of what a part has from each of its terms on, and how long the first of these is
+unfoldable pub parts_count : List ℕ → List (List ℕ) → ℕ
+parts_count text [] = 0
+parts_count text (s ∷ ss) = occurring (term_at s 0) (e_occurrences (argument_of text (contents 24 end_of s))) + parts_count text ss
 
-pub e_start : (part : List ℕ) → Counted part 0 0
-e_start part = record { within = omega arith; few = omega arith; counted = λ text. rw (from_all part) (omega arith) }
+abbrev first_length : List (List ℕ) → ℕ
+first_length [] = 0
+first_length (s ∷ ss) = length s
 
-module _ {part : List ℕ} {i found : ℕ} (so_far : Counted part i found) where
-  -- no record is left
-  pub e_end : length part < i + 24 → ((text : List ℕ) → found ≡ e_occurrences (argument_of text part)) × (24 * found ≤ length part)
-  e_end h = (
-    λ text. omega (arith, so_far.counted text, e_none (left_from part i) (omega (arith, from_length i part)) text),
-    omega (arith, so_far.few, so_far.within),
-  )
+e_parts : (text part : List ℕ) → e_occurrences (argument_of text part) ≡ parts_count text (term_parts part)
+unfolding parts_count
+e_parts text =
+    each_part (λ part. e_occurrences (argument_of text part) ≡ parts_count text (term_parts part))
+    (λ part short. rw (e_none part short text, parts_none part short))
+    (λ part long after. part_node text e_occurrences (λ x i a. occurring x i + a) (e_term text) part long ∙ rw (parts_node part long, after))
 
-  -- the first record that is left, and what is found once it is looked at itself
-  module _ {kind now : ℕ} (more : i + 24 ≤ length part) (word : kind ≡ word_at (left_from part i) 0) (own : SelfCounted kind found now) where
-    left_some : 24 ≤ length (left_from part i)
-    left_some = omega (arith, from_length i part)
+first_few : (s : List ℕ) → first_length (term_parts s) ≤ length s
+first_few s = go (dec_lt (length s) 24)
+  where
+    go : Dec (length s < 24) → first_length (term_parts s) ≤ length s
+    go (yes few) = rw (parts_none s few) (omega arith)
+    go (no many) = let long : 24 ≤ length s = omega arith in rw (parts_node s long) (omega arith)
 
-    e_node : (text : List ℕ) {e : ℕ} → e ≡ end_of (left_from part i)
-        → e_occurrences (argument_of text (left_from part i))
-        ≡ self_counts kind + inside_counts kind (e_occurrences (argument_of text (inside_to (left_from part i) e)))
-        + e_occurrences (argument_of text (left_from part (i + e)))
-    unfolding term_at
-    e_node text {e} q =
-        let left : List ℕ = left_from part i in
-        rw (
-          word,
-          ← from_from e i part,
-          q,
-          ← kind_counts (word_at left 4) (word_at left 8) (e_occurrences (argument_of text (contents 24 end_of left))) (word_at left 0),
-        )
-        (part_node text e_occurrences (λ x i a. occurring x i + a) (e_term text) left left_some)
+-- what is left begins with an item: the item is all of it, and what is behind its first term comes later
+later_is : (left item : List ℕ) (later : List (List ℕ)) → term_parts left ≡ item ∷ later → later ≡ term_parts (rest 24 end_of item)
+later_is left item later e = go (dec_lt (length left) 24)
+  where
+    go : Dec (length left < 24) → later ≡ term_parts (rest 24 end_of item)
+    go (yes few) = let none : term_parts left ≡ [] = parts_none left few in cc
+    go (no many) =
+        let long : 24 ≤ length left = omega arith in
+        let node : term_parts left ≡ left ∷ term_parts (rest 24 end_of left) = parts_node left long in
+        let same : left ≡ item = cc in
+        let others : later ≡ term_parts (rest 24 end_of left) = cc in
+        rw same at others
 
-    -- m that count are inside it; its contents end at e, inside what is left
-    e_next : (m : ℕ) {e later : ℕ} → e ≡ end_of (left_from part i)
-        → ((text : List ℕ) → m ≡ inside_counts kind (e_occurrences (argument_of text (inside_to (left_from part i) e))))
-        → 24 + 24 * m ≤ e → later ≡ now + m → Counted part (i + e) later
-    e_next m q h low n = record {
-      within = omega (arith, so_far.within, from_length i part, end_high (left_from part i), q);
-      few = omega (arith, so_far.few, own.few, n);
-      counted = λ text. omega (arith, so_far.counted text, e_node text q, h text, own.sum, n);
-    }
+-- so many are found in the terms that are gone through, and the others are in what is left
+pub record Counted (part left : List ℕ) (found : ℕ) : Type 0 where
+  pub few : 24 * found + first_length (term_parts left) ≤ length part
+  pub counted : (text : List ℕ) → found + parts_count text (term_parts left) ≡ e_occurrences (argument_of text part)
 
-    -- nothing is inside
-    pub e_empty : {n : ℕ} → n ≡ word_at (left_from part i) 12 → n ≡ 0 → Counted part (i + 24) now
-    unfolding end_of
-    e_empty w z =
-        let left : List ℕ = left_from part i in
-        e_next 0 (omega (arith, w, z, left_some))
-        (λ text. rw (e_none (inside_to left 24) (omega (arith, length-take (24 - 24) (drop 24 left))) text) (sym (inside_none kind)))
-        (omega arith)
-        (omega arith)
+pub e_start : (part : List ℕ) → Counted part part 0
+e_start part = record { few = omega (arith, first_few part); counted = λ text. omega (arith, e_parts text part) }
 
-    -- a bracket, and another term
-    pub e_bracket : {m e later : ℕ} → e ≡ end_of (left_from part i) → kind ≡ 6
-        → ((text : List ℕ) → m ≡ e_occurrences (argument_of text (inside_to (left_from part i) e))) × (24 * m ≤ length (inside_to (left_from part i) e))
-        → later ≡ now + m → Counted part (i + e) later
+module _ {part left : List ℕ} {found : ℕ} (so_far : Counted part left found) where
+  -- no term is left
+  pub e_end : term_parts left ≡ [] → ((text : List ℕ) → found ≡ e_occurrences (argument_of text part)) × (24 * found ≤ length part)
+  unfolding parts_count
+  e_end gone = ((λ text. let h = rw gone at so_far.counted text in omega (arith, h)), omega (arith, so_far.few))
+
+  -- the next item, whose first term has a kind
+  module _ {later item : List ℕ} {kind : ℕ} (long : 24 ≤ length item) (here : term_parts left ≡ item ∷ term_parts later) (word : kind ≡ word_at item 0) where
+    e_next : {now : ℕ} (m : ℕ) → ((text : List ℕ) → m ≡ self_counts kind + inside_counts kind (e_occurrences (argument_of text (contents 24 end_of item))))
+        → 24 * m ≤ end_of item → now ≡ found + m → Counted part later now
+    unfolding parts_count term_at
+    e_next {now} m is small n =
+        let behind : length (rest 24 end_of item) ≡ length item - end_of item = simp (length-take, length-drop) (omega arith) in
+        let after : first_length (term_parts later) ≤ length (rest 24 end_of item) = rw (later_is left item (term_parts later) here) (first_few (rest 24 end_of item)) in
+        let before : 24 * found + length item ≤ length part = rw here at so_far.few in
+        record {
+          few = omega (arith, behind, after, before, small, n, end_high item);
+          counted = λ text.
+              let turn : found + (occurring (term_at item 0) (e_occurrences (argument_of text (contents 24 end_of item))) + parts_count text (term_parts later))
+              ≡ e_occurrences (argument_of text part) = rw here at so_far.counted text in
+              let own : occurring (term_at item 0) (e_occurrences (argument_of text (contents 24 end_of item)))
+              ≡ self_counts kind + inside_counts kind (e_occurrences (argument_of text (contents 24 end_of item))) =
+              rw word (kind_counts (word_at item 4) (word_at item 8) (e_occurrences (argument_of text (contents 24 end_of item))) (word_at item 0)) in
+              omega (arith, turn, is text, n, own);
+        }
+
+    pub e_self : {now : ℕ} → kind ≡ 5 → now ≡ found + 1 → Counted part later now
+    e_self k n = e_next 1 (λ text. rw k) (omega (arith, end_low item long)) n
+
+    pub e_bracket : {m e now : ℕ} → e ≡ end_of item → kind ≡ 6
+        → ((text : List ℕ) → m ≡ e_occurrences (argument_of text (inside_to item e))) × (24 * m ≤ length (inside_to item e))
+        → now ≡ found + m → Counted part later now
     e_bracket {m} {e} q k h n =
-        e_next m q (λ text. rw (eq-eqb kind 6 k) (h.0 text))
-        (omega (arith, h.1, q, end_low (left_from part i) left_some, length-take (e - 24) (drop 24 (left_from part i)))) n
+        e_next m (λ text. rw (k, ← q, zero-add) (h.0 text)) (omega (arith, h.1, q, end_low item long, length-take (e - 24) (drop 24 item))) n
 
-    pub e_other : {e later : ℕ} → e ≡ end_of (left_from part i) → (kind ≡ 6 → ⊥) → later ≡ now → Counted part (i + e) later
-    e_other q k n =
-        e_next 0 q (λ text. rw (ne_eqb kind 6 k)) (omega (arith, q, end_low (left_from part i) left_some)) (omega (arith, n))
+    pub e_other : {now : ℕ} → (kind ≡ 5 → ⊥) → (kind ≡ 6 → ⊥) → now ≡ found → Counted part later now
+    e_other a b n = e_next 0 (λ text. rw (ne_eqb kind 5 a, ne_eqb kind 6 b)) (omega arith) (omega (arith, n))
 
 -- ---- tests of all symbols
 

@@ -5,28 +5,24 @@ ghost use Rattle.lints.specs.Code.Part.{argument_of};
 
 use file::word_at;
 use law::runs::end_of;
+use law::whole::Terms;
 
-// The number of e. occurrences of a run of term records, at most the number of its records. Kind 5 is an e. variable, kind 6
-// a bracket. Where n is 0 the step is constant, so that the next record does not wait for n.
+// The kinds of term records that count: an e. variable, and a bracket by what is inside it.
+const E_VARIABLE: u32 = 5;
+
+const BRACKET: u32 = 6;
+
+// The number of e. occurrences of a run of term records, at most the number of its records.
 pub fn e_occurrences(part: &[u8]) -> usize
     ensures { ((text : List ℕ) → result ≡ e_occurrences (argument_of text part.now)) × (24 * result ≤ length part.now) }
 {
     let mut found = 0;
-    let mut i = 0;
-    while i + 24 <= part.len() {
-        let left = &part[i..];
+    for left in Terms(part) {
         let kind = word_at(left, 0);
-        if kind == 5 {
+        if kind == E_VARIABLE {
             found += 1;
-        }
-        if word_at(left, 12) == 0 {
-            i += 24;
-        } else {
-            let end = end_of(left);
-            if kind == 6 {
-                found += e_occurrences(&left[24..end]);
-            }
-            i += end;
+        } else if kind == BRACKET {
+            found += e_occurrences(&left[24..end_of(left)]);
         }
     }
     found
