@@ -193,7 +193,8 @@ fn digit_of(term: Term) -> Option<bool>
     }
 }
 
-// Whether all characters of a run of characters are digits; undecided where something in it is no character.
+// Whether all characters of a run of characters are digits; undecided where something in it is no character. It goes as `zeros` does: one function
+// over a test would take a closure with a contract of its own from both, and reads no plainer.
 fn all_digits(part: &[u8]) -> Option<bool>
     ensures { (text : List ℕ) → result ≡ all_of (every_byte digit_byte) (characters_of (argument_of text part.now)) }
 {
