@@ -25,7 +25,8 @@ use lints::levels::Settings;
 use messages::put_message;
 use pages::{page_length, put_heading, put_page};
 
-// What is written of a listing: the text of the finding at a position, or all of it on a page.
+// What is written of a listing: the text of the finding at a position, or all of it on a page. It is an enum, and no function is lent in its place, since a law
+// without functions is answered with no findings to give to one: two would have to be lent, each with the whole of `wanted_bytes` in its clause.
 #[derive(Clone, Copy)]
 pub enum Wanted {
     Text(usize),

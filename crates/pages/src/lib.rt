@@ -1,18 +1,19 @@
 // The listing on a page, from the eight words of each finding: they name functions of the law, where their names are spelled. What a page is stands in
 // specs/Page.antt; what the words are, in the crate `lints`, specs/Finding.antt.
 //
-// Each function puts its bytes at a position as far as there is room, and gives the position after all of them in any case.
+// Each function puts its bytes after what stands there, as far as there is room.
 #![tactic(auto)]
 
 ghost use Rattle.std.specs.Prelude.{◌≡◌, ◌+◌, ◌*◌, ◌≤◌, ◌<◌, length, get_or};
 ghost use mathlib.Core.List.{flatten};
 ghost use Rattle.file.specs.Sections.{file_of};
 ghost use Rattle.buffers.specs.Code.Put.{Put, largest};
+ghost use Rattle.buffers.specs.Code.Text.{Puts};
 ghost use Rattle.pages.specs.Page.{next_field, left, severity_word, heading, heading_before, page_length};
 ghost use Rattle.pages.specs.Code.Lines.{lint_word_by, word_fields, line_at, words_page, Positions};
 
 use crate::fields::{put_name, put_number, put_spaces};
-use buffers::{put, put_byte, put_decimal};
+use buffers::Text;
 use law::Law;
 use lints::words::word;
 
@@ -49,50 +50,58 @@ fn severity_field(severity: usize) -> &'static [u8]
 }
 
 // The first fields of a line, which hold words.
-fn put_words(law: &Law, words: &[u32], first: usize, out: &mut [u8], at: usize) -> usize
-    requires { (first + 8 ≤ length words.now)
-        × (get_or words.now (first + 6) 0 < (file_of law.now.bytes.now).functions.count) × (at + 512 ≤ largest) }
-    ensures { Put out.old at (word_fields (file_of law.now.bytes.now) words.now first) result out.new }
+fn put_words(text: &mut Text, law: &Law, words: &[u32], first: usize)
+    requires { (first + 8 ≤ length words.now) × (get_or words.now (first + 6) 0 < (file_of law.now.bytes.now).functions.count) × (text.old.at + 512 ≤ largest) }
+    ensures { Puts text.old text.new (word_fields (file_of law.now.bytes.now) words.now first) }
 {
-    let owner = law.function_name(word(words, first + 6));
-    let lint = put_name(owner, out, at);
-    let severity = put(lint_field(word(words, first)), out, lint);
-    put(severity_field(word(words, first + 1)), out, severity)
+    put_name(text, law.function_name(word(words, first + 6)));
+    text.put(lint_field(word(words, first)));
+    text.put(severity_field(word(words, first + 1)));
 }
 
 // The line of the finding whose words begin at a position.
-fn put_line(law: &Law, words: &[u32], first: usize, out: &mut [u8], at: usize) -> usize
-    requires { (first + 8 ≤ length words.now)
-        × (get_or words.now (first + 6) 0 < (file_of law.now.bytes.now).functions.count) × (at + 1024 ≤ largest) }
-    ensures { Put out.old at (line_at (file_of law.now.bytes.now) words.now first) result out.new }
+fn put_line(text: &mut Text, law: &Law, words: &[u32], first: usize)
+    requires { (first + 8 ≤ length words.now) × (get_or words.now (first + 6) 0 < (file_of law.now.bytes.now).functions.count) × (text.old.at + 1024 ≤ largest) }
+    ensures { Puts text.old text.new (line_at (file_of law.now.bytes.now) words.now first) }
 {
-    let start = put_words(law, words, first, out, at);
-    let end = put_number(word(words, first + 2), out, start);
-    let a = put_number(word(words, first + 3), out, end);
-    let feed = put_number(word(words, first + 4), out, a);
-    put_byte(b'\n', out, feed)
+    put_words(text, law, words, first);
+    put_number(text, word(words, first + 2));
+    put_number(text, word(words, first + 3));
+    put_number(text, word(words, first + 4));
+    text.put_byte(b'\n');
 }
 
 // The heading of a page: the number of functions, and its own.
+fn put_head(text: &mut Text, functions: usize, number: usize)
+    requires { (number < 10000000000) × (text.old.at + 1024 ≤ largest) }
+    ensures { Puts text.old text.new (heading functions number) }
+{
+    let start = text.at;
+    text.put_decimal(functions);
+    put_spaces(text, 61 + start - text.at);
+    put_number(text, number);
+    text.put_byte(b'\n');
+}
+
+// The heading of a page in a buffer.
 pub fn put_heading(functions: usize, number: usize, out: &mut [u8], at: usize) -> usize
     requires { (number < 10000000000) × (at + 1024 ≤ largest) }
     ensures { Put out.old at (heading functions number) result out.new }
 {
-    let digits = put_decimal(functions, out, at);
-    let space = put_spaces(61 + at - digits, out, digits);
-    let feed = put_number(number, out, space);
-    put_byte(b'\n', out, feed)
+    let mut text = Text { out, at };
+    put_head(&mut text, functions, number);
+    text.at
 }
 
 // The heading that stands before the finding at a position, where one does.
-fn put_heading_before(functions: usize, i: usize, out: &mut [u8], at: usize) -> usize
-    requires { (i ≤ 4294967296) × (at + 1024 ≤ largest) }
-    ensures { Put out.old at (flatten (heading_before functions i)) result out.new }
+fn put_heading_before(text: &mut Text, functions: usize, i: usize)
+    requires { (i ≤ 4294967296) × (text.old.at + 1024 ≤ largest) }
+    ensures { Puts text.old text.new (flatten (heading_before functions i)) }
 {
     if i % UNDER != 0 {
-        return at;
+        return;
     }
-    put_heading(functions, i / UNDER + 1, out, at)
+    put_head(text, functions, i / UNDER + 1);
 }
 
 // The bytes of a page with so many findings.
@@ -103,20 +112,28 @@ pub fn page_length(count: usize) -> usize
     LINE * (count + count.saturating_sub(1) / UNDER + 1)
 }
 
-// The page of so many findings, by their words, put at the start of a buffer as far as there is room; its length in any case.
-pub fn put_page(law: &Law, words: &[u32], count: usize, out: &mut [u8]) -> usize
-    requires { (count ≤ 256) × (8 * count ≤ length words.now)
-        × Positions (file_of law.now.bytes.now) words.now count }
-    ensures { Put out.old 0 (words_page (file_of law.now.bytes.now) words.now count) result out.new }
+// The lines of so many findings, by their words, with the headings between them, from the start of a buffer on.
+fn put_lines(text: &mut Text, law: &Law, words: &[u32], count: usize)
+    requires { (count ≤ 256) × (8 * count ≤ length words.now) × Positions (file_of law.now.bytes.now) words.now count × (text.old.at ≡ 0) }
+    ensures { Puts text.old text.new (words_page (file_of law.now.bytes.now) words.now count) }
 {
     let functions = law.functions();
     if count == 0 {
-        return put_heading(functions, 1, out, 0);
+        put_head(text, functions, 1);
+        return;
     }
-    let mut at = 0;
     for i in 0..count {
-        let line = put_heading_before(functions, i, out, at);
-        at = put_line(law, words, 8 * i, out, line);
+        put_heading_before(text, functions, i);
+        put_line(text, law, words, 8 * i);
     }
-    at
+}
+
+// The page of so many findings, by their words, put at the start of a buffer as far as there is room; its length in any case.
+pub fn put_page(law: &Law, words: &[u32], count: usize, out: &mut [u8]) -> usize
+    requires { (count ≤ 256) × (8 * count ≤ length words.now) × Positions (file_of law.now.bytes.now) words.now count }
+    ensures { Put out.old 0 (words_page (file_of law.now.bytes.now) words.now count) result out.new }
+{
+    let mut text = Text { out, at: 0 };
+    put_lines(&mut text, law, words, count);
+    text.at
 }

@@ -2,7 +2,7 @@
 use Rattle.std.proofs.Common.{◌≡◌, length, arith}
 use Rattle.buffers.specs.Decimal.{decimal}
 use Rattle.buffers.proofs.DigitLaws.{decimal_ten}
-use Rattle.buffers.proofs.PutLaws.{◌then◌}
+use Rattle.buffers.proofs.TextLaws.{◌next◌}
 use Rattle.pages.proofs.FieldLaws.{next_number}
 use Rattle.pages.proofs.fields.put_number.Goals as goal
 
@@ -12,4 +12,4 @@ overflow_sub-digits c = omega (arith, c.put_decimal-digits.ensures.1.end, decima
 pub returns : goal.returns
 returns c =
     let digits : c.put_decimal-digits.result ≡ length (decimal c.args.n) = omega (arith, c.put_decimal-digits.ensures.1.end) in
-    rw (← next_number c.args.n c.requires.0, ← digits) (c.put_spaces-first.ensures then c.put_decimal.ensures.1)
+    rw (← next_number c.args.n c.requires.0, ← digits) (c.put_spaces.ensures next c.put_decimal.ensures.1)
