@@ -40,6 +40,7 @@ const BLOCKS: usize = 460;
 
 // Refusals 6 to 9 of a file whose sections are used up exactly. `check_answer` of specs/Law.antt gives document 01's number for each.
 fn check_placed(law: &Law) -> Result<(), Refusal>
+    requires { fields_allowed (file_of law.now.bytes.now) ≡ true }
     ensures { check_answer result ≡ check_of law.now.bytes.now }
 {
     if !law.runs_fit() {

@@ -3,7 +3,7 @@ ghost use Rattle.std.specs.Prelude.{◌≡◌, true, [], ◌∷◌, ◌+◌, ◌
 ghost use Rattle.file.specs.Word.{word_at};
 ghost use Rattle.file.specs.Head.{term_at};
 ghost use Rattle.file.specs.Sections.{file_of};
-ghost use Rattle.file.specs.Fields.{terms_allowed};
+ghost use Rattle.file.specs.Fields.{terms_allowed, fields_allowed};
 ghost use Rattle.law.specs.Variables.{Variable, variable_of, variables_from, occurs, distinct, pattern_variables, patterns_allowed};
 
 use crate::Law;
@@ -85,7 +85,7 @@ impl<'a> Pattern<'a> {
 impl Law<'_> {
     // Does a sentence's pattern have at most 32 different variables?
     fn sentence_pattern(&self, s: usize) -> bool
-        requires { s < (file_of self.now.bytes.now).sentences.count }
+        requires { (fields_allowed (file_of self.now.bytes.now) ≡ true) × (s < (file_of self.now.bytes.now).sentences.count) }
         ensures { result ≡ leb (distinct (pattern_variables (file_of self.now.bytes.now) s)) 32 }
     {
         let pattern = Pattern {
@@ -98,6 +98,7 @@ impl Law<'_> {
 
     // Does each sentence's pattern have at most 32 different variables?
     pub fn patterns_allowed(&self) -> bool
+        requires { fields_allowed (file_of self.now.bytes.now) ≡ true }
         ensures { result ≡ patterns_allowed (file_of self.now.bytes.now) }
     {
         (0..self.sentences()).all(|s| self.sentence_pattern(s))

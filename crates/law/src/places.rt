@@ -15,13 +15,12 @@ use crate::{BLOCKS, CONDITION_TERMS, FIRST_CONDITIONS, FIRST_SENTENCES, Index, S
 use file::word_at;
 use names::name_in;
 
-// The bytes of a file whose fields are allowed, and its index.
+// The bytes of a file, and its index.
 #[derive(Clone, Copy)]
 pub struct Law<'a> {
     pub bytes: &'a [u8],
     pub index: &'a Index,
     pub ghost indexed: { Indexed bytes.now index.now } by { Prim.hlevel (props, ⊎_set) },
-    pub ghost fields: { fields_allowed (file_of bytes.now) ≡ true },
 }
 
 // A law that no refusal holds of.
@@ -217,7 +216,7 @@ impl<'a> Law<'a> {
 
     // A function's name, as the part of the text where it is spelled.
     pub fn function_name(&self, f: usize) -> &'a [u8]
-        requires { f < (file_of self.now.bytes.now).functions.count }
+        requires { (f < (file_of self.now.bytes.now).functions.count) × (fields_allowed (file_of self.now.bytes.now) ≡ true) }
         ensures { result.now ≡ (function_name (file_of self.now.bytes.now) f).spelled }
     {
         let start = self.function_word(f, 0);

@@ -9,14 +9,14 @@ pub returns-then-not-runs_fit : goal.returns-then-not-runs_fit
 returns-then-not-runs_fit c =
     let bytes = c.args.law.now.bytes.now in
     let sections = c.args.law.now.indexed.sections in
-    let fields = c.args.law.now.fields in
+    let fields = c.requires in
     sym (verdict.runs_refused bytes sections fields c.args.law.now.indexed.used (sym c.runs_fit.ensures ∙ c.if-not-runs_fit.true))
 
 pub returns-then-not-blocks_allowed : goal.returns-then-not-blocks_allowed
 returns-then-not-blocks_allowed c =
     let bytes = c.args.law.now.bytes.now in
     let sections = c.args.law.now.indexed.sections in
-    let fields = c.args.law.now.fields in
+    let fields = c.requires in
     let runs = verdict.runs_all bytes sections fields c.args.law.now.indexed.used (sym c.runs_fit.ensures ∙ c.if-not-runs_fit.false) in
     sym (verdict.blocks_refused bytes sections fields runs (sym c.blocks_allowed.ensures ∙ c.if-not-blocks_allowed.true))
 
@@ -24,7 +24,7 @@ pub depth_allowed-requires : goal.depth_allowed-requires
 depth_allowed-requires c =
     let bytes = c.args.law.now.bytes.now in
     let sections = c.args.law.now.indexed.sections in
-    let fields = c.args.law.now.fields in
+    let fields = c.requires in
     let runs = verdict.runs_all bytes sections fields c.args.law.now.indexed.used (sym c.runs_fit.ensures ∙ c.if-not-runs_fit.false) in
     let blocks = sym c.blocks_allowed.ensures ∙ c.if-not-blocks_allowed.false in
     let whole = (sections_records bytes (file_of bytes) sections).4 in
@@ -34,7 +34,7 @@ pub returns-then-not-depth_allowed : goal.returns-then-not-depth_allowed
 returns-then-not-depth_allowed c =
     let bytes = c.args.law.now.bytes.now in
     let sections = c.args.law.now.indexed.sections in
-    let fields = c.args.law.now.fields in
+    let fields = c.requires in
     let runs = verdict.runs_all bytes sections fields c.args.law.now.indexed.used (sym c.runs_fit.ensures ∙ c.if-not-runs_fit.false) in
     let blocks = sym c.blocks_allowed.ensures ∙ c.if-not-blocks_allowed.false in
     sym (verdict.depth_refused bytes sections fields runs blocks (sym c.depth_allowed.ensures ∙ c.if-not-depth_allowed.true))
@@ -43,7 +43,7 @@ pub returns-then-not-patterns_allowed : goal.returns-then-not-patterns_allowed
 returns-then-not-patterns_allowed c =
     let bytes = c.args.law.now.bytes.now in
     let sections = c.args.law.now.indexed.sections in
-    let fields = c.args.law.now.fields in
+    let fields = c.requires in
     let runs = verdict.runs_all bytes sections fields c.args.law.now.indexed.used (sym c.runs_fit.ensures ∙ c.if-not-runs_fit.false) in
     let blocks = sym c.blocks_allowed.ensures ∙ c.if-not-blocks_allowed.false in
     let depth = sym c.depth_allowed.ensures ∙ c.if-not-depth_allowed.false in
@@ -53,7 +53,7 @@ pub returns : goal.returns
 returns c =
     let bytes = c.args.law.now.bytes.now in
     let sections = c.args.law.now.indexed.sections in
-    let fields = c.args.law.now.fields in
+    let fields = c.requires in
     let runs = verdict.runs_all bytes sections fields c.args.law.now.indexed.used (sym c.runs_fit.ensures ∙ c.if-not-runs_fit.false) in
     let blocks = sym c.blocks_allowed.ensures ∙ c.if-not-blocks_allowed.false in
     let depth = sym c.depth_allowed.ensures ∙ c.if-not-depth_allowed.false in

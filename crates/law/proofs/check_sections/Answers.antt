@@ -12,10 +12,10 @@ returns-then-not-fields_allowed c =
 pub invariant_of-check_placed : goal.invariant_of-check_placed
 invariant_of-check_placed c =
     let used = sym c.place_records.ensures.0 ∙ c.if-place_records.true in
-    record {
-      indexed = placed_indexed c.args.law.now _ c.requires.0 used c.place_records.ensures.1;
-      fields = sym c.fields_allowed.ensures ∙ c.if-not-fields_allowed.false;
-    }
+    record { indexed = placed_indexed c.args.law.now _ c.requires.0 used c.place_records.ensures.1 }
+
+pub check_placed-requires : goal.check_placed-requires
+check_placed-requires c = sym c.fields_allowed.ensures ∙ c.if-not-fields_allowed.false
 
 pub returns-else-place_records : goal.returns-else-place_records
 returns-else-place_records c =

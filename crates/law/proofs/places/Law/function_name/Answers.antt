@@ -7,6 +7,6 @@ use Rattle.law.proofs.places.Law.function_name.Goals as goal
 pub name_in-requires : goal.name_in-requires
 name_in-requires c =
     let file = file_of c.args.self.now.bytes.now in
-    let fields = fields_functions file c.args.self.now.fields in
+    let fields = fields_functions file c.requires.1 in
     rw (c.function_word-start.ensures ∙ laws.zero_offset _ _, c.function_word-len.ensures, c.text.ensures)
-    (function_inside file.text.records file.functions.records file.functions.count c.args.f fields c.requires)
+    (function_inside file.text.records file.functions.records file.functions.count c.args.f fields c.requires.0)

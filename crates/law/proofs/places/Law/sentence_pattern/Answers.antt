@@ -7,11 +7,11 @@ pub invariant_of-pattern : goal.invariant_of-pattern
 invariant_of-pattern c =
     let law = c.args.self.now in
     record {
-      whole = rw (c.pattern_size.ensures, c.pattern.ensures) (pattern_length _ _ law.indexed _ c.requires);
-      allowed = rw (c.text.ensures, c.pattern.ensures, c.pattern_size.ensures) (pattern_allowed _ _ law.indexed _ c.requires law.fields);
+      whole = rw (c.pattern_size.ensures, c.pattern.ensures) (pattern_length _ _ law.indexed _ c.requires.1);
+      allowed = rw (c.text.ensures, c.pattern.ensures, c.pattern_size.ensures) (pattern_allowed _ _ law.indexed _ c.requires.1 c.requires.0);
     }
 
 pub returns : goal.returns
 returns c =
     c.is_allowed.ensures
-    ∙ rw (c.text.ensures, c.pattern.ensures, c.pattern_size.ensures, pattern_variables_lem _ _ c.args.self.now.indexed _ c.requires)
+    ∙ rw (c.text.ensures, c.pattern.ensures, c.pattern_size.ensures, pattern_variables_lem _ _ c.args.self.now.indexed _ c.requires.1)
