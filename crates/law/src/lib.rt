@@ -11,7 +11,7 @@ ghost use Rattle.law.specs.Law.{check_answer, check_of};
 ghost use Rattle.law.specs.Code.Accepted.{IndexAfter};
 
 use crate::index::place_records;
-pub use crate::places::{AcceptedLaw, Law};
+pub use crate::places::{AcceptedLaw, AllowedLaw, Law};
 use file::{Refusal, Sections, fields_allowed, sections_of};
 
 mod blocks;

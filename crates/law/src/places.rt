@@ -23,6 +23,13 @@ pub struct Law<'a> {
     pub ghost indexed: { Indexed bytes.now index.now } by { Prim.hlevel (props, ⊎_set) },
 }
 
+// A file whose fields are allowed, with its index.
+#[derive(Clone, Copy)]
+pub struct AllowedLaw<'a> {
+    pub law: Law<'a>,
+    pub ghost fields: { fields_allowed (file_of law.bytes.now) ≡ true },
+}
+
 // A law that no refusal holds of.
 #[derive(Clone, Copy)]
 pub struct AcceptedLaw<'a> {

@@ -9,8 +9,7 @@ returns-in_err-read_law c =
 
 pub invariant_of-law : goal.invariant_of-law
 invariant_of-law c =
-    let accepted = call_accepted c.args.law.now _ c.read_law.result c.in_ok-read_law.was c.read_law.ensures.0 c.read_law.ensures.1 in
-    record { indexed = accepted.0; fields = accepted.1.fields }
+    record { indexed = (call_accepted c.args.law.now _ c.read_law.result c.in_ok-read_law.was c.read_law.ensures.0 c.read_law.ensures.1).0 }
 
 pub infer_accepted-requires : goal.infer_accepted-requires
 infer_accepted-requires c = (call_accepted c.args.law.now _ c.read_law.result c.in_ok-read_law.was c.read_law.ensures.0 c.read_law.ensures.1).1

@@ -9,10 +9,10 @@ use Rattle.formats.proofs.slots.fill_calls.Goals.{then-term_word-eq-CALL, else-t
 pub callee_place-requires : goal.callee_place-requires
 callee_place-requires c =
     let slots = c.loop-t.invariant.1 in
-    (slots.functions, slots.count, omega (arith, c.args.law.now.indexed.words.terms), kind_read (file_of c.args.law.now.bytes.now) _ _ c.term_word.ensures ∙ c.if-term_word-eq-CALL.true)
+    (slots.functions, slots.count, omega (arith, c.args.allowed.now.law.indexed.words.terms), kind_read (file_of c.args.allowed.now.law.bytes.now) _ _ c.term_word.ensures ∙ c.if-term_word-eq-CALL.true)
 
 pub bounds-slots-t : goal.bounds-slots-t
-bounds-slots-t c = omega (arith, terms_limit _ _ c.args.law.now.indexed, c.args.law.now.indexed.words.terms)
+bounds-slots-t c = omega (arith, terms_limit _ _ c.args.allowed.now.law.indexed, c.args.allowed.now.law.indexed.words.terms)
 
 pub loop-t-preserved : goal.loop-t-preserved
 loop-t-preserved c =
@@ -21,7 +21,7 @@ loop-t-preserved c =
       | then-term_word-eq-CALL w ↦
           rw w.slots-is (
             length-set c.loop-t.slots.calls _ _ ∙ c.loop-t.invariant.0,
-            slots_next _ _ _ _ slots (omega (arith, terms_limit _ _ c.args.law.now.indexed, c.args.law.now.indexed.words.terms, c.loop-t.invariant.0)) (kind_read (file_of c.args.law.now.bytes.now) _ _ c.term_word.ensures ∙ w.if-term_word-eq-CALL.true) w.callee_place.ensures,
+            slots_next _ _ _ _ slots (omega (arith, terms_limit _ _ c.args.allowed.now.law.indexed, c.args.allowed.now.law.indexed.words.terms, c.loop-t.invariant.0)) (kind_read (file_of c.args.allowed.now.law.bytes.now) _ _ c.term_word.ensures ∙ w.if-term_word-eq-CALL.true) w.callee_place.ensures,
           )
       | else-term_word-eq-CALL w ↦ rw w.slots-is (c.loop-t.invariant.0, slots_pass _ _ _ _ slots c.term_word.ensures w.if-term_word-eq-CALL.false)
     ]

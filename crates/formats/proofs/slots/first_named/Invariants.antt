@@ -5,4 +5,4 @@ use Rattle.formats.proofs.slots.first_named.Given as goal
 
 -- no function from `from` up to f has the name
 abbrev pub invariant-loop-f : goal.invariant-loop-f
-invariant-loop-f l = SearchAt (file_of l.law.bytes.now) l.from (folded l.name) l.f
+invariant-loop-f l = SearchAt (file_of l.allowed.law.bytes.now) l.from (folded l.name) l.f

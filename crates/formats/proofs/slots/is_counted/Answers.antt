@@ -3,4 +3,4 @@ use Rattle.law.proofs.IndexLaws.{functions_limit}
 use Rattle.formats.proofs.slots.is_counted.Goals as goal
 
 pub bounds-last-g : goal.bounds-last-g
-bounds-last-g c = omega (arith, functions_limit _ _ c.args.law.now.indexed)
+bounds-last-g c = omega (arith, functions_limit _ _ c.args.allowed.now.law.indexed)

@@ -4,8 +4,8 @@ use Rattle.formats.proofs.SlotLaws.{count_next, count_before}
 use Rattle.formats.proofs.slots.place.Goals as goal
 
 pub loop-g-preserved : goal.loop-g-preserved
-loop-g-preserved c = count_next _ _ _ _ _ c.loop-g.invariant (omega (arith, c.args.law.now.indexed.words.functions))
+loop-g-preserved c = count_next _ _ _ _ _ c.loop-g.invariant (omega (arith, c.args.allowed.now.law.indexed.words.functions))
     (c.from-found.ensures ∙ ap from_bool (rw c.function_name-name.ensures at c.is_counted.ensures))
 
 pub returns : goal.returns
-returns c = count_before _ _ c.requires.1 _ _ c.loop-g.invariant (omega (arith, c.args.law.now.indexed.words.functions))
+returns c = count_before _ _ c.requires.1 _ _ c.loop-g.invariant (omega (arith, c.args.allowed.now.law.indexed.words.functions))

@@ -7,4 +7,4 @@ use Rattle.formats.proofs.slots.place.Given as goal
 
 abbrev pub invariant-loop-g : goal.invariant-loop-g
 invariant-loop-g l =
-    CountAt (file_of l.law.bytes.now) (λ m. is_lt (order_bytes m (function_folded (file_of l.law.bytes.now) l.f))) l.found l.g
+    CountAt (file_of l.allowed.law.bytes.now) (λ m. is_lt (order_bytes m (function_folded (file_of l.allowed.law.bytes.now) l.f))) l.found l.g
