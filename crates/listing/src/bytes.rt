@@ -20,7 +20,7 @@ use crate::gather::{OWN, gather};
 use formats::call::clear_store;
 use formats::held::Formats;
 use formats::slots::slots_of;
-use law::{AcceptedLaw, Index, Law};
+use law::{AcceptedLaw, Index};
 use lints::levels::Settings;
 use messages::put_message;
 use pages::{page_length, put_heading, put_page};
@@ -61,15 +61,15 @@ fn tell(
 }
 
 // Writes the page of the call's own findings.
-fn print(law: &Law, own: &[u32], count: usize, page: &mut [u8]) -> Result<usize, Turned>
-    requires { (count ≤ 256) × (8 * count ≤ length own.now) × Positions (file_of law.now.bytes.now) own.now count }
-    ensures { told_pair result page.new ≡ fitted_bytes 18 page.old (given (words_page (file_of law.now.bytes.now) own.now count)) }
+fn print(accepted: &AcceptedLaw, own: &[u32], count: usize, page: &mut [u8]) -> Result<usize, Turned>
+    requires { (count ≤ 256) × (8 * count ≤ length own.now) × Positions (file_of accepted.now.law.bytes.now) own.now count }
+    ensures { told_pair result page.new ≡ fitted_bytes 18 page.old (given (words_page (file_of accepted.now.law.bytes.now) own.now count)) }
 {
     let length = page_length(count);
     if page.len() < length {
         return Err(Turned::Page);
     }
-    put_page(law, own, count, page);
+    put_page(&accepted.law, own, count, page);
     Ok(length)
 }
 
@@ -88,7 +88,7 @@ fn write_own(
 {
     match wanted {
         Wanted::Text(position) => tell(formats, own, count, position, buffer),
-        Wanted::Page => print(&formats.law.law, own, count, buffer),
+        Wanted::Page => print(&formats.law, own, count, buffer),
     }
 }
 

@@ -20,7 +20,7 @@ ghost use Rattle.messages.specs.Code.Spoken.{Spoken, CallHere, ComparedHere, in_
 use crate::texts::{put_by_formats, put_by_literals, put_dead, put_fails, put_open};
 use buffers::Text;
 use formats::held::Formats;
-use law::Law;
+use law::AcceptedLaw;
 use lints::builtin::Failure;
 use lints::levels::Lint;
 use lints::words::word;
@@ -30,30 +30,30 @@ use sentences::argument_of;
 mod texts;
 
 // The name of the call at a term record.
-fn call_name<'a>(law: &Law<'a>, t: usize) -> &'a [u8]
-    requires { CallHere (file_of law.now.bytes.now) t }
-    ensures { ((call_at (file_of law.now.bytes.now) t).name.spelled ≡ result.now) × (length result.now ≤ 4096) }
+fn call_name<'a>(accepted: &AcceptedLaw<'a>, t: usize) -> &'a [u8]
+    requires { CallHere (file_of accepted.now.law.bytes.now) t }
+    ensures { ((call_at (file_of accepted.now.law.bytes.now) t).name.spelled ≡ result.now) × (length result.now ≤ 4096) }
 {
-    let start = law.term_word(t, 4);
-    let len = law.term_word(t, 8);
-    name_in(law.text(), start, len)
+    let start = accepted.law.term_word(t, 4);
+    let len = accepted.law.term_word(t, 8);
+    name_in(accepted.law.text(), start, len)
 }
 
 // Lint 1: a sentence of a function, or of a block in it.
 fn put_dead_sentence(
     text: &mut Text,
-    law: &Law,
+    accepted: &AcceptedLaw,
     position: usize,
     s: usize,
     later: usize,
     earlier: usize,
 )
-    requires { (position < (file_of law.now.bytes.now).functions.count) × (text.old.at + 16384 ≤ largest) }
-    ensures { Puts text.old text.new (claim_text (function_name (file_of law.now.bytes.now) position)
-        (dead (in_block (file_of law.now.bytes.now) s) later earlier)) }
+    requires { (position < (file_of accepted.now.law.bytes.now).functions.count) × (text.old.at + 16384 ≤ largest) }
+    ensures { Puts text.old text.new (claim_text (function_name (file_of accepted.now.law.bytes.now) position)
+        (dead (in_block (file_of accepted.now.law.bytes.now) s) later earlier)) }
 {
-    let owner = law.function_name(position);
-    let in_block = law.first_sentence(law.functions()) <= s;
+    let owner = accepted.law.function_name(position);
+    let in_block = accepted.law.first_sentence(accepted.law.functions()) <= s;
     put_dead(text, owner, in_block, later, earlier);
 }
 
@@ -68,7 +68,7 @@ fn put_apart(text: &mut Text, formats: &Formats, t: usize)
     let part = argument_of(&formats.law, t);
     let _ = formats.row_format(part, t + 1, passed); // it is not too wide, since the finding is listed
     let accepted = formats.argument(usize::from(formats.slots.calls[t]));
-    put_by_formats(text, call_name(&formats.law.law, t), accepted, passed);
+    put_by_formats(text, call_name(&formats.law, t), accepted, passed);
 }
 
 // Lint 2: a call that no sentence of its function matches, by formats (a = 1) or by literals.
@@ -81,7 +81,7 @@ fn put_recognition(text: &mut Text, formats: &Formats, t: usize, a: usize)
     if a == 1 {
         put_apart(text, formats, t);
     } else {
-        put_by_literals(text, call_name(&formats.law.law, t));
+        put_by_literals(text, call_name(&formats.law, t));
     }
 }
 
@@ -97,12 +97,12 @@ fn failure_by(number: usize) -> Failure
 }
 
 // Lint 3: why the builtin call at a term record fails.
-fn put_builtin(text: &mut Text, law: &Law, t: usize, a: usize)
-    requires { CallHere (file_of law.now.bytes.now) t × (text.old.at + 16384 ≤ largest) }
+fn put_builtin(text: &mut Text, accepted: &AcceptedLaw, t: usize, a: usize)
+    requires { CallHere (file_of accepted.now.law.bytes.now) t × (text.old.at + 16384 ≤ largest) }
     ensures { (owner : Name) (why : finding.Failure) → failure_number why ≡ a
-        → Puts text.old text.new (claim_text owner (fails (call_at (file_of law.now.bytes.now) t).name why)) }
+        → Puts text.old text.new (claim_text owner (fails (call_at (file_of accepted.now.law.bytes.now) t).name why)) }
 {
-    put_fails(text, call_name(law, t), failure_by(a));
+    put_fails(text, call_name(accepted, t), failure_by(a));
 }
 
 // The text of a finding, from its eight words.
@@ -112,16 +112,16 @@ fn put_claim(text: &mut Text, formats: &Formats, words: &[u32])
         → Memᴰ f (findings_of (tree_of (file_of formats.now.law.law.bytes.now)) (formats_in (file_of formats.now.law.law.bytes.now) formats.now.limit formats.now.store.now))
         → words.now ≡ finding_words severity f → Puts text.old text.new (message f) }
 {
-    let law = &formats.law.law;
+    let accepted = &formats.law;
     let a = word(words, 4);
     let b = word(words, 5);
     let position = word(words, 6);
     let subject = word(words, 7);
     match Lint::try_from(words[0]) {
-        Ok(Lint::Dead) => put_dead_sentence(text, law, position, subject, a, b),
+        Ok(Lint::Dead) => put_dead_sentence(text, accepted, position, subject, a, b),
         Ok(Lint::Recognition) => put_recognition(text, formats, subject, a),
-        Ok(Lint::Builtin) => put_builtin(text, law, subject, a),
-        Ok(Lint::Open) => put_open(text, law.function_name(position), a),
+        Ok(Lint::Builtin) => put_builtin(text, accepted, subject, a),
+        Ok(Lint::Open) => put_open(text, accepted.law.function_name(position), a),
         Err(_) => unreachable!(), // no finding has such a number
     }
 }

@@ -4,9 +4,10 @@
 // Each function puts its bytes after what stands there, as far as there is room.
 #![tactic(auto)]
 
-ghost use Rattle.std.specs.Prelude.{◌≡◌, ◌+◌, ◌*◌, ◌≤◌, ◌<◌, length, get_or};
+ghost use Rattle.std.specs.Prelude.{◌≡◌, true, ◌+◌, ◌*◌, ◌≤◌, ◌<◌, length, get_or};
 ghost use mathlib.Core.List.{flatten};
 ghost use Rattle.file.specs.Sections.{file_of};
+ghost use Rattle.file.specs.Fields.{fields_allowed};
 ghost use Rattle.buffers.specs.Code.Put.{Put, largest};
 ghost use Rattle.buffers.specs.Code.Text.{Puts};
 ghost use Rattle.pages.specs.Page.{next_field, left, severity_word, heading, heading_before, page_length};
@@ -14,7 +15,7 @@ ghost use Rattle.pages.specs.Code.Lines.{lint_word_by, word_fields, line_at, wor
 
 use crate::fields::{put_name, put_number, put_spaces};
 use buffers::Text;
-use law::Law;
+use law::{AllowedLaw, Law};
 use lints::words::word;
 
 mod fields;
@@ -50,21 +51,21 @@ fn severity_field(severity: usize) -> &'static [u8]
 }
 
 // The first fields of a line, which hold words.
-fn put_words(text: &mut Text, law: &Law, words: &[u32], first: usize)
-    requires { (first + 8 ≤ length words.now) × (get_or words.now (first + 6) 0 < (file_of law.now.bytes.now).functions.count) × (text.old.at + 512 ≤ largest) }
-    ensures { Puts text.old text.new (word_fields (file_of law.now.bytes.now) words.now first) }
+fn put_words(text: &mut Text, allowed: &AllowedLaw, words: &[u32], first: usize)
+    requires { (first + 8 ≤ length words.now) × (get_or words.now (first + 6) 0 < (file_of allowed.now.law.bytes.now).functions.count) × (text.old.at + 512 ≤ largest) }
+    ensures { Puts text.old text.new (word_fields (file_of allowed.now.law.bytes.now) words.now first) }
 {
-    put_name(text, law.function_name(word(words, first + 6)));
+    put_name(text, allowed.law.function_name(word(words, first + 6)));
     text.put(lint_field(word(words, first)));
     text.put(severity_field(word(words, first + 1)));
 }
 
 // The line of the finding whose words begin at a position.
-fn put_line(text: &mut Text, law: &Law, words: &[u32], first: usize)
-    requires { (first + 8 ≤ length words.now) × (get_or words.now (first + 6) 0 < (file_of law.now.bytes.now).functions.count) × (text.old.at + 1024 ≤ largest) }
-    ensures { Puts text.old text.new (line_at (file_of law.now.bytes.now) words.now first) }
+fn put_line(text: &mut Text, allowed: &AllowedLaw, words: &[u32], first: usize)
+    requires { (first + 8 ≤ length words.now) × (get_or words.now (first + 6) 0 < (file_of allowed.now.law.bytes.now).functions.count) × (text.old.at + 1024 ≤ largest) }
+    ensures { Puts text.old text.new (line_at (file_of allowed.now.law.bytes.now) words.now first) }
 {
-    put_words(text, law, words, first);
+    put_words(text, allowed, words, first);
     put_number(text, word(words, first + 2));
     put_number(text, word(words, first + 3));
     put_number(text, word(words, first + 4));
@@ -113,27 +114,28 @@ pub fn page_length(count: usize) -> usize
 }
 
 // The lines of so many findings, by their words, with the headings between them, from the start of a buffer on.
-fn put_lines(text: &mut Text, law: &Law, words: &[u32], count: usize)
-    requires { (count ≤ 256) × (8 * count ≤ length words.now) × Positions (file_of law.now.bytes.now) words.now count × (text.old.at ≡ 0) }
-    ensures { Puts text.old text.new (words_page (file_of law.now.bytes.now) words.now count) }
+fn put_lines(text: &mut Text, allowed: &AllowedLaw, words: &[u32], count: usize)
+    requires { (count ≤ 256) × (8 * count ≤ length words.now) × Positions (file_of allowed.now.law.bytes.now) words.now count × (text.old.at ≡ 0) }
+    ensures { Puts text.old text.new (words_page (file_of allowed.now.law.bytes.now) words.now count) }
 {
-    let functions = law.functions();
+    let functions = allowed.law.functions();
     if count == 0 {
         put_head(text, functions, 1);
         return;
     }
     for i in 0..count {
         put_heading_before(text, functions, i);
-        put_line(text, law, words, 8 * i);
+        put_line(text, allowed, words, 8 * i);
     }
 }
 
 // The page of so many findings, by their words, put at the start of a buffer as far as there is room; its length in any case.
 pub fn put_page(law: &Law, words: &[u32], count: usize, out: &mut [u8]) -> usize
-    requires { (count ≤ 256) × (8 * count ≤ length words.now) × Positions (file_of law.now.bytes.now) words.now count }
+    requires { (fields_allowed (file_of law.now.bytes.now) ≡ true) × (count ≤ 256) × (8 * count ≤ length words.now) × Positions (file_of law.now.bytes.now) words.now count }
     ensures { Put out.old 0 (words_page (file_of law.now.bytes.now) words.now count) result out.new }
 {
+    let allowed = AllowedLaw { law: *law };
     let mut text = Text { out, at: 0 };
-    put_lines(&mut text, law, words, count);
+    put_lines(&mut text, &allowed, words, count);
     text.at
 }

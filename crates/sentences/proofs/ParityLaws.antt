@@ -1,7 +1,7 @@
 -- Numbers of terms: a pattern whose e. variables outside brackets all stand there evenly often has as many terms as what it matches, but for an even number;
 -- what `odd_times` and `evenly` go through.
 use Prim.Native.Nat.{ℕ, suc, ◌%◌}
-use mathlib.Core.Bool.{Bool, true, false, cond, not, ◌||◌}
+use mathlib.Core.Bool.{Bool, true, false, cond, not, ◌||◌, beq}
 use mathlib.Core.List.{List, [], ◌∷◌}
 use mathlib.Core.Logic.{◌⊎◌, inl, inr, ◌≢◌}
 use mathlib.Core.Path.{◌≡◌, refl, sym, ap, ◌∙◌}
@@ -181,6 +181,20 @@ uneven_none p x even apart back = go (found back p x none_bound) refl
         (none_kinded symbol_like single_term) (ap some_in e) in
         absurd (apart (sym (even_filled literal f.value symbol_like single_term f.kinded p f.plain even) ∙ ap odd_terms f.fills))
 
+-- two tests that differ are not the same
+beq_refl : (b : Bool) → beq b b ≡ true
+beq_refl true = refl
+beq_refl false = refl
+
+differ_beq : (a b : Bool) → (a ≡ b → ⊥) → beq a b ≡ false
+differ_beq true true h = absurd (h refl)
+differ_beq true false h = refl
+differ_beq false true h = refl
+differ_beq false false h = absurd (h refl)
+
+pub uneven_answer : (p x : Pattern) → Evenly p → {a b : Bool} → a ≡ odd_terms p → b ≡ odd_terms x → beq a b ≡ false → (back : Bool) → found back p x none_bound ≡ []
+uneven_answer p x even {a} {b} i j h = uneven_none p x even (λ k. absurd (false_not_true (sym h ∙ (rw (i ∙ k ∙ sym j) (beq_refl b)))))
+
 -- ---- odd numbers
 
 odd_next : (n : ℕ) → eqb (suc n % 2) 1 ≡ not (eqb (n % 2) 1)
@@ -206,9 +220,11 @@ odd_counted nothing = refl
 odd_counted (symbol a x) = rw (odd_counted x) (sym (odd_next (terms_in x)))
 odd_counted (brackets c x) = rw (odd_counted x) (sym (odd_next (terms_in x)))
 
-pub uneven_answer : (p x : Pattern) → Evenly p → {a b : ℕ} → a ≡ terms_in p → b ≡ terms_in x → (a % 2 ≡ b % 2 → ⊥) → (back : Bool) → found back p x none_bound ≡ []
-uneven_answer p x even {a} {b} i j h =
-    uneven_none p x even (λ k. h (rw (i, j) (same_odd (terms_in p) (terms_in x) (sym (odd_counted p) ∙ k ∙ odd_counted x))))
+-- numbers of terms that are not both odd or both even
+pub uneven_counted : (p x : Pattern) → Evenly p → {a b : ℕ} → a ≡ terms_in p → b ≡ terms_in x → (a % 2 ≡ b % 2 → ⊥) → (back : Bool) → found back p x none_bound ≡ []
+uneven_counted p x even {a} {b} i j h =
+    uneven_answer p x even refl refl
+    (differ_beq (odd_terms p) (odd_terms x) (λ k. h (rw (i, j) (same_odd (terms_in p) (terms_in x) (sym (odd_counted p) ∙ k ∙ odd_counted x)))))
 
 -- ---- what `odd_times` counts
 

@@ -6,8 +6,6 @@ ghost use Rattle.std.specs.Prelude.{◌≡◌, true, ◌≤◌, ◌<◌, IfSome}
 ghost use Rattle.file.specs.Answer.{given};
 ghost use Rattle.file.specs.Sections.{file_of};
 ghost use Rattle.law.specs.Places.{pattern_part};
-ghost use Rattle.law.specs.Code.Index.{Indexed};
-ghost use Rattle.law.specs.Code.Accepted.{Accepted};
 ghost use Rattle.law.specs.Variables.{distinct};
 ghost use Rattle.matching.specs.Shadow.{shadows};
 ghost use Rattle.matching.specs.Literal.{literal_matches};
@@ -180,30 +178,4 @@ pub fn matches_in(law: &[u8], sentence: usize, term: usize) -> Result<bool, Matc
     let mut index: Index = [0; 972];
     read_law(law, &mut index)?;
     recognise_accepted(&AcceptedLaw::new(law, &index), sentence, term)
-}
-
-// The same three of bytes and their index, until no caller is left.
-pub fn shadow_sentences(law: &[u8], index: &Index, earlier: usize, later: usize) -> bool
-    requires indexed { Indexed law.now index.now × Accepted law.now }
-    requires earlier_bound { (earlier < (file_of law.now).sentences.count) × (later < (file_of law.now).sentences.count) }
-    ensures { result ≡ shadows (row_of (file_of law.now).text.records (pattern_part (file_of law.now) earlier))
-        (row_of (file_of law.now).text.records (pattern_part (file_of law.now) later)) }
-{
-    sentence_shadows(&AcceptedLaw::new(law, index), earlier, later)
-}
-
-pub fn argument<'a>(law: &'a [u8], index: &'a Index, term: usize) -> &'a [u8]
-    requires { Indexed law.now index.now × Accepted law.now × (term < (file_of law.now).terms.count) }
-    ensures { result.now ≡ argument_part (file_of law.now) term }
-{
-    argument_of(&AcceptedLaw::new(law, index), term)
-}
-
-pub fn literal_sentence(law: &[u8], index: &Index, sentence: usize, term: usize) -> bool
-    requires indexed { Indexed law.now index.now × Accepted law.now }
-    requires sentence_bound { (sentence < (file_of law.now).sentences.count) × (term < (file_of law.now).terms.count) × (literal_part (argument_part (file_of law.now) term) ≡ true) }
-    ensures { result ≡ literal_matches (row_of (file_of law.now).text.records (pattern_part (file_of law.now) sentence))
-        (symbols_of (file_of law.now).text.records (argument_part (file_of law.now) term)) }
-{
-    sentence_matches(&AcceptedLaw::new(law, index), sentence, term)
 }

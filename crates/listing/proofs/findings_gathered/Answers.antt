@@ -4,6 +4,9 @@ use Rattle.listing.proofs.CollectedLaws.{prepares}
 use Rattle.listing.proofs.ReadyLaws.{findings_listed, findings_stored, findings_collected, count_fits}
 use Rattle.listing.proofs.findings_gathered.Goals as goal
 
+pub slots_of-slots-requires : goal.slots_of-slots-requires
+slots_of-slots-requires g c = c.args.accepted.now.accepted.fields
+
 pub invariant_of-formats-clause-holding : goal.invariant_of-formats-clause-holding
 invariant_of-formats-clause-holding g c =
     findings_stored (settings_meant c.args.settings.now) c.gather.ensures (prepares c.args.accepted.now c.requires.0 c.requires.1) c.slots_of-slots.ensures _

@@ -6,4 +6,4 @@ use Rattle.messages.proofs.put_builtin.Goals as goal
 pub returns : goal.returns
 returns c =
     λ owner why e. rw (c.failure_by.ensures why e)
-    (c.put_fails.ensures owner (call_at (file_of c.args.law.now.bytes.now) c.args.t).name c.call_name.ensures.0)
+    (c.put_fails.ensures owner (call_at (file_of c.args.accepted.now.law.bytes.now) c.args.t).name c.call_name.ensures.0)

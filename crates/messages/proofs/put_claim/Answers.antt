@@ -39,8 +39,10 @@ put_builtin-requires c =
     ((builtin_text h (sym (rw c.in-Ok-Builtin.field-0-is at c.in-Ok-Builtin.ensures))).0, c.requires.1)
 
 pub function_name-requires : goal.function_name-requires
-function_name-requires c =
-    position_inside (heard_one c.requires.0 (accepted_readable c.args.formats.now.law.law.bytes.now c.args.formats.now.law.accepted) refl c.word-a.ensures.0 c.word-b.ensures.0 c.word-position.ensures.0 c.word-subject.ensures.0)
+function_name-requires c = (
+  position_inside (heard_one c.requires.0 (accepted_readable c.args.formats.now.law.law.bytes.now c.args.formats.now.law.accepted) refl c.word-a.ensures.0 c.word-b.ensures.0 c.word-position.ensures.0 c.word-subject.ensures.0),
+  c.args.formats.now.law.accepted.fields,
+)
 
 pub put_open-requires : goal.put_open-requires
 put_open-requires c = omega (arith, c.requires.1, owner_short c.args.formats.now.law.law.indexed c.word-position.result c.function_name.ensures)

@@ -10,7 +10,7 @@ use Rattle.pages.proofs.put_line.Goals as goal
 pub put_number-requires : goal.put_number-requires
 put_number-requires c = (
   omega (arith, c.word.ensures.1),
-  omega (arith, near (file_of c.args.law.now.bytes.now) c.args.words.now c.args.first c.requires.2 c.put_words.ensures.put),
+  omega (arith, near (file_of c.args.allowed.now.law.bytes.now) c.args.words.now c.args.first c.requires.2 c.put_words.ensures.put),
 )
 
 pub put_number-requires-2 : goal.put_number-requires-2
@@ -18,7 +18,7 @@ put_number-requires-2 c = (
   omega (arith, c.word-2.ensures.1),
   omega (
     arith,
-    near (file_of c.args.law.now.bytes.now) c.args.words.now c.args.first c.requires.2 c.put_words.ensures.put,
+    near (file_of c.args.allowed.now.law.bytes.now) c.args.words.now c.args.first c.requires.2 c.put_words.ensures.put,
     c.put_number.ensures.put.end,
     right_columns 10 (decimal c.word.result),
   ),
@@ -29,7 +29,7 @@ put_number-requires-3 c = (
   omega (arith, c.word-3.ensures.1),
   omega (
     arith,
-    near (file_of c.args.law.now.bytes.now) c.args.words.now c.args.first c.requires.2 c.put_words.ensures.put,
+    near (file_of c.args.allowed.now.law.bytes.now) c.args.words.now c.args.first c.requires.2 c.put_words.ensures.put,
     c.put_number.ensures.put.end,
     right_columns 10 (decimal c.word.result),
     c.put_number-2.ensures.put.end,
@@ -41,7 +41,7 @@ pub put_byte-requires : goal.put_byte-requires
 put_byte-requires c =
     omega (
       arith,
-      near (file_of c.args.law.now.bytes.now) c.args.words.now c.args.first c.requires.2 c.put_words.ensures.put,
+      near (file_of c.args.allowed.now.law.bytes.now) c.args.words.now c.args.first c.requires.2 c.put_words.ensures.put,
       c.put_number.ensures.put.end,
       right_columns 10 (decimal c.word.result),
       c.put_number-2.ensures.put.end,
@@ -54,6 +54,6 @@ pub returns : goal.returns
 returns c = record {
   same = (c.put_words.ensures next c.put_number.ensures next c.put_number-2.ensures next c.put_number-3.ensures next c.put_byte.ensures).same;
   put =
-      line_put (file_of c.args.law.now.bytes.now) c.args.words.now c.args.first c.word.ensures.0 c.word-2.ensures.0 c.word-3.ensures.0
+      line_put (file_of c.args.allowed.now.law.bytes.now) c.args.words.now c.args.first c.word.ensures.0 c.word-2.ensures.0 c.word-3.ensures.0
       c.put_words.ensures.put c.put_number.ensures.put c.put_number-2.ensures.put c.put_number-3.ensures.put c.put_byte.ensures.put;
 }

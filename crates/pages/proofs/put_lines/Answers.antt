@@ -11,13 +11,13 @@ use Rattle.pages.proofs.put_lines.Goals as goal
 
 pub returns-then-count-eq0 : goal.returns-then-count-eq0
 returns-then-count-eq0 c =
-    rw (c.if-count-eq0.true, page_none (file_of c.args.law.now.bytes.now) c.args.words.now, ← (c.functions-functions.ensures ∙ c.args.law.now.indexed.words.functions))
+    rw (c.if-count-eq0.true, page_none (file_of c.args.allowed.now.law.bytes.now) c.args.words.now, ← (c.functions-functions.ensures ∙ c.args.allowed.now.law.indexed.words.functions))
     c.put_head.ensures
 
 pub loop-i-init : goal.loop-i-init
 loop-i-init c = record {
   short = omega (arith, c.requires.3);
-  rest = rw c.requires.3 (begun (file_of c.args.law.now.bytes.now) c.args.words.now c.args.count c.args.text.now.out.now c.if-count-eq0.false);
+  rest = rw c.requires.3 (begun (file_of c.args.allowed.now.law.bytes.now) c.args.words.now c.args.count c.args.text.now.out.now c.if-count-eq0.false);
   same = refl;
 }
 
@@ -43,9 +43,9 @@ put_line-requires c = (
 
 pub loop-i-preserved : goal.loop-i-preserved
 loop-i-preserved c =
-    let file = file_of c.args.law.now.bytes.now in
+    let file = file_of c.args.allowed.now.law.bytes.now in
     let headed : Puts c.loop-i.text c.put_heading_before.new.text (flatten (heading_before file.functions.count c.loop-i.i)) =
-    rw (c.functions-functions.ensures ∙ c.args.law.now.indexed.words.functions) at c.put_heading_before.ensures in
+    rw (c.functions-functions.ensures ∙ c.args.allowed.now.law.indexed.words.functions) at c.put_heading_before.ensures in
     record {
       short =
           omega (
@@ -67,6 +67,6 @@ returns c = record {
   same = c.loop-i.invariant.same;
   put =
       rw c.requires.3
-      (finished (file_of c.args.law.now.bytes.now) c.args.words.now c.args.count c.args.text.now.out.now c.loop-i.i c.loop-i.text.at c.loop-i.text.out.now
+      (finished (file_of c.args.allowed.now.law.bytes.now) c.args.words.now c.args.count c.args.text.now.out.now c.loop-i.i c.loop-i.text.at c.loop-i.text.out.now
       (omega (arith, c.loop-i-test.false)) c.loop-i.invariant.rest);
 }

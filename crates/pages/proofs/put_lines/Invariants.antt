@@ -7,6 +7,6 @@ use Rattle.pages.proofs.put_lines.Given as goal
 abbrev pub invariant-loop-i : goal.invariant-loop-i
 invariant-loop-i l = record {
   short : l.text.at ≤ 146 * l.i;
-  rest : ToPut (file_of l.law.bytes.now) l.words l.count l.fn.text.out.now l.i l.text.out.now l.text.at;
+  rest : ToPut (file_of l.allowed.law.bytes.now) l.words l.count l.fn.text.out.now l.i l.text.out.now l.text.at;
   same : l.text.out.ghost_name ≡ l.fn.text.out.ghost_name;
 }

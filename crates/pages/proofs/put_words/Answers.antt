@@ -37,7 +37,7 @@ pub returns : goal.returns
 returns c = record {
   same = (c.put_name.ensures next c.put.ensures next c.put-2.ensures).same;
   put =
-      words_put (file_of c.args.law.now.bytes.now) c.args.words.now c.args.first c.word.ensures.0 c.function_name.ensures
+      words_put (file_of c.args.allowed.now.law.bytes.now) c.args.words.now c.args.first c.word.ensures.0 c.function_name.ensures
       c.word-2.ensures.0 c.word-3.ensures.0 c.put_name.ensures.put (rw c.lint_field.ensures at c.put.ensures).put
       (rw c.severity_field.ensures at c.put-2.ensures).put;
 }

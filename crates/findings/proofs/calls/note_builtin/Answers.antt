@@ -8,7 +8,7 @@ use Rattle.findings.proofs.calls.note_builtin.Goals as goal
 
 pub name_in-name-requires : goal.name_in-name-requires
 name_in-name-requires c =
-    name_inside (file_of c.args.way.now.formats.now.law.law.bytes.now) c.args.t c.args.way.now.formats.now.law.law.fields c.requires.0 c.requires.1 c.text-words.ensures c.term_word-start.ensures c.term_word-len.ensures
+    name_inside (file_of c.args.way.now.formats.now.law.law.bytes.now) c.args.t c.args.way.now.formats.now.law.accepted.fields c.requires.0 c.requires.1 c.text-words.ensures c.term_word-start.ensures c.term_word-len.ensures
 
 pub returns-in-None : goal.returns-in-None
 returns-in-None c =

@@ -5,6 +5,9 @@ use Rattle.listing.proofs.CollectedLaws.{prepares}
 use Rattle.listing.proofs.ReadyLaws.{bytes_told, findings_stored, findings_collected, count_fits, bytes_places}
 use Rattle.listing.proofs.bytes.write_ready.Goals as goal
 
+pub slots_of-slots-requires : goal.slots_of-slots-requires
+slots_of-slots-requires c = c.args.accepted.now.accepted.fields
+
 pub invariant_of-formats-clause-holding : goal.invariant_of-formats-clause-holding
 invariant_of-formats-clause-holding c =
     findings_stored (settings_meant c.args.settings.now) c.gather.ensures (prepares c.args.accepted.now c.requires.0 c.requires.1) c.slots_of-slots.ensures _
