@@ -34,6 +34,9 @@ pub fn bilzarko_findings(
     }
 }
 
+// The three calls that write bytes end alike, each over errors of its own. A function for their ends is no plainer: its clause would say, by the bound
+// `u32: From<E>`, what `bytes_exit` and `read_exit` say of each.
+
 // Writes the text of the finding at a position, and the law's formats in the store. `answer` is the number of bytes written.
 pub fn bilzarko_text(
     mode: u32,

@@ -1,12 +1,11 @@
 -- From what was inferred and gathered to what the calls hand over.
 use Prim.Native.Nat.{ℕ, ◌+◌, ◌*◌, ◌≤◌}
-use mathlib.Core.Bool.{Bool, false}
+use mathlib.Core.Bool.{false}
 use mathlib.Core.List.{List, ◌++◌}
 use mathlib.Core.Logic.{◌⊎◌, inl, inr}
 use mathlib.Core.Path.{◌≡◌, refl, sym, ap, ◌∙◌}
 use native.Mathlib.Omega.{arith}
 use native.Mathlib.Decide.{dec_le}
-use borrow.Author.Tests.{le-ltb}
 use lib.ListN.{length, drop, replicate, length-append}
 use Rattle.std.specs.Prelude.{Result, Ok, Err}
 use Rattle.file.specs.Answer.{Answer, refused, given}

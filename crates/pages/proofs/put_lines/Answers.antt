@@ -1,5 +1,5 @@
 -- A heading alone; or the lines of the findings, with the headings between them.
-use Rattle.std.proofs.Common.{◌≡◌, ◌*◌, ◌+◌, ◌≤◌, arith, refl, ◌∙◌}
+use Rattle.std.proofs.Common.{◌*◌, arith, refl, ◌∙◌}
 use mathlib.Core.List.{flatten}
 use Rattle.file.specs.Sections.{file_of}
 use Rattle.buffers.specs.Code.Text.{Puts}
