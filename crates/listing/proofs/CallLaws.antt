@@ -1,10 +1,9 @@
 -- The calls, by what their front says.
 use Prim.Native.Nat.{ℕ, ◌+◌, ◌*◌, ◌≤◌}
 use mathlib.Core.List.{List, ◌++◌}
-use mathlib.Core.Path.{◌≡◌, sym, ap, ◌∙◌}
+use mathlib.Core.Path.{◌≡◌, ap, ◌∙◌}
 use native.Mathlib.Omega.{arith}
 use lib.ListN.{length, take, drop}
-use lib.Seq.{length-take-le}
 use Rattle.std.specs.Prelude.{Result, Ok, Err}
 use Rattle.file.specs.Answer.{Answer, given}
 use Rattle.file.specs.Sections.{file_of}
@@ -69,12 +68,6 @@ module _ (settings : Settings) {limit : ℕ} {bytes store own : List ℕ} {count
       ).placed (omega (arith, fits, size, c.counted)) (omega (arith, fits, c.counted))
 
   -- ---- those that have place there are copied
-
-  pub own_part : 8 * count ≤ length own → 8 * count ≡ length (take (8 * count) own)
-  own_part few = sym (length-take-le (8 * count) own few)
-
-  pub words_part : 8 * count ≡ length (take (8 * count) words)
-  words_part = sym (length-take-le (8 * count) words fits)
 
   pub handed : (copied : List ℕ) → 8 * count ≤ length own → copied ≡ take (8 * count) own
       → copied ++ drop (8 * count) words ≡ written words 0 (listing_words settings (shown_in limit settings bytes store))

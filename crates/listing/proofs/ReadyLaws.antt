@@ -1,10 +1,10 @@
 -- What the calls answer of a law that is ready, by what was gathered.
-use Prim.Native.Nat.{ℕ, ◌*◌, ◌≤◌, ◌<◌}
+use Prim.Native.Nat.{ℕ, ◌*◌, ◌≤◌}
 use mathlib.Core.List.{List}
 use mathlib.Core.Path.{◌≡◌, refl, sym, ap, ◌∙◌}
 use native.Mathlib.Omega.{arith}
 use native.Mathlib.Decide.{dec_le}
-use borrow.Author.Tests.{lt-ltb, le-ltb, le-leb, lt-leb}
+use borrow.Author.Tests.{le-ltb, le-leb}
 use lib.ListN.{length}
 use Rattle.std.specs.Prelude.{Result, Ok, Err}
 use Rattle.file.specs.Answer.{Answer, refused, given}
@@ -27,9 +27,6 @@ use Rattle.listing.specs.Code.Bytes.{told_pair}
 use Rattle.listing.specs.Promise.{findings_after, bytes_after}
 use Rattle.listing.proofs.CollectedLaws.{ok_same, shown_are, held_after, collected}
 
-wide_full : ◌≡◌ {A = Result Listed Turned} (Err turned.Shapes) (Err turned.Findings) → ⊥
-wide_full e = cc
-
 wide_listed : {found : Listed} → ◌≡◌ {A = Result Listed Turned} (Err turned.Shapes) (Ok found) → ⊥
 wide_listed e = cc
 
@@ -40,33 +37,6 @@ module _ {limit room : ℕ} (settings : Settings) {bytes before after start own 
     (g : GatherIs limit settings room bytes before after start own r) where
   abbrev made : Answer Listing
   made = listing limit settings (tree_of (file_of bytes))
-
-  -- refusal 10
-  wide : r ≡ Err turned.Shapes → made ≡ refused 10
-  wide is = go made refl g.gathered
-    where
-      go : (a : Answer Listing) → made ≡ a → GatheredIs settings room a start own r → made ≡ refused 10
-      go (refused n) e (ten, same) = rw (← ten) e
-      go (given l) e f = absurd (fits (dec_le (8 * length l.findings) room))
-        where
-          fits : Dec (8 * length l.findings ≤ room) → ⊥
-          fits (yes x) = wide_listed (sym is ∙ f.counted x)
-          fits (no x) = wide_full (sym is ∙ f.over (omega (arith, x)))
-
-  abbrev Full : Type 0
-  Full = (l : Listing) × (made ≡ given l) × (room < 8 * length l.findings)
-
-  -- more findings than there is room for
-  full : r ≡ Err turned.Findings → Full
-  full is = go made refl g.gathered
-    where
-      go : (a : Answer Listing) → made ≡ a → GatheredIs settings room a start own r → Full
-      go (refused n) e (ten, same) = absurd (wide_full (sym same ∙ is))
-      go (given l) e f = (l, e, fits (dec_le (8 * length l.findings) room))
-        where
-          fits : Dec (8 * length l.findings ≤ room) → room < 8 * length l.findings
-          fits (yes x) = absurd (full_listed (sym is ∙ f.counted x))
-          fits (no x) = omega (arith, x)
 
   abbrev Counted : Listed → Type 0
   Counted found = (l : Listing) × (made ≡ given l) × (8 * length l.findings ≤ room) × Fitted settings room l start own (Ok found)
@@ -84,16 +54,6 @@ module _ {limit room : ℕ} (settings : Settings) {bytes before after start own 
           fits (no x) = absurd (full_listed (sym (f.over (omega (arith, x))) ∙ is))
 
   -- ---- the findings call
-
-  pub findings_wide : (words : List ℕ) → r ≡ Err turned.Shapes
-      → findings_after (Err turned.Shapes) after words ≡ findings_front limit settings before words (given (tree_of (file_of bytes)))
-  findings_wide words is = rw (g.store, wide is)
-
-  pub findings_full : (words : List ℕ) → room ≡ length words → r ≡ Err turned.Findings
-      → findings_after (Err turned.Findings) after words ≡ findings_front limit settings before words (given (tree_of (file_of bytes)))
-  findings_full words size is =
-      let (l, e, more) = full is in
-      rw (g.store, e, lt-leb (8 * length l.findings) (length words) (omega (arith, more, size)))
 
   module _ {index : List ℕ} {slots : Slots} (p : Prepares limit bytes index before) (s : SlotsOf (file_of bytes) slots) (found : Listed) (is : r ≡ Ok found) where
     pub count_fits : 8 * found.count ≤ room
@@ -137,14 +97,3 @@ module _ {limit room : ℕ} (settings : Settings) {bytes before after start own 
         let told : told_pair t end ≡ fitted_bytes number buffer (bytes_of (tree_of (file_of bytes)) l.findings) =
         rw (shown_are settings p s l e (rw e at g.store)) at same in
         rw (g.store, e, le-ltb 256 (length l.findings) (omega (arith, fits, size)), ← told)
-
-  module _ (number : ℕ) (bytes_of : Law → List Finding → Answer (List ℕ)) (buffer : List ℕ) where
-    pub bytes_wide : r ≡ Err turned.Shapes
-        → bytes_after (Err turned.Shapes) after buffer ≡ bytes_front limit settings number (own_bytes bytes_of) before buffer (given (tree_of (file_of bytes)))
-    bytes_wide is = rw (g.store, wide is)
-
-    pub bytes_full : room ≡ 2048 → r ≡ Err turned.Findings
-        → bytes_after (Err turned.Findings) after buffer ≡ bytes_front limit settings number (own_bytes bytes_of) before buffer (given (tree_of (file_of bytes)))
-    bytes_full size is =
-        let (l, e, more) = full is in
-        rw (g.store, e, lt-ltb 256 (length l.findings) (omega (arith, more, size)))

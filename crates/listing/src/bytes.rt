@@ -61,7 +61,12 @@ fn tell(
 }
 
 // Writes the page of the call's own findings.
-fn print(accepted: &AcceptedLaw, own: &[u32], count: usize, page: &mut [u8]) -> Result<usize, Turned>
+fn print(
+    accepted: &AcceptedLaw,
+    own: &[u32],
+    count: usize,
+    page: &mut [u8],
+) -> Result<usize, Turned>
     requires { (count ≤ 256) × (8 * count ≤ length own.now) × Positions (file_of accepted.now.law.bytes.now) own.now count }
     ensures { told_pair result page.new ≡ fitted_bytes 18 page.old (given (words_page (file_of accepted.now.law.bytes.now) own.now count)) }
 {

@@ -48,9 +48,6 @@ module _ {bytes index : List ℕ} {slots : Slots} {store : List ℕ} {limit t : 
   -- ---- that which is passed
 
   module _ {part : List ℕ} (is : part ≡ argument_part file t) where
-    pub here : PartAt file (t + 1) part
-    here = rw is compared.call.argument
-
     pub passed_read : {made : Result (Unit {0}) TooWide} {words : List ℕ}
         → FormatMade limit (part_shapes file (find (results_in limit (file_names file) store)) (t + 1) part) made words
         → read_format words ≡ of (passed (formats_in file limit store) (call_at file t))

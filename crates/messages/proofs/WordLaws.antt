@@ -17,22 +17,6 @@ use Rattle.lints.specs.Code.Records.{formats_in, call_at}
 use Rattle.messages.specs.Code.Spoken.{Spoken, CallHere, ComparedHere, in_block, recognition_claim}
 use Rattle.messages.proofs.FoundLaws.{Said, of_dead, of_formats, of_literals, of_fails, of_open, Told, told}
 
--- why a call fails, by its number
-pub why_first : (why : Failure) {a : ℕ} → failure_number why ≡ a → a ≡ 1 → why ≡ two_integers_wanted
-why_first two_integers_wanted e h = refl
-why_first division_by_zero e h = absurd (omega arith)
-why_first digits_wanted e h = absurd (omega arith)
-
-pub why_second : (why : Failure) {a : ℕ} → failure_number why ≡ a → a ≡ 2 → why ≡ division_by_zero
-why_second two_integers_wanted e h = absurd (omega arith)
-why_second division_by_zero e h = refl
-why_second digits_wanted e h = absurd (omega arith)
-
-pub why_third : (why : Failure) {a : ℕ} → failure_number why ≡ a → (a ≡ 1 → ⊥) → (a ≡ 2 → ⊥) → why ≡ digits_wanted
-why_third two_integers_wanted e h k = absurd (h (sym e))
-why_third division_by_zero e h k = absurd (k (sym e))
-why_third digits_wanted e h k = refl
-
 -- no lint has another number
 no_other : (l : Lint) → between 1 last_lint (lint_number l) ≡ false → ⊥
 no_other dead_sentence e = cc
