@@ -18,7 +18,7 @@ EXPORTED = "bilzarko/specs/Exported.antt"
 LAWS = "bilzarko/proofs/ExportLaws.antt"
 LAWS_USED = "use Rattle.bilzarko.proofs.ExportLaws.{"
 PUT_CODE = "buffers/src/lib.rt"
-PUT_PROOF = "buffers/proofs/put/Proof.antt"
+PUT_PROOF = "buffers/proofs/put/Answers.antt"
 PINS = {PUT_PROOF} | {"loader/proofs/" + name for name in ("LoadedLaws.antt", "BytesLaws.antt", "ShownLaws.antt", "PrintedLaws.antt", "TypedLaws.antt",
                                                          "MarkedLaws.antt", "load/Proof.antt", "show/Proof.antt", "print/Proof.antt", "read/Proof.antt", "mark/Proof.antt")}
 
@@ -45,9 +45,9 @@ NUMBER_SOME = "absurd (turned_number_some why (rw (← number_is) none))"
 
 class Call:
     """A call whose contract is one equation: its name, the word that its exit and its laws are named by, the fields of the exit and
-    the parameter that each is of, its outcome, and in its proof the two arms and the refusal's number."""
+    the parameter that each is of, and its outcome."""
 
-    def __init__(self, name, word, fields, outcome, refused, written, number):
+    def __init__(self, name, word, fields, outcome):
         self.exit_type, self.fields = f"{word.capitalize()}Exit", tuple(fields)
         self.proof = f"bilzarko/proofs/bilzarko_{name}/Answers.antt"
         self.definition = f"abbrev pub {word}_exit :"
@@ -56,15 +56,15 @@ class Call:
         self.outcome = f"({word}_exit answer.old ({outcome}))"
         self.ensured = f"◌≡◌ {{A = {self.exit_type}}} {self.record}\n        {self.outcome}"
         start = f"c.args.answer.now c.{name}.ensures"
-        self.refused = f"{word}_refused {start} c.in-{refused}.why c.in-{refused}.is c.{number}.ensures"
-        self.written = f"{word}_written {start} c.in-{written}.bytes c.in-{written}.is"
+        self.refused = f"{word}_refused {start} c.in-Err.why c.in-Err.is c.from.ensures"
+        self.written = f"{word}_written {start} c.in-Ok.bytes c.in-Ok.is"
 
 
 TEXT = Call("text", "bytes", {"store": "store", "bytes": "text", "answer": "answer"},
-            "text_outcome 64 (settings_from mode overrides.now) law.now store.old position text.old", "Err", "Ok", "from")
+            "text_outcome 64 (settings_from mode overrides.now) law.now store.old position text.old")
 PAGE = Call("page", "bytes", {"store": "store", "bytes": "page", "answer": "answer"},
-            "page_outcome 64 (settings_from mode overrides.now) law.now store.old page.old", "Err", "Ok", "from")
-READ = Call("read", "read", {"law": "law", "answer": "answer"}, "read_outcome text.now law.old", "Refused", "Written", "unread_number")
+            "page_outcome 64 (settings_from mode overrides.now) law.now store.old page.old")
+READ = Call("read", "read", {"law": "law", "answer": "answer"}, "read_outcome text.now law.old")
 
 # ---- the digit call
 
@@ -226,12 +226,12 @@ CONTRACTS = {
     "put-whole": (
         "what puts bytes into a buffer writes none where there is no room for all",
         [
-            (PUT_CODE, "at + i < out.len()", "at + piece.len() <= out.len()"),
-            (PUT_PROOF, "{then-loop-i-test+else-at-i,", "{then-loop-i-test+else-at-piece,"),
-            (PUT_PROOF, "(λ c. c.if-at-i.true)", "(λ c. omega (arith, c.if-at-piece.true))"),
-            (PUT_PROOF, "(omega arith) c.if-at-i.true)", "(omega arith) (omega (arith, c.if-at-piece.true)))"),
-            (PUT_PROOF, "| then-loop-i-test+else-at-i w", "| then-loop-i-test+else-at-piece w"),
-            (PUT_PROOF, "w.if-at-i.false", "(omega (arith, w.if-at-piece.false))"),
+            (PUT_CODE, "if at < out.len() {\n        let fits", "if at + piece.len() <= out.len() {\n        let fits"),
+            (PUT_PROOF, "{then-at-out, else-at-out}", "{then-at-piece, else-at-piece}"),
+            (PUT_PROOF, "c.if-at-out.branch", "c.if-at-piece.branch"),
+            (PUT_PROOF, "| then-at-out w", "| then-at-piece w"),
+            (PUT_PROOF, "| else-at-out w", "| else-at-piece w"),
+            (PUT_PROOF, "w.if-at-out.false)", "(omega (arith, w.if-at-piece.false)))"),
         ],
     ),
 }
