@@ -114,13 +114,6 @@ impl From<Refusal> for u32 {
     }
 }
 
-// A byte as a word.
-pub fn wide(b: u8) -> u32
-    ensures { (result ≡ b) × (result < 256) }
-{
-    b as u32
-}
-
 // The word at a byte position, least byte first.
 pub fn word_at(s: &[u8], at: usize) -> u32
     requires { at + 4 ≤ length s.now }

@@ -58,15 +58,18 @@ pub fn row_format(known: &Known, part: &[u8], at: usize, out: &mut [u32]) -> Res
     Ok(())
 }
 
-// Joins a format into another.
-fn join_into(limit: usize, format: &mut [u32], other: &[u32])
+// Joins a format into another, and answers whether that one changed.
+fn renew_joined(limit: usize, format: &mut [u32], other: &[u32]) -> bool
     requires { (limit ≤ 64) × FormatIn limit format.old × FormatIn limit other.now }
-    ensures { format.new ≡ format_words limit (join_formats (read_format format.old) (read_format other.now)) }
+    ensures words { format.new ≡ format_words limit (join_formats (read_format format.old) (read_format other.now)) }
+    ensures changed { result ≡ not (same_format (join_formats (read_format format.old) (read_format other.now)) (read_format format.old)) }
 {
     let mut joined = [0; FORMAT];
     let joined = &mut joined[..limit + 1];
     join_formats(limit, format, other, joined);
+    let changed = &*joined != &*format;
     format.copy_from_slice(joined);
+    changed
 }
 
 // The format of a sentence's pattern or result.
@@ -118,7 +121,7 @@ fn join_sentences(
     let row = &mut row[..placed.width()];
     for i in 0..number {
         sentence_format(placed, store, first + i, side, row)?;
-        join_into(placed.limit, joined, row);
+        renew_joined(placed.limit, joined, row);
     }
     Ok(())
 }
@@ -149,21 +152,7 @@ fn sentences_format(
     join_sentences(placed, store, from + 1, number - 1, side, out)
 }
 
-// Joins a format into another, and answers whether that one changed.
-fn renew_joined(limit: usize, format: &mut [u32], other: &[u32]) -> bool
-    requires { (limit ≤ 64) × FormatIn limit format.old × FormatIn limit other.now }
-    ensures words { format.new ≡ format_words limit (join_formats (read_format format.old) (read_format other.now)) }
-    ensures changed { result ≡ not (same_format (join_formats (read_format format.old) (read_format other.now)) (read_format format.old)) }
-{
-    let mut joined = [0; FORMAT];
-    let joined = &mut joined[..limit + 1];
-    join_formats(limit, format, other, joined);
-    let changed = &*joined != &*format;
-    format.copy_from_slice(joined);
-    changed
-}
-
-// The same, where a look comes first: at the start the format is never, and in a last round it is already there.
+// The same as `renew_joined`, where a look comes first: at the start the format is never, and in a last round it is already there.
 fn renew_format(limit: usize, format: &mut [u32], other: &[u32]) -> bool
     requires { (limit ≤ 64) × FormatIn limit format.old × FormatIn limit other.now }
     ensures words { format.new ≡ format_words limit (join_formats (read_format format.old) (read_format other.now)) }

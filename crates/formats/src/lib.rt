@@ -12,7 +12,7 @@ use crate::call::infer_store;
 use crate::placed::Placed;
 use crate::slots::slots_of;
 use file::Refusal;
-use law::{Index, Law, read_law};
+use law::{INDEX_WORDS, Index, Law, read_law};
 
 pub mod call;
 pub mod held;
@@ -91,7 +91,7 @@ fn infer_accepted(law: &Law, store: &mut [u32]) -> Result<Inferred, Unformed>
 pub fn infer_formats(law: &[u8], store: &mut [u32]) -> Result<Inferred, Unformed>
     ensures { infer_outcome result store.new ≡ call_outcome 64 law.now store.old }
 {
-    let mut index: Index = [0; 972];
+    let mut index: Index = [0; INDEX_WORDS];
     read_law(law, &mut index)?;
     let law = Law {
         bytes: law,

@@ -68,11 +68,6 @@ module _ (s : List ℕ) where
     cut_word : word_at (cut s a b) 12 ≡ word_at s (a + 12)
     cut_word = part_word a (b - a) 12 s (omega arith)
 
-    -- the first record's n passes the part
-    level_over : b - a < size a → level_fits (cut s a b) ≡ false
-    level_over o =
-        rw (level_node (cut s a b) (omega (arith, cut_length a b inside)), cut_word, cut_length a b inside, lt-leb (size a) (b - a) o)
-
     -- in a level or a run that fits, it does not
     level_stays : level_fits (cut s a b) ≡ true → size a ≤ b - a
     level_stays h =
@@ -118,32 +113,6 @@ module _ (s : List ℕ) where
 
   abbrev next : ℕ → ℕ
   next k = k + 1 + word_at s (24 * k + 12)
-
-  -- the level of a part is decided by what is left of it from a byte on
-  pub record LevelLeft (start b i : ℕ) : Type 0 where
-    pub from : start ≤ i
-    pub to : i ≤ b
-    pub left : level_fits (cut s start b) ≡ level_fits (cut s i b)
-
-  pub level_start : (start b : ℕ) → start ≤ b → LevelLeft start b start
-  level_start start b h = record { from = le_refl start; to = h; left = refl }
-
-  module _ {start b i : ℕ} (inside : b ≤ length s) (so_far : LevelLeft start b i) where
-    -- no record is left
-    pub level_ends : b - i < 24 → true ≡ level_fits (cut s start b)
-    level_ends h = sym (so_far.left ∙ level_none _ (omega (arith, cut_length i b inside)))
-
-    -- the next record's n passes the part, or it does not
-    module _ {n : ℕ} (some : 24 ≤ b - i) (told : n ≡ word_at s (i + 12)) where
-      pub level_breaks : b - i < 24 + 24 * n → false ≡ level_fits (cut s start b)
-      level_breaks o = sym (so_far.left ∙ level_over i b inside some (rw (← told) o))
-
-      pub level_goes : 24 + 24 * n ≤ b - i → LevelLeft start b (i + (24 + 24 * n))
-      level_goes h = record {
-        from = omega (arith, so_far.from);
-        to = omega arith;
-        left = so_far.left ∙ rw told (level_first i b inside some (rw (← told) h));
-      }
 
   -- what holds of a part without a record, and of a part whose contents and rest it holds of, holds of every part that begins with a record
   module _ (P : ℕ → ℕ → Type 0) (none : (k b : ℕ) → b - 24 * k < 24 → P k b)
@@ -244,9 +213,6 @@ module _ (s : List ℕ) where
   pub record RecordsFit (k : ℕ) : Type 0 where
     pub within : 24 * k ≤ length s
     pub each : (q : ℕ) → q < k → RecordFits q
-
-  pub records_start : RecordsFit 0
-  records_start = record { within = omega arith; each = λ q h. absurd (omega arith) }
 
   module _ {k : ℕ} (so_far : RecordsFit k) where
     -- no record is left

@@ -5,7 +5,7 @@ use mathlib.Core.List.{List, [], ◌∷◌, ◌++◌}
 use mathlib.Core.Bool.{Bool, true, false, cond, ◌||◌}
 use mathlib.Core.Path.{◌≡◌, refl, sym, ◌∙◌}
 use native.Mathlib.Numerals.{add-one}
-use native.Mathlib.Nat.{add-zero, add-suc, sub-zero}
+use native.Mathlib.Nat.{add-zero, add-suc}
 use native.Mathlib.Omega.{arith}
 use native.Mathlib.Decide.{dec_lt}
 use lib.ListN.{length, take, drop, length-append}
@@ -196,19 +196,6 @@ module _ (text records : List ℕ) where
         let e : count - t ≡ 0 = omega arith in
         rw e
 
-    -- a record that is not v is passed
-    pub occurs_next : (v : Variable) (t : ℕ) → t < count → occurs v (variables_at t) ≡ false → occurs v (later t) ≡ occurs v (later (t + 1))
-    occurs_next v t l e = rw (later_next t l, occurs_append v (variables_at t) (later (t + 1)), e)
-
-    -- a record that is v
-    pub occurs_here : (v : Variable) (t : ℕ) → t < count → occurs v (variables_at t) ≡ true → occurs v (later t) ≡ true
-    occurs_here v t l e = rw (later_next t l, occurs_append v (variables_at t) (later (t + 1)), e)
-
-    -- no record is left
-    pub occurs_end : (v : Variable) (t : ℕ) → count ≤ t → occurs v (later t) ≡ false
-    unfolding occurs
-    occurs_end v t l = rw (later_end t l)
-
     -- a record that is no variable adds none
     pub distinct_skip : (t : ℕ) → t < count → variables_at t ≡ [] → distinct (later t) ≡ 0 + distinct (later (t + 1))
     distinct_skip t l e = rw (later_next t l, e) (omega arith)
@@ -229,10 +216,6 @@ module _ (text records : List ℕ) where
     distinct_new t kind r l e lk hk h q =
         let is = variable_is t kind e lk hk in
         rw (later_next t l, is, ← h _ is, q) (omega arith)
-
-    -- no record is passed: all are to be counted
-    pub distinct_start : distinct (variables_from text records count 0) ≡ 0 + distinct (later 0)
-    distinct_start = rw (sub-zero count) (omega arith)
 
     -- no record is left: all are counted
     pub distinct_end : (t found all : ℕ) → count ≤ t → all ≡ found + distinct (later t) → all ≡ found

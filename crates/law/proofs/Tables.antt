@@ -6,7 +6,7 @@ use mathlib.Core.Path.{◌≡◌, refl, sym, ap, ◌∙◌}
 use native.Mathlib.Omega.{arith}
 use native.Mathlib.Decide.{dec_lt}
 use native.Mathlib.Nat.{add-zero, mod-eq_of_lt}
-use lib.ListN.{length, get_or, set, take, drop, take-append-drop}
+use lib.ListN.{length, get_or, set, drop, take-append-drop}
 use lib.Seq.{get_or-set_same, get_or-set_other, get_or-append-add, get_or-drop}
 use lib.Dec.{eqb}
 use borrow.Author.Tests.{eqb-true, ne_eqb}
@@ -244,20 +244,6 @@ index_made file tables limits h t =
       blocks = λ n l.
           word (460 + n) _ (omega arith) (t.blocks n l) (omega (arith, u.sentences, total_mono n file.terms.count (block_size file) (omega arith)));
     }
-
--- a header before tables
-pub placed_made : (file : File) (s : Sections) (tables index : List ℕ) → counts_of file ≡ s → TablesOf file tables
-    → index ≡ header s ++ drop 8 tables → Placed file index
-placed_made file s tables index e t q = record {
-  begins = ap (take 8) q ∙ ap header (sym e);
-  tables = rw q (record {
-    first_sentences = λ f l. past_header s tables (8 + f) (omega arith) ∙ t.first_sentences f l;
-    first_conditions = λ n l. past_header s tables (73 + n) (omega arith) ∙ t.first_conditions n l;
-    condition_terms = λ c l. past_header s tables (202 + c) (omega arith) ∙ t.condition_terms c l;
-    sentence_terms = λ n l. past_header s tables (331 + n) (omega arith) ∙ t.sentence_terms n l;
-    blocks = λ n l. past_header s tables (460 + n) (omega arith) ∙ t.blocks n l;
-  });
-}
 
 -- the file's index, where the sections are used up
 pub placed_indexed : (bytes index : List ℕ) → sections_of bytes ≡ given (file_of bytes) → used_up (file_of bytes) ≡ true

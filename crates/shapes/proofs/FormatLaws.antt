@@ -2,7 +2,7 @@
 use Prim.Native.Nat.{ℕ, zero, suc, ◌+◌, ◌-◌, ◌%◌, ◌≤◌, ◌<◌, min}
 use mathlib.Core.Bool.{Bool, true, false, cond}
 use mathlib.Core.List.{List, [], ◌∷◌}
-use mathlib.Core.Logic.{◌↔◌, ◌⊎◌, inl, inr}
+use mathlib.Core.Logic.{◌↔◌}
 use mathlib.Core.Path.{◌≡◌, refl, sym, ap, ◌∙◌}
 use native.Mathlib.Omega.{arith}
 use native.Mathlib.Decide.{dec_lt}
@@ -12,7 +12,6 @@ use lib.Seq.{take_all}
 use lib.Dec.{leb}
 use Rattle.shapes.specs.Format.{Shapes, Format, never, of, size, is_open}
 use Rattle.shapes.specs.Join.{join_rows, join_formats}
-use Rattle.shapes.specs.Disjoint.{disjoint_formats}
 use Rattle.shapes.specs.Same.{same_format}
 use Rattle.shapes.specs.Words.{shape_words, filled, used_words, format_words, Encodable, shapes_in, read_format}
 use Rattle.shapes.specs.Code.Words.{FormatIn}
@@ -73,14 +72,6 @@ none_words (w ∷ s) e = absurd (omega arith)
 pub none_closed : (s : List ℕ) → length s ≡ 0 → false ≡ leb 256 (get_or s 0 0)
 none_closed [] e = refl
 none_closed (w ∷ s) e = absurd (omega arith)
-
--- ---- disjointness
-
--- never shares nothing
-pub disjoint_with_never : (f g : Format) → (f ≡ never) ⊎ (g ≡ never) → true ≡ disjoint_formats f g
-disjoint_with_never never g h = refl
-disjoint_with_never (of f) never h = refl
-disjoint_with_never (of f) (of g) h = elim h [ inl e ↦ cc | inr e ↦ cc ]
 
 -- ---- join
 

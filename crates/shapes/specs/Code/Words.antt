@@ -1,6 +1,5 @@
 -- A format's words as the code holds them.
 use Rattle.std.specs.Prelude.{ℕ, ◌+◌, ◌%◌, min, List, ◌≡◌, length, get_or}
-use Rattle.shapes.specs.Leaf.{leaf_word, leaf_at}
 use Rattle.shapes.specs.Format.{Format}
 use Rattle.shapes.specs.Words.{format_words, Encodable}
 
@@ -13,7 +12,3 @@ pub record FormatIn (limit : ℕ) (words : List ℕ) : Type 0 where
   pub format : Format
   pub encodable : Encodable limit format
   pub same : words ≡ format_words limit format
-
--- the word that a leaf is written with
-abbrev pub IsLeafWord : ℕ → Type 0
-IsLeafWord w = leaf_word (leaf_at w) ≡ w
