@@ -121,7 +121,7 @@ PARTS = {"if": "if◌then◌else◌", "then": "if◌then◌else◌", "else": "if
 MARKS = {"pub", "abbrev", "unfoldable", "opaque", "private"}
 RUST = set(
     "pub extern C unsafe no_mangle fn struct enum type const mut"
-    " bool u8 u16 u32 u64 usize i8 i16 i32 i64 isize f32 f64".split()
+    " bool u8 u16 u32 u64 usize i8 i16 i32 i64 isize f32 f64 char str Option Result".split()
 )
 
 TOKEN = re.compile(r'(?P<skip>\{-.*?-\}|--[^\n]*|\s+)|"(?:\\.|[^"\\])*"|\[\]|[(){}\[\],;]|[^\s(){}\[\],;"]+', re.S)
