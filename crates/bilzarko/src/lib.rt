@@ -1,6 +1,8 @@
 // The five calls for programs in other languages, which the crate `bilzarko_c` exports as functions of C. A slice crosses as a pointer and a number of elements.
 // The first four return 0 or a refusal's number; what they answer stands in lent words, which keep their values where a call is refused. The last refuses
 // nothing and returns its answer. include/bilzarko.h says what stack a call is given, and that the first three can take for ever.
+//
+// A mode, overrides, a law and a store are parameters of their own, as the functions of C take them.
 #![tactic(auto)]
 
 ghost use Rattle.std.specs.Prelude.{◌≡◌};
@@ -38,6 +40,7 @@ pub fn bilzarko_findings(
 // `u32: From<E>`, what `bytes_exit` and `read_exit` say of each.
 
 // Writes the text of the finding at a position, and the law's formats in the store. `answer` is the number of bytes written.
+// The calls that write bytes end with the same `match`: one function for it would need `u32: From<E>` of their errors, and no line gets shorter.
 pub fn bilzarko_text(
     mode: u32,
     overrides: &[u32],
@@ -95,6 +98,7 @@ pub fn bilzarko_read(text: &[u8], law: &mut [u8], answer: &mut u64) -> u32
 }
 
 // The number of an answer to a digit.
+// A function and no `From`, which would have to stand beside `Tested` in `numbers`: these numbers are of the exported call alone.
 fn tested_number(answer: Tested) -> u32
     ensures { result ≡ tested_number answer }
 {

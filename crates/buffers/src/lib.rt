@@ -28,6 +28,7 @@ pub fn clear_words(words: &mut [u32])
 }
 
 // Bytes put at a position, as far as there is room. The position after all of them in any case.
+// This and the next two take a buffer and a position: `Text` is made of them, and records of a law file are put at places of their own.
 pub fn put(piece: &[u8], out: &mut [u8], at: usize) -> usize
     requires { at + length piece.now ≤ largest }
     ensures { Put out.old at piece.now result out.new }
@@ -52,6 +53,7 @@ pub fn put_byte(byte: u8, out: &mut [u8], at: usize) -> usize
 }
 
 // A number in decimal digits.
+// Not by `write!`, which a full buffer ends with an error: here the position after all digits is answered in any case.
 pub fn put_decimal(n: usize, out: &mut [u8], at: usize) -> usize
     requires { at + 20 ≤ largest }
     ensures { (result ≤ at + 20) × Put out.old at (decimal n) result out.new }

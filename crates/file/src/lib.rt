@@ -38,6 +38,7 @@ pub struct Sections {
 }
 
 // Where the records of sections 2 to 5 begin in a law.
+// The limits are asked for and stand in no ghost field, since `counts_of` of specs/Code/Counts.antt has such counts of any file.
 impl Sections {
     pub fn functions_at(self) -> usize
         requires { self.text ≤ 4096 }
@@ -123,6 +124,7 @@ pub fn word_at(s: &[u8], at: usize) -> u32
 }
 
 // The term that a kind and the words a and b say.
+// The words of a record go one by one, here and in the tests of fields, as the definitions of specs/Head.antt and specs/Fields.antt take them.
 fn term_from(kind: u32, a: u32, b: u32) -> Term
     ensures { result ≡ term_from kind a b }
 {
@@ -280,6 +282,7 @@ fn function_allowed(text: &Text, fields: &[u8]) -> bool
 }
 
 // Does each function record say a name?
+// Not one loop with `terms_allowed` over a size and a test: its contract would ask for what the test says of each record, and reads no plainer.
 fn functions_allowed(text: &Text, functions: &[u8]) -> bool
     ensures { (count : ℕ) → length functions.now ≡ 20 * count → result ≡ functions_allowed text.now.bytes.now functions.now count }
 {

@@ -27,6 +27,7 @@ fn note_pattern(way: &Way, s: usize, out: &mut [u32], tally: Tally) -> Tally
 }
 
 // Notes those of so many sentences from `first` on whose patterns have two e. occurrences or more.
+// Not one loop with `walk_sentences` over a closure: that one is in a cycle of calls.
 pub fn note_open(way: &Way, first: usize, count: usize, out: &mut [u32], tally: Tally) -> Tally
     requires { first + count ≤ (file_in way.now).sentences.count }
     ensures { sink_of result out.new ≡ collect way.now.task.room (sink_of tally out.old)

@@ -15,6 +15,8 @@ use law::runs::end_of;
 use lints::levels::Lint;
 
 // Notes the dead ones of a block's own sentences, where the task is lint 1.
+// Sentences are said by the first and how many, as the definitions count them (specs/Code/Ways.antt).
+// Not one `match` with `walk_pattern`, which is in a cycle of calls: a closure there has no clauses but those that are written at it.
 fn note_block(way: &Way, first: usize, count: usize, out: &mut [u32], tally: Tally) -> Tally
     requires { first + count ≤ (file_in way.now).sentences.count }
     ensures { Collects way.now.task.room tally out.old result out.new (block_met way.now first count) }
@@ -26,6 +28,7 @@ fn note_block(way: &Way, first: usize, count: usize, out: &mut [u32], tally: Tal
 }
 
 // Goes through the first term of a part of the term records, whose record is number `at`.
+// The part and the number go apart, here and below: a struct of both would be made anew for each part that is cut off.
 #[cycle(walk_conditions_walk_pattern_walk_run_walk_sentence_walk_sentences_walk_term)]
 fn walk_term(way: &Way, part: &[u8], at: usize, out: &mut [u32], tally: Tally) -> Tally
     requires { PartAt (file_in way.now) at part.now × (24 ≤ length part.now) }
@@ -67,6 +70,7 @@ fn walk_run(way: &Way, part: &[u8], at: usize, out: &mut [u32], tally: Tally) ->
 }
 
 // Goes through so many sentences from one on.
+// Not one loop with `note_open` over a closure: in this cycle of calls it would need the clauses of the walk written at it.
 #[cycle(walk_conditions_walk_pattern_walk_run_walk_sentence_walk_sentences_walk_term)]
 fn walk_sentences(way: &Way, first: usize, count: usize, out: &mut [u32], tally: Tally) -> Tally
     requires { first + count ≤ (file_in way.now).sentences.count }

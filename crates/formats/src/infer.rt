@@ -170,6 +170,7 @@ fn renew_format(limit: usize, format: &mut [u32], other: &[u32]) -> bool
 }
 
 // Joins the patterns or the results of a function into its name's format in the store, and answers whether that changed.
+// The store goes beside `Placed`, here and below, since it is written: what is copied can hold none that is.
 fn function_turn(
     placed: &Placed,
     store: &mut [u32],
@@ -209,6 +210,7 @@ pub fn infer_arguments(
 }
 
 // One round: each function's results, in file order, using what was renewed before in the round. Answers whether a format changed.
+// Not one with `infer_arguments` over the side: that one promises `arguments_stop`, this one `round_stop` and whether a format changed.
 fn infer_round(placed: &Placed, store: &mut [u32], joined: &mut [u32]) -> Result<bool, TooWide>
     requires { Holding placed.now.limit (file_names (file_of placed.now.law.bytes.now)) store.old × (length joined.old ≡ placed.now.limit + 1) }
     ensures { (found results : List Entry) (tail : List ℕ) → StoreHolds placed.now.limit (file_names (file_of placed.now.law.bytes.now)) found results tail store.old

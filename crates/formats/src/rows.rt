@@ -106,6 +106,7 @@ fn write_call(known: &Known, place: usize, out: &mut [u32], to: usize) -> Option
 }
 
 // A bracket: the shapes inside it, and its word in front of them once their number is known.
+// A part, the number of its first record and the place in the buffer go one by one: a struct of them would be made anew for each part.
 #[cycle(write_row)]
 fn write_bracket(
     known: &Known,

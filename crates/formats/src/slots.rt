@@ -58,6 +58,7 @@ fn fill_last(allowed: &AllowedLaw, last: &mut [bool; 64]) -> u8
 }
 
 // Is the function g the last of its name, and does that come before the given name?
+// `last` goes beside the law, here and below: for three functions a struct with `LastAre` in a ghost field is no plainer.
 fn is_counted(allowed: &AllowedLaw, last: &[bool; 64], name: &[u8], g: usize) -> bool
     requires { LastAre (file_of allowed.now.law.bytes.now) last.now × (g < (file_of allowed.now.law.bytes.now).functions.count) }
     ensures { result ≡ counted (file_of allowed.now.law.bytes.now) (folded name.now) g }

@@ -9,6 +9,7 @@ pub enum Pair {
 }
 
 // What is open, the last on top: as many first places as the depth says.
+// An array with its depth beside it, since memory is fixed.
 #[derive(Drop)]
 pub struct Stack {
     pub places: [Pair; 4096],

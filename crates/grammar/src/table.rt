@@ -25,6 +25,7 @@ pub enum Mode {
 }
 
 // What a token does: it is refused; on to a mode; on to a mode where nothing is open; it opens or closes a bracket or a call.
+// To refuse is a move of the table like others (specs/Accept.antt), so it is no `None`.
 #[derive(Clone, Copy, PartialEq, Eq, Debug)]
 pub enum Move {
     Refuse,
@@ -34,6 +35,7 @@ pub enum Move {
     Close(Pair, Mode),
 }
 
+// One method for each kind of token, as the table of specs/Accept.antt has a row for each: each promises its row.
 impl Mode {
     // The move of a comma.
     fn comma_move(self) -> Move

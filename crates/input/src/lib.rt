@@ -8,6 +8,7 @@ use std::io::Read;
 
 // Reads until the buffer is full, the input ends or it can't be read, and answers how many bytes stand at the buffer's start
 // then, and whether it could be read so far.
+// A `while`, since each read brings as many bytes as it likes. `read_exact` does not say how many came.
 pub fn read_full<R: Read>(input: &mut R, buffer: &mut [u8]) -> (usize, io::Result<()>)
     ensures { result.0 ≤ length buffer.new }
 {

@@ -49,6 +49,7 @@ fn add_block(terms: &[u8], t: usize, sum: usize) -> usize
 }
 
 // Writes the first sentence of the block at each term record, where the first block's stands at `first`, and answers the sentences of all blocks.
+// Not one with `fill_sums`: a sum is written before the record adds to it. `count` is of records, of which each has a place in the table.
 fn fill_blocks(index: &mut Index, from: usize, terms: &[u8], count: usize, first: usize) -> usize
     requires { (24 * count ≤ length terms.now) × (from + count ≤ 972) × (first ≤ 549755813760) × (length index.old ≡ 972) }
     ensures { (result ≡ block_sum terms.now count) × (result ≤ 4294967295 * count) × (length index.new ≡ 972)

@@ -11,6 +11,7 @@ use file::word_at;
 use names::{indices_equal, name_in};
 
 // The records of a pattern, and the text where their names are spelled.
+// Their number goes beside them, since the promises count records and a slice has a number of bytes.
 #[derive(Clone, Copy)]
 struct Pattern<'a> {
     text: &'a [u8],
@@ -97,6 +98,7 @@ impl Law<'_> {
     }
 
     // Does each sentence's pattern have at most 32 different variables?
+    // Allowed fields are asked for by a clause: an `AllowedLaw` would be made for one call of this, and reads no plainer.
     pub fn patterns_allowed(&self) -> bool
         requires { fields_allowed (file_of self.now.bytes.now) ≡ true }
         ensures { result ≡ patterns_allowed (file_of self.now.bytes.now) }

@@ -90,6 +90,7 @@ impl<'a> Law<'a> {
     }
 
     // A word of a function record.
+    // There is one of these for each section: each asks for the count and the record size of its section, and promises a word of its records.
     fn function_word(&self, f: usize, at: usize) -> usize
         requires { (f < (file_of self.now.bytes.now).functions.count) × (at + 4 ≤ 20) }
         ensures { result ≡ word_at (file_of self.now.bytes.now).functions.records (20 * f + at) }

@@ -33,6 +33,7 @@ impl From<Failure> for u32 {
 }
 
 // What a builtin that the lint knows asks of its argument: two integers, of which the second may not be zero (true) or may (false), or digits.
+// No `Option` of the flag: to want digits is not to want nothing.
 #[derive(Clone, Copy)]
 enum Domain {
     Integers(bool),
@@ -40,6 +41,7 @@ enum Domain {
 }
 
 // A term as a part of an integer: a sign, or a macrodigit by its value.
+// No `Option` of the value: a sign is no missing macrodigit, and a term that is neither is no operand.
 #[derive(Clone, Copy)]
 enum Operand {
     Sign,

@@ -29,6 +29,7 @@ pub enum Severity {
 pub struct UnknownNumber(pub u32);
 
 // Document 01's number of a lint.
+// Lints are numbered from 1 and severities from 0, each as its definition says, so that each has a `From` and a `TryFrom` of its own.
 impl From<Lint> for u32 {
     ghost from_gives = { λ lint number. number ≡ lint_number (lint_meant lint) };
 

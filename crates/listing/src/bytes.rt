@@ -27,6 +27,7 @@ use pages::{page_length, put_heading, put_page};
 
 // What is written of a listing: the text of the finding at a position, or all of it on a page. It is an enum, and no function is lent in its place, since a law
 // without functions is answered with no findings to give to one: two would have to be lent, each with the whole of `wanted_bytes` in its clause.
+// A page is no missing position, so it is no `Option`.
 #[derive(Clone, Copy)]
 pub enum Wanted {
     Text(usize),
@@ -34,6 +35,7 @@ pub enum Wanted {
 }
 
 // Writes the text of the finding at a position among the call's own.
+// The buffer and the number of findings in it go apart, here and below: a page needs the number, which a slice of words gives only divided by 8.
 fn tell(
     formats: &Formats,
     own: &[u32],

@@ -21,6 +21,7 @@ use lints::levels::Settings;
 pub const OWN: usize = 2048;
 
 // The findings of a law whose formats are in the store, counted up to the room that there is.
+// The store goes beside the slots and the limit, since it is cleared here: `Formats` only reads one.
 fn gather_findings(
     accepted: &AcceptedLaw,
     slots: &Slots,

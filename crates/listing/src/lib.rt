@@ -175,6 +175,7 @@ fn findings_none(settings: &Settings, store: &mut [u32], limit: usize) -> Result
 }
 
 // Lists the findings of a law under settings: their number, eight words each, and the formats in the store.
+// The three public calls take a mode and overrides one by one, as the exported ones do. Inside they go as `Settings`.
 pub fn findings(
     mode: u32,
     overrides: &[u32],

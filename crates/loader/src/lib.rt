@@ -1,5 +1,7 @@
 // The exported calls as a loader and an editor use them. These contracts say in full what a caller relies on, in words of their own: where a contract of
 // `bilzarko`, `listing`, `reader` or `numbers` promises less, or asks for something, they are not proved.
+//
+// A mode, overrides, a law and a store are parameters of their own, as the exported calls take them.
 #![tactic(auto)]
 
 ghost use Rattle.std.specs.Prelude.{[], ◌∷◌};

@@ -9,6 +9,7 @@ pub mod terms;
 mod values;
 
 // The text of a law and its term records.
+// A pattern and a row go beside them one by one, since each step cuts off from the one, the other or both.
 #[derive(Clone, Copy)]
 pub struct Records<'a> {
     pub text: &'a [u8],
@@ -24,6 +25,8 @@ pub struct Binding {
 }
 
 // Values of variables, in the first so many places.
+// An array with its count beside it, since memory is fixed, and passed by value, as document 01 says.
+// What holds of them by the records is a clause (`Kept`), since they are handed on without these.
 #[derive(Clone, Copy)]
 pub struct Bindings {
     pub places: [Binding; 32],

@@ -52,6 +52,7 @@ pub fn names_equal(a: &[u8], b: &[u8]) -> bool
 }
 
 // Are these the same variable's index? Only letter case folds there, so `-` and `_` differ.
+// Not one with `names_equal` over the fold: it would need a contract on its closure, and is no plainer.
 pub fn indices_equal(a: &[u8], b: &[u8]) -> bool
     ensures { result ≡ same_bytes (folded_index a.now) (folded_index b.now) }
 {

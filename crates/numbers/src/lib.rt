@@ -20,6 +20,7 @@ pub enum Tested {
 }
 
 // What the test keeps after a byte, and what it answers.
+// The state counts beside each answer, also where the byte is no digit, so this is no `Result`.
 #[derive(Clone, Copy, PartialEq, Eq)]
 pub struct Step {
     pub state: u64,

@@ -27,6 +27,7 @@ const UNDER: usize = 59;
 const LINE: usize = 73;
 
 // The field of a lint, by its number, after a space.
+// It is asked by a number, since `lint_word_by` of specs/Code/Lines.antt has a word for each, also for one that no lint has.
 fn lint_field(lint: usize) -> &'static [u8]
     ensures { result.now ≡ next_field (left 8 (lint_word_by lint)) }
 {
@@ -39,6 +40,7 @@ fn lint_field(lint: usize) -> &'static [u8]
 }
 
 // The field of a severity, by its number, after a space.
+// Not one table with the lints: other numbers, other words and another width.
 fn severity_field(severity: usize) -> &'static [u8]
     ensures { result.now ≡ next_field (left 5 (severity_word severity)) }
 {
@@ -114,6 +116,7 @@ pub fn page_length(count: usize) -> usize
 }
 
 // The lines of so many findings, by their words, with the headings between them, from the start of a buffer on.
+// The number goes beside the words, as `words_page` takes both (specs/Code/Lines.antt): more words may be lent than the findings have.
 fn put_lines(text: &mut Text, allowed: &AllowedLaw, words: &[u32], count: usize)
     requires { (count ≤ 256) × (8 * count ≤ length words.now) × Positions (file_of allowed.now.law.bytes.now) words.now count × (text.old.at ≡ 0) }
     ensures { Puts text.old text.new (words_page (file_of allowed.now.law.bytes.now) words.now count) }

@@ -37,6 +37,7 @@ pub struct Level {
 }
 
 // What is still to be matched around the brackets that were gone into: where each level ends, the outermost first. A level begins where the one inside it ends.
+// An array with its count beside it, since memory is fixed.
 #[derive(Clone, Copy)]
 pub struct Pending {
     pub levels: [Level; 33],

@@ -57,6 +57,7 @@ fn shadow(pair: &Pair) -> bool
 }
 
 // Does a pattern match a literal part?
+// Not one with `shadow`: docs/ARCHITECTURE.md names the contracts of both, and this one asks for more.
 fn literal(pair: &Pair) -> bool
     requires { (distinct (variables_in (row_of pair.now.records.text.now pair.now.pattern.now)) ≤ 32)
         × (nesting (row_of pair.now.records.text.now pair.now.pattern.now) ≤ 33) × (literal_part pair.now.row.now ≡ true) }
@@ -172,6 +173,7 @@ pub fn shadows_in(law: &[u8], earlier: usize, later: usize) -> Result<bool, Shad
 }
 
 // Whether a sentence's pattern matches a call's argument, of any bytes.
+// Not one with `shadows_in`: docs/ARCHITECTURE.md names the contracts of both, and the refusals differ.
 pub fn matches_in(law: &[u8], sentence: usize, term: usize) -> Result<bool, MatchError>
     ensures { recognise_answer result ≡ recognise_outcome law.now sentence term }
 {

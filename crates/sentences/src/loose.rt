@@ -1,5 +1,7 @@
 // The loose test, which comes before a search: does a pattern match a row, each occurrence of a variable taken for a variable of its own? No values
 // are kept and nothing is gone back to.
+//
+// The text, a pattern and a row go one by one, since each step cuts off from the pattern, the row or both.
 ghost use Rattle.std.specs.Prelude.{◌≡◌, true, false, List, ℕ, ◌+◌, ◌≤◌, length};
 ghost use Rattle.file.specs.Word.{word_at};
 ghost use Rattle.matching.specs.Code.Part.{row_of};

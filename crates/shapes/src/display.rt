@@ -54,6 +54,7 @@ fn show_row(words: &[u32], is_open: bool, first: bool, out: &mut [u8], at: usize
 }
 
 // A format as text, as far as there is room; the position after all of it in any case. No words are the empty format.
+// No `Display`: it would need a writer of its own, which counts on where a buffer is too short.
 pub fn show_format(format: &[u32], out: &mut [u8], at: usize) -> usize
     requires { at + 4096 ≤ largest }
     ensures { Put out.old at (display (read_format format.now)) result out.new }

@@ -41,6 +41,7 @@ fn answer_case<R: Read, W: Write>(
     Ok(true)
 }
 
+// What a case is, or what is lent for it, differs between the test programs. `answer_cases` has what they share.
 fn main(rt: HostRuntime) -> io::Result<()> {
     let mut label = [0u8; LABEL];
     let mut space = [0u8; LAW];

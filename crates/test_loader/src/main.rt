@@ -141,6 +141,7 @@ fn answer_case<R: Read, W: Write>(input: &mut R, output: &mut W) -> io::Result<b
     Ok(true)
 }
 
+// What a case is, or what is lent for it, differs between the test programs. `answer_cases` has what they share.
 fn main(rt: HostRuntime) -> io::Result<()> {
     let mut label = [0u8; LABEL];
     answer_cases(

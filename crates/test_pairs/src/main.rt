@@ -57,6 +57,7 @@ fn print_earlier<W: Write>(output: &mut W, law: &[u8], later: usize) -> io::Resu
 }
 
 // Asks about a term record and each of so many sentences.
+// Not one loop with `print_earlier`: a closure that asks and writes would be no shorter than the loop.
 fn print_call<W: Write>(output: &mut W, law: &[u8], count: usize, term: usize) -> io::Result<()> {
     for sentence in 0..count {
         print_recognised(output, sentence, term, matches_in(law, sentence, term))?;
@@ -109,6 +110,7 @@ fn answer_law<R: Read, W: Write>(
     Ok(true)
 }
 
+// What a case is, or what is lent for it, differs between the test programs. `answer_cases` has what they share.
 fn main(rt: HostRuntime) -> io::Result<()> {
     let mut label = [0u8; LABEL];
     let mut space = [0u8; LAW];

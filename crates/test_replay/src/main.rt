@@ -75,6 +75,7 @@ fn print_finding<W: Write>(
 }
 
 // Writes a line for each of so many findings.
+// All words go with the number of findings: `take` asks for no proof that there are so many.
 fn print_findings<W: Write>(
     output: &mut W,
     settings: &Settings,
@@ -123,6 +124,7 @@ fn list_case<R: Read, W: Write>(input: &mut R, output: &mut W) -> io::Result<boo
     Ok(true)
 }
 
+// What a case is, or what is lent for it, differs between the test programs. `answer_cases` has what they share.
 fn main(rt: HostRuntime) -> io::Result<()> {
     let mut label = [0u8; LABEL];
     answer_cases(

@@ -1,4 +1,5 @@
 // Identifiers, variables and numbers of a text, each to its end.
+// The text goes whole with a place in it, as in src/pieces.rt.
 ghost use Rattle.std.specs.Prelude.{ℕ, Bool, ◌+◌, ◌<◌, ◌≤◌, true, ◌≡◌, Some, MatchOption, length, drop, get_or};
 ghost use Rattle.names.specs.Name.{digit_byte, letter_byte};
 ghost use Rattle.tokens.specs.Lex.{leading, next};

@@ -1,4 +1,5 @@
 // The pieces of a text: blanks, comments and tokens, each to its end.
+// The text goes whole with a place in it, and is not cut off before it: the ends that are answered are places in the whole text.
 ghost use Rattle.std.specs.Prelude.{◌<◌, ◌≤◌, ◌≡◌, length, drop, get_or};
 ghost use Rattle.tokens.specs.Lex.{begins, next};
 ghost use Rattle.tokens.specs.Code.Found.{found_at, is_blank};

@@ -15,6 +15,7 @@ use tokens::characters::Characters;
 use tokens::kinds::Kind;
 
 // The number in a term record of a token that has one record of its own.
+// A function and no `From`: `Kind` is of the crate `tokens`, and these numbers are of the law file.
 fn record_kind(kind: Kind) -> Option<u32>
     ensures { result ≡ record_kind kind }
 {

@@ -14,6 +14,7 @@ use crate::source::Source;
 use tokens::kinds::Kind;
 
 // What a token has ahead: the place of the closing sign, which is past the last token where there is none, and the number of records from it on.
+// The array of these goes beside the source, and in no struct with it: it is read while it is filled (`closer_before`).
 #[derive(Clone, Copy, PartialEq, Eq, Debug)]
 pub struct Ahead {
     pub closer: u16,

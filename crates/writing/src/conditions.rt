@@ -42,6 +42,7 @@ impl<'a> Source<'a> {
     }
 
     // The section of conditions: the records, and their number before them.
+    // Not one loop with the sentences (said there): a closure for the record would carry `inside` and the buffer.
     pub(crate) fn condition_section(&self, out: &mut [u8], at: usize) -> usize
         requires { at ≤ 900000000000 }
         ensures { (result ≤ at + 65540)

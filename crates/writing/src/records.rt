@@ -1,4 +1,5 @@
 // Records put into a buffer, word by word.
+// The buffer and a position go apart, and not as a `Text`: the number of a section is put before its records, once these are there.
 ghost use Rattle.std.specs.Prelude.{◌+◌, ◌*◌, ◌≤◌, ◌<◌, ◌≡◌, List, ℕ, length};
 ghost use Rattle.buffers.specs.Code.Put.{Put, largest};
 ghost use Rattle.encoding.specs.Encode.{Record, word_bytes, record_bytes, records_bytes, section_bytes};

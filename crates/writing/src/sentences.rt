@@ -45,6 +45,7 @@ impl<'a> Source<'a> {
     }
 
     // The section of sentences: the records, and their number before them.
+    // A loop of its own for each section: they carry nothing, `inside` or a place from token to token, and a closure would carry the buffer too.
     pub(crate) fn sentence_section(&self, out: &mut [u8], at: usize) -> usize
         requires { at ≤ 900000000000 }
         ensures { (result ≤ at + 81924)

@@ -27,6 +27,7 @@ impl<'a> Source<'a> {
     }
 
     // Where a token starts in the text; 0 past the last.
+    // 0 and no `Option`, as the definitions have it where no token is (`first_start` and `end_of_kind` of the crate `encoding`).
     pub(crate) fn start_at(&self, i: usize) -> u32
         ensures { (result ≡ get_or (starts_in self.now.tokens.now) i 0) × (result < 65536) }
     {
@@ -34,6 +35,7 @@ impl<'a> Source<'a> {
     }
 
     // Where it ends; 0 past the last.
+    // Not one with `start_at`: over a closure for the field it is no shorter.
     pub(crate) fn end_at(&self, i: usize) -> u32
         ensures { (result ≡ get_or (ends_in self.now.tokens.now) i 0) × (result < 65536) }
     {

@@ -54,6 +54,7 @@ impl<'a> Source<'a> {
     }
 
     // The record of the call that a token opens.
+    // Not one with `put_bracket`: a bracket has no name, and 0 in its place.
     fn put_call(&self, ahead: &[Ahead], i: usize, out: &mut [u8], at: usize) -> usize
         requires { (at ≤ 1000000000000000) × (length self.now.tokens.now ≤ length ahead.now) × (i < length self.now.tokens.now)
             × (get_or (kinds_in self.now.tokens.now) i 0 ≡ 60) }
