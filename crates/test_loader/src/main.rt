@@ -65,7 +65,10 @@ fn load_law<W: Write>(output: &mut W, settings: &Settings, law: &[u8]) -> io::Re
         &mut answer,
     );
     let [count, rounds, settled] = answer;
-    write!(output, "  findings call: {number}; {count} {rounds} {settled}")?;
+    write!(
+        output,
+        "  findings call: {number}; {count} {rounds} {settled}"
+    )?;
     print_words(output, &words)?;
     print_store(output, &store)
 }

@@ -103,8 +103,6 @@ fn main(rt: HostRuntime) -> io::Result<()> {
         rt.stdout(),
         &mut label,
         b"\n",
-        |input, output, _| {
-            answer_case(input, output, &mut space, &mut store, &mut page)
-        },
+        |input, output, _| { answer_case(input, output, &mut space, &mut store, &mut page) },
     )
 }

@@ -83,7 +83,11 @@ fn print_answer<W: Write>(
     match answer {
         Ok(inferred) => {
             let rounds = inferred.rounds;
-            let settled = if inferred.settled { "settled" } else { "unsettled" };
+            let settled = if inferred.settled {
+                "settled"
+            } else {
+                "unsettled"
+            };
             writeln!(output, " {rounds} rounds {settled}")?;
             print_store(output, store)
         }
