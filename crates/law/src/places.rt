@@ -37,32 +37,83 @@ pub struct AcceptedLaw<'a> {
     pub ghost accepted: { Accepted law.bytes.now } by { Prim.hlevel (props, ⊎_set) },
 }
 
+// A word of an index.
+fn word(index: &Index, i: usize) -> usize
+    requires { i < 972 }
+    ensures { (result ≡ get_or index.now i 0) × (result < 65536) }
+{
+    index[i] as usize
+}
+
+// The numbers of functions, sentences, conditions and terms, of any index.
+pub fn functions(index: &Index) -> usize
+    ensures { result ≡ get_or index.now 4 0 }
+{
+    word(index, 4)
+}
+
+pub fn sentences(index: &Index) -> usize
+    ensures { result ≡ get_or index.now 5 0 }
+{
+    word(index, 5)
+}
+
+pub fn terms(index: &Index) -> usize
+    ensures { result ≡ get_or index.now 7 0 }
+{
+    word(index, 7)
+}
+
+// The first sentence of a function, up to the number of functions.
+pub fn first_sentence(index: &Index, f: usize) -> usize
+    requires { f ≤ 64 }
+    ensures { result ≡ get_or index.now (8 + f) 0 }
+{
+    word(index, FIRST_SENTENCES + f)
+}
+
+// The first condition of a sentence, up to the number of sentences.
+pub fn first_condition(index: &Index, s: usize) -> usize
+    requires { s ≤ 128 }
+    ensures { result ≡ get_or index.now (73 + s) 0 }
+{
+    word(index, FIRST_CONDITIONS + s)
+}
+
+// The first sentence of the block at a term record.
+pub fn block_first(index: &Index, t: usize) -> usize
+    requires { t < 512 }
+    ensures { result ≡ get_or index.now (460 + t) 0 }
+{
+    word(index, BLOCKS + t)
+}
+
 impl<'a> Law<'a> {
     // A word of the index.
     fn word(&self, i: usize) -> usize
         requires { i < 972 }
         ensures { (result ≡ get_or self.now.index.now i 0) × (result < 65536) }
     {
-        self.index[i] as usize
+        word(self.index, i)
     }
 
     // The numbers of functions, sentences, conditions and terms.
     pub fn functions(&self) -> usize
         ensures { result ≡ get_or self.now.index.now 4 0 }
     {
-        self.word(4)
+        functions(self.index)
     }
 
     pub fn sentences(&self) -> usize
         ensures { result ≡ get_or self.now.index.now 5 0 }
     {
-        self.word(5)
+        sentences(self.index)
     }
 
     pub fn terms(&self) -> usize
         ensures { result ≡ get_or self.now.index.now 7 0 }
     {
-        self.word(7)
+        terms(self.index)
     }
 
     // The first sentence of a function, up to the number of functions.
@@ -70,7 +121,7 @@ impl<'a> Law<'a> {
         requires { f ≤ 64 }
         ensures { result ≡ get_or self.now.index.now (8 + f) 0 }
     {
-        self.word(FIRST_SENTENCES + f)
+        first_sentence(self.index, f)
     }
 
     // The first condition of a sentence, up to the number of sentences.
@@ -78,7 +129,7 @@ impl<'a> Law<'a> {
         requires { s ≤ 128 }
         ensures { result ≡ get_or self.now.index.now (73 + s) 0 }
     {
-        self.word(FIRST_CONDITIONS + s)
+        first_condition(self.index, s)
     }
 
     // The first sentence of the block at a term record.
@@ -86,7 +137,7 @@ impl<'a> Law<'a> {
         requires { t < 512 }
         ensures { result ≡ get_or self.now.index.now (460 + t) 0 }
     {
-        self.word(BLOCKS + t)
+        block_first(self.index, t)
     }
 
     // A word of a function record.

@@ -5,6 +5,7 @@ use mathlib.Core.List.{List, [], ◌∷◌}
 use mathlib.Core.Path.{◌≡◌, refl, sym, ap, ◌∙◌}
 use native.Mathlib.Omega.{arith}
 use lib.Dec.{eqb}
+use lib.Seq.{take_all}
 use lib.ListN.{length, take, drop, length-drop}
 use borrow.Author.Tests.{eqb-true, eqb-false, eq-eqb, ne_eqb}
 use Rattle.names.specs.Name.{same_bytes, every_byte}
@@ -109,13 +110,19 @@ module _ (long short : List ℕ) (longer : length short < length long) where
       omega (arith, q, digit_met more long (omega arith) (sym e ∙ h), stripped_shorter short)))
 
   -- they are zeros
-  pub padded_zeros : {r t : Bool} → r ≡ every_byte zero_byte (take more long) → r ≡ true → (length short ≡ 0 → ⊥)
+  pub padded_rest : {r t : Bool} → r ≡ every_byte zero_byte (take more long) → r ≡ true → (length short ≡ 0 → ⊥)
       → t ≡ same_bytes (drop more long) short → t ≡ same_bytes (stripped long) (stripped short)
-  padded_zeros e h some same =
+  padded_rest e h some same =
       let left : length (drop more long) ≡ length long - more = length-drop more long in
       same
       ∙ (sym (same_length (drop more long) short (omega (arith, left)))
       ∙ ap (λ x. same_bytes x (stripped short)) (sym (zeros_passed more long (omega (arith, some)) (sym e ∙ h))))
+
+  pub padded_zeros : {r t : Bool} → r ≡ every_byte zero_byte (take more long) → r ≡ true → (length short ≡ 0 → ⊥)
+      → t ≡ same_bytes (take (length long - more) (drop more long)) short → t ≡ same_bytes (stripped long) (stripped short)
+  padded_zeros e h some same =
+      let left : length (drop more long) ≡ length long - more = length-drop more long in
+      padded_rest e h some (same ∙ ap (λ x. same_bytes x short) (take_all (length long - more) (drop more long) (omega (arith, left))))
 
 -- ---- digits from the last one on
 

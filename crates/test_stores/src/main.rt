@@ -125,6 +125,18 @@ fn lent_words(label: &[u8]) -> usize
     }
 }
 
+// Reads one case and answers it, and says whether there may be another.
+fn answer_case<R: Read, W: Write>(
+    input: &mut R,
+    output: &mut W,
+    label: &[u8],
+    space: &mut [u8],
+    store: &mut [u32; STORE],
+) -> io::Result<bool> {
+    let words = lent_words(label);
+    answer_law(input, output, space, &mut store[..words])
+}
+
 fn main(rt: HostRuntime) -> io::Result<()> {
     let mut label = [0u8; LABEL];
     let mut space = [0u8; LAW];
@@ -135,9 +147,6 @@ fn main(rt: HostRuntime) -> io::Result<()> {
         rt.stdout(),
         &mut label,
         b"",
-        |input, output, label| {
-            let words = lent_words(label);
-            answer_law(input, output, &mut space, &mut store[..words])
-        },
+        |input, output, label| answer_case(input, output, label, &mut space, &mut store),
     )
 }
