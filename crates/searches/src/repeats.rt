@@ -1,11 +1,12 @@
 // Variables that stand again elsewhere, or have a value already.
-ghost use Rattle.std.specs.Prelude.{◌≡◌, true, false, ◌≤◌, ◌<◌, length};
+ghost use Rattle.std.specs.Prelude.{ℕ, ◌≡◌, true, false, ◌≤◌, ◌<◌, length};
 ghost use Rattle.file.specs.Word.{word_at};
 ghost use Rattle.file.specs.Head.{term_at};
 ghost use Rattle.matching.specs.Pattern.{Atom};
 ghost use Rattle.matching.specs.Match.{Values};
 ghost use Rattle.matching.specs.Code.Part.{row_of, atom_of};
-ghost use Rattle.matching.specs.Code.Bound.{Keyed, Kept};
+ghost use Rattle.matching.specs.Code.Bound.{place_at, Keyed, Kept};
+ghost use Rattle.matching.specs.declared.Bindings.{Bindings};
 ghost use Rattle.searches.specs.Code.Capacity.{variables_in};
 ghost use Rattle.searches.specs.Code.Repeats.{Alone, AgreeUpTo, Disjoint};
 
@@ -82,9 +83,10 @@ pub fn stands_apart(text: &[u8], part: &[u8], behind: &[u8], around: usize) -> b
 // Has no variable of a pattern a value in the places from `sure` on? Only keys are looked at.
 pub fn closed(records: &Records, pattern: &[u8], b: &Bindings, sure: usize) -> bool
     requires { (sure ≤ b.now.count) × Keyed records.now.terms.now b.now }
-    ensures { result ≡ true → Kept records.now.text.now records.now.terms.now b.now → (vs : Values Atom)
-        → AgreeUpTo records.now.text.now records.now.terms.now pattern.now b.now sure vs
-        → AgreeUpTo records.now.text.now records.now.terms.now pattern.now b.now b.now.count vs }
+    ensures { result ≡ true → (c : Bindings) → c.count ≡ b.now.count → ((i : ℕ) → i < b.now.count → (place_at c.places i).key ≡ (place_at b.now.places i).key)
+        → Kept records.now.text.now records.now.terms.now c → (vs : Values Atom)
+        → AgreeUpTo records.now.text.now records.now.terms.now pattern.now c sure vs
+        → AgreeUpTo records.now.text.now records.now.terms.now pattern.now c c.count vs }
 {
     for i in sure..b.count {
         let key = usize::from(b.places[i].key);

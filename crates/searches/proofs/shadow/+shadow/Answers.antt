@@ -192,7 +192,7 @@ shadow_tries-returns-then-not-closed t c =
 pub shadow_tries-returns-then-has : goal.shadow_tries-returns-then-has
 shadow_tries-returns-then-has t c =
     let start = c.requires.asked in
-    let free = c.closed.ensures c.if-not-closed.false start.0.kept _ start.2.same in (
+    let free = c.closed.ensures c.if-not-closed.false _ refl (λ i low. refl) start.0.kept _ start.2.same in (
       sym (ap first_in (failed.lengths_known start.0 _ free c.requires.tries_all start.1 start.3 (rw c.new-rests.ensures at (c.has.ensures c.if-has.true)))),
       start.3,
       record { kept = tt },
@@ -201,7 +201,7 @@ shadow_tries-returns-then-has t c =
 pub shadow_tries-returns-then-is_none : goal.shadow_tries-returns-then-is_none
 shadow_tries-returns-then-is_none t c =
     let start = c.requires.asked in
-    let free = c.closed.ensures c.if-not-closed.false start.0.kept _ start.2.same in
+    let free = c.closed.ensures c.if-not-closed.false _ refl (λ i low. refl) start.0.kept _ start.2.same in
     let lengths = c.shadow_lengths-found in (
       lengths.ensures.0,
       failed.lengths_noted start.0 _ free c.requires.tries_all (failed.none_matched _ _ lengths.result _ lengths.ensures.0 (c.is_none.ensures ∙ ap not c.if-is_none.true)) lengths.ensures.1
