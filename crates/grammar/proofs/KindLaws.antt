@@ -8,17 +8,21 @@ use native.Mathlib.Omega.{arith}
 use native.Mathlib.Numerals.{add-one}
 use lib.ListN.{length, drop, get_or, drop_of_length-le}
 use lib.Seq.{drop-cons}
-use Rattle.std.proofs.Common.{Option, Some, None}
+use borrow.Author.Tests.{ne_eqb}
+use Rattle.std.proofs.Common.{Option, Some, None, eqb}
 use Rattle.std.proofs.lemmas.List.{get_or-map, length-map}
 use Rattle.law.specs.Tree.{symbol_kind, term_kind, expression_kind}
 use Rattle.tokens.specs.Token.{left_brace, right_brace, left_bracket, right_bracket, left_angle, right_angle, comma, colon, equals, semicolon}
 use Rattle.tokens.specs.Token.{dollar_entry, dollar_extern, identifier, number, variable, quoted, Token, sign, atom, Piece, Placed, placed}
 use Rattle.tokens.specs.Lex.{lex}
-use Rattle.tokens.specs.Code.TokenKind.{token_kind, kind_code}
+use Rattle.tokens.specs.Code.TokenKind.{token_kind, kind_code, NoKind}
 use Rattle.tokens.specs.Code.Arrays.{kinds_of, kinds_in}
+use Rattle.tokens.specs.declared.kinds.Kind.{Kind}
+use Rattle.tokens.specs.declared.kinds.Kind.TheVariants.{Identifier, LeftBrace, RightBrace, LeftBracket, RightBracket, LeftAngle, RightAngle}
+use Rattle.tokens.specs.declared.kinds.Kind.TheVariants.{Comma, Colon, Equals, Semicolon, Entry, Extern}
 use Rattle.tokens.specs.declared.Lexeme.{Lexeme}
 use Rattle.grammar.specs.Parse.{phrase}
-use Rattle.grammar.specs.Accept.{Opened, open_of, move, perform, may_end, accepts}
+use Rattle.grammar.specs.Accept.{Opened, open_of, other_move, move, perform, may_end, accepts}
 use Rattle.grammar.specs.Read.{phrase_of}
 use Rattle.grammar.specs.Code.Machine.{stack_of, open_in, stepped, StepDone, mode_ends, kind_move, accepts_kinds}
 use Rattle.grammar.specs.declared.table.Mode.{Mode}
@@ -48,6 +52,26 @@ kind_move_lem (atom (variable symbol_kind w)) m = refl
 kind_move_lem (atom (variable term_kind w)) m = refl
 kind_move_lem (atom (variable expression_kind w)) m = refl
 kind_move_lem (atom (quoted w)) m = refl
+
+-- a number that no kind has moves as an atom that is no name
+pub no_kind_move : (k : ℕ) (m : Mode) → NoKind k → other_move m ≡ kind_move k m
+no_kind_move k m h =
+    let apart : (kind : Kind) → eqb k (kind_code kind) ≡ false = λ kind. ne_eqb k (kind_code kind) (λ e. h kind (sym e)) in
+    rw (
+      apart Identifier,
+      apart LeftBracket,
+      apart RightBracket,
+      apart LeftAngle,
+      apart RightAngle,
+      apart Comma,
+      apart Colon,
+      apart Equals,
+      apart Semicolon,
+      apart LeftBrace,
+      apart RightBrace,
+      apart Entry,
+      apart Extern,
+    )
 
 -- the machine over kinds is the machine over tokens
 pub kinds_accepted : (ts : List Placed) (m : Mode) (st : List Opened) → accepts_kinds m st (kinds_of ts) ≡ accepts m st ts

@@ -6,7 +6,7 @@ ghost use Rattle.tokens.specs.Code.Arrays.{kinds_in};
 ghost use Rattle.grammar.specs.Code.Machine.{accepts_kinds, StepDone};
 
 use crate::stack::Stack;
-use crate::table::{Mode, Move, may_end, move_of};
+use crate::table::{Mode, Move, may_end, move_of, move_of_code};
 use tokens::Lexeme;
 
 mod stack;
@@ -38,6 +38,22 @@ pub fn accepts(tokens: &[Lexeme]) -> bool
     let mut mode = Mode::AtText;
     for token in tokens {
         match perform(move_of(token.kind, mode), &mut stack) {
+            Some(next) => mode = next,
+            None => return false,
+        }
+    }
+    stack.is_empty() && may_end(mode)
+}
+
+// Do tokens with kinds of these numbers spell a text? Any bytes may stand here.
+pub fn accepts_codes(kinds: &[u8]) -> bool
+    requires { length kinds.now ≤ 4096 }
+    ensures { result ≡ accepts_kinds Mode.AtText [] kinds.now }
+{
+    let mut stack = Stack::new();
+    let mut mode = Mode::AtText;
+    for &code in kinds {
+        match perform(move_of_code(code, mode), &mut stack) {
             Some(next) => mode = next,
             None => return false,
         }

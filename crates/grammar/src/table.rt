@@ -212,6 +212,16 @@ pub fn move_of(kind: Kind, mode: Mode) -> Move
     }
 }
 
+// The move of a token whose kind has this number. A number that no kind has moves as an atom that is no name.
+pub fn move_of_code(code: u8, mode: Mode) -> Move
+    ensures { result ≡ kind_move code mode }
+{
+    match Kind::try_from(code) {
+        Ok(kind) => move_of(kind, mode),
+        Err(_) => mode.other_move(),
+    }
+}
+
 // May a text end here?
 pub fn may_end(mode: Mode) -> bool
     ensures { result ≡ mode_ends mode }

@@ -1,6 +1,6 @@
 // The kinds of tokens.
-ghost use Rattle.std.specs.Prelude.{◌≡◌};
-ghost use Rattle.tokens.specs.Code.TokenKind.{kind_code, sign_of, variable_of};
+ghost use Rattle.std.specs.Prelude.{◌≡◌, MatchResult};
+ghost use Rattle.tokens.specs.Code.TokenKind.{kind_code, NoKind, sign_of, variable_of};
 
 // What a token is: a name, a number, a variable, a quoted run, or a sign.
 #[derive(Clone, Copy, PartialEq, Eq, Debug)]
@@ -23,6 +23,41 @@ pub enum Kind {
     Semicolon,
     Entry,
     Extern,
+}
+
+// A number that no kind has.
+#[derive(Clone, Copy, PartialEq, Eq, Debug)]
+pub struct UnknownCode(pub u8);
+
+// The kind of a number. `kind_code` of specs/Code/TokenKind.antt numbers them.
+impl TryFrom<u8> for Kind {
+    type Error = UnknownCode;
+
+    ghost try_from_gives = { λ code r. MatchResult r (λ kind. kind_code kind ≡ code) (λ e. (e.0 ≡ code) × NoKind code) };
+
+    fn try_from(code: u8) -> Result<Kind, UnknownCode> {
+        match code {
+            1 => Ok(Kind::Identifier),
+            2 => Ok(Kind::Number),
+            3 => Ok(Kind::SymbolVariable),
+            4 => Ok(Kind::TermVariable),
+            5 => Ok(Kind::ExpressionVariable),
+            6 => Ok(Kind::Quoted),
+            b'{' => Ok(Kind::LeftBrace),
+            b'}' => Ok(Kind::RightBrace),
+            b'(' => Ok(Kind::LeftBracket),
+            b')' => Ok(Kind::RightBracket),
+            b'<' => Ok(Kind::LeftAngle),
+            b'>' => Ok(Kind::RightAngle),
+            b',' => Ok(Kind::Comma),
+            b':' => Ok(Kind::Colon),
+            b'=' => Ok(Kind::Equals),
+            b';' => Ok(Kind::Semicolon),
+            b'E' => Ok(Kind::Entry),
+            b'X' => Ok(Kind::Extern),
+            _ => Err(UnknownCode(code)),
+        }
+    }
 }
 
 impl Kind {

@@ -1,6 +1,6 @@
 -- Kinds of tokens, as the code has them, and as numbers: a sign by a byte of its own, `$ENTRY` as `E` and `$EXTERN` as `X`, an identifier 1, a number 2, a variable
 -- as its term record (3 to 5), a quoted run 6.
-use Rattle.std.specs.Prelude.{ℕ, Option, Some, None, cond, eqb}
+use Rattle.std.specs.Prelude.{ℕ, Option, Some, None, cond, eqb, ◌≡◌}
 use Rattle.law.specs.Tree.{symbol_kind, term_kind, expression_kind}
 use Rattle.tokens.specs.Token.{Sign, left_brace, right_brace, left_bracket, right_bracket, left_angle, right_angle, comma, colon, equals, semicolon, dollar_entry, dollar_extern, Atom, identifier, number, variable, quoted, kind_number, Token, sign, atom}
 use Rattle.tokens.specs.declared.kinds.Kind.{Kind}
@@ -51,6 +51,10 @@ kind_code Equals = 61
 kind_code Semicolon = 59
 kind_code Entry = 69
 kind_code Extern = 88
+
+-- a number that no kind has
+abbrev pub NoKind : ℕ → Type 0
+NoKind n = (kind : Kind) → kind_code kind ≡ n → ⊥
 
 -- the kind of a token
 abbrev pub kind_of : Token → Kind
