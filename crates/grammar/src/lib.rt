@@ -45,18 +45,18 @@ pub fn accepts(tokens: &[Lexeme]) -> bool
     stack.is_empty() && may_end(mode)
 }
 
-// Do tokens with kinds of these numbers spell a text? Any bytes may stand here.
+// Do tokens with kinds of these numbers spell a text? Any bytes may stand here, also those that are no kind, so it stays beside `accepts`.
 pub fn accepts_codes(kinds: &[u8]) -> bool
     requires { length kinds.now ≤ 4096 }
     ensures { result ≡ accepts_kinds Mode.AtText [] kinds.now }
 {
-    let mut stack = Stack::new();
+    let mut pairs = Stack::new();
     let mut mode = Mode::AtText;
     for &code in kinds {
-        match perform(move_of_code(code, mode), &mut stack) {
+        match perform(move_of_code(code, mode), &mut pairs) {
             Some(next) => mode = next,
             None => return false,
         }
     }
-    stack.is_empty() && may_end(mode)
+    pairs.is_empty() && may_end(mode)
 }
