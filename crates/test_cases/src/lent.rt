@@ -22,7 +22,7 @@ pub struct Run {
 }
 
 // The value of the word after one with this value.
-pub fn next_word(value: u32) -> u32 {
+fn next_word(value: u32) -> u32 {
     value.wrapping_add(1)
 }
 
