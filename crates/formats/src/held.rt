@@ -20,7 +20,7 @@ use law::AcceptedLaw;
 // An accepted law, the places of its names, and a store that holds the formats of its names, of at most so many shapes.
 #[derive(Clone, Copy)]
 pub struct Formats<'a> {
-    pub law: AcceptedLaw<'a>,
+    pub law: AcceptedLaw<'a, 'a>,
     pub slots: &'a Slots,
     pub store: &'a [u32],
     pub limit: usize,

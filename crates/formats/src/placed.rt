@@ -12,7 +12,7 @@ use law::Law;
 // A law that refusals 1 to 7 let pass, the places of its names, and a limit on the shapes in a format.
 #[derive(Clone, Copy)]
 pub struct Placed<'a> {
-    pub law: Law<'a>,
+    pub law: Law<'a, 'a>,
     pub slots: &'a Slots,
     pub limit: usize,
     pub ghost readable: { Readable (file_of law.bytes.now) } by { Prim.hlevel (props, ⊎_set) },

@@ -6,7 +6,7 @@ ghost use Rattle.law.specs.Runs.{block_later, sentence_blocks, blocks_allowed};
 
 use crate::Law;
 
-impl Law<'_> {
+impl Law<'_, '_> {
     // The number of sentences of the block at a term record, 0 where it is no block.
     pub fn block_size(&self, t: usize) -> usize
         requires { t < (file_of self.now.bytes.now).terms.count }

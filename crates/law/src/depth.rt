@@ -27,7 +27,7 @@ pub fn sentences_in(term: Term) -> usize
 // A law that is in order up to its blocks, so that its tree can be walked.
 #[derive(Clone, Copy)]
 struct ReadableLaw<'a> {
-    law: &'a Law<'a>,
+    law: &'a Law<'a, 'a>,
     ghost readable: { Readable (file_of law.now.bytes.now) } by { Prim.hlevel props },
 }
 
@@ -128,7 +128,7 @@ impl ReadableLaw<'_> {
     }
 }
 
-impl Law<'_> {
+impl Law<'_, '_> {
     // Whether no term of the law has over 32 brackets, calls and blocks around it.
     pub fn depth_allowed(&self) -> bool
         requires { Readable (file_of self.now.bytes.now) }

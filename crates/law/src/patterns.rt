@@ -83,7 +83,7 @@ impl<'a> Pattern<'a> {
     }
 }
 
-impl Law<'_> {
+impl Law<'_, '_> {
     // Does a sentence's pattern have at most 32 different variables?
     fn sentence_pattern(&self, s: usize) -> bool
         requires { (fields_allowed (file_of self.now.bytes.now) ≡ true) × (s < (file_of self.now.bytes.now).sentences.count) }

@@ -15,25 +15,25 @@ use crate::{BLOCKS, CONDITION_TERMS, FIRST_CONDITIONS, FIRST_SENTENCES, Index, S
 use file::word_at;
 use names::name_in;
 
-// The bytes of a file, and its index.
+// The bytes of a file, and its index. What a lookup hands back is of the bytes alone: the index may be written while it is held.
 #[derive(Clone, Copy)]
-pub struct Law<'a> {
+pub struct Law<'a, 'i> {
     pub bytes: &'a [u8],
-    pub index: &'a Index,
+    pub index: &'i Index,
     pub ghost indexed: { Indexed bytes.now index.now } by { Prim.hlevel (props, ⊎_set) },
 }
 
 // A file whose fields are allowed, with its index.
 #[derive(Clone, Copy)]
-pub struct AllowedLaw<'a> {
-    pub law: Law<'a>,
+pub struct AllowedLaw<'a, 'i> {
+    pub law: Law<'a, 'i>,
     pub ghost fields: { fields_allowed (file_of law.bytes.now) ≡ true },
 }
 
 // A law that no refusal holds of.
 #[derive(Clone, Copy)]
-pub struct AcceptedLaw<'a> {
-    pub law: Law<'a>,
+pub struct AcceptedLaw<'a, 'i> {
+    pub law: Law<'a, 'i>,
     pub ghost accepted: { Accepted law.bytes.now } by { Prim.hlevel (props, ⊎_set) },
 }
 
@@ -88,7 +88,7 @@ pub fn block_first(index: &Index, t: usize) -> usize
     word(index, BLOCKS + t)
 }
 
-impl<'a> Law<'a> {
+impl<'a> Law<'a, '_> {
     // A word of the index.
     fn word(&self, i: usize) -> usize
         requires { i < 972 }
@@ -284,8 +284,8 @@ impl<'a> Law<'a> {
     }
 }
 
-impl<'a> AcceptedLaw<'a> {
-    pub fn new(bytes: &'a [u8], index: &'a Index) -> AcceptedLaw<'a>
+impl<'a, 'i> AcceptedLaw<'a, 'i> {
+    pub fn new(bytes: &'a [u8], index: &'i Index) -> AcceptedLaw<'a, 'i>
         requires { Indexed bytes.now index.now × Accepted bytes.now }
         ensures { (result.law.bytes.now ≡ bytes.now) × (result.law.index.now ≡ index.now) }
     {

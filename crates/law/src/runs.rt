@@ -51,7 +51,7 @@ fn run_fits(part: &[u8]) -> bool
     true
 }
 
-impl Law<'_> {
+impl Law<'_, '_> {
     // Whether both runs of a condition c of a sentence s fit.
     fn condition_fits(&self, s: usize, c: usize) -> bool
         requires { Owns (file_of self.now.bytes.now) s c }

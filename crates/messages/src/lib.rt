@@ -30,7 +30,7 @@ use sentences::argument_of;
 mod texts;
 
 // The name of the call at a term record.
-fn call_name<'a>(accepted: &AcceptedLaw<'a>, t: usize) -> &'a [u8]
+fn call_name<'a>(accepted: &AcceptedLaw<'a, '_>, t: usize) -> &'a [u8]
     requires { CallHere (file_of accepted.now.law.bytes.now) t }
     ensures { ((call_at (file_of accepted.now.law.bytes.now) t).name.spelled ≡ result.now) × (length result.now ≤ 4096) }
 {

@@ -70,7 +70,7 @@ fn literal(pair: &Pair) -> bool
 }
 
 // The text of a law and all its term records.
-fn all_records<'a>(accepted: &AcceptedLaw<'a>) -> Records<'a>
+fn all_records<'a>(accepted: &AcceptedLaw<'a, '_>) -> Records<'a>
     ensures { (result.text.now ≡ (file_of accepted.now.law.bytes.now).text.records) × (result.terms.now ≡ (file_of accepted.now.law.bytes.now).terms.records) }
 {
     let law = &accepted.law;
@@ -97,7 +97,7 @@ pub fn sentence_shadows(accepted: &AcceptedLaw, earlier: usize, later: usize) ->
 }
 
 // The records inside a term record: a call's argument.
-pub fn argument_of<'a>(accepted: &AcceptedLaw<'a>, term: usize) -> &'a [u8]
+pub fn argument_of<'a>(accepted: &AcceptedLaw<'a, '_>, term: usize) -> &'a [u8]
     requires { term < (file_of accepted.now.law.bytes.now).terms.count }
     ensures { result.now ≡ argument_part (file_of accepted.now.law.bytes.now) term }
 {
