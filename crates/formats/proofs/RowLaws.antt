@@ -36,8 +36,9 @@ use Rattle.buffers.proofs.WrittenLaws.{written_none, written_more, written_one, 
 use Rattle.formats.specs.FormatOf.{variable_shapes, pattern_shapes, chain, extend, Results, result_shapes}
 use Rattle.formats.specs.Code.Slots.{call_folded, IsCall}
 use Rattle.formats.specs.Code.Rows.{format_at, Knows, KeptOutside, Row, over, ends, RowIs, Between, Stored, stored_at, callee_shapes}
-use Rattle.formats.specs.Code.Rows.{term_shapes, part_shapes, first_shapes, RowAsked, LeafTerm, left_of, Onward, LeavesAre}
+use Rattle.formats.specs.Code.Rows.{term_shapes, part_shapes, first_shapes, RowAsked, term_leaf, LeafTerm, left_of, Onward, LeavesAre}
 use Rattle.std.specs.Prelude.{Some, None}
+use Rattle.std.specs.Option.{option_map}
 use Rattle.file.specs.declared.Term.TheVariants as terms
 use Rattle.shapes.specs.declared.RowEnd.{RowEnd}
 use Rattle.shapes.specs.declared.RowEnd.TheVariants.{Closed, Open}
@@ -379,6 +380,16 @@ call_kind a b c d (suc (suc (suc (suc (suc zero))))) h = let z : ◌≡◌ {A = 
 call_kind a b c d (suc (suc (suc (suc (suc (suc zero)))))) h = let z : ◌≡◌ {A = ℕ} 0 1 = cc in absurd (omega arith)
 call_kind a b c d (suc (suc (suc (suc (suc (suc (suc zero))))))) h = refl
 call_kind a b c d (suc (suc (suc (suc (suc (suc (suc (suc kind)))))))) h = let z : ◌≡◌ {A = ℕ} 0 1 = cc in absurd (omega arith)
+
+-- a term that has a leaf adds that shape alone
+pub leaf_alone : (term : Term) (leaf : Leaf) → option_map leaf_meant (Some leaf) ≡ term_leaf term → LeafTerm term (Some leaf)
+leaf_alone (terms.Symbol x) leaf e inside known = cc
+leaf_alone (terms.SVariable a b) leaf e inside known = cc
+leaf_alone (terms.TVariable a b) leaf e inside known = cc
+leaf_alone (terms.EVariable a b) leaf e inside known = let z : ◌≡◌ {A = ℕ} 0 1 = cc in absurd (omega arith)
+leaf_alone terms.Bracket leaf e inside known = let z : ◌≡◌ {A = ℕ} 0 1 = cc in absurd (omega arith)
+leaf_alone (terms.Call a b) leaf e inside known = let z : ◌≡◌ {A = ℕ} 0 1 = cc in absurd (omega arith)
+leaf_alone (terms.Block n) leaf e inside known = let z : ◌≡◌ {A = ℕ} 0 1 = cc in absurd (omega arith)
 
 -- a term that adds a shape alone has none inside it
 leaf_kind : (a b kind : ℕ) (leaf : Leaf) → LeafTerm (term_from kind a b) (Some leaf) → kind < 5

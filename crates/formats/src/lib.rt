@@ -10,6 +10,7 @@ ghost use Rattle.formats.specs.Call.{law_outcome, call_outcome, infer_outcome};
 
 use crate::call::infer_store;
 use crate::placed::Placed;
+pub use crate::slots::Slots;
 use crate::slots::slots_of;
 use file::Refusal;
 use law::{INDEX_WORDS, Index, Law, read_law};

@@ -1,12 +1,13 @@
 // The shapes of a run of term records, written as words into a buffer.
 ghost use Rattle.std.specs.Prelude.{◌≡◌, false, ◌+◌, ◌*◌, ◌≤◌, ◌<◌, length, MatchOption};
+ghost use Rattle.std.specs.Option.{option_map};
 ghost use Rattle.file.specs.Sections.{file_of};
 ghost use Rattle.file.specs.Forest.{contents};
 ghost use Rattle.law.specs.Runs.{end_of};
 ghost use Rattle.shapes.specs.Format.{end, item, group};
 ghost use Rattle.shapes.specs.Code.Leaves.{leaf_meant};
 ghost use Rattle.formats.specs.FormatOf.{Results};
-ghost use Rattle.formats.specs.Code.Rows.{format_at, RowIs, Between, LeafTerm, LeavesAre, Stored, stored_at, callee_shapes, part_shapes, first_shapes, RowAsked, KnowsAll};
+ghost use Rattle.formats.specs.Code.Rows.{format_at, RowIs, Between, term_leaf, LeavesAre, Stored, stored_at, callee_shapes, part_shapes, first_shapes, RowAsked, KnowsAll};
 
 use crate::placed::Placed;
 use file::{Term, term_at, word_at};
@@ -45,7 +46,7 @@ impl<'a> Known<'a> {
 
 // The shape that a term adds alone: that of a symbol, an s. or a t. variable.
 fn leaf_of(term: Term) -> Option<Leaf>
-    ensures { LeafTerm term result }
+    ensures { option_map leaf_meant result ≡ term_leaf term }
 {
     match term {
         Term::Symbol(symbol) => Some(Leaf::from(symbol)),
@@ -153,7 +154,7 @@ fn write_first(known: &Known, part: &[u8], at: usize, out: &mut [u32], to: usize
 // room for them. The store has the results of the first `count` names; a call of another name, a block or an e. variable ends the row open.
 // There are results that these are (`results_known` of proofs/StateLaws.antt).
 #[cycle(write_row)]
-pub fn write_row(
+pub(crate) fn write_row(
     known: &Known,
     part: &[u8],
     at: usize,

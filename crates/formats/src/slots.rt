@@ -14,7 +14,7 @@ const CALL: usize = 7;
 
 // The places of names, filled once, so that no call's name is looked up again in each round: of each function's name, and of each call's, which
 // is the number of names where no function has it; how many names there are; and whether a term record is a call.
-#[derive(Drop)]
+#[derive(Clone, Copy, Debug, PartialEq, Eq)]
 pub struct Slots {
     pub functions: [u8; 64],
     pub calls: [u8; 512],

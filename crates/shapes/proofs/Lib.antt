@@ -2,6 +2,7 @@ pub mod LeafLaws
 pub mod JoinLaws
 pub mod DisjointLaws
 pub mod SameLaws
+pub mod LeafWordLaws
 pub mod WordLaws
 pub mod FirstLaws
 pub mod FormatLaws

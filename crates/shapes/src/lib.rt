@@ -126,8 +126,12 @@ fn join_shapes(a: Shape, b: Shape, out: &mut [u32], at: usize) -> usize
             out[at] = bracket_word(end.next() - at - 1, end.is_open());
             end.next()
         }
-        _ => {
-            out[at] = u32::from(Leaf::Unknown); // one of the two alone is a bracket
+        (Shape::Leaf(_), Shape::Bracket(_)) => {
+            out[at] = u32::from(Leaf::Unknown); // the first shape is no bracket
+            at + 1
+        }
+        (Shape::Bracket(_), Shape::Leaf(_)) => {
+            out[at] = u32::from(Leaf::Unknown); // the second shape is no bracket
             at + 1
         }
     }

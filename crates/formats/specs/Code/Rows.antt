@@ -10,6 +10,7 @@ use Rattle.file.specs.declared.Term.TheVariants.{Symbol as Symbolic, SVariable, 
 use Rattle.law.specs.Runs.{end_of}
 use Rattle.law.specs.Reading.{run_of, own}
 use Rattle.law.specs.Code.Index.{Readable, PartAt}
+use Rattle.shapes.specs.Leaf as leaves
 use Rattle.shapes.specs.Leaf.{any_symbol, unknown}
 use Rattle.shapes.specs.Format.{Shapes, end, item, group, Format, never, of, size, is_open}
 use Rattle.shapes.specs.Words.{shape_words, read_format}
@@ -94,6 +95,16 @@ term_shapes (EVariable a b) inside known = end true
 term_shapes Bracket inside known = group inside (end false)
 term_shapes (Call a b) inside known = callee_shapes known
 term_shapes (Block n) inside known = end true
+
+-- the shape that a term adds alone; none for any other term
+abbrev pub term_leaf : Term → Option leaves.Leaf
+term_leaf (Symbolic x) = Some (symbol_leaf x)
+term_leaf (SVariable a b) = Some any_symbol
+term_leaf (TVariable a b) = Some unknown
+term_leaf (EVariable a b) = None
+term_leaf Bracket = None
+term_leaf (Call a b) = None
+term_leaf (Block n) = None
 
 -- the shape that a term adds alone, where it is one
 abbrev pub LeafTerm : Term → Option Leaf → Type 0

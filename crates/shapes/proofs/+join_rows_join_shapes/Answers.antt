@@ -3,7 +3,7 @@ use Rattle.shapes.specs.Leaf.{unknown, leaf_word}
 use Rattle.shapes.specs.Format.{size}
 use Rattle.shapes.proofs.FirstLaws.{split_none, join_none_none, join_none_some, join_some_none, join_some_some, end_joined, leaf_joined, brackets_joined}
 use Rattle.shapes.proofs.+join_rows_join_shapes.Goals as goal
-use Rattle.shapes.proofs.+join_rows_join_shapes.Goals.{join_rows-then-a_open, join_rows-else-a_open, join_shapes-in_default-via-in-Leaf+in_default, join_shapes-in_default-via-in-Bracket+in_default}
+use Rattle.shapes.proofs.+join_rows_join_shapes.Goals.{join_rows-then-a_open, join_rows-else-a_open}
 
 pub join_rows-returns-after-a_open-clause-joined : goal.join_rows-returns-after-a_open-clause-joined
 join_rows-returns-after-a_open-clause-joined t c =
@@ -50,22 +50,22 @@ pub join_shapes-returns-in-Bracket-Bracket-clause-words :
 join_shapes-returns-in-Bracket-Bracket-clause-words t c =
     rw (c.in-Bracket-Bracket.is-0, c.in-Bracket-Bracket.is-1) (brackets_joined _ _ _ _ _ _ _ (omega (arith, c.join_rows-end.ensures.end, rw c.in-Bracket-Bracket.is-0 at c.requires.0)) c.join_rows-end.ensures.joined (rw (c.next.ensures, c.is_open.ensures) at c.bracket_word.ensures)).1
 
-pub join_shapes-returns-in_default-clause-end : goal.join_shapes-returns-in_default-clause-end
+pub join_shapes-returns-in-Leaf-Bracket-clause-end : goal.join_shapes-returns-in-Leaf-Bracket-clause-end
 unfolding size
-join_shapes-returns-in_default-clause-end t c =
-    elim c.in_default.branch [
-      | join_shapes-in_default-via-in-Leaf+in_default w ↦ rw (w.in_default.is-0, w.in_default.is-1) (omega arith, refl)
-      | join_shapes-in_default-via-in-Bracket+in_default w ↦ rw (w.in_default.is-0, w.in_default.is-1) (omega arith, refl)
-    ]
+join_shapes-returns-in-Leaf-Bracket-clause-end t c = rw (c.in-Leaf-Bracket.is-0, c.in-Leaf-Bracket.is-1) (omega arith, refl)
 
-pub join_shapes-returns-in_default-clause-words : goal.join_shapes-returns-in_default-clause-words
-join_shapes-returns-in_default-clause-words t c =
-    let old = c.args.out.now in
-    elim c.in_default.branch [
-      | join_shapes-in_default-via-in-Leaf+in_default w ↦
-          let room : c.args.at < length old = omega (arith, rw w.in_default.is-0 at c.requires.0) in
-          rw (w.in_default.is-0, w.in_default.is-1) (leaf_joined unknown old c.args.at _ room c.from-in_default.ensures).1
-      | join_shapes-in_default-via-in-Bracket+in_default w ↦
-          let room : c.args.at < length old = omega (arith, rw w.in_default.is-0 at c.requires.0) in
-          rw (w.in_default.is-0, w.in_default.is-1) (leaf_joined unknown old c.args.at _ room c.from-in_default.ensures).1
-    ]
+pub join_shapes-returns-in-Leaf-Bracket-clause-words :
+    goal.join_shapes-returns-in-Leaf-Bracket-clause-words
+join_shapes-returns-in-Leaf-Bracket-clause-words t c =
+    let room : c.args.at < length c.args.out.now = omega (arith, rw c.in-Leaf-Bracket.is-0 at c.requires.0) in
+    rw (c.in-Leaf-Bracket.is-0, c.in-Leaf-Bracket.is-1) (leaf_joined unknown c.args.out.now c.args.at _ room c.from-in-Leaf-Bracket.ensures).1
+
+pub join_shapes-returns-in-Bracket-Leaf-clause-end : goal.join_shapes-returns-in-Bracket-Leaf-clause-end
+unfolding size
+join_shapes-returns-in-Bracket-Leaf-clause-end t c = rw (c.in-Bracket-Leaf.is-0, c.in-Bracket-Leaf.is-1) (omega arith, refl)
+
+pub join_shapes-returns-in-Bracket-Leaf-clause-words :
+    goal.join_shapes-returns-in-Bracket-Leaf-clause-words
+join_shapes-returns-in-Bracket-Leaf-clause-words t c =
+    let room : c.args.at < length c.args.out.now = omega (arith, rw c.in-Bracket-Leaf.is-0 at c.requires.0) in
+    rw (c.in-Bracket-Leaf.is-0, c.in-Bracket-Leaf.is-1) (leaf_joined unknown c.args.out.now c.args.at _ room c.from-in-Bracket-Leaf.ensures).1
