@@ -1,12 +1,12 @@
 -- Laws of words put at a position (specs/Code/Put.antt): with room for all, for none and for some of them, and two puts that are one.
-use Prim.Native.Nat.{ℕ, min, ◌+◌, ◌-◌, ◌≤◌, ◌<◌}
-use mathlib.Core.List.{List, [], ◌∷◌, ◌++◌, append_assoc}
+use Prim.Native.Nat.{ℕ, suc, min, ◌+◌, ◌-◌, ◌≤◌, ◌<◌}
+use mathlib.Core.List.{List, [], ◌∷◌, ◌++◌}
 use mathlib.Core.Path.{◌≡◌, refl, sym, ◌∙◌}
 use native.Mathlib.Omega.{arith}
 use native.Mathlib.Decide.{dec_le}
-use lib.ListN.{length, take, drop, set, length-append, length-take, length-drop}
-use lib.Seq.{take_all, take-nil, drop-drop, take-append-le, take-append-add}
-use borrow.Rule.Slice.PartMut.{put_mid}
+use native.Mathlib.Numerals.{add-one}
+use lib.ListN.{length, take, drop, get_or, set, length-append, length-take, length-drop, take-append-drop}
+use lib.Seq.{take_all, take-nil, take-suc, take-append-le, take-append-add}
 use Rattle.buffers.specs.Written.{written}
 use Rattle.buffers.specs.Code.Put.{put_fit, Put}
 use Rattle.buffers.proofs.WrittenLaws.{written_none, written_one, written_more, written_before}
@@ -107,21 +107,28 @@ put_before {old} {middle} {last} {front} {back} {at} {next} {end} {after} e p q 
   words = q.words ∙ rw (p.words, e) (fit_before old at front back);
 }
 
--- ---- what a copy into a part puts
+-- ---- the loop that puts bytes
 
--- as many of the words as there is room for
-part_fits : (piece : List ℕ) (room fits : ℕ) → fits ≡ min (length piece) room → take fits piece ≡ take room piece
-part_fits piece room fits e = go (dec_le (length piece) room)
-  where
-    go : Dec (length piece ≤ room) → take fits piece ≡ take room piece
-    go (yes h) = rw (take_all fits piece (omega arith), take_all room piece h)
-    go (no h) = let same : fits ≡ room = omega arith in rw same
+module _ (old piece : List ℕ) (at i : ℕ) {now : List ℕ} (h : Put old at (take i piece) (at + i) now) where
+  -- one more
+  pub put_next : i < length piece → at + i < length now → Put old at (take (i + 1) piece) (at + (i + 1)) (set now (at + i) (get_or piece i 0))
+  put_next l k =
+      let next : at + suc i ≡ at + i + 1 = omega arith in
+      rw (add-one, take-suc piece i 0 l, next) (h then put_one now (at + i) (get_or piece i 0) k)
 
-pub put_part : {old piece new now : List ℕ} {at fits : ℕ} → at ≤ length old → fits ≡ min (length piece) (length old - at) → new ≡ take fits piece
-    → now ≡ put_mid at (at + fits - at) old new → Put old at piece (at + length piece) now
-unfolding put_fit written
-put_part {old} {piece} {new} {now} {at} {fits} h e n w =
-    let many : length (take (length old - at) piece) ≡ fits = rw (length-take (length old - at) piece) (omega arith) in
-    let after : now ≡ take at old ++ (new ++ drop (at + fits - at) (drop at old)) = w in
-    let part : at + fits - at ≡ fits = omega arith in
-    record { end = refl; words = after ∙ rw (n, part_fits piece (length old - at) fits e, many, part, drop-drop) (simp append_assoc) }
+  -- all of them, or as many as there is room for
+  pub put_all : length piece ≤ i → Put old at piece (at + length piece) now
+  put_all l = record { end = refl; words = h.words ∙ rw (take_all i piece l) }
+
+  pub put_full : i ≤ length piece → length now ≤ at + i → Put old at piece (at + length piece) now
+  put_full l k =
+      let end : at + i + length (drop i piece) ≡ at + length piece = omega (arith, length-drop i piece) in
+      rw (take-append-drop i piece, end) at (h then put_past now (at + i) (drop i piece) k)
+
+  -- so it is once the loop has put what fits
+  pub put_ended : i ≡ min (length piece) (length now - at) → Put old at piece (at + length piece) now
+  put_ended e = go (dec_le (length piece) i)
+    where
+      go : Dec (length piece ≤ i) → Put old at piece (at + length piece) now
+      go (yes l) = put_all l
+      go (no l) = put_full (omega arith) (omega arith)

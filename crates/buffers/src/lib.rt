@@ -17,7 +17,9 @@ pub fn copy_words(from: &[u32], to: &mut [u32])
     requires { length from.now ≡ length to.old }
     ensures { to.new ≡ from.now }
 {
-    to.copy_from_slice(from);
+    for i in 0..from.len() {
+        to[i] = from[i];
+    }
 }
 
 // Every word is 0.
@@ -33,9 +35,9 @@ pub fn put(piece: &[u8], out: &mut [u8], at: usize) -> usize
     requires { at + length piece.now ≤ largest }
     ensures { Put out.old at piece.now result out.new }
 {
-    if at < out.len() {
-        let fits = piece.len().min(out.len() - at);
-        out[at..at + fits].copy_from_slice(&piece[..fits]);
+    let fits = piece.len().min(out.len().saturating_sub(at));
+    for i in 0..fits {
+        out[at + i] = piece[i];
     }
     at + piece.len()
 }

@@ -10,6 +10,7 @@ ghost use Rattle.formats.specs.FormatOf.{Results};
 ghost use Rattle.formats.specs.Code.Rows.{format_at, RowIs, Between, term_leaf, LeavesAre, Stored, stored_at, callee_shapes, part_shapes, first_shapes, RowAsked, KnowsAll};
 
 use crate::placed::Placed;
+use buffers::copy_words;
 use file::{Term, term_at, word_at};
 use law::runs::end_of;
 use law::whole::after;
@@ -102,7 +103,7 @@ fn write_call(known: &Known, place: usize, out: &mut [u32], to: usize) -> Option
         return None;
     }
     let next = to + row.words.len();
-    out[to..next].copy_from_slice(row.words);
+    copy_words(row.words, &mut out[to..next]);
     Some(RowEnd::new(next, row.is_open))
 }
 

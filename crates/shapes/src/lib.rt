@@ -12,6 +12,7 @@ ghost use Rattle.shapes.specs.Code.Rows.{word_count, apart, first_join, row_next
 
 use crate::leaf::Leaf;
 use crate::row::{Row, Shape, split_first};
+use buffers::copy_words;
 
 pub mod display;
 pub mod leaf;
@@ -185,8 +186,8 @@ pub fn join_formats(limit: usize, a: &[u32], b: &[u32], out: &mut [u32])
     ensures { out.new ≡ format_words limit (join_formats (read_format a.now) (read_format b.now)) }
 {
     match (Row::of_format(a), Row::of_format(b)) {
-        (None, _) => out.copy_from_slice(b),
-        (_, None) => out.copy_from_slice(a),
+        (None, _) => copy_words(b, out),
+        (_, None) => copy_words(a, out),
         (Some(a), Some(b)) => {
             out.fill(0);
             let end = join_rows(a.words, a.is_open, b.words, b.is_open, out, 1);

@@ -1,12 +1,17 @@
--- What a copy into the part puts, or nothing past the end.
-use Rattle.buffers.proofs.PutLaws.{put_part, put_past}
-use native.Mathlib.Omega.{arith}
+use Rattle.std.proofs.Common.{arith}
+use native.Mathlib.Nat.{add-zero}
+use Rattle.buffers.proofs.PutLaws.{put_none, put_length, put_next, put_ended}
 use Rattle.buffers.proofs.put.Goals as goal
-use Rattle.buffers.proofs.put.Goals.{then-at-out, else-at-out}
+
+pub loop-i-init : goal.loop-i-init
+loop-i-init c = rw (add-zero c.args.at) (put_none c.args.out.now c.args.at)
+
+pub loop-i-preserved : goal.loop-i-preserved
+loop-i-preserved c =
+    let x = c.args in
+    put_next x.out.now x.piece.now x.at c.loop-i.i c.loop-i.invariant (omega arith) (omega (arith, put_length c.loop-i.invariant))
 
 pub returns : goal.returns
 returns c =
-    elim c.if-at-out.branch [
-      | then-at-out w ↦ put_part (omega arith) w.min-fits.ensures w.copy_from_slice.ensures.after w.out-is
-      | else-at-out w ↦ rw w.out-is (put_past c.args.out.now c.args.at c.args.piece.now w.if-at-out.false)
-    ]
+    let x = c.args in
+    put_ended x.out.now x.piece.now x.at c.loop-i.i c.loop-i.invariant (omega (arith, put_length c.loop-i.invariant, c.saturating_sub.ensures, c.min-fits.ensures))

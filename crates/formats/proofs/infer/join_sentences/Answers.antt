@@ -18,8 +18,8 @@ returns-in_err-sentence_format c =
     let p = err_from_is_err_and c.from_residual.result c.from_residual.ensures.1 in
     rw p.1 (rows_refused c.loop-i.invariant.1 c.sentence_format.ensures c.in_err-sentence_format.was c.args.placed.now.readable c.requires.1 c.loop-i-test.true)
 
-pub renew_joined-requires : goal.renew_joined-requires
-renew_joined-requires c = (
+pub join_into-requires : goal.join_into-requires
+join_into-requires c = (
   c.args.placed.now.small,
   rows_format c.loop-i.invariant.1,
   made_format c.loop-i.invariant.1 c.sentence_format.ensures c.in_ok-sentence_format.was,
@@ -30,7 +30,7 @@ loop-i-preserved c =
     let placed = c.args.placed.now in (
       c.sentence_format.ensures.kept,
       rows_more c.loop-i.invariant.1 c.sentence_format.ensures c.in_ok-sentence_format.was placed.small placed.readable c.requires.1 c.loop-i-test.true refl
-          c.renew_joined.ensures.words,
+          c.join_into.ensures,
     )
 
 pub returns : goal.returns

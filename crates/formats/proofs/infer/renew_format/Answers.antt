@@ -4,12 +4,12 @@ use Rattle.shapes.proofs.FormatLaws.{format_in_length}
 use Rattle.formats.proofs.TurnLaws.{started_words, started_test, kept_words, kept_test}
 use Rattle.formats.proofs.infer.renew_format.Goals as goal
 
-pub copy_from_slice-requires : goal.copy_from_slice-requires
-copy_from_slice-requires c = format_in_length _ _ c.requires.1 ∙ sym (format_in_length _ _ c.requires.2)
+pub copy_words-requires : goal.copy_words-requires
+copy_words-requires c = format_in_length _ _ c.requires.2 ∙ sym (format_in_length _ _ c.requires.1)
 
 pub returns-then-is_never-clause-words : goal.returns-then-is_never-clause-words
 returns-then-is_never-clause-words c =
-    c.copy_from_slice.ensures.after ∙ started_words _ _ _ c.requires.0 c.requires.2 (sym c.is_never.ensures ∙ c.if-is_never.true)
+    c.copy_words.ensures ∙ started_words _ _ _ c.requires.0 c.requires.2 (sym c.is_never.ensures ∙ c.if-is_never.true)
 
 pub returns-then-is_never-clause-changed : goal.returns-then-is_never-clause-changed
 returns-then-is_never-clause-changed c =

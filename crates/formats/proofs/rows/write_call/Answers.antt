@@ -19,4 +19,4 @@ pub returns-clause-row : goal.returns-clause-row
 returns-clause-row c =
     rw (ends_is c.new.result _ _ c.new.ensures.next c.new.ensures.opens)
     (row_callee _ _ _ _ c.requires.0 c.in-Some.ensures.0 _ _ _ c.requires.2 (omega arith) _ c.in-Some.ensures.1 _ _ c.in-Some-of_format.ensures c.if-out-to.false
-    (lent_written _ _ c.args.to _ (rw c.copy_from_slice.ensures.after) ∙ ap (written c.args.out.now c.args.to) c.copy_from_slice.ensures.after))
+    (lent_written _ _ c.args.to _ (rw c.copy_words.ensures) ∙ ap (written c.args.out.now c.args.to) c.copy_words.ensures))
