@@ -117,6 +117,15 @@ whole_character s t w c q e u first = go u.0 u.1.0 u.1.1 (ap chars (sym u.1.1) �
         let stands : begins (utf8 d) s ≡ true = ap (begins (utf8 d)) there ∙ begins_all (utf8 d) more in
         rw same (sym is, ok, stands, size, rw size (utf8_some d))
 
+-- a byte below 128 is one
+pub byte_character : (s : List ℕ) (b : ℕ) → b < 128 → Some b ≡ slice_get s 0 → CharacterAt s (Some (b, 1))
+byte_character [] b l e = absurd (cc)
+byte_character (c ∷ r) b l e =
+    let same : c ≡ b = cc in
+    let one : utf8 b ≡ b ∷ [] = utf8_one b l in
+    let found : character_in (b ∷ r) ≡ b = rw one at (character_found b r (omega arith)) in
+    rw same (sym found, low_allowed b l, rw one (begins_all (b ∷ []) r), rw one, omega arith)
+
 -- it lies in the text
 pub character_within : (s : List ℕ) (at : ℕ) (c w : ℕ) → CharacterAt (drop at s) (Some (c, w)) → (at + w ≤ length s) × (w ≡ length (utf8 c)) × (1 ≤ w)
 character_within s at c w h =

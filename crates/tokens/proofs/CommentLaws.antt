@@ -17,7 +17,7 @@ use Rattle.file.proofs.Below.{both, second_fails_lem}
 use Rattle.tokens.specs.Token.{utf8, characters_bytes, comment, apart, unclosed, piece_bytes}
 use Rattle.tokens.specs.Lex.{begins, character_in, characters_to, at_close, guess, checked, next}
 use Rattle.tokens.specs.Code.Found.{CharacterAt, found_at}
-use Rattle.tokens.proofs.CharacterLaws.{ascii_stands}
+use Rattle.tokens.proofs.CharacterLaws.{ascii_stands, first_here}
 use Rattle.tokens.proofs.Utf8.{utf8_one, first_byte}
 use Rattle.tokens.proofs.Begins.{begins_found}
 use Rattle.tokens.proofs.NextPiece.{comment_next}
@@ -108,6 +108,14 @@ comment_here s at l e = drop-cons s at 0 l ∙ rw (e, add-one at)
 
 star_here : (s : List ℕ) (at : ℕ) → begins (42 ∷ []) (drop at s) ≡ true → drop at s ≡ 42 ∷ drop (at + 1) s
 star_here s at h = sym (begins_found (42 ∷ []) (drop at s) h) ∙ ap (◌∷◌ 42) (drop-drop 1 at s)
+
+-- no `*/` begins where the character is no star
+pub not_closing : (s : List ℕ) (i c w : ℕ) → CharacterAt (drop i s) (Some (c, w)) → (c ≡ 42 → ⊥) → false ≡ begins (42 ∷ 47 ∷ []) (drop i s)
+unfolding begins
+not_closing s i c w f n =
+    let first = first_here s i c w 42 (omega arith) f in
+    let other : eqb (get_or s i 0) 42 ≡ false = first.1 ∙ ne_eqb c 42 n in
+    rw (drop-cons s i 0 first.0, eqb_turn 42 (get_or s i 0), other)
 
 -- no star after the slash
 pub comment_none : (s : List ℕ) (at : ℕ) {t : Bool} → at < length s → get_or s at 0 ≡ 47 → t ≡ begins (42 ∷ []) (drop (at + 1) s) → t ≡ false → None ≡ found_at at (next (drop at s))

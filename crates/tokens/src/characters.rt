@@ -22,7 +22,12 @@ pub fn character_at(text: &[u8], at: usize) -> Option<(char, usize)>
     ensures { CharacterAt (drop at text.now) result }
 {
     let bytes = text.get(at..)?;
-    let width = width_of(*bytes.first()?);
+    let first = *bytes.first()?;
+    // A character of one byte is that byte: the library's steps cost more than the rest of a quoted run or a comment.
+    if first < 0x80 {
+        return Some((char::from(first), 1));
+    }
+    let width = width_of(first);
     let spelled = str::from_utf8(bytes.get(..width)?).ok()?;
     Some((spelled.chars().next()?, width))
 }

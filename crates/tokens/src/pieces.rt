@@ -54,8 +54,8 @@ fn comment_at(text: &[u8], at: usize) -> Option<Found>
     if !stands_at(text, at + 1, b"*") {
         return None;
     }
-    for (i, _) in (Characters { text, at: at + 2 }) {
-        if stands_at(text, i, b"*/") {
+    for (i, c) in (Characters { text, at: at + 2 }) {
+        if c == '*' && stands_at(text, i, b"*/") {
             return Some(Found::Between(i + 2));
         }
     }

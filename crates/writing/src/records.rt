@@ -4,14 +4,18 @@ ghost use Rattle.std.specs.Prelude.{◌+◌, ◌*◌, ◌≤◌, ◌<◌, ◌≡
 ghost use Rattle.buffers.specs.Code.Put.{Put, largest};
 ghost use Rattle.encoding.specs.Encode.{Record, word_bytes, record_bytes, records_bytes, section_bytes};
 
-use buffers::put;
+use buffers::put_byte;
 
 // A word, least byte first.
 pub fn put_word(n: u32, out: &mut [u8], at: usize) -> usize
     requires { at + 4 ≤ largest }
     ensures { Put out.old at (word_bytes n) result out.new }
 {
-    put(&n.to_le_bytes(), out, at)
+    let [a, b, c, d] = n.to_le_bytes();
+    let second = put_byte(a, out, at);
+    let third = put_byte(b, out, second);
+    let last = put_byte(c, out, third);
+    put_byte(d, out, last)
 }
 
 // A record of these words.

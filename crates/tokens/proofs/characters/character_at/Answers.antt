@@ -1,7 +1,7 @@
 use Rattle.std.proofs.Common.{◌≡◌, sym, ◌∙◌, ap, get_or}
 use Rattle.std.proofs.lemmas.Option.{get_or_from_slice_get}
 use Rattle.tokens.specs.Code.Found.{width_of}
-use Rattle.tokens.proofs.CharacterLaws.{failed, succeeded, rest_of, front_of, past_end, too_few, nothing_left, no_room, not_utf8, whole_character}
+use Rattle.tokens.proofs.CharacterLaws.{failed, succeeded, rest_of, front_of, past_end, too_few, nothing_left, no_room, not_utf8, whole_character, byte_character}
 use Rattle.tokens.proofs.characters.character_at.Goals as goal
 
 pub returns-in_err-bytes : goal.returns-in_err-bytes
@@ -11,6 +11,11 @@ pub returns-in_err-first : goal.returns-in_err-first
 returns-in_err-first c =
     let rest = rest_of c.args.text.now c.args.at _ c.in_ok-bytes.ensures.lookup.0.2 in
     rw (c.from_residual-in_err-first.ensures, ← rest) (nothing_left _ (c.in_err-first.ensures.item.3))
+
+pub returns-then-first-lt128 : goal.returns-then-first-lt128
+returns-then-first-lt128 c =
+    let rest = rest_of c.args.text.now c.args.at _ c.in_ok-bytes.ensures.lookup.0.2 in
+    rw (← rest, c.from.ensures) (byte_character _ _ c.if-first-lt128.true c.in_ok-first.ensures.value)
 
 pub returns-in_err-get : goal.returns-in_err-get
 returns-in_err-get c =
