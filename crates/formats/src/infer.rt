@@ -60,7 +60,7 @@ pub fn row_format(known: &Known, part: &[u8], at: usize, out: &mut [u32]) -> Res
 }
 
 // Joins a format into another.
-// Not by `renew_joined`, which goes through every word once more to say whether one changed: that took a tenth of a law of many small functions.
+// Not by `renew_joined`, which goes through every word once more to say whether one changed: no one asks here, for each two sentences.
 fn join_into(limit: usize, format: &mut [u32], other: &[u32])
     requires { (limit ≤ 64) × FormatIn limit format.old × FormatIn limit other.now }
     ensures { format.new ≡ format_words limit (join_formats (read_format format.old) (read_format other.now)) }
