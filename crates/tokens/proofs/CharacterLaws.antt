@@ -1,22 +1,20 @@
--- Laws for the character at a byte: what the library finds in as many bytes as the first of them tells.
-use Rattle.std.proofs.Common.{ℕ, ◌+◌, ◌-◌, ◌≤◌, ◌<◌, List, [], ◌∷◌, ◌++◌, Bool, true, false, eqb, ◌&&◌, ◌≡◌, refl, sym, ap, ◌∙◌, Result, Ok, Err, Option, Some, None, MatchResult, length, take, drop, get_or, arith, append_assoc, append-nil, length-append}
+-- Laws for the character at a byte: the number that the bytes say, where it is a character with as many bytes as the first of them tells.
+use Rattle.std.proofs.Common.{ℕ, ◌+◌, ◌*◌, ◌-◌, ◌≤◌, ◌<◌, List, [], ◌∷◌, ◌++◌, Bool, true, false, eqb, ◌&&◌, ◌≡◌, refl, sym, ap, ◌∙◌, Some, None, length, drop, get_or, arith, length-append}
 use mathlib.Core.Bool.{true≢false}
 use mathlib.Core.Logic.{◌⊎◌, inl, inr}
-use Rattle.std.specs.Result.{result_ok}
 use Rattle.std.specs.List.{slice_get, slice_range}
-use Rattle.std.specs.Str.{IsUtf8, chars}
-use Rattle.std.proofs.Math.Utf8.{scalar, scalars, encode, encodes}
-use Rattle.std.proofs.lemmas.Str.{chars-encodes}
+use Rattle.std.proofs.Math.Utf8.{scalar, encode}
 use Rattle.std.proofs.lemmas.List.{take_all}
 use Rattle.std.proofs.lemmas.Bool.Decides.{nat_tests}
-use lib.Seq.{take-append_seam, drop-cons}
-use lib.ListN.{take-append-drop, length-drop}
+use lib.Seq.{drop-cons}
+use borrow.Author.Tests.{lt-ltb, le-ltb}
+use lib.ListN.{length-drop}
 use Rattle.file.specs.Fields.{scalar_allowed}
-use Rattle.file.proofs.Below.{both, both_first, both_second}
+use Rattle.file.proofs.Below.{both_first, both_second}
 use Rattle.tokens.specs.Token.{utf8}
 use Rattle.tokens.specs.Lex.{begins, character_in}
-use Rattle.tokens.specs.Code.Found.{width_of, CharacterAt}
-use Rattle.tokens.proofs.Utf8.{utf8_one, first_byte, scalar_bound, utf8_some, character_found, width_found}
+use Rattle.tokens.specs.Code.Found.{width_of, CharacterAt, GoesOn, Spelled}
+use Rattle.tokens.proofs.Utf8.{utf8_one, first_byte, scalar_bound, utf8_some, character_found, width_found, second_byte, third_byte, fourth_byte, two_spelled, three_spelled, four_spelled}
 use Rattle.tokens.proofs.Begins.{begins_all, begins_found}
 
 -- ---- the library's words
@@ -34,29 +32,13 @@ scalar_from c h = grind (arith, nat_tests)
 low_allowed : (b : ℕ) → b < 128 → scalar_allowed b ≡ true
 low_allowed b l = grind (arith, nat_tests)
 
--- what an error says, and what a success does
-pub failed : {A E : Type 0} (P : A → Type 0) (Q : E → Type 0) (r : Result A E) → MatchResult r P Q → ◌≡◌ {A = Option A} None (result_ok r) → (e : E) × Q e
-failed P Q (Ok a) m h = absurd (cc)
-failed P Q (Err e) m h = (e, m)
-
-pub succeeded : {A E : Type 0} (P : A → Type 0) (Q : E → Type 0) (r : Result A E) (a : A) → MatchResult r P Q → Some a ≡ result_ok r → P a
-succeeded P Q (Ok b) a m h = let e : a ≡ b = cc in rw e m
-succeeded P Q (Err e) a m h = absurd (cc)
-
 -- the bytes from one on
 pub rest_of : (s : List ℕ) (at : ℕ) (r : List ℕ) → r ≡ slice_range s at (length s) → r ≡ drop at s
 rest_of s at r e = e ∙ take_all _ (drop at s) (omega (arith, length-drop at s))
 
-pub front_of : (s : List ℕ) (w : ℕ) (r : List ℕ) → r ≡ slice_range s 0 w → r ≡ take w s
-front_of s w r e = let n : w - 0 ≡ w = omega arith in e ∙ ap (λ k. take k s) n
-
 pub past_end : (s : List ℕ) (at : ℕ) → (length s < at) ⊎ (length s < length s) → length (drop at s) ≤ 0
 past_end s at (inl l) = omega (arith, length-drop at s)
 past_end s at (inr l) = omega arith
-
-pub too_few : (w n : ℕ) → (w < 0) ⊎ (n < w) → n < w
-too_few w n (inl l) = omega arith
-too_few w n (inr l) = l
 
 -- ---- where no character stands
 
@@ -78,44 +60,84 @@ module _ (s : List ℕ) (c : ℕ) (h : scalar_allowed c && begins (utf8 c) s ≡
   room : (length (utf8 c) ≤ length s) × (1 ≤ length (utf8 c))
   room = (omega (arith, ap length whole, length-append (utf8 c) (drop (length (utf8 c)) s)), utf8_some c)
 
-  spelled : IsUtf8 (take (width_of (get_or s 0 0)) s)
-  spelled = (
-    c ∷ [],
-    (
-      both (scalar c) true (scalar_from c allowed) refl,
-      append-nil (encode c) ∙ same_bytes c
-          ∙ sym (ap (λ n. take n s) width ∙ ap (take (length (utf8 c))) (sym whole) ∙ take-append_seam (utf8 c) (drop (length (utf8 c)) s)),
-    ),
-  )
-
 pub nothing_left : (s : List ℕ) → length s ≤ 0 → CharacterAt s None
 nothing_left s e = none_stands _ (λ h. let r = room s (character_in s) h in omega arith)
 
-pub no_room : (s : List ℕ) → length s < width_of (get_or s 0 0) → CharacterAt s None
-no_room s l = none_stands _ (λ h. let r = room s (character_in s) h in let w = width s (character_in s) h in omega arith)
+-- a byte that should go it on does not
+module _ (s : List ℕ) where
+  there : (c : ℕ) → scalar_allowed c && begins (utf8 c) s ≡ true → (i : ℕ) → get_or (utf8 c ++ drop (length (utf8 c)) s) i 0 ≡ get_or s i 0
+  there c h i = ap (λ x. get_or x i 0) (whole s c h)
 
-pub not_utf8 : (s : List ℕ) → (IsUtf8 (take (width_of (get_or s 0 0)) s) → ⊥) → CharacterAt s None
-not_utf8 s n = none_stands _ (λ h. n (spelled s (character_in s) h))
+  pub no_second : 128 ≤ get_or s 0 0 → GoesOn (get_or s 1 0) None → CharacterAt s None
+  no_second l n = none_stands _ (λ h.
+      let at = there (character_in s) h in
+      let first : 128 ≤ get_or (utf8 (character_in s) ++ drop (length (utf8 (character_in s))) s) 0 0 = rw (at 0) l in
+      let (d, small, is) = second_byte (character_in s) (drop (length (utf8 (character_in s))) s) first in
+      n d small (sym (at 1) ∙ is))
 
--- ---- where one does
+  pub no_third : 224 ≤ get_or s 0 0 → GoesOn (get_or s 2 0) None → CharacterAt s None
+  no_third l n = none_stands _ (λ h.
+      let at = there (character_in s) h in
+      let first : 224 ≤ get_or (utf8 (character_in s) ++ drop (length (utf8 (character_in s))) s) 0 0 = rw (at 0) l in
+      let (d, small, is) = third_byte (character_in s) (drop (length (utf8 (character_in s))) s) first in
+      n d small (sym (at 2) ∙ is))
 
-pub whole_character : (s t : List ℕ) (w c : ℕ) → w ≡ width_of (get_or s 0 0) → t ≡ take w s → IsUtf8 t → Some c ≡ slice_get (chars t) 0
-    → CharacterAt s (Some (c, w))
-whole_character s t w c q e u first = go u.0 u.1.0 u.1.1 (ap chars (sym u.1.1) ∙ chars-encodes u.0 u.1.0)
-  where
-    go : (cs : List ℕ) → scalars cs ≡ true → encodes cs ≡ t → chars t ≡ cs → CharacterAt s (Some (c, w))
-    go [] sc en k = let z : ◌≡◌ {A = Option ℕ} (Some c) None = first ∙ ap (λ x. slice_get x 0) k in absurd (cc)
-    go (d ∷ ds) sc en k =
-        let found : ◌≡◌ {A = Option ℕ} (Some c) (Some d) = first ∙ ap (λ x. slice_get x 0) k in
-        let same : c ≡ d = cc in
-        let more : List ℕ = encodes ds ++ drop w s in
-        let there : s ≡ utf8 d ++ more =
-        sym (take-append-drop w s) ∙ ap (λ x. x ++ drop w s) (sym e ∙ sym en ∙ ap (λ x. x ++ encodes ds) (same_bytes d)) ∙ append_assoc (utf8 d) (encodes ds) (drop w s) in
-        let ok : scalar_allowed d ≡ true = scalar_to d (both_first (scalar d) (scalars ds) sc) in
-        let size : w ≡ length (utf8 d) = q ∙ ap (λ x. width_of (get_or x 0 0)) there ∙ width_found d more (scalar_bound d ok) in
-        let is : character_in s ≡ d = ap character_in there ∙ character_found d more (scalar_bound d ok) in
-        let stands : begins (utf8 d) s ≡ true = ap (begins (utf8 d)) there ∙ begins_all (utf8 d) more in
-        rw same (sym is, ok, stands, size, rw size (utf8_some d))
+  pub no_fourth : 240 ≤ get_or s 0 0 → GoesOn (get_or s 3 0) None → CharacterAt s None
+  no_fourth l n = none_stands _ (λ h.
+      let at = there (character_in s) h in
+      let first : 240 ≤ get_or (utf8 (character_in s) ++ drop (length (utf8 (character_in s))) s) 0 0 = rw (at 0) l in
+      let (d, small, is) = fourth_byte (character_in s) (drop (length (utf8 (character_in s))) s) first in
+      n d small (sym (at 3) ∙ is))
+
+  -- the number is no scalar value, or one that has other bytes
+  module _ (n w : ℕ) (h : Spelled s (Some (n, w))) where
+    pub no_scalar : (scalar n ≡ true → ⊥) → CharacterAt s None
+    no_scalar k = none_stands _ (λ t. k (scalar_from n (ap scalar_allowed h.0 ∙ allowed s (character_in s) t)))
+
+    pub other_width : (length (utf8 n) ≡ w → ⊥) → CharacterAt s None
+    other_width k = none_stands _ (λ t. k (ap (λ x. length (utf8 x)) h.0 ∙ sym (width s (character_in s) t) ∙ sym h.1))
+
+    -- ---- where one does
+
+    pub whole_character : (c : ℕ) → scalar n ≡ true → c ≡ n → length (utf8 n) ≡ w → CharacterAt s (Some (c, w))
+    whole_character c v e l = rw e (h.0, scalar_to n v, h.2 l, sym l, rw (← l) (utf8_some n))
+
+-- the number of two, three and four bytes
+pub two_bytes : (s : List ℕ) (n d : ℕ) → 128 ≤ get_or s 0 0 → get_or s 0 0 < 224 → GoesOn (get_or s 1 0) (Some d) → n ≡ (get_or s 0 0 - 192) * 64 + d
+    → Spelled s (Some (n, 2))
+unfolding character_in
+two_bytes [] n d l h g e = absurd (omega arith)
+two_bytes (a ∷ []) n d l h g e = let z : 0 ≡ 128 + d = g.0 in absurd (omega arith)
+two_bytes (a ∷ b ∷ r) n d l h g e =
+    let second : b ≡ 128 + d = g.0 in
+    rw (le-ltb a 128 l, lt-ltb a 224 h, second)
+    (omega arith, refl, λ w. ap (begins (utf8 n)) (sym (two_spelled n a d r e g.1 h w)) ∙ begins_all (utf8 n) r)
+
+pub three_bytes : (s : List ℕ) (n d f : ℕ) → 224 ≤ get_or s 0 0 → get_or s 0 0 < 240 → GoesOn (get_or s 1 0) (Some d) → GoesOn (get_or s 2 0) (Some f)
+    → n ≡ (get_or s 0 0 - 224) * 4096 + d * 64 + f → Spelled s (Some (n, 3))
+unfolding character_in
+three_bytes [] n d f l h g k e = absurd (omega arith)
+three_bytes (a ∷ []) n d f l h g k e = let z : 0 ≡ 128 + d = g.0 in absurd (omega arith)
+three_bytes (a ∷ b ∷ []) n d f l h g k e = let z : 0 ≡ 128 + f = k.0 in absurd (omega arith)
+three_bytes (a ∷ b ∷ c ∷ r) n d f l h g k e =
+    let second : b ≡ 128 + d = g.0 in
+    let third : c ≡ 128 + f = k.0 in
+    rw (le-ltb a 128 (omega arith), le-ltb a 224 l, lt-ltb a 240 h, second, third)
+    (omega arith, refl, λ w. ap (begins (utf8 n)) (sym (three_spelled n a d f r e g.1 k.1 l h w)) ∙ begins_all (utf8 n) r)
+
+pub four_bytes : (s : List ℕ) (n d f g : ℕ) → 240 ≤ get_or s 0 0 → GoesOn (get_or s 1 0) (Some d) → GoesOn (get_or s 2 0) (Some f) → GoesOn (get_or s 3 0) (Some g)
+    → n ≡ (get_or s 0 0 - 240) * 262144 + d * 4096 + f * 64 + g → Spelled s (Some (n, 4))
+unfolding character_in
+four_bytes [] n d f g l i j k e = absurd (omega arith)
+four_bytes (a ∷ []) n d f g l i j k e = let z : 0 ≡ 128 + d = i.0 in absurd (omega arith)
+four_bytes (a ∷ b ∷ []) n d f g l i j k e = let z : 0 ≡ 128 + f = j.0 in absurd (omega arith)
+four_bytes (a ∷ b ∷ c ∷ []) n d f g l i j k e = let z : 0 ≡ 128 + g = k.0 in absurd (omega arith)
+four_bytes (a ∷ b ∷ c ∷ o ∷ r) n d f g l i j k e =
+    let second : b ≡ 128 + d = i.0 in
+    let third : c ≡ 128 + f = j.0 in
+    let fourth : o ≡ 128 + g = k.0 in
+    rw (le-ltb a 128 (omega arith), le-ltb a 224 (omega arith), le-ltb a 240 l, second, third, fourth)
+    (omega arith, refl, λ w. ap (begins (utf8 n)) (sym (four_spelled n a d f g r e i.1 j.1 k.1 l w)) ∙ begins_all (utf8 n) r)
 
 -- a byte below 128 is one
 pub byte_character : (s : List ℕ) (b : ℕ) → b < 128 → Some b ≡ slice_get s 0 → CharacterAt s (Some (b, 1))

@@ -101,6 +101,77 @@ width_found c r h = go (sized c)
     go (four l) =
         rw (utf8_four c l, le-ltb (240 + c / 262144) 128 (omega arith), le-ltb (240 + c / 262144) 224 (omega arith), le-ltb (240 + c / 262144) 240 (omega arith))
 
+-- its other bytes go it on: a second, a third where the first is at least 224, a fourth where it is at least 240
+module _ (c : ℕ) (r : List ℕ) where
+  pub second_byte : 128 ≤ get_or (utf8 c ++ r) 0 0 → (d : ℕ) × (d < 64) × (get_or (utf8 c ++ r) 1 0 ≡ 128 + d)
+  second_byte l = go (sized c)
+    where
+      go : Size c → (d : ℕ) × (d < 64) × (get_or (utf8 c ++ r) 1 0 ≡ 128 + d)
+      go (one k) = let low : 128 ≤ c = rw (utf8_one c k) at l in absurd (omega arith)
+      go (two k h) = (c % 64, omega arith, rw (utf8_two c k h))
+      go (three k h) = (c / 64 % 64, omega arith, rw (utf8_three c k h))
+      go (four k) = (c / 4096 % 64, omega arith, rw (utf8_four c k))
+
+  pub third_byte : 224 ≤ get_or (utf8 c ++ r) 0 0 → (d : ℕ) × (d < 64) × (get_or (utf8 c ++ r) 2 0 ≡ 128 + d)
+  third_byte l = go (sized c)
+    where
+      go : Size c → (d : ℕ) × (d < 64) × (get_or (utf8 c ++ r) 2 0 ≡ 128 + d)
+      go (one k) = let low : 224 ≤ c = rw (utf8_one c k) at l in absurd (omega arith)
+      go (two k h) = let low : 224 ≤ 192 + c / 64 = rw (utf8_two c k h) at l in absurd (omega arith)
+      go (three k h) = (c % 64, omega arith, rw (utf8_three c k h))
+      go (four k) = (c / 64 % 64, omega arith, rw (utf8_four c k))
+
+  pub fourth_byte : 240 ≤ get_or (utf8 c ++ r) 0 0 → (d : ℕ) × (d < 64) × (get_or (utf8 c ++ r) 3 0 ≡ 128 + d)
+  fourth_byte l = go (sized c)
+    where
+      go : Size c → (d : ℕ) × (d < 64) × (get_or (utf8 c ++ r) 3 0 ≡ 128 + d)
+      go (one k) = let low : 240 ≤ c = rw (utf8_one c k) at l in absurd (omega arith)
+      go (two k h) = let low : 240 ≤ 192 + c / 64 = rw (utf8_two c k h) at l in absurd (omega arith)
+      go (three k h) = let low : 240 ≤ 224 + c / 4096 = rw (utf8_three c k h) at l in absurd (omega arith)
+      go (four k) = (c % 64, omega arith, rw (utf8_four c k))
+
+-- bytes that say a number, and are its own where it has as many
+pub two_spelled : (n a d : ℕ) (r : List ℕ) → n ≡ (a - 192) * 64 + d → d < 64 → a < 224 → length (utf8 n) ≡ 2 → utf8 n ++ r ≡ a ∷ (128 + d) ∷ r
+two_spelled n a d r e l h w = go (sized n)
+  where
+    go : Size n → utf8 n ++ r ≡ a ∷ (128 + d) ∷ r
+    go (one k) = let z : ◌≡◌ {A = ℕ} 1 2 = rw (utf8_one n k) at w in absurd (omega arith)
+    go (two k m) = let x : 192 + n / 64 ≡ a = omega arith in let y : 128 + n % 64 ≡ 128 + d = omega arith in rw (utf8_two n k m, x, y)
+    go (three k m) = let z : ◌≡◌ {A = ℕ} 3 2 = rw (utf8_three n k m) at w in absurd (omega arith)
+    go (four k) = let z : ◌≡◌ {A = ℕ} 4 2 = rw (utf8_four n k) at w in absurd (omega arith)
+
+pub three_spelled : (n a d f : ℕ) (r : List ℕ) → n ≡ (a - 224) * 4096 + d * 64 + f → d < 64 → f < 64 → 224 ≤ a → a < 240 → length (utf8 n) ≡ 3
+    → utf8 n ++ r ≡ a ∷ (128 + d) ∷ (128 + f) ∷ r
+three_spelled n a d f r e l p g h w = go (sized n)
+  where
+    go : Size n → utf8 n ++ r ≡ a ∷ (128 + d) ∷ (128 + f) ∷ r
+    go (one k) = let z : ◌≡◌ {A = ℕ} 1 3 = rw (utf8_one n k) at w in absurd (omega arith)
+    go (two k m) = let z : ◌≡◌ {A = ℕ} 2 3 = rw (utf8_two n k m) at w in absurd (omega arith)
+    go (three k m) =
+        let x : 224 + n / 4096 ≡ a = omega arith in
+        let q : n / 64 ≡ (a - 224) * 64 + d = omega arith in
+        let y : 128 + n / 64 % 64 ≡ 128 + d = rw q (omega arith) in
+        let z : 128 + n % 64 ≡ 128 + f = omega arith in
+        rw (utf8_three n k m, x, y, z)
+    go (four k) = let z : ◌≡◌ {A = ℕ} 4 3 = rw (utf8_four n k) at w in absurd (omega arith)
+
+pub four_spelled : (n a d f g : ℕ) (r : List ℕ) → n ≡ (a - 240) * 262144 + d * 4096 + f * 64 + g → d < 64 → f < 64 → g < 64 → 240 ≤ a → length (utf8 n) ≡ 4
+    → utf8 n ++ r ≡ a ∷ (128 + d) ∷ (128 + f) ∷ (128 + g) ∷ r
+four_spelled n a d f g r e l p o h w = go (sized n)
+  where
+    go : Size n → utf8 n ++ r ≡ a ∷ (128 + d) ∷ (128 + f) ∷ (128 + g) ∷ r
+    go (one k) = let z : ◌≡◌ {A = ℕ} 1 4 = rw (utf8_one n k) at w in absurd (omega arith)
+    go (two k m) = let z : ◌≡◌ {A = ℕ} 2 4 = rw (utf8_two n k m) at w in absurd (omega arith)
+    go (three k m) = let z : ◌≡◌ {A = ℕ} 3 4 = rw (utf8_three n k m) at w in absurd (omega arith)
+    go (four k) =
+        let x : 240 + n / 262144 ≡ a = omega arith in
+        let q : n / 4096 ≡ (a - 240) * 64 + d = omega arith in
+        let y : 128 + n / 4096 % 64 ≡ 128 + d = rw q (omega arith) in
+        let u : n / 64 ≡ ((a - 240) * 64 + d) * 64 + f = omega arith in
+        let v : 128 + n / 64 % 64 ≡ 128 + f = rw u (omega arith) in
+        let z : 128 + n % 64 ≡ 128 + g = omega arith in
+        rw (utf8_four n k, x, y, v, z)
+
 -- a scalar value is at most 0x10FFFF
 pub scalar_bound : (c : ℕ) → scalar_allowed c ≡ true → c ≤ 0x10FFFF
 scalar_bound c h = leb-true c 0x10FFFF (both_first (leb c 0x10FFFF) (not (between 0xD800 0xDFFF c)) h)

@@ -1,5 +1,5 @@
 -- What the code finds at a byte: a character, an index, a piece.
-use Rattle.std.specs.Prelude.{ℕ, ◌+◌, ◌≤◌, List, [], ◌∷◌, Bool, false, cond, ◌&&◌, ◌||◌, true, ◌≡◌, Option, Some, None, length, drop, eqb, ltb}
+use Rattle.std.specs.Prelude.{ℕ, ◌+◌, ◌<◌, ◌≤◌, List, [], ◌∷◌, Bool, false, cond, ◌&&◌, ◌||◌, true, ◌≡◌, Option, Some, None, length, drop, get_or, eqb, ltb}
 use Rattle.std.proofs.Math.Option.{none, some, Option as Choice}
 use Rattle.names.specs.Name.{name_byte}
 use Rattle.file.specs.Fields.{scalar_allowed}
@@ -20,6 +20,16 @@ width_of b = cond (ltb b 128) 1 (cond (ltb b 224) 2 (cond (ltb b 240) 3 4))
 abbrev pub CharacterAt : List ℕ → Option (ℕ × ℕ) → Type 0
 CharacterAt s None = scalar_allowed (character_in s) && begins (utf8 (character_in s)) s ≡ false
 CharacterAt s (Some p) = (p.0 ≡ character_in s) × (scalar_allowed p.0 ≡ true) × (begins (utf8 p.0) s ≡ true) × (p.1 ≡ length (utf8 p.0)) × (1 ≤ p.1)
+
+-- a byte that goes on a character, by its six bits
+abbrev pub GoesOn : ℕ → Option ℕ → Type 0
+GoesOn b None = (d : ℕ) → d < 64 → b ≡ 128 + d → ⊥
+GoesOn b (Some d) = (b ≡ 128 + d) × (d < 64)
+
+-- what the bytes of a character say that begin with one from 128 on: the character if that is one of as many bytes
+abbrev pub Spelled : List ℕ → Option (ℕ × ℕ) → Type 0
+Spelled s None = CharacterAt s None
+Spelled s (Some p) = (p.0 ≡ character_in s) × (p.1 ≡ width_of (get_or s 0 0)) × (length (utf8 p.0) ≡ p.1 → begins (utf8 p.0) s ≡ true)
 
 -- the next character of a text from a byte on, and the text and the byte that are left
 abbrev pub YieldsCharacter : List ℕ → ℕ → Option (ℕ × ℕ) → List ℕ → ℕ → Type 0

@@ -1,7 +1,6 @@
-use Rattle.std.proofs.Common.{◌≡◌, sym, ◌∙◌, ap, get_or}
-use Rattle.std.proofs.lemmas.Option.{get_or_from_slice_get}
-use Rattle.tokens.specs.Code.Found.{width_of}
-use Rattle.tokens.proofs.CharacterLaws.{failed, succeeded, rest_of, front_of, past_end, too_few, nothing_left, no_room, not_utf8, whole_character, byte_character}
+use Rattle.std.proofs.Common.{◌≡◌, sym, ◌∙◌, ap, length}
+use Rattle.tokens.specs.Token.{utf8}
+use Rattle.tokens.proofs.CharacterLaws.{same_bytes, rest_of, past_end, nothing_left, no_scalar, other_width, whole_character, byte_character}
 use Rattle.tokens.proofs.characters.character_at.Goals as goal
 
 pub returns-in_err-bytes : goal.returns-in_err-bytes
@@ -17,23 +16,24 @@ returns-then-first-lt128 c =
     let rest = rest_of c.args.text.now c.args.at _ c.in_ok-bytes.ensures.lookup.0.2 in
     rw (← rest, c.from.ensures) (byte_character _ _ c.if-first-lt128.true c.in_ok-first.ensures.value)
 
-pub returns-in_err-get : goal.returns-in_err-get
-returns-in_err-get c =
+pub returns-in_err-code : goal.returns-in_err-code
+returns-in_err-code c =
     let rest = rest_of c.args.text.now c.args.at _ c.in_ok-bytes.ensures.lookup.0.2 in
-    let first : get_or c.in_ok-bytes.bytes.now 0 0 ≡ c.in_ok-first.field-0.now = get_or_from_slice_get _ 0 _ 0 (sym c.in_ok-first.ensures.value) in
-    rw (c.from_residual-in_err-get.ensures, ← rest) (no_room _ (rw (first, ← c.width_of-width.ensures) (too_few _ _ c.in_err-get.ensures.lookup.0)))
+    rw (c.from_residual-in_err-code.ensures, ← rest) c.in_err-code.ensures
 
-pub returns-in_err-spelled : goal.returns-in_err-spelled
-returns-in_err-spelled c =
+pub returns-in_err-c : goal.returns-in_err-c
+returns-in_err-c c =
     let rest = rest_of c.args.text.now c.args.at _ c.in_ok-bytes.ensures.lookup.0.2 in
-    let first : get_or c.in_ok-bytes.bytes.now 0 0 ≡ c.in_ok-first.field-0.now = get_or_from_slice_get _ 0 _ 0 (sym c.in_ok-first.ensures.value) in
-    let error = failed _ _ c.from_utf8.result c.from_utf8.ensures.cases c.in_err-spelled.ensures.value in
-    rw (c.from_residual-in_err-spelled.ensures, ← rest) (not_utf8 _ (rw (first, ← c.width_of-width.ensures, ← front_of _ _ _ c.in_ok-get.ensures.lookup.0.2) error.1.0))
+    rw (c.from_residual-in_err-c.ensures, ← rest) (no_scalar _ _ _ c.in_ok-code.ensures c.in_err-c.ensures.value)
+
+pub returns-then-len_utf8-width : goal.returns-then-len_utf8-width
+returns-then-len_utf8-width c =
+    let rest = rest_of c.args.text.now c.args.at _ c.in_ok-bytes.ensures.lookup.0.2 in
+    let size : c.len_utf8.result ≡ length (utf8 c.in_ok-code.code) = c.len_utf8.ensures.len ∙ ap length (same_bytes c.in_ok-c.c) ∙ ap (λ x. length (utf8 x)) c.in_ok-c.ensures.value.1 in
+    rw (← rest) (other_width _ _ _ c.in_ok-code.ensures (λ e. c.if-len_utf8-width.true (size ∙ e)))
 
 pub returns : goal.returns
 returns c =
     let rest = rest_of c.args.text.now c.args.at _ c.in_ok-bytes.ensures.lookup.0.2 in
-    let first : get_or c.in_ok-bytes.bytes.now 0 0 ≡ c.in_ok-first.field-0.now = get_or_from_slice_get _ 0 _ 0 (sym c.in_ok-first.ensures.value) in
-    let text = succeeded _ _ c.from_utf8.result _ c.from_utf8.ensures.cases c.in_ok-spelled.ensures.value in
-    let next = rw c.chars.ensures.rest at c.in_ok-next.ensures.steps.2 in
-    rw (← rest) (whole_character c.in_ok-bytes.bytes.now c.in_ok-get.field-0.now c.width_of-width.result c.in_ok-next.field-0 (c.width_of-width.ensures ∙ ap width_of (sym first)) (front_of _ _ _ c.in_ok-get.ensures.lookup.0.2) text.1 (rw text.0 at next))
+    let size : c.len_utf8.result ≡ length (utf8 c.in_ok-code.code) = c.len_utf8.ensures.len ∙ ap length (same_bytes c.in_ok-c.c) ∙ ap (λ x. length (utf8 x)) c.in_ok-c.ensures.value.1 in
+    rw (← rest) (whole_character _ _ _ c.in_ok-code.ensures c.in_ok-c.c c.in_ok-c.ensures.value.0 c.in_ok-c.ensures.value.1 (sym size ∙ c.if-len_utf8-width.false))
