@@ -5,14 +5,12 @@ use mathlib.Core.List.{List, [], ◌∷◌}
 use mathlib.Core.Path.{◌≡◌, refl, sym, ap, ◌∙◌}
 use native.Mathlib.Omega.{arith}
 use lib.Dec.{eqb}
-use lib.Seq.{take_all}
-use lib.ListN.{length, take, drop, length-drop}
+use native.Mathlib.Decide.{dec_lt}
+use lib.ListN.{length, take, drop, get_or, length-drop}
+use lib.Seq.{take_all, ext_get_or}
 use borrow.Author.Tests.{eqb-true, eqb-false, eq-eqb, ne_eqb}
 use Rattle.names.specs.Name.{same_bytes, every_byte}
-use Rattle.std.specs.List.{list_all, zip}
-use Rattle.std.proofs.Common.{reverse}
-use Rattle.std.proofs.lemmas.List.{reverse-reverse, length-reverse}
-use Rattle.names.proofs.Laws.{all_same, both_hold, same_longer, same_plain, same_sound, same_refl}
+use Rattle.names.proofs.Laws.{both_hold, same_longer, same_plain, same_sound, same_refl}
 use Rattle.numbers.specs.Value.{stripped}
 use Rattle.numbers.specs.Code.Zero.{zero_byte}
 
@@ -126,20 +124,29 @@ module _ (long short : List ℕ) (longer : length short < length long) where
 
 -- ---- digits from the last one on
 
--- lists that are equal from the last one on
-turned : (a b : List ℕ) → reverse a ≡ reverse b → a ≡ b
-turned a b e = sym (reverse-reverse a) ∙ (ap reverse e ∙ reverse-reverse b)
+-- the digits of two numbers agree from a place on
+abbrev pub AgreeFrom : List ℕ → List ℕ → ℕ → Type 0
+AgreeFrom a b n = (k : ℕ) → n ≤ k → k < length a → get_or a k 0 ≡ get_or b k 0
 
--- the same from the last one on
-same_reversed : (a b : List ℕ) → same_bytes (reverse a) (reverse b) ≡ same_bytes a b
-same_reversed a b = go (same_bytes (reverse a) (reverse b)) refl (same_bytes a b) refl
-  where
-    go : (s : Bool) → same_bytes (reverse a) (reverse b) ≡ s → (t : Bool) → same_bytes a b ≡ t → s ≡ t
-    go true p true q = refl
-    go true p false q = sym (rw (turned a b (same_sound (reverse a) (reverse b) p)) (same_refl b)) ∙ q
-    go false p true q = sym p ∙ rw (same_sound a b q) (same_refl (reverse b))
-    go false p false q = refl
+module _ (a b : List ℕ) where
+  pub agree_end : AgreeFrom a b (length a)
+  agree_end k l m = absurd (omega arith)
 
--- `all` of the pairs from the last one on
-pub all_agree : (a b : List ℕ) → length a ≡ length b → list_all (λ p. eqb p.0 p.1) (zip (reverse a) (reverse b)) ≡ same_bytes a b
-all_agree a b h = all_same (λ x. x) (λ p. eqb p.0 p.1) (λ x y. refl) (reverse a) (reverse b) (length-reverse a ∙ (h ∙ sym (length-reverse b))) ∙ (same_plain (reverse a) (reverse b) ∙ same_reversed a b)
+  pub agree_before : {n : ℕ} → AgreeFrom a b n → 0 < n → get_or a (n - 1) 0 ≡ get_or b (n - 1) 0 → AgreeFrom a b (n - 1)
+  agree_before {n} h some e k l m = go (dec_lt k n)
+    where
+      go : Dec (k < n) → get_or a k 0 ≡ get_or b k 0
+      go (yes p) = let here : k ≡ n - 1 = omega arith in rw here e
+      go (no p) = h k (omega arith) m
+
+  -- two digits differ
+  pub digits_differ : (n : ℕ) → (get_or a n 0 ≡ get_or b n 0 → ⊥) → false ≡ same_bytes a b
+  digits_differ n d = go (same_bytes a b) refl
+    where
+      go : (t : Bool) → same_bytes a b ≡ t → false ≡ t
+      go false e = refl
+      go true e = absurd (d (ap (λ x. get_or x n 0) (same_sound a b e)))
+
+  -- all digits agree
+  pub digits_agree : {n : ℕ} → length a ≡ length b → AgreeFrom a b n → n ≡ 0 → true ≡ same_bytes a b
+  digits_agree l h none = sym (rw (ext_get_or 0 a b l (λ k m. h k (omega arith) m)) (same_refl b))

@@ -1,4 +1,5 @@
 pub mod FieldLaws
+pub mod NumberLaws
 pub mod LineLaws
 pub mod PageLaws
 pub mod LayoutLaws

@@ -5,7 +5,7 @@ ghost use Rattle.buffers.specs.Code.Put.{largest};
 ghost use Rattle.buffers.specs.Code.Text.{Puts};
 ghost use Rattle.pages.specs.Page.{left, right, next_field, cut};
 
-use buffers::{Text, put_decimal};
+use buffers::Text;
 
 // The columns of a line, of a name in it, and of a number with the space before it.
 const COLUMNS: usize = 72;
@@ -32,14 +32,22 @@ fn put_left(text: &mut Text, word: &[u8], columns: usize)
     put_spaces(text, columns - word.len());
 }
 
-// A field of ten columns with a number at the right, after a space.
+// A field of ten columns with a number at the right, after a space. The digits are found from the last one on.
+// A loop and no call of `put_decimal`, which would go through the digits twice, to measure and to put them.
 pub fn put_number(text: &mut Text, n: usize)
     requires { (n < 10000000000) × (text.old.at + 145 ≤ largest) }
     ensures { Puts text.old text.new (next_field (right 10 (decimal n))) }
 {
-    let digits = put_decimal(n, &mut [], 0); // no byte fits: only their number is found
-    put_spaces(text, NUMBER - digits);
-    text.put_decimal(n);
+    let mut field = [b' '; NUMBER];
+    let mut rest = n;
+    let mut i = NUMBER - 1;
+    while 10 <= rest {
+        field[i] = b'0' + (rest % 10) as u8;
+        rest /= 10;
+        i -= 1;
+    }
+    field[i] = b'0' + rest as u8;
+    text.put(&field);
 }
 
 // A function's name, cut where it is longer than its field.

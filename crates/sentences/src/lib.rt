@@ -28,13 +28,12 @@ mod errors;
 mod loose;
 mod parity;
 
-// Whether a pattern has a match with a row, where that is known without a search. In line, since most pairs of sentences end here, by their first symbols.
-#[inline(always)]
+// Whether a pattern has a match with a row, where that is known without a search.
 fn known(pair: &Pair) -> Option<bool>
     ensures { IfSome result (Matches pair.now.records.text.now pair.now.pattern.now pair.now.row.now) }
 {
     let text = pair.records.text;
-    if parted(text, pair.pattern, pair.row) || !loose(text, pair.pattern, pair.row) {
+    if !loose(text, pair.pattern, pair.row) {
         return Some(false);
     }
     if once(text, pair.pattern) {
@@ -81,18 +80,23 @@ fn all_records<'a>(accepted: &AcceptedLaw<'a, '_>) -> Records<'a>
     }
 }
 
-// Does an earlier sentence's pattern shadow a later one's?
+// Does an earlier sentence's pattern shadow a later one's? Most pairs are parted: nothing is put together for these.
 pub fn sentence_shadows(accepted: &AcceptedLaw, earlier: usize, later: usize) -> bool
     requires { (earlier < (file_of accepted.now.law.bytes.now).sentences.count) × (later < (file_of accepted.now.law.bytes.now).sentences.count) }
     ensures { result ≡ shadows (row_of (file_of accepted.now.law.bytes.now).text.records (pattern_part (file_of accepted.now.law.bytes.now) earlier))
         (row_of (file_of accepted.now.law.bytes.now).text.records (pattern_part (file_of accepted.now.law.bytes.now) later)) }
 {
     let law = &accepted.law;
+    let pattern = law.pattern(earlier);
+    let row = law.pattern(later);
+    if parted(law.text(), pattern, row) {
+        return false;
+    }
     shadow(&Pair {
         records: all_records(accepted),
-        pattern: law.pattern(earlier),
+        pattern,
         at: 24 * law.pattern_at(earlier),
-        row: law.pattern(later),
+        row,
         start: 24 * law.pattern_at(later),
     })
 }
@@ -107,7 +111,7 @@ pub fn argument_of<'a>(accepted: &AcceptedLaw<'a, '_>, term: usize) -> &'a [u8]
     law.records(term + 1, n)
 }
 
-// Does a sentence's pattern match a call's argument that is literal?
+// Does a sentence's pattern match a call's argument that is literal? Here too `parted` comes before a pair is put together.
 pub fn sentence_matches(accepted: &AcceptedLaw, sentence: usize, term: usize) -> bool
     requires { (sentence < (file_of accepted.now.law.bytes.now).sentences.count) × (term < (file_of accepted.now.law.bytes.now).terms.count)
         × (literal_part (argument_part (file_of accepted.now.law.bytes.now) term) ≡ true) }
@@ -115,11 +119,16 @@ pub fn sentence_matches(accepted: &AcceptedLaw, sentence: usize, term: usize) ->
         (symbols_of (file_of accepted.now.law.bytes.now).text.records (argument_part (file_of accepted.now.law.bytes.now) term)) }
 {
     let law = &accepted.law;
+    let pattern = law.pattern(sentence);
+    let row = argument_of(accepted, term);
+    if parted(law.text(), pattern, row) {
+        return false;
+    }
     literal(&Pair {
         records: all_records(accepted),
-        pattern: law.pattern(sentence),
+        pattern,
         at: 24 * law.pattern_at(sentence),
-        row: argument_of(accepted, term),
+        row,
         start: 24 * (term + 1),
     })
 }

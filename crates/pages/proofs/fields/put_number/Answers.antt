@@ -1,15 +1,22 @@
--- The digits have place in the field; before them stand the spaces that are left.
-use Rattle.std.proofs.Common.{◌≡◌, length, arith}
-use Rattle.buffers.specs.Decimal.{decimal}
-use Rattle.buffers.proofs.DigitLaws.{decimal_ten}
-use Rattle.buffers.proofs.TextLaws.{◌next◌}
-use Rattle.pages.proofs.FieldLaws.{next_number}
+-- One law for each step: no digit is found, there is a place for one more, one more, and the first digit.
+use Rattle.std.proofs.Common.{arith}
+use Rattle.pages.proofs.NumberLaws.{none_found, place_left, one_more, all_found_lem}
 use Rattle.pages.proofs.fields.put_number.Goals as goal
 
-pub overflow_sub-digits : goal.overflow_sub-digits
-overflow_sub-digits c = omega (arith, c.put_decimal-digits.ensures.1.end, decimal_ten c.args.n c.requires.0)
+pub loop-rest-init : goal.loop-rest-init
+loop-rest-init c = none_found c.args.n
+
+pub overflow_sub-i-in-loop-rest : goal.overflow_sub-i-in-loop-rest
+overflow_sub-i-in-loop-rest c =
+    let now = c.loop-rest in
+    place_left c.args.n c.requires.0 now.rest now.i now.field now.invariant c.loop-rest-test.true
+
+pub loop-rest-preserved : goal.loop-rest-preserved
+loop-rest-preserved c =
+    let now = c.loop-rest in
+    one_more c.args.n c.requires.0 now.rest now.i now.field now.invariant c.loop-rest-test.true
 
 pub returns : goal.returns
 returns c =
-    let digits : c.put_decimal-digits.result ≡ length (decimal c.args.n) = omega (arith, c.put_decimal-digits.ensures.1.end) in
-    rw (← next_number c.args.n c.requires.0, ← digits) (c.put_spaces.ensures next c.put_decimal.ensures.1)
+    let now = c.loop-rest in
+    rw (all_found_lem c.args.n c.requires.0 now.rest now.i now.field now.invariant (omega (arith, c.loop-rest-test.false))) at c.put.ensures
