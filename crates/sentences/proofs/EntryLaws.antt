@@ -52,3 +52,12 @@ module _ (text pattern row : List ℕ) where
 
   pub literal_known : literal_part row ≡ true → {b : Bool} → Matches text pattern row b → b ≡ literal_matches (row_of text pattern) (symbols_of text row)
   literal_known k h = sym (h true) ∙ holds_some _ ∙ literal_found text row (row_of text pattern) k
+
+-- ---- a pattern and a row that are parted, by the parts that stand for them
+
+module _ (text pattern row : List ℕ) {t p r : List ℕ} (e : t ≡ text) (f : p ≡ pattern) (g : r ≡ row) (h : passes (row_of t p) (row_of t r) ≡ false) where
+  pub shadow_parted : false ≡ shadows (row_of text pattern) (row_of text row)
+  shadow_parted = shadow_known text pattern row (known_not text pattern row (rw (e, f, g) at h))
+
+  pub literal_parted : literal_part row ≡ true → false ≡ literal_matches (row_of text pattern) (symbols_of text row)
+  literal_parted k = literal_known text pattern row k (known_not text pattern row (rw (e, f, g) at h))
