@@ -50,10 +50,14 @@ fn with_digit(state: u64, digit: u8) -> u64
 }
 
 // Is a value that of a macrodigit?
+// A branch and no bare comparison, so that each answer has a goal of its own (docs/DECISIONS.md, 112).
 pub fn is_macrodigit(value: u64) -> bool
     ensures { result ≡ is_macrodigit value }
 {
-    value <= 4294967295
+    if value <= 4294967295 {
+        return true;
+    }
+    false
 }
 
 // The answer by a state.
