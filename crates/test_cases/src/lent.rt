@@ -17,7 +17,7 @@ pub const ANSWER: u64 = 99999;
 // A value, or none for one that was given and is kept, and how often it was met in a row.
 #[derive(Clone, Copy)]
 pub struct Run {
-    pub value: Option<u32>,
+    pub value: Option<u64>,
     pub count: u64,
 }
 
@@ -73,7 +73,7 @@ pub fn print_run<W: Write>(output: &mut W, run: Run) -> io::Result<()> {
 }
 
 // The values in a row with one more. A row that has ended is written.
-fn with_value<W: Write>(output: &mut W, run: Run, value: Option<u32>) -> io::Result<Run> {
+pub fn with_value<W: Write>(output: &mut W, run: Run, value: Option<u64>) -> io::Result<Run> {
     if run.value == value {
         return Ok(Run {
             value,
@@ -85,7 +85,7 @@ fn with_value<W: Write>(output: &mut W, run: Run, value: Option<u32>) -> io::Res
 }
 
 // Writes what words or bytes are now that were given a first value and the next ones, in order, and ends the line.
-fn print_values<W: Write, T: Copy + PartialEq + Into<u32>, N: Fn(T) -> T>(
+fn print_values<W: Write, T: Copy + PartialEq + Into<u64>, N: Fn(T) -> T>(
     output: &mut W,
     values: &[T],
     first: T,
@@ -137,18 +137,19 @@ pub fn changed_bytes(bytes: &[u8]) -> usize
 }
 
 // Writes a word and a number.
-pub fn print_said<W: Write>(output: &mut W, said: &str, number: u64) -> io::Result<()> {
-    writeln!(output, "{said}{number}")
+pub fn print_said<W: Write>(output: &mut W, said: &[u8], number: u64) -> io::Result<()> {
+    output.write_all(said)?;
+    writeln!(output, "{number}")
 }
 
 // Writes the number that the call returned, or its answer. After a refusal the answer's word is written only where it changed.
 pub fn print_returned<W: Write>(output: &mut W, number: u32, answer: u64) -> io::Result<()> {
     if number == 0 {
-        return print_said(output, "  written ", answer);
+        return print_said(output, b"  written ", answer);
     }
-    print_said(output, "  refused ", u64::from(number))?;
+    print_said(output, b"  refused ", u64::from(number))?;
     if answer != ANSWER {
-        print_said(output, "  answer ", answer)?;
+        print_said(output, b"  answer ", answer)?;
     }
     Ok(())
 }

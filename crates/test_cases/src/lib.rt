@@ -22,7 +22,7 @@ pub const LABEL: usize = 81;
 pub const LAW: usize = 16400;
 
 // Reads until the buffer is full or the input ends, and answers how many bytes stand at the buffer's start then.
-fn read_full<R: Read>(input: &mut R, buffer: &mut [u8]) -> io::Result<usize>
+pub fn read_full<R: Read>(input: &mut R, buffer: &mut [u8]) -> io::Result<usize>
     ensures { ReadsAtMost result buffer.new }
 {
     let (done, read) = input::read_full(input, buffer);
@@ -38,7 +38,7 @@ fn next_byte<R: Read>(input: &mut R) -> io::Result<u8> {
 }
 
 // Reads a label and its line feed, and answers how many bytes the label has: none where the input has ended.
-fn read_label<R: Read>(input: &mut R, label: &mut [u8]) -> io::Result<usize>
+pub fn read_label<R: Read>(input: &mut R, label: &mut [u8]) -> io::Result<usize>
     ensures { ReadsAtMost result label.new }
 {
     for n in 0..label.len() {
@@ -76,7 +76,7 @@ pub struct Settings<'a> {
 }
 
 // Reads the number of overrides and the overrides, and answers how many there are.
-fn read_overrides<R: Read>(input: &mut R, overrides: &mut [u32]) -> io::Result<usize>
+pub fn read_overrides<R: Read>(input: &mut R, overrides: &mut [u32]) -> io::Result<usize>
     ensures { IfOk result (λ count. count ≤ length overrides.new) }
 {
     let count = read_at_most(input, overrides.len())?;

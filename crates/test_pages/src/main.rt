@@ -30,7 +30,7 @@ fn print_page<W: Write>(output: &mut W, page: &[u8]) -> io::Result<()> {
     let end = changed_bytes(page);
     output.write_all(b"    page\n")?;
     output.write_all(&page[..end])?;
-    print_said(output, "    kept*", (page.len() - end) as u64)
+    print_said(output, b"    kept*", (page.len() - end) as u64)
 }
 
 // Makes the call.
