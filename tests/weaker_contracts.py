@@ -19,6 +19,12 @@ LAWS = "bilzarko/proofs/ExportLaws.antt"
 LAWS_USED = "use Rattle.bilzarko.proofs.ExportLaws.{"
 PUT_CODE = "buffers/src/lib.rt"
 PUT_PROOF = "buffers/proofs/put/Answers.antt"
+PUT_ENDED = "put_ended x.out.now x.piece.now x.at c.loop-i.i c.loop-i.invariant "
+PUT_LONG = "put_length c.loop-i.invariant"
+PUT_BRANCHES = f"""    elim c.if-at-piece.branch [
+      | then-at-piece w ↦ {PUT_ENDED}(omega (arith, {PUT_LONG}, w.fits-is, w.if-at-piece.true))
+      | else-at-piece w ↦ {PUT_ENDED}(omega (arith, {PUT_LONG}, w.fits-is, w.if-at-piece.false))
+    ]"""
 PINS = {PUT_PROOF} | {"loader/proofs/" + name for name in ("LoadedLaws.antt", "BytesLaws.antt", "ShownLaws.antt", "PrintedLaws.antt", "TypedLaws.antt",
                                                          "MarkedLaws.antt", "load/Proof.antt", "show/Proof.antt", "print/Proof.antt", "read/Proof.antt", "mark/Proof.antt")}
 
@@ -226,12 +232,9 @@ CONTRACTS = {
     "put-whole": (
         "what puts bytes into a buffer writes none where there is no room for all",
         [
-            (PUT_CODE, "if at < out.len() {\n        let fits", "if at + piece.len() <= out.len() {\n        let fits"),
-            (PUT_PROOF, "{then-at-out, else-at-out}", "{then-at-piece, else-at-piece}"),
-            (PUT_PROOF, "c.if-at-out.branch", "c.if-at-piece.branch"),
-            (PUT_PROOF, "| then-at-out w", "| then-at-piece w"),
-            (PUT_PROOF, "| else-at-out w", "| else-at-piece w"),
-            (PUT_PROOF, "w.if-at-out.false)", "(omega (arith, w.if-at-piece.false)))"),
+            (PUT_CODE, "piece.len().min(out.len().saturating_sub(at));", "if at + piece.len() <= out.len() { piece.len() } else { 0 };"),
+            (PUT_PROOF, "use Rattle.buffers.proofs.put.Goals as goal", "use Rattle.buffers.proofs.put.Goals as goal\nuse Rattle.buffers.proofs.put.Goals.{then-at-piece, else-at-piece}"),
+            (PUT_PROOF, f"    {PUT_ENDED}(omega (arith, {PUT_LONG}, c.saturating_sub.ensures, c.min-fits.ensures))", PUT_BRANCHES),
         ],
     ),
 }

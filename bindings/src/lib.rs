@@ -76,7 +76,7 @@ pub const TEXT_BYTES: usize = 1_087;
 pub const PAGE_BYTES: usize = 19_053;
 /// The overrides of [`Settings`], at most.
 pub const OVERRIDES: usize = 8;
-/// The stack to give to a call: 1 MiB. The laws known to need most take 0.81 MiB.
+/// The stack to give to a call: 1 MiB. The laws known to need most take 0.82 MiB.
 ///
 /// ```
 /// use bilzarko::{list, Mode, Settings, STACK_BYTES};
