@@ -22,14 +22,14 @@ pub struct Placed<'a> {
 
 impl<'a> Placed<'a> {
     // The words of a format: one for its header, and one for each shape.
-    pub(crate) fn width(&self) -> usize
+    pub fn width(&self) -> usize
         ensures { result ≡ self.now.limit + 1 }
     {
         self.limit + 1
     }
 
     // How many names the law's functions have.
-    pub(crate) fn names(&self) -> usize
+    pub fn names(&self) -> usize
         ensures { result ≡ length (file_names (file_of self.now.law.bytes.now)) }
     {
         usize::from(self.slots.names)

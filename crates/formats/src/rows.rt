@@ -155,7 +155,7 @@ fn write_first(known: &Known, part: &[u8], at: usize, out: &mut [u32], to: usize
 // room for them. The store has the results of the first `count` names; a call of another name, a block or an e. variable ends the row open.
 // There are results that these are (`results_known` of proofs/StateLaws.antt).
 #[cycle(write_row)]
-pub(crate) fn write_row(
+pub fn write_row(
     known: &Known,
     part: &[u8],
     at: usize,

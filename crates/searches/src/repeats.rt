@@ -25,7 +25,7 @@ pub struct Sure {
 
 impl Sure {
     // Nothing is known of the places, and what is remembered is not of the levels around here.
-    pub(crate) fn none() -> Sure
+    pub fn none() -> Sure
         ensures { (result.fixed ≡ 0) × (result.places ≡ 0) × (result.here ≡ false) }
     {
         Sure {
@@ -36,7 +36,7 @@ impl Sure {
     }
 
     // So many places keep their values, and nothing is known of others.
-    pub(crate) fn fixed(places: usize) -> Sure
+    pub fn fixed(places: usize) -> Sure
         ensures { result ≡ record { fixed = places; places = places; here = true } }
     {
         Sure {

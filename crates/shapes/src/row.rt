@@ -51,7 +51,7 @@ impl<'a> Row<'a> {
 }
 
 // The first shape of a row's words, and the words after it.
-pub(crate) fn split_first<'a>(words: &'a [u32]) -> Option<(Shape<'a>, &'a [u32])>
+pub fn split_first<'a>(words: &'a [u32]) -> Option<(Shape<'a>, &'a [u32])>
     ensures { MatchOption result (length words.now ≡ 0) (λ parts. IsFirstAndRest words.now parts.0 parts.1.now) }
 {
     let (&word, after) = words.split_first()?;

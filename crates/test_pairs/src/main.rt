@@ -13,6 +13,9 @@ use std::io;
 use std::io::{Read, Write};
 use test_cases::{LABEL, LAW, answer_cases, read_law};
 
+#[cfg(test)]
+mod tests;
+
 // Writes whether a sentence shadows another.
 fn print_shadowed<W: Write>(
     output: &mut W,

@@ -17,6 +17,9 @@ use std::io;
 use std::io::{Read, Write};
 use test_cases::{LABEL, LAW, answer_cases, read_law};
 
+#[cfg(test)]
+mod tests;
+
 // The words of a store: 128 formats.
 const STORE: usize = 8320;
 
