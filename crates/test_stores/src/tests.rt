@@ -1,4 +1,7 @@
 // Rows of a law and their first shapes, by functions that no program calls alone.
+ghost use Rattle.std.specs.Prelude.{◌≤◌, ◌<◌, length};
+ghost use Rattle.file.specs.Sections.{file_of};
+
 use formats::placed::Placed;
 use formats::rows::{Known, write_row};
 use formats::slots::slots_of;
@@ -26,6 +29,24 @@ fn law_file() -> [u8; 224] {
     bytes
 }
 
+// The row of a sentence's pattern, from the second word on.
+fn write_pattern(placed: &Placed, s: usize, out: &mut [u32]) -> Option<RowEnd>
+    requires { (s < (file_of placed.now.law.bytes.now).sentences.count) × (1 ≤ length out.old) × (length out.old < 65536) }
+{
+    let known = Known {
+        placed,
+        store: &[],
+        count: 0,
+    };
+    write_row(
+        &known,
+        placed.law.pattern(s),
+        placed.law.pattern_at(s),
+        out,
+        1,
+    )
+}
+
 #[test]
 fn row_of_a_pattern(rt: HostRuntime) -> Result<(), Fail> {
     let bytes = law_file();
@@ -43,21 +64,13 @@ fn row_of_a_pattern(rt: HostRuntime) -> Result<(), Fail> {
     };
     assert_eq!(rt; placed.width(), 5, "a word for the header");
     assert_eq!(rt; placed.names(), 1, "two functions of one name");
-    let known = Known {
-        placed: &placed,
-        store: &[],
-        count: 0,
-    };
     assert_eq!(rt; law.sentences(), 2);
     let mut row = [9; 6];
-    let end = write_row(&known, law.pattern(0), law.pattern_at(0), &mut row, 1);
-    assert_eq!(rt; end, Some(RowEnd::Open(5)));
+    assert_eq!(rt; write_pattern(&placed, 0, &mut row), Some(RowEnd::Open(5)));
     assert_eq!(rt; row, [9, 0, 13, 3, 4, 9]);
-    let mut short = [9; 4];
-    let end = write_row(&known, law.pattern(0), law.pattern_at(0), &mut short, 1);
+    let end = write_pattern(&placed, 0, &mut row[..4]);
     assert_eq!(rt; end, None, "no room for the last shape");
-    let mut none = [9; 1];
-    let end = write_row(&known, law.pattern(1), law.pattern_at(1), &mut none, 1);
+    let end = write_pattern(&placed, 1, &mut row[..1]);
     assert_eq!(rt; end, Some(RowEnd::Closed(1)), "an empty pattern");
     Ok(())
 }
